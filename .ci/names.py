@@ -109,9 +109,16 @@ def libraries():
     return [it for it in crates if os.path.exists(os.path.join(TOP, "crates", it, "CALLING.md"))]
 
 
+def first_words(path):
+    """The first sentence of the comment that a source begins with."""
+    lines = open(path).read().split("//!\n")[0].split("\n")
+    text = " ".join(line.removeprefix("//!").strip() for line in lines if line.startswith("//!"))
+    return re.match(r".*?\.(?= [A-Z]|$)", text)[0]
+
+
 def listing(crate):
     """The lines of one crate."""
-    title = open(os.path.join(TOP, "crates", crate, "src", "lib.rt")).readline().removeprefix("//!").strip()
+    title = first_words(os.path.join(TOP, "crates", crate, "src", "lib.rt"))
     lines = [f"## [`{crate}`](../crates/{crate}/CALLING.md)", "", *pages.wrapped("", "", title), ""]
     found = list(items(crate))
     laws = {}

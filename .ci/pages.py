@@ -87,11 +87,16 @@ def lost(page):
 
 def wrapped(first, rest, text):
     """The lines of a paragraph: `first` begins the first one, `rest` the others."""
-    lines, line = [], first
+    words, lines, line = [], [], first
     for word in WORD.findall(text):
-        is_empty = line in (first, rest)
         # A line never begins with what would make it a list, a heading or a quote.
-        if not is_empty and len(line) + 1 + len(word) > WIDTH and not re.fullmatch(r"[-*+>#|]+|\d{1,9}[.)]", word):
+        if words and re.fullmatch(r"[-*+>#|]+|\d{1,9}[.)]", word):
+            words[-1] += " " + word
+        else:
+            words.append(word)
+    for word in words:
+        is_empty = line in (first, rest)
+        if not is_empty and len(line) + 1 + len(word) > WIDTH:
             lines.append(line)
             line = rest + word
         else:

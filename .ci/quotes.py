@@ -1,4 +1,4 @@
-"""Says whether each quote of the pages is the text of its source.
+"""Says whether each quote of the pages, and each example in a comment of a library, is the text of its source.
 
 The line before a block of code names the source, as a comment that a reader of the page doesn't see:
 
@@ -8,12 +8,29 @@ The line before a block of code names the source, as a comment that a reader of 
   <!-- items new, find of src/a.rt -->       the block is these items of the file, each with its comment, in this order
 
 Before ` -->` may stand ` with NEW for OLD`: the page has NEW where the source has OLD. Code in Rattle, in antt and in C has to
-name its source; a script, a picture and an output needn't.
+name its source; a script, a picture and an output needn't. An example in a comment (`///`) begins at the left edge, wherever its
+source stands; each public type of a library has one, but for those of STILL_WITHOUT.
 """
 import glob
 import os
 import re
+import textwrap
 
+LIBRARIES = (
+    "gimli_core",
+    "gimli_line",
+    "gimli_lookup",
+    "gimli_bytes",
+    "gimli_build",
+    "gimli_write",
+    "gimli_index",
+    "gimli_compilation",
+    "elf_sections",
+    "inflate",
+    "debug_files",
+)
+# Public types that no proved code outside their crates uses yet.
+STILL_WITHOUT = ("CoveredRange", "Ranges", "RelocatableVec", "RelocationTarget", "Addends", "Relocation")
 PAGES = ("*.md", "docs/*.md", "crates/*/CALLING.md", "crates/*/data/*.md", "tried/*/README.md")
 CODE = ("rust", "antt", "c", "cpp")
 MARK = re.compile(r"<!-- (part of |lines of |items [\w, ]+ of |)(\S+)(?: with (\S+) for (\S+))? -->")
@@ -32,8 +49,34 @@ def blocks(lines):
         start = None
 
 
+def at_the_edge(lines):
+    """The same lines, moved to the left edge."""
+    return textwrap.dedent("\n".join(lines)).split("\n")
+
+
 def is_part(block, source):
-    return bool(block) and any(source[i : i + len(block)] == block for i in range(len(source)))
+    parts = (source[i : i + len(block)] for i in range(len(source)))
+    return bool(block) and any(part == block or at_the_edge(part) == block for part in parts)
+
+
+def without_layout(lines):
+    """The text of lines without the marks of comments and all that a layout adds."""
+    text = "".join(re.sub(r"^\s*(--|///?|//!)(?= |$)", "", line) for line in lines)
+    return re.sub(r"\s+", "", text).replace(";}", "}")
+
+
+def laid_out_anew(block, source):
+    """The lines of the source that say the same as a part in another layout; None where there are none."""
+    wanted = without_layout(block)
+    starts = [i for i, line in enumerate(source) if without_layout([line]) and wanted.startswith(without_layout([line]))]
+    for start in starts:
+        for end in range(start + 1, len(source) + 1):
+            found = without_layout(source[start:end])
+            if found == wanted:
+                return source[start:end]
+            if not wanted.startswith(found.rstrip(";")):
+                break
+    return None
 
 
 def item(source, name):
@@ -66,7 +109,7 @@ def difference(top, lines, start, end, language, mark):
     source = (text.replace(old, new) if new else text).rstrip("\n").split("\n")
     block = lines[start:end]
     if how == "part of ":
-        return None if is_part(block, source) else (f"is no part of {path}", None)
+        return None if is_part(block, source) else (f"is no part of {path}", laid_out_anew(block, source))
     if how == "lines of ":
         lost = [line for line in block if line not in source and not line.startswith("my_program")]
         return (f"has lines that {path} lacks: {lost[0]}", None) if lost else None
@@ -78,8 +121,41 @@ def difference(top, lines, start, end, language, mark):
     return None if block == source else (f"differs from {path}", source)
 
 
+def comments(lines):
+    """The comments of a source as pages: where each begins, how it is indented, and its lines without their marks."""
+    start = None
+    for i, line in enumerate(lines + [""]):
+        is_comment = re.match(r"\s*///(?: |$)", line)
+        if is_comment and start is None:
+            start = i
+        elif not is_comment and start is not None:
+            indent = lines[start].index("///")
+            yield start, indent, [it[indent + 4 :] for it in lines[start:i]]
+            start = None
+
+
+def wrong_examples(top, path):
+    """A sentence for each example of a source that isn't quoted, and for each public type that has none."""
+    lines = open(path).read().split("\n")
+    name, has_example = os.path.relpath(path, top), set()
+    for start, indent, comment in comments(lines):
+        for a, b, language, mark in blocks(comment):
+            wrong = difference(top, comment, a, b, language, mark)
+            if wrong:
+                yield f"{name}:{start + a}: the block {wrong[0]}"
+            has_example.add(start + len(comment))
+    for i, line in enumerate(lines):
+        declared = re.match(r"pub (?:struct|enum|trait) (\w+)", line)
+        first = i
+        while declared and re.match(r"#\[|\s+.*\]$|\)\]", lines[first - 1]):
+            first -= 1
+        if declared and first not in has_example and declared[1] not in STILL_WITHOUT:
+            yield f"{name}:{i + 1}: {declared[1]} has no example"
+
+
 def stale(top, write):
-    """A sentence for each quote that differs from its source. Where it quotes a whole file, `write` puts the text in."""
+    """A sentence for each quote that differs from its source. Where it quotes a whole file, or differs in its layout alone,
+    `write` puts the text in."""
     told = []
     for path in sorted(page for pattern in PAGES for page in glob.glob(os.path.join(top, pattern))):
         lines = open(path).read().split("\n")
@@ -92,4 +168,7 @@ def stale(top, write):
                 told.append(f"{os.path.relpath(path, top)}:{start}: the block {wrong[0]}")
         if kept != lines:
             open(path, "w").write("\n".join(kept))
+    for crate in LIBRARIES:
+        for path in sorted(glob.glob(os.path.join(top, "crates", crate, "src", "**", "*.rt"), recursive=True)):
+            told += wrong_examples(top, path)
     return told

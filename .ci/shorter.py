@@ -1,12 +1,11 @@
 """The clauses of a crate's public functions in the short form of its CALLING page.
 
-The form is made from the source by rules, which the page tells its reader (`SAID`), and by the letters of the page's own
-table. It leaves out `ensures`; the names in front of a law, which stand at the head of the table of laws; and the trait of a
-member that is named with its type.
+The form is made from the source by rules, which docs/MODEL.md tells the reader ("Signs of the pages"), and by the letters of
+the page's own table. It leaves out `ensures`; the names in front of a law, which stand at the head of the table of laws; and
+the trait of a member that is named with its type.
 """
 import collections
 import re
-import textwrap
 
 import sources
 
@@ -16,20 +15,9 @@ INDENT = "    "
 # A clause is shared where that saves more characters than these.
 MUCH = 80
 # A type has a heading of its own where it has so many calls.
-SEVERAL = 3
-# How to read the short form: what a page says of it where it has a line of this kind.
-SAID = (
-    ("", "`x` is before the call, `x'` after it, `S` is `self`; `≡ X`: the answer is X"),
-    (" ⇒ ", "`Ok x ⇒ P`: P of such an answer"),
-    (r" · | \| ", "`a: P · b: Q`: clauses by their names, `|` parts kinds of answer"),
-    (r"→ \w+: .* · \w+: ", "`P → a: X · b: Y`: P is for both"),
-    (r"[:|] as |^ *as ", "`as f`: all clauses of `f`"),
-    (r"\[\w+\]$", "`[a]`: the clause given first"),
-    (r"\bNAME\b", "`NAME`: the call's own"),
-    (r"\w/\w.*\(|`\w+/\w", "`a/b`: two calls, in order"),
-    (r"\w>?\.(eq|Clone)\b", "`T.eq`: the `eq` of T"),
-    (r" _\.\w+ \(|_ \(\w+: ", "`P _ (a: X, b: Y)`: P X and P Y"),
-)
+SEVERAL = 4
+# Where a reader finds what the signs of the short form mean.
+SIGNS = "What the signs mean stands in [MODEL](../../docs/MODEL.md#signs-of-the-pages)."
 
 Entry = collections.namedtuple("Entry", "kind bound name text")
 
@@ -393,6 +381,14 @@ def lines_of(head, mine, marks):
     if parts[:1] and parts[0].startswith("requires ") and has_room(f"{head} | {parts[0]}"):
         head += " | " + parts.pop(0)
     lines, line = filled("", [head]), ""
+    between = " " if parts and parts[0].startswith("≡") else " | " if " | requires " in head else ": "
+    while parts and has_room(lines[-1] + between + parts[0]):
+        lines[-1] += between + parts.pop(0)
+        between = " | "
+    clauses = parts[0].split(" · ") if parts else []
+    while len(clauses) > 1 and has_room(f"{lines[-1]}{between}{clauses[0]} ·"):
+        lines[-1] += f"{between}{clauses.pop(0)} ·"
+        between, parts[0] = " ", " · ".join(clauses)
     for part in parts:
         if line and has_room(f"  {line} | {part}"):
             line += " | " + part
@@ -444,7 +440,20 @@ def with_joined(calls):
     for call in calls:
         line = joined(lines[-1], call[0], WIDTH) if lines and len(call) == 1 and not lines[-1].startswith(" ") else None
         lines = lines[:-1] + [line] if line else lines + call
-    return lines
+    return packed(lines)
+
+
+def packed(lines):
+    """The same with calls side by side, `;` between, where a line holds several that have no further line."""
+    found, was_whole = [], False
+    for line, later in zip(lines, lines[1:] + [""]):
+        is_whole = not line.startswith(" ") and not later.startswith(" ")
+        if is_whole and was_whole and has_room(f"{found[-1]}; {line}"):
+            found[-1] += f"; {line}"
+        else:
+            found.append(line)
+        was_whole = is_whole
+    return found
 
 
 # ---- a crate
@@ -496,12 +505,6 @@ def lines_of_calls(functions, letters):
     return lines, [line for mark, text in shared for line in filled(mark, [text])]
 
 
-def how_to_read(lines):
-    """A paragraph that says what the lines mean, as far as a page needs it."""
-    said = [sentence for pattern, sentence in SAID if any(re.search(pattern, line) for line in lines)]
-    return textwrap.wrap("; ".join(said) + ".", 100, break_on_hyphens=False)
-
-
 def contracts(crate, letters):
     """The short form of a crate's contracts, as lines of a page."""
     functions = sources.functions(crate)
@@ -513,7 +516,7 @@ def contracts(crate, letters):
         lines += [f"### {heading}"] + [INDENT + line for line in found[heading]]
     if laws:
         lines += ["### Laws"] + table_of_laws(lines_of_laws(laws, letters, types), types)
-    return how_to_read(lines) + [""] + lines
+    return [SIGNS] + [""] * lines[0].startswith(INDENT) + lines
 
 
 def wrong_letters(crate, letters, lines):

@@ -59,6 +59,11 @@ def answer_type(text, start):
         i += 1
 
 
+def on_one_line(text):
+    """A clause as one line, as it stood before a tuple of it was laid out over several."""
+    return re.sub(r",? (?=\))", "", re.sub(r"(?<=\() ", "", squeezed(text)))
+
+
 def end_of_bounds(text, i):
     """Where the bounds after `where` end, if there are any."""
     if not re.match(r"\s*where\b", text[i:]):
@@ -74,7 +79,7 @@ def clauses_at(text, i):
             return found
         opening = i + m.end() - 1
         i = end_of(text, opening, "{", "}")
-        found.append(Clause(m.group(1), (m.group(3) or "").strip(), squeezed(text[opening + 1 : i - 1])))
+        found.append(Clause(m.group(1), (m.group(3) or "").strip(), on_one_line(text[opening + 1 : i - 1])))
 
 
 def blocks(text):

@@ -1,6 +1,6 @@
-//! The cost of a conversion: `convert FILE OFFSET TIMES` reads the unit at OFFSET of a section, converts it with its own
-//! encodings, each address mapped to itself, and writes it into an `EndianVec`; so many times. Texts stand in the unit
-//! itself, as up to version 4.
+//! The cost of a conversion: `convert FILE OFFSET TIMES` reads the unit at OFFSET of a section,
+//! converts it with its own encodings, each address mapped to itself, and writes it into an
+//! `EndianVec`; so many times. Texts stand in the unit itself, as up to version 4.
 //!
 //! Standard output has the length of each section that was written, and a sum of its bytes.
 
@@ -47,8 +47,8 @@ fn converted_unit(
     convert_and_write(alloc, program, EndianSlice::new(b"", OrderOf::<CONVERT>))
 }
 
-/// A program, as it is written after its conversion. `no_texts` is a reader of no bytes, which stands for both sections of
-/// texts.
+/// A program, as it is written after its conversion. `no_texts` is a reader of no bytes, which
+/// stands for both sections of texts.
 fn convert_and_write<R: Reader>(
     alloc: Global,
     from_program: IncompleteLineProgram<R>,

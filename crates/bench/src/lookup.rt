@@ -1,5 +1,5 @@
-//! The cost of lookups: `lookup FILE OFFSET WORK TIMES` does some work so many times on the unit at OFFSET of a section,
-//! and prints what it counted and a sum over it.
+//! The cost of lookups: `lookup FILE OFFSET WORK TIMES` does some work so many times on the unit at
+//! OFFSET of a section, and prints what it counted and a sum over it.
 //!
 //! | WORK | Does | Counts | Sums |
 //! |---|---|---|---|
@@ -7,7 +7,7 @@
 //! | `sequences` | cuts the program | sequences | where they end |
 //! | `resumed` | cuts it, and runs each sequence | rows | their addresses |
 //! | `new` | makes a lookup | sequences | where they end |
-//! | `find` | finds 10,000 addresses in a lookup that is made once | those that are found, and probes | the addresses of the rows that are found |
+//! | `find` | finds 10,000 addresses in one lookup | those found, probes | addresses of rows |
 //! | `find_in_run` | finds the address 0x1000 in one run | 1 or 0 | the address of its row |
 //! | `section` | makes a lookup of the whole section | units | their offsets |
 //! | `section_find` | as `find`, over the whole section | as `find` | as `find` |

@@ -1,16 +1,15 @@
 //! The program `bench`: does some work so many times, for its instructions to be counted.
 //!
-//! | Words | Does |
-//! |---|---|
-//! | `read FILE TIMES [sequences]` | runs the rows of all units of a section, or cuts these units into their sequences |
-//! | `write SEQUENCES` | builds a program of so many sequences and writes it, seven times |
-//! | `convert FILE OFFSET TIMES` | reads a unit, converts it and writes it |
-//! | `lookup FILE OFFSET WORK TIMES` | does one work of a lookup on a unit, or on a section |
-//! | `stored` | each of these four once, on the files of the stored run |
+//! - `read FILE TIMES [sequences]` runs the rows of all units of a section, or cuts these units
+//!   into their sequences.
+//! - `write SEQUENCES` builds a program of so many sequences and writes it, seven times.
+//! - `convert FILE OFFSET TIMES` reads a unit, converts it and writes it.
+//! - `lookup FILE OFFSET WORK TIMES` does one work of a lookup on a unit, or on a section.
+//! - `stored` does each of these four once, on the files of the stored run.
 //!
-//! Sections are in little-endian order, with addresses of eight bytes. Standard output has what was counted and a sum over
-//! it, so that no work is left out. The instructions of a work are those of more times less those of fewer: the rest drops
-//! out.
+//! Sections are in little-endian order, with addresses of eight bytes. Standard output has what was
+//! counted and a sum over it, so that no work is left out. The instructions of a work are those of
+//! more times less those of fewer: the rest drops out.
 #![tactic(auto)]
 
 mod convert;

@@ -1,5 +1,6 @@
-//! An order of bytes for each work: so the compiler makes the library's calls for each of them apart, as in a program that
-//! does no other work, and what one work costs doesn't hang on the others.
+//! An order of bytes for each work: so the compiler makes the library's calls for each of them
+//! apart, as in a program that does no other work, and what one work costs doesn't hang on the
+//! others.
 
 ghost use Rattle.std.specs.Prelude.{false};
 

@@ -1,8 +1,8 @@
-//! The cost of reading: `read FILE TIMES` runs the rows of all units of a section, so many times, and
-//! `read FILE TIMES sequences` splits all units into their sequences.
+//! The cost of reading: `read FILE TIMES` runs the rows of all units of a section, so many times,
+//! and `read FILE TIMES sequences` splits all units into their sequences.
 //!
-//! Standard output has the counts and a checksum, over every register or over the bounds of the sequences; standard
-//! error has the time of each pass.
+//! Standard output has the counts and a checksum, over every register or over the bounds of the
+//! sequences; standard error has the time of each pass.
 
 use crate::order::{OrderOf, READ};
 use crate::words::parse_count;

@@ -1,5 +1,5 @@
-//! The cost of building and writing: `write SEQUENCES` builds a program of so many sequences of 1,000 rows (version 4,
-//! 32-bit format), writes it into an `EndianVec`, and drops it; seven times.
+//! The cost of building and writing: `write SEQUENCES` builds a program of so many sequences of
+//! 1,000 rows (version 4, 32-bit format), writes it into an `EndianVec`, and drops it; seven times.
 //!
 //! Standard output has the length of each section and a sum of its bytes, standard error the times.
 

@@ -1,5 +1,5 @@
-//! A second reader: its offsets have 32 bits, it copies where it is asked for a slice, and it has none of the bodies
-//! that a reader may leave out.
+//! A second reader: its offsets have 32 bits, it copies where it is asked for a slice, and it has
+//! none of the bodies that a reader may leave out.
 
 ghost use Rattle.std.specs.Prelude.{◌≡◌, ◌<◌, ◌^◌, length, nat_eq, position};
 ghost use Rattle.std.proofs.Common.{rules};

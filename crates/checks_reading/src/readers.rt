@@ -84,7 +84,8 @@ fn places<R: Reader>(reader: R, one: R::Offset, two: R::Offset) -> Result<(u64, 
     Ok((found, distance, after.read_u8()?, front.len().into_u64()))
 }
 
-/// Which calls are refused, whether the buffer stays as it was, and how many bytes are left after all of them.
+/// Which calls are refused, whether the buffer stays as it was, and how many bytes are left after
+/// all of them.
 fn refusals<R: Reader>(mut reader: R, too_far: R::Offset) -> ([bool; 5], bool, u64) {
     let mut buf = [7; 3];
     let refused = [

@@ -1,5 +1,6 @@
 -- The last slash of a path.
-use Rattle.std.proofs.Common.{arith, ◌≡◌, ◌≢◌, ◌<◌, ◌≤◌, ◌+◌, ℕ, suc, List, Some, None, Option, MatchOption, [], ◌∷◌, ◌++◌, length, take, drop, get_or, Bor, true, false, ◌||◌, nat_eq, if◌then◌else◌, refl, sym, ap, ◌∙◌, subst}
+use Rattle.std.proofs.Common.{arith, ◌≡◌, ◌≢◌, ◌<◌, ◌≤◌, ◌+◌, ℕ, suc, List, Some, None, Option, MatchOption, [], ◌∷◌, ◌++◌, length, take, drop, get_or, Bor}
+use Rattle.std.proofs.Common.{true, false, ◌||◌, nat_eq, if◌then◌else◌, refl, sym, ap, ◌∙◌, subst}
 use Rattle.std.specs.List.{list_any}
 use Rattle.std.specs.Str.{NoCharPasses}
 use Rattle.std.specs.Str.Pattern.{RFindsChar}
@@ -11,7 +12,10 @@ use Rattle.debug_files.specs.DebugPaths.{is_slash, folder}
 
 -- the clause of `rsplit_once` at a slash
 abbrev pub SplitsAtSlash : List ℕ → Option (Bor (List ℕ) × Bor (List ℕ)) → Type 0
-SplitsAtSlash bs r = MatchOption r (RFindsChar 47 bs None) (λ x. (i : ℕ) × (j : ℕ) × RFindsChar 47 bs (Some (i, j)) × (x.0.now ≡ take i bs) × (x.1.now ≡ drop j bs) × (i ≤ j) × (length x.0.now ≡ i) × (length x.1.now + j ≡ length bs))
+SplitsAtSlash bs r =
+    MatchOption r (RFindsChar 47 bs None) (λ x.
+    (i : ℕ) × (j : ℕ) × RFindsChar 47 bs (Some (i, j)) × (x.0.now ≡ take i bs) × (x.1.now ≡ drop j bs) × (i ≤ j) × (length x.0.now ≡ i)
+    × (length x.1.now + j ≡ length bs))
 
 no_slash : (bs : List ℕ) → ((i : ℕ) → i < length bs → get_or bs i 0 ≢ 47) → list_any is_slash bs ≡ false
 no_slash [] h = refl

@@ -5,8 +5,12 @@ use Rattle.std.specs.List.{list_any, starts_with}
 use Rattle.std.specs.Option.{option_map_or}
 use Rattle.hex.specs.Hex.{encode_lower}
 
+-- what parts a folder from what stands in it
+abbrev pub slash : ℕ
+slash = 0x2f
+
 abbrev pub is_slash : ℕ → Bool
-is_slash b = nat_eq b 0x2f
+is_slash b = nat_eq b slash
 
 -- the folder of a path: up to its last slash, nothing where it has none
 abbrev pub folder : List ℕ → List ℕ
@@ -16,7 +20,8 @@ folder (b ∷ path) = if list_any is_slash (b ∷ path) then b ∷ folder path e
 -- by a build id: its first byte names a folder, and the rest a file in it
 abbrev pub build_id_path : ℕ → List ℕ → List ℕ
 build_id_path first rest =
-    codes "/usr/lib/debug/.build-id/" ++ encode_lower (first ∷ []) ++ codes "/" ++ encode_lower rest ++ codes ".debug"
+    codes "/usr/lib/debug/.build-id/" ++ encode_lower (first ∷ []) ++ codes "/" ++ encode_lower rest
+    ++ codes ".debug"
 
 abbrev pub build_id_paths : List ℕ → List (List ℕ)
 build_id_paths [] = []
@@ -26,7 +31,8 @@ build_id_paths (first ∷ rest) = build_id_path first rest ∷ []
 abbrev pub link_paths : List ℕ → List ℕ → List (List ℕ)
 link_paths folder name =
     (folder ++ name) ∷ (folder ++ codes ".debug/" ++ name)
-    ∷ (if starts_with nat_eq folder (codes "/") then (codes "/usr/lib/debug" ++ folder ++ name) ∷ [] else [])
+    ∷ (if starts_with nat_eq folder (codes "/") then (codes "/usr/lib/debug" ++ folder ++ name) ∷ []
+    else [])
 
 -- by the build id first, then by the name of the link, where the program has them
 abbrev pub debug_file_paths : List ℕ → Option (List ℕ) → Option (List ℕ) → List (List ℕ)

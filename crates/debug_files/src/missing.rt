@@ -6,6 +6,17 @@ use std::alloc::AllocError;
 use std::{fmt, io};
 
 /// Why a file isn't the source of a program's sections.
+///
+/// <!-- part of crates/lines/src/main.rt -->
+/// ```rust
+/// match debug_files::source_of(rt, request.file, wanted) {
+///     Ok(found) => Some(found),
+///     Err(missing) => {
+///         report(rt, request.file, &missing);
+///         None
+///     }
+/// }
+/// ```
 #[derive(Debug, Drop)]
 pub enum Missing {
     /// Its sections can't be read.

@@ -5,6 +5,14 @@ use std::alloc::AllocError;
 use std::{fmt, io};
 
 /// Why the sections of a file aren't read.
+///
+/// <!-- part of crates/checks_reading/src/sought.rt -->
+/// ```rust
+/// match sought(alloc, file, name) {
+///     Err(Refusal::Elf(error)) => Some(error),
+///     _ => None,
+/// }
+/// ```
 #[derive(Debug, Drop)]
 pub enum Refusal {
     /// The file, or a section of it, isn't one that can be read.

@@ -3,6 +3,15 @@
 use std::alloc::Global;
 
 /// Which sections are read.
+///
+/// <!-- part of crates/lines/src/main.rt -->
+/// ```rust
+/// let wanted = if request.command.prints_paths() {
+///     Wanted::Paths
+/// } else {
+///     Wanted::Lines
+/// };
+/// ```
 #[derive(Clone, Copy, Debug, PartialEq, Eq)]
 pub enum Wanted {
     /// The line programs alone.
@@ -12,6 +21,14 @@ pub enum Wanted {
 }
 
 /// What the sections of a program are read from.
+///
+/// <!-- part of crates/lines/src/main.rt -->
+/// ```rust
+/// (Some(Found::Sections(source)), Some(line_str), Some(strings)) => {
+///     request.kind = Kind::Raw(notation_of(source));
+///     perform(rt, &request, files_of(source, line_str, strings))
+/// }
+/// ```
 #[derive(Drop)]
 pub enum Found {
     /// The sections, of a program that is linked.
@@ -21,6 +38,13 @@ pub enum Found {
 }
 
 /// The sections that a command reads, and how.
+///
+/// <!-- part of crates/lines/src/main.rt -->
+/// ```rust
+/// fn notation_of(source: &Source) -> Notation {
+///     Notation::new(source.is_big_endian, source.address_size, source.lowest)
+/// }
+/// ```
 #[derive(Drop)]
 pub struct Source {
     /// Whether the most significant byte of a number comes first.
@@ -36,6 +60,15 @@ pub struct Source {
 }
 
 /// The sections that whole paths need; no bytes where there is none.
+///
+/// <!-- part of crates/lines/src/main.rt -->
+/// ```rust
+/// UnitFiles {
+///     info: &paths.info,
+///     abbreviations: &paths.abbreviations,
+///     string_offsets: &paths.string_offsets,
+/// }
+/// ```
 #[derive(Drop)]
 pub struct PathSections {
     /// The texts of version 5 (`.debug_line_str`).

@@ -1,5 +1,6 @@
 -- The section headers from an index on.
-use Rattle.std.proofs.Common.{◌≡◌, refl, sym, ◌∙◌, ap, ℕ, suc, zero, ◌+◌, ◌-◌, ◌*◌, ◌<◌, ◌≤◌, List, [], ◌∷◌, map, drop, Bool, true, false, cond, Option, Some, None, slice_get, arith}
+use Rattle.std.proofs.Common.{◌≡◌, refl, sym, ◌∙◌, ap, ℕ, suc, zero, ◌+◌, ◌-◌, ◌*◌, ◌<◌, ◌≤◌, List, [], ◌∷◌, map, drop, Bool, true, false, cond, Option, Some}
+use Rattle.std.proofs.Common.{None, slice_get, arith}
 use Rattle.std.specs.List.{range_with_len, find, filter}
 use Rattle.elf_sections.specs.SectionHeader.{section_header}
 use Rattle.elf_sections.specs.Table.{section_headers}

@@ -1,5 +1,6 @@
 -- A name in the section of names, and the zero byte after it.
-use Rattle.std.proofs.Common.{◌≡◌, refl, sym, ◌∙◌, ap, ℕ, suc, zero, ◌≤◌, List, [], ◌∷◌, ◌++◌, length, drop, Bool, true, false, not, ◌&&◌, ◌||◌, nat_eq, slice_index_or, arith}
+use Rattle.std.proofs.Common.{◌≡◌, refl, sym, ◌∙◌, ap, ℕ, suc, zero, ◌≤◌, List, [], ◌∷◌, ◌++◌, length, drop, Bool, true, false, not, ◌&&◌, ◌||◌, nat_eq}
+use Rattle.std.proofs.Common.{slice_index_or, arith}
 use lib.Dec.{eqb-zero-suc, eqb-suc-zero}
 use Rattle.std.specs.List.{list_all, list_any, starts_with}
 use Rattle.elf_sections.specs.Table.{is_name_at}

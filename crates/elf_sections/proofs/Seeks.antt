@@ -1,5 +1,6 @@
 -- A file that is read by its parts has the sections that it has as a whole.
-use Rattle.std.proofs.Common.{◌≡◌, refl, ◌∙◌, ap, ℕ, zero, suc, ◌+◌, ◌-◌, ◌*◌, ◌≤◌, min, List, [], ◌∷◌, map, length, take, drop, Bool, not, if◌then◌else◌, nat_eq, nat_lt, Result, Ok, Err, length-take, arith}
+use Rattle.std.proofs.Common.{◌≡◌, refl, ◌∙◌, ap, ℕ, zero, suc, ◌+◌, ◌-◌, ◌*◌, ◌≤◌, min, List, [], ◌∷◌, map, length, take, drop, Bool, not, if◌then◌else◌}
+use Rattle.std.proofs.Common.{nat_eq, nat_lt, Result, Ok, Err, length-take, arith}
 use Rattle.std.proofs.lemmas.Bool.Decides.{nat_tests}
 use Rattle.std.proofs.lemmas.List.{get_or-take, drop-take, take-take}
 use Rattle.std.specs.List.{range_with_len, starts_with}

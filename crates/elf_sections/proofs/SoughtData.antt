@@ -1,5 +1,6 @@
 -- The data of a section of a file that is read by its parts are those that it has as a whole.
-use Rattle.std.proofs.Common.{◌≡◌, ◌≢◌, refl, sym, ◌∙◌, ap, ℕ, ◌+◌, List, [], length, true, false, Bool, if◌then◌else◌, nat_eq, nat_lt, Option, Some, None, Result, Ok, Err}
+use Rattle.std.proofs.Common.{◌≡◌, ◌≢◌, refl, sym, ◌∙◌, ap, ℕ, ◌+◌, List, [], length, true, false, Bool, if◌then◌else◌, nat_eq, nat_lt, Option, Some, None}
+use Rattle.std.proofs.Common.{Result, Ok, Err}
 use Rattle.std.specs.Prelude.{IfOk, IfErr}
 use Rattle.std.specs.List.{slice_range}
 use Rattle.elf_sections.specs.Steps.{◌>>=◌}

@@ -1,5 +1,6 @@
 -- A file that is read by its parts has the sections that it has as a whole: the steps.
-use Rattle.std.proofs.Common.{◌≡◌, refl, sym, ◌∙◌, ap, ℕ, ◌+◌, ◌-◌, ◌*◌, ◌≤◌, List, [], length, take, drop, true, false, if◌then◌else◌, nat_eq, nat_lt, Option, Some, None, Result, Ok, Err, slice_get, length-take, length-drop, arith}
+use Rattle.std.proofs.Common.{◌≡◌, refl, sym, ◌∙◌, ap, ℕ, ◌+◌, ◌-◌, ◌*◌, ◌≤◌, List, [], length, take, drop, true, false, if◌then◌else◌, nat_eq, nat_lt, Option}
+use Rattle.std.proofs.Common.{Some, None, Result, Ok, Err, slice_get, length-take, length-drop, arith}
 use Rattle.std.proofs.lemmas.Bool.Decides.{nat_tests}
 use Rattle.std.proofs.Math.Nat.{zero-mul}
 use Rattle.std.specs.List.{slice_range}
@@ -11,7 +12,8 @@ use Rattle.elf_sections.specs.SectionHeader.{section_header_size, section_header
 use Rattle.elf_sections.specs.Table.{Table, section_headers, count_of, names_index_of, table_at, names_or_cut, names_in, names_at}
 use Rattle.elf_sections.specs.File.{File, file_at, bytes_in, section_named, section_at}
 use Rattle.elf_sections.specs.FileRange.{bytes_at, nowhere, range_in, or_refused, header_range}
-use Rattle.elf_sections.specs.Seeking.{Place, Listed, first_range, no_table, table_with, table_by, table_in, range_or_cut, names_of_header, names_in_table, names_range, list_by, range_of, range_named, listed, listed_of, listed_at, section_in, read_at}
+use Rattle.elf_sections.specs.Seeking.{Place, Listed, first_range, no_table, table_with, table_by, table_in, range_or_cut, names_of_header, names_in_table}
+use Rattle.elf_sections.specs.Seeking.{names_range, list_by, range_of, range_named, listed, listed_of, listed_at, section_in, read_at}
 use Rattle.elf_sections.specs.declared.error.ElfError.{ElfError}
 use Rattle.elf_sections.specs.declared.error.ElfError.TheVariants.{SectionHeaderSize, SectionTableCut, SectionCut, Compressed}
 use Rattle.elf_sections.specs.declared.file_range.FileRange.{FileRange}

@@ -4,7 +4,8 @@ use Rattle.std.specs.Prelude.{codes, replicate, slice_set}
 use Rattle.elf_sections.specs.Steps.{◌>>=◌}
 use Rattle.elf_sections.specs.File.{file_at, section_at, code_addresses}
 use Rattle.elf_sections.specs.declared.error.ElfError.{ElfError}
-use Rattle.elf_sections.specs.declared.error.ElfError.TheVariants.{NotElf, Class, ByteOrder, Version, HeaderCut, SectionHeaderSize, SectionTableCut, NamesCut, SectionCut, Compressed}
+use Rattle.elf_sections.specs.declared.error.ElfError.TheVariants.{NotElf, Class, ByteOrder, Version, HeaderCut, SectionHeaderSize, SectionTableCut, NamesCut}
+use Rattle.elf_sections.specs.declared.error.ElfError.TheVariants.{SectionCut, Compressed}
 
 -- the bytes of a section of a file
 abbrev bytes_of : List ℕ → List ℕ → Result (Option (List ℕ)) ElfError

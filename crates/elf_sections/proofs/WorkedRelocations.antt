@@ -5,7 +5,8 @@ use Rattle.elf_sections.specs.Steps.{◌>>=◌}
 use Rattle.elf_sections.specs.File.{file_at}
 use Rattle.elf_sections.specs.Relocating.{relocated_at, index_of}
 use Rattle.elf_sections.specs.declared.error.ElfError.{ElfError}
-use Rattle.elf_sections.specs.declared.error.ElfError.TheVariants.{UnknownMachine, UnknownRelocation, EntrySize, NoSymbols, SymbolOutside, SymbolSection, RelocationOutside}
+use Rattle.elf_sections.specs.declared.error.ElfError.TheVariants.{UnknownMachine, UnknownRelocation, EntrySize, NoSymbols, SymbolOutside, SymbolSection}
+use Rattle.elf_sections.specs.declared.error.ElfError.TheVariants.{RelocationOutside}
 use Rattle.elf_sections.specs.declared.place.SectionPlace.{SectionPlace}
 use Rattle.elf_sections.specs.declared.place.SectionPlace.TheVariants.{AllAtZero, Only}
 use Rattle.elf_sections.proofs.Worked.{header_32, contents_32, section_32}

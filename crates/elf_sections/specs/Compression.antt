@@ -1,16 +1,25 @@
--- Compressed sections (System V ABI, chapter 4, "Section Compression"), and the form that GNU's tools had before.
-use Rattle.std.specs.Prelude.{ℕ, ◌*◌, ◌/◌, List, ◌++◌, length, take, drop, codes, nat_eq, nat_lt, not, true, Bool, if◌then◌else◌, Result, Ok, Err}
+-- Compressed sections (System V ABI, chapter 4, "Section Compression"), and the form that GNU's
+-- tools had before.
+use Rattle.std.specs.Prelude.{ℕ, ◌*◌, ◌/◌, List, ◌++◌, length, take, drop, codes, nat_eq, nat_lt}
+use Rattle.std.specs.Prelude.{not, true, Bool, if◌then◌else◌, Result, Ok, Err}
 use Rattle.std.specs.List.{starts_with}
 use Rattle.inflate.specs.declared.error.Error.{Error}
 use Rattle.inflate.specs.declared.error.Error.TheVariants.{OutputSmaller}
 use Rattle.inflate.specs.Zlib.{decompressed}
 use Rattle.gimli_core.specs.Numbers.{value_of}
+use Rattle.elf_sections.specs.ElfNumbers.{SHF_COMPRESSED, ELFCOMPRESS_ZLIB, ELFCOMPRESS_ZSTD}
 use Rattle.elf_sections.specs.Steps.{◌>>=◌}
 use Rattle.elf_sections.specs.Fault.{fault_of}
 use Rattle.elf_sections.specs.Layout.{address_size, number_at}
 use Rattle.elf_sections.specs.SectionHeader.{has_flag, stored_bytes, section_bytes}
 use Rattle.elf_sections.specs.declared.error.ElfError.{ElfError}
-use Rattle.elf_sections.specs.declared.error.ElfError.TheVariants.{CompressionHeaderCut, UnknownCompression, Zstd, NotZlib, Decompression}
+use Rattle.elf_sections.specs.declared.error.ElfError.TheVariants.{
+  CompressionHeaderCut,
+  UnknownCompression,
+  Zstd,
+  NotZlib,
+  Decompression,
+}
 use Rattle.elf_sections.specs.declared.layout.Layout.{Layout}
 use Rattle.elf_sections.specs.declared.section_header.SectionHeader.{SectionHeader}
 
@@ -19,19 +28,23 @@ abbrev pub bytes_or_fault : Result (List ℕ) Error → Result (List ℕ) ElfErr
 bytes_or_fault (Ok bytes) = Ok bytes
 bytes_or_fault (Err fault) = Err (fault_of fault)
 
--- what a stream in the zlib format holds, if that is so many bytes. A byte of it makes at most 1032: two bits
--- may copy 258 bytes (RFC 1951, section 3.2.5). So it is shorter than a size that is greater than that
+-- what a stream in the zlib format holds, if that is so many bytes. A byte of it makes at most
+-- 1032: two bits may copy 258 bytes (RFC 1951, section 3.2.5). So it is shorter than a size that is
+-- greater than that
 abbrev pub stream_bytes : ℕ → List ℕ → Result (List ℕ) ElfError
 stream_bytes size stream =
     if nat_lt (length stream) (size / 1032) then Err (Decompression OutputSmaller)
     else bytes_or_fault (decompressed size stream)
 
--- a way of compression (ch_type): 1 is ELFCOMPRESS_ZLIB, and 2 ELFCOMPRESS_ZSTD
+-- a way of compression (ch_type) that is undone here
 abbrev pub zlib_kind : ℕ → Result (Unit {0}) ElfError
-zlib_kind kind = if nat_eq kind 1 then Ok tt else (if nat_eq kind 2 then Err Zstd else Err (UnknownCompression kind))
+zlib_kind kind =
+    if nat_eq kind ELFCOMPRESS_ZLIB then Ok tt
+    else (if nat_eq kind ELFCOMPRESS_ZSTD then Err Zstd else Err (UnknownCompression kind))
 
--- what a compressed section holds. Its header has three fields of an address's size: ch_type, ch_size, which
--- is the size of what it holds, and ch_addralign; of 64 bits, ch_reserved takes half of the first
+-- what a compressed section holds. Its header has three fields of an address's size: ch_type,
+-- ch_size, which is the size of what it holds, and ch_addralign; of 64 bits, ch_reserved takes half
+-- of the first
 abbrev pub uncompressed : Layout → List ℕ → Result (List ℕ) ElfError
 uncompressed layout bytes =
     if nat_lt (length bytes) (3 * address_size layout.class) then Err CompressionHeaderCut
@@ -43,10 +56,10 @@ uncompressed layout bytes =
 abbrev pub data_of : Layout → List ℕ → SectionHeader → Result (List ℕ) ElfError
 data_of layout file header =
     stored_bytes file header >>= λ bytes.
-    if has_flag header 0x800 then uncompressed layout bytes else Ok bytes
+    if has_flag header SHF_COMPRESSED then uncompressed layout bytes else Ok bytes
 
--- what a section of the older form holds: after ZLIB stands the size of that, in 8 bytes of which the most
--- significant comes first, whatever the file's order is
+-- what a section of the older form holds: after ZLIB stands the size of that, in 8 bytes of which
+-- the most significant comes first, whatever the file's order is
 abbrev pub uncompressed_old : List ℕ → Result (List ℕ) ElfError
 uncompressed_old bytes =
     if nat_lt (length bytes) 12 then Err CompressionHeaderCut

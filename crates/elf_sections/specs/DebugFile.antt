@@ -1,5 +1,6 @@
 -- What a file says of the file with its debug information.
-use Rattle.std.specs.Prelude.{ℕ, ◌+◌, List, length, take, codes, nat_eq, nat_lt, if◌then◌else◌, Option, Some, None, Result, Ok}
+use Rattle.std.specs.Prelude.{ℕ, ◌+◌, List, length, take, codes, nat_eq, nat_lt, if◌then◌else◌}
+use Rattle.std.specs.Prelude.{Option, Some, None, Result, Ok}
 use Rattle.std.specs.List.{position}
 use Rattle.std.specs.Option.{option_and_then}
 use Rattle.elf_sections.specs.Steps.{◌>>=◌}
@@ -23,14 +24,17 @@ link_of link = record { name = link.name.now; checksum = link.checksum }
 abbrev pub link_at : Layout → List ℕ → ℕ → Option Link
 link_at layout bytes end =
     if nat_lt (length bytes) (padded (end + 1) + 4) then None
-    else Some (record { name = take end bytes; checksum = number_at layout 4 (padded (end + 1)) bytes })
+    else Some
+    (record { name = take end bytes; checksum = number_at layout 4 (padded (end + 1)) bytes })
 
 abbrev pub link_in : Layout → List ℕ → Option Link
 link_in layout bytes = option_and_then (link_at layout bytes) (position (λ b. nat_eq b 0) bytes)
 
 -- what the section of a name says, if there is one
-abbrev pub said_in : {A : Type 0} → (Layout → List ℕ → Option A) → List ℕ → File → Result (Option A) ElfError
-said_in read name file = section_at file name >>= λ section. Ok (option_and_then (read file.layout) section)
+abbrev pub said_in : {A : Type 0} → (Layout → List ℕ → Option A) → List ℕ → File
+    → Result (Option A) ElfError
+said_in read name file =
+    section_at file name >>= λ section. Ok (option_and_then (read file.layout) section)
 
 abbrev pub build_id_of : File → Result (Option (List ℕ)) ElfError
 build_id_of = said_in build_id_in (codes ".note.gnu.build-id")

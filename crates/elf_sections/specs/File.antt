@@ -1,5 +1,6 @@
 -- A file, as its header and its section table say (System V ABI, chapter 4).
-use Rattle.std.specs.Prelude.{◌≤◌, ℕ, List, map, filter, find, All, Contains, if◌then◌else◌, Option, Some, None, Result, Ok}
+use Rattle.std.specs.Prelude.{◌≤◌, ℕ, List, map, filter, find, All, Contains, if◌then◌else◌, Option}
+use Rattle.std.specs.Prelude.{Some, None, Result, Ok}
 use Rattle.elf_sections.specs.Steps.{◌>>=◌}
 use Rattle.elf_sections.specs.Layout.{layout_at}
 use Rattle.elf_sections.specs.Header.{header_at}
@@ -66,7 +67,8 @@ old_data_in file (Some header) = some_of (old_data_of file header)
 abbrev pub data_or_old : File → List ℕ → Option SectionHeader → Result (Option (List ℕ)) ElfError
 data_or_old file name (Some header) = some_of (data_of file.layout file.bytes header)
 data_or_old file name None =
-    if has_old_name name then old_data_in file.bytes (section_named file (old_name name)) else Ok None
+    if has_old_name name then old_data_in file.bytes (section_named file (old_name name))
+    else Ok None
 
 -- the data of the first section of a name, made whole where it is compressed
 abbrev pub section_data_at : File → List ℕ → Result (Option (List ℕ)) ElfError

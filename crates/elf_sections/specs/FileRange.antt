@@ -1,5 +1,7 @@
 -- Parts of a file.
-use Rattle.std.specs.Prelude.{ℕ, ◌+◌, List, slice_range, nat_eq, nat_lt, if◌then◌else◌, Option, Some, None, Result, Ok, Err}
+use Rattle.std.specs.Prelude.{ℕ, ◌+◌, List, slice_range, nat_eq, nat_lt, if◌then◌else◌, Option}
+use Rattle.std.specs.Prelude.{Some, None, Result, Ok, Err}
+use Rattle.elf_sections.specs.ElfNumbers.{SHT_NOBITS, SHF_COMPRESSED}
 use Rattle.elf_sections.specs.SectionHeader.{has_flag}
 use Rattle.elf_sections.specs.declared.error.ElfError.{ElfError}
 use Rattle.elf_sections.specs.declared.error.ElfError.TheVariants.{SectionCut, Compressed}
@@ -25,10 +27,10 @@ or_refused e (Some x) = Ok x
 -- where the bytes of a section are in a file of a length, as `stored_bytes` says which they are
 abbrev pub stored_range : ℕ → SectionHeader → Result FileRange ElfError
 stored_range length header =
-    if nat_eq header.kind 8 then Ok nowhere
+    if nat_eq header.kind SHT_NOBITS then Ok nowhere
     else or_refused SectionCut (range_in header.offset header.size length)
 
 -- the same of a section that isn't compressed, as `section_bytes` has it
 abbrev pub header_range : ℕ → SectionHeader → Result FileRange ElfError
 header_range length header =
-    if has_flag header 0x800 then Err Compressed else stored_range length header
+    if has_flag header SHF_COMPRESSED then Err Compressed else stored_range length header

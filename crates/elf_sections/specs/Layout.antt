@@ -1,5 +1,6 @@
 -- How a file notes its numbers (System V ABI, chapter 4: `e_ident`, and the sizes of the types).
-use Rattle.std.specs.Prelude.{ℕ, ◌+◌, ◌%◌, ◌^◌, List, [], ◌∷◌, ◌++◌, length, take, drop, slice_index, nat_eq, nat_lt, not, if◌then◌else◌, Result, Ok, Err}
+use Rattle.std.specs.Prelude.{ℕ, ◌+◌, ◌%◌, ◌^◌, List, [], ◌∷◌, ◌++◌, length, take, drop}
+use Rattle.std.specs.Prelude.{slice_index, nat_eq, nat_lt, not, if◌then◌else◌, Result, Ok, Err}
 use Rattle.std.specs.List.{starts_with}
 use Rattle.gimli_core.specs.Numbers.{value_of, number_bytes}
 use Rattle.gimli_core.specs.Order.{is_big}
@@ -7,7 +8,13 @@ use Rattle.gimli_core.specs.declared.endianity.RunTimeEndian.{RunTimeEndian}
 use Rattle.gimli_core.specs.declared.endianity.RunTimeEndian.TheVariants.{Little, Big}
 use Rattle.elf_sections.specs.Steps.{◌>>=◌}
 use Rattle.elf_sections.specs.declared.error.ElfError.{ElfError}
-use Rattle.elf_sections.specs.declared.error.ElfError.TheVariants.{NotElf, HeaderCut, Class as UnknownClass, ByteOrder as UnknownOrder, Version as UnknownVersion}
+use Rattle.elf_sections.specs.declared.error.ElfError.TheVariants.{
+  NotElf,
+  HeaderCut,
+  Class as UnknownClass,
+  ByteOrder as UnknownOrder,
+  Version as UnknownVersion,
+}
 use Rattle.elf_sections.specs.declared.layout.Class.{Class}
 use Rattle.elf_sections.specs.declared.layout.Class.TheVariants.{Elf32, Elf64}
 use Rattle.elf_sections.specs.declared.layout.Layout.{Layout}
@@ -24,7 +31,8 @@ number_at layout size offset bytes = value_of (is_big layout.order) (take size (
 -- the bytes in which the lowest so many bytes of a number stand at an offset
 abbrev pub with_number : Layout → ℕ → ℕ → ℕ → List ℕ → List ℕ
 with_number layout size offset n bytes =
-    take offset bytes ++ number_bytes (is_big layout.order) size (n % 256 ^ size) ++ drop (offset + size) bytes
+    take offset bytes ++ number_bytes (is_big layout.order) size (n % 256 ^ size)
+    ++ drop (offset + size) bytes
 
 -- the bytes that each file begins with: 7f, E, L and F
 abbrev pub magic : List ℕ
@@ -32,7 +40,8 @@ magic = 0x7f ∷ 0x45 ∷ 0x4c ∷ 0x46 ∷ []
 
 -- EI_CLASS
 abbrev pub class_of : ℕ → Result Class ElfError
-class_of n = if nat_eq n 1 then Ok Elf32 else (if nat_eq n 2 then Ok Elf64 else Err (UnknownClass n))
+class_of n =
+    if nat_eq n 1 then Ok Elf32 else (if nat_eq n 2 then Ok Elf64 else Err (UnknownClass n))
 
 -- EI_DATA
 abbrev pub order_of : ℕ → Result RunTimeEndian ElfError

@@ -1,6 +1,7 @@
 pub mod Steps
 pub mod Fault
 pub mod Gives
+pub mod ElfNumbers
 pub mod Layout
 pub mod Header
 pub mod SectionHeader

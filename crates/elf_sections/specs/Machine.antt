@@ -1,14 +1,21 @@
--- What the kinds of relocations mean, by the machine (e_machine): those of the supplements to the System V ABI that compilers
--- write into debug sections.
-use Rattle.std.specs.Prelude.{ℕ, ◌+◌, ◌-◌, ◌*◌, ◌/◌, ◌%◌, ◌^◌, List, [], ◌∷◌, nat_eq, if◌then◌else◌, Option, Some, None, Result, Ok, Err}
+-- What the kinds of relocations mean, by the machine (e_machine): those of the supplements to the
+-- System V ABI that compilers write into debug sections.
+use Rattle.std.specs.Prelude.{ℕ, ◌+◌, ◌-◌, ◌*◌, ◌/◌, ◌%◌, ◌^◌, List, [], ◌∷◌, nat_eq, if◌then◌else◌}
+use Rattle.std.specs.Prelude.{Option, Some, None, Result, Ok, Err}
+use Rattle.elf_sections.specs.ElfNumbers.{EM_X86_64, EM_386, EM_AARCH64, EM_ARM, EM_RISCV, EM_PPC64}
+use Rattle.elf_sections.specs.ElfNumbers.{EM_S390}
 use Rattle.elf_sections.specs.declared.error.ElfError.{ElfError}
-use Rattle.elf_sections.specs.declared.error.ElfError.TheVariants.{UnknownMachine, UnknownRelocation}
+use Rattle.elf_sections.specs.declared.error.ElfError.TheVariants.{
+  UnknownMachine,
+  UnknownRelocation,
+}
 use Rattle.elf_sections.specs.declared.machine.Width.{Width}
 use Rattle.elf_sections.specs.declared.machine.Width.TheVariants.{One, Two, Four, Eight}
 use Rattle.elf_sections.specs.declared.machine.Change.{Change}
 use Rattle.elf_sections.specs.declared.machine.Change.TheVariants.{Nothing, Number}
 use Rattle.elf_sections.specs.declared.machine.Operation.{Operation}
-use Rattle.elf_sections.specs.declared.machine.Operation.TheVariants.{Address, Set, Add, Subtract, SetSix, SubtractSix}
+use Rattle.elf_sections.specs.declared.machine.Operation.TheVariants.{Address, Set, Add, Subtract}
+use Rattle.elf_sections.specs.declared.machine.Operation.TheVariants.{SetSix, SubtractSix}
 
 -- the change of a kind in a table
 abbrev pub change_in : List (ℕ × Change) → ℕ → Option Change
@@ -18,7 +25,8 @@ change_in (row ∷ rows) kind = if nat_eq kind row.0 then Some row.1 else change
 -- x86-64: R_X86_64_NONE, 64, 32 and 32S
 abbrev pub x86_64_kinds : List (ℕ × Change)
 x86_64_kinds =
-    (0, Nothing) ∷ (1, Number Address Eight) ∷ (10, Number Address Four) ∷ (11, Number Address Four) ∷ []
+    (0, Nothing) ∷ (1, Number Address Eight) ∷ (10, Number Address Four) ∷ (11, Number Address Four)
+    ∷ []
 
 -- i386: R_386_NONE and 32
 abbrev pub i386_kinds : List (ℕ × Change)
@@ -40,9 +48,11 @@ arm_kinds =
 abbrev pub riscv_kinds : List (ℕ × Change)
 riscv_kinds =
     (0, Nothing) ∷ (1, Number Address Four) ∷ (2, Number Address Eight) ∷ (33, Number Add One)
-    ∷ (34, Number Add Two) ∷ (35, Number Add Four) ∷ (36, Number Add Eight) ∷ (37, Number Subtract One)
+    ∷ (34, Number Add Two) ∷ (35, Number Add Four) ∷ (36, Number Add Eight)
+    ∷ (37, Number Subtract One)
     ∷ (38, Number Subtract Two) ∷ (39, Number Subtract Four) ∷ (40, Number Subtract Eight)
-    ∷ (52, Number SubtractSix One) ∷ (53, Number SetSix One) ∷ (54, Number Set One) ∷ (55, Number Set Two)
+    ∷ (52, Number SubtractSix One) ∷ (53, Number SetSix One) ∷ (54, Number Set One)
+    ∷ (55, Number Set Two)
     ∷ (56, Number Set Four) ∷ []
 
 -- 64-bit PowerPC: R_PPC64_NONE, ADDR32 and ADDR64
@@ -62,13 +72,13 @@ known kind None = Err (UnknownRelocation kind)
 
 abbrev pub change_of : ℕ → ℕ → Result Change ElfError
 change_of machine kind =
-    if nat_eq machine 62 then known kind (change_in x86_64_kinds kind) else (
-    if nat_eq machine 3 then known kind (change_in i386_kinds kind) else (
-    if nat_eq machine 183 then known kind (change_in aarch64_kinds kind) else (
-    if nat_eq machine 40 then known kind (change_in arm_kinds kind) else (
-    if nat_eq machine 243 then known kind (change_in riscv_kinds kind) else (
-    if nat_eq machine 21 then known kind (change_in powerpc64_kinds kind) else (
-    if nat_eq machine 22 then known kind (change_in s390x_kinds kind) else (
+    if nat_eq machine EM_X86_64 then known kind (change_in x86_64_kinds kind) else (
+    if nat_eq machine EM_386 then known kind (change_in i386_kinds kind) else (
+    if nat_eq machine EM_AARCH64 then known kind (change_in aarch64_kinds kind) else (
+    if nat_eq machine EM_ARM then known kind (change_in arm_kinds kind) else (
+    if nat_eq machine EM_RISCV then known kind (change_in riscv_kinds kind) else (
+    if nat_eq machine EM_PPC64 then known kind (change_in powerpc64_kinds kind) else (
+    if nat_eq machine EM_S390 then known kind (change_in s390x_kinds kind) else (
     Err (UnknownMachine machine))))))))
 
 -- the bytes of a number

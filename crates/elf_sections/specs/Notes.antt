@@ -1,7 +1,10 @@
 -- The notes of a section (System V ABI, chapter 5, "Note Section").
-use Rattle.std.specs.Prelude.{ℕ, ◌+◌, ◌*◌, ◌/◌, zero, suc, List, [], ◌∷◌, length, drop, slice_range, find, nat_eq, nat_lt, Bool, ◌&&◌, if◌then◌else◌, Option, Some, None}
+use Rattle.std.specs.Prelude.{ℕ, ◌+◌, ◌*◌, ◌/◌, zero, suc, List, [], ◌∷◌, length, drop, slice_range}
+use Rattle.std.specs.Prelude.{◌++◌, codes, find, nat_eq, nat_lt, Bool, ◌&&◌, if◌then◌else◌, Option}
+use Rattle.std.specs.Prelude.{Some, None}
 use Rattle.std.specs.Str.{bytes_eq}
 use Rattle.std.specs.Option.{option_map, option_map_or}
+use Rattle.elf_sections.specs.ElfNumbers.{NT_GNU_BUILD_ID}
 use Rattle.elf_sections.specs.Layout.{number_at}
 use Rattle.elf_sections.specs.declared.layout.Layout.{Layout}
 
@@ -51,10 +54,11 @@ notes_up_to (suc most) layout bytes =
 abbrev pub notes : Layout → List ℕ → List Note
 notes layout bytes = notes_up_to (length bytes) layout bytes
 
--- NT_GNU_BUILD_ID: the type is 3, and the name GNU with a zero byte
+-- a build id by its type, in the name of GNU, which a zero byte ends
 abbrev pub is_build_id : Note → Bool
-is_build_id note = nat_eq note.kind 3 && bytes_eq note.name (0x47 ∷ 0x4e ∷ 0x55 ∷ 0 ∷ [])
+is_build_id note = nat_eq note.kind NT_GNU_BUILD_ID && bytes_eq note.name (codes "GNU" ++ 0 ∷ [])
 
 -- the build id: the descriptor of the first such note
 abbrev pub build_id_in : Layout → List ℕ → Option (List ℕ)
-build_id_in layout bytes = option_map (λ note. note.descriptor) (find is_build_id (notes layout bytes))
+build_id_in layout bytes =
+    option_map (λ note. note.descriptor) (find is_build_id (notes layout bytes))

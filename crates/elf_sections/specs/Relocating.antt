@@ -1,6 +1,10 @@
--- Sections of object files, once their relocations are applied (System V ABI, chapter 4, "Relocation").
-use Rattle.std.specs.Prelude.{ℕ, ◌+◌, ◌-◌, ◌%◌, ◌^◌, List, length, filter, slice_get, nat_eq, nat_lt, Bool, false, not, ◌&&◌, if◌then◌else◌, Option, Some, None, Result, Ok, Err}
+-- Sections of object files, once their relocations are applied (System V ABI, chapter 4,
+-- "Relocation").
+use Rattle.std.specs.Prelude.{ℕ, ◌+◌, ◌-◌, ◌%◌, ◌^◌, List, length, filter, slice_get, nat_eq}
+use Rattle.std.specs.Prelude.{nat_lt, Bool, false, not, ◌&&◌, if◌then◌else◌, Option, Some, None}
+use Rattle.std.specs.Prelude.{Result, Ok, Err}
 use Rattle.std.specs.List.{position_from}
+use Rattle.elf_sections.specs.ElfNumbers.{SHF_ALLOC, SHN_XINDEX}
 use Rattle.elf_sections.specs.Steps.{◌>>=◌, steps}
 use Rattle.elf_sections.specs.Layout.{number_at, with_number}
 use Rattle.elf_sections.specs.SectionHeader.{is_active, has_flag}
@@ -25,18 +29,19 @@ use Rattle.elf_sections.specs.declared.symbol.Symbol.{Symbol}
 
 -- ---- one entry
 
--- SHF_ALLOC: the section is in memory when the program runs
+-- the section is in memory when the program runs
 abbrev pub is_in_memory : Option SectionHeader → Bool
-is_in_memory (Some header) = has_flag header 2
+is_in_memory (Some header) = has_flag header SHF_ALLOC
 is_in_memory None = false
 
--- the address of a symbol; none where it is in another section's memory than the one that counts. SHN_XINDEX says that the
--- section's index stands elsewhere
+-- the address of a symbol; none where it is in another section's memory than the one that counts.
+-- SHN_XINDEX says that the section's index stands elsewhere
 abbrev pub address_of : List SectionHeader → SectionPlace → Symbol → Result (Option ℕ) ElfError
 address_of headers AllAtZero symbol = Ok (Some symbol.value)
 address_of headers (Only index) symbol =
-    if nat_eq symbol.section 0xffff then Err SymbolSection
-    else (if not (nat_eq symbol.section index) && is_in_memory (slice_get headers symbol.section) then Ok None
+    if nat_eq symbol.section SHN_XINDEX then Err SymbolSection
+    else (if not (nat_eq symbol.section index) && is_in_memory (slice_get headers symbol.section)
+    then Ok None
     else Ok (Some symbol.value))
 
 -- a number and the addend, modulo 2 ^ 64. In SHT_REL the addend is what stands at the place
@@ -50,37 +55,45 @@ address_value addend old (Some address) = with_addend addend old address
 address_value addend old None = 2 ^ 64 - 1
 
 -- the value that is put at the place, added or subtracted
-abbrev pub value_of : Operation → List SectionHeader → SectionPlace → Symbol → Option ℕ → ℕ → Result ℕ ElfError
+abbrev pub value_of : Operation → List SectionHeader → SectionPlace → Symbol → Option ℕ → ℕ
+    → Result ℕ ElfError
 value_of Address headers place symbol addend old =
     address_of headers place symbol >>= λ address. Ok (address_value addend old address)
 value_of _ headers place symbol addend old = Ok (with_addend addend old symbol.value)
 
 -- the data, with another number at the place of an entry
-abbrev pub changed : File → SectionPlace → Operation → ℕ → Relocation → Symbol → List ℕ → Result (List ℕ) ElfError
+abbrev pub changed : File → SectionPlace → Operation → ℕ → Relocation → Symbol → List ℕ
+    → Result (List ℕ) ElfError
 changed file place operation size entry symbol bytes =
     if nat_lt (length bytes) (entry.offset + size) then Err RelocationOutside
     else (let old = number_at file.layout size entry.offset bytes in
     value_of operation file.headers place symbol entry.addend old >>= λ value.
     Ok (with_number file.layout size entry.offset (number_after operation old value) bytes))
 
-abbrev pub change_applied : File → SectionPlace → List (List ℕ) → Relocation → List ℕ → Change → Result (List ℕ) ElfError
+abbrev pub change_applied : File → SectionPlace → List (List ℕ) → Relocation → List ℕ → Change
+    → Result (List ℕ) ElfError
 change_applied file place symbols entry bytes Nothing = Ok bytes
 change_applied file place symbols entry bytes (Number operation width) =
     symbol_at file.layout symbols entry.symbol >>= λ symbol.
     changed file place operation (size_of width) entry symbol bytes
 
 -- the data, once an entry is applied to it
-abbrev pub applied : File → SectionPlace → List (List ℕ) → List ℕ → Relocation → Result (List ℕ) ElfError
+abbrev pub applied : File → SectionPlace → List (List ℕ) → List ℕ → Relocation
+    → Result (List ℕ) ElfError
 applied file place symbols bytes entry =
-    change_of file.machine entry.kind >>= λ change. change_applied file place symbols entry bytes change
+    change_of file.machine entry.kind >>= λ change.
+    change_applied file place symbols entry bytes change
 
 -- ---- all entries
 
 -- the data, once an entry of bytes is applied to it
-abbrev pub entry_applied : File → SectionPlace → Form → List (List ℕ) → List ℕ → List ℕ → Result (List ℕ) ElfError
-entry_applied file place form symbols bytes entry = applied file place symbols bytes (relocation file.layout form entry)
+abbrev pub entry_applied : File → SectionPlace → Form → List (List ℕ) → List ℕ → List ℕ
+    → Result (List ℕ) ElfError
+entry_applied file place form symbols bytes entry =
+    applied file place symbols bytes (relocation file.layout form entry)
 
--- the data, once the entries of a section are applied to it, in order. Their symbols are in the section of its link
+-- the data, once the entries of a section are applied to it, in order. Their symbols are in the
+-- section of its link
 abbrev pub section_applied : File → SectionPlace → List ℕ → SectionHeader → Result (List ℕ) ElfError
 section_applied file place bytes header =
     entries_at file.bytes (relocation_size file.layout.class (form_of header)) header >>= λ entries.
@@ -89,13 +102,16 @@ section_applied file place bytes header =
 
 -- the data of the section of an index, once all sections of its relocations are applied, in order
 abbrev pub all_applied : File → SectionPlace → ℕ → List ℕ → Result (List ℕ) ElfError
-all_applied file place index bytes = steps (section_applied file place) bytes (filter (relocates index) file.headers)
+all_applied file place index bytes =
+    steps (section_applied file place) bytes (filter (relocates index) file.headers)
 
 -- ---- a section by its name
 
 -- the index of the first section of a name
 abbrev pub index_of : File → List ℕ → Option ℕ
-index_of file name = position_from (λ header. is_active header && is_name_at file.names header.name name) 0 file.headers
+index_of file name =
+    position_from (λ header. is_active header && is_name_at file.names header.name name) 0
+    file.headers
 
 -- or else of the older form of the name
 abbrev pub index_or : Option ℕ → File → List ℕ → Option ℕ
@@ -110,10 +126,12 @@ applied_at file place bytes (Some index) = all_applied file place index bytes
 applied_at file place bytes None = Ok bytes
 
 -- the data of a section, relocated where the file isn't linked (ET_REL)
-abbrev pub relocated_data : File → SectionPlace → List ℕ → Option (List ℕ) → Result (Option (List ℕ)) ElfError
+abbrev pub relocated_data : File → SectionPlace → List ℕ → Option (List ℕ)
+    → Result (Option (List ℕ)) ElfError
 relocated_data file place name None = Ok None
 relocated_data file place name (Some bytes) =
-    if nat_eq file.kind 1 then some_of (applied_at file place bytes (data_index file name)) else Ok (Some bytes)
+    if nat_eq file.kind 1 then some_of (applied_at file place bytes (data_index file name))
+    else Ok (Some bytes)
 
 -- what the first section of a name holds, relocated
 abbrev pub relocated_at : File → SectionPlace → List ℕ → Result (Option (List ℕ)) ElfError

@@ -1,5 +1,7 @@
 -- The entries of relocation sections (System V ABI, chapter 4, "Relocation").
-use Rattle.std.specs.Prelude.{ℕ, ◌+◌, ◌-◌, ◌*◌, ◌/◌, ◌%◌, ◌^◌, List, nat_eq, nat_lt, Bool, ◌&&◌, ◌||◌, if◌then◌else◌, Option, Some, None}
+use Rattle.std.specs.Prelude.{ℕ, ◌+◌, ◌-◌, ◌*◌, ◌/◌, ◌%◌, ◌^◌, List, nat_eq, nat_lt, Bool, ◌&&◌}
+use Rattle.std.specs.Prelude.{◌||◌, if◌then◌else◌, Option, Some, None}
+use Rattle.elf_sections.specs.ElfNumbers.{SHT_RELA, SHT_REL}
 use Rattle.elf_sections.specs.Layout.{address_size, number_at}
 use Rattle.elf_sections.specs.declared.layout.Class.{Class}
 use Rattle.elf_sections.specs.declared.layout.Class.TheVariants.{Elf32, Elf64}
@@ -31,11 +33,13 @@ signed_of Elf64 n = n
 abbrev pub addend_of : Layout → Form → List ℕ → Option ℕ
 addend_of layout Rel bytes = None
 addend_of layout Rela bytes =
-    Some (signed_of layout.class (number_at layout (address_size layout.class) (2 * address_size layout.class) bytes))
+    Some (signed_of layout.class
+    (number_at layout (address_size layout.class) (2 * address_size layout.class) bytes))
 
 -- r_info
 abbrev pub info_of : Layout → List ℕ → ℕ
-info_of layout bytes = number_at layout (address_size layout.class) (address_size layout.class) bytes
+info_of layout bytes =
+    number_at layout (address_size layout.class) (address_size layout.class) bytes
 
 -- the entry that bytes begin with
 abbrev pub relocation : Layout → Form → List ℕ → Relocation
@@ -46,10 +50,11 @@ relocation layout form bytes = record {
   addend = addend_of layout form bytes;
 }
 
--- SHT_RELA, and otherwise SHT_REL
+-- the form of the entries of a section of relocations
 abbrev pub form_of : SectionHeader → Form
-form_of header = if nat_eq header.kind 4 then Rela else Rel
+form_of header = if nat_eq header.kind SHT_RELA then Rela else Rel
 
 -- whether a section has relocations of the section of an index (sh_info)
 abbrev pub relocates : ℕ → SectionHeader → Bool
-relocates index header = (nat_eq header.kind 4 || nat_eq header.kind 9) && nat_eq header.info index
+relocates index header =
+    (nat_eq header.kind SHT_RELA || nat_eq header.kind SHT_REL) && nat_eq header.info index

@@ -1,15 +1,21 @@
 -- What is read of a file to know its sections, part by part.
-use Rattle.std.specs.Prelude.{ℕ, ◌*◌, List, length, take, map, filter, find, slice_get, nat_eq, nat_lt, if◌then◌else◌, Option, Some, None, Result, Ok, Err}
+use Rattle.std.specs.Prelude.{ℕ, ◌*◌, List, length, take, map, filter, find, slice_get, nat_eq}
+use Rattle.std.specs.Prelude.{nat_lt, if◌then◌else◌, Option, Some, None, Result, Ok, Err}
 use Rattle.std.specs.Option.{option_map}
 use Rattle.elf_sections.specs.Steps.{◌>>=◌}
 use Rattle.elf_sections.specs.Layout.{layout_at}
 use Rattle.elf_sections.specs.Header.{header_at}
-use Rattle.elf_sections.specs.SectionHeader.{section_header_size, section_header, is_active, is_code}
+use Rattle.elf_sections.specs.SectionHeader.{section_header_size, section_header, is_active}
+use Rattle.elf_sections.specs.SectionHeader.{is_code}
 use Rattle.elf_sections.specs.Table.{Table, section_headers, count_of, names_index_of, is_name_at}
 use Rattle.elf_sections.specs.File.{File, file_at, section_at}
 use Rattle.elf_sections.specs.FileRange.{bytes_at, nowhere, range_in, or_refused, header_range}
 use Rattle.elf_sections.specs.declared.error.ElfError.{ElfError}
-use Rattle.elf_sections.specs.declared.error.ElfError.TheVariants.{SectionHeaderSize, SectionTableCut, NamesCut}
+use Rattle.elf_sections.specs.declared.error.ElfError.TheVariants.{
+  SectionHeaderSize,
+  SectionTableCut,
+  NamesCut,
+}
 use Rattle.elf_sections.specs.declared.file_range.FileRange.{FileRange}
 use Rattle.elf_sections.specs.declared.layout.Layout.{Layout}
 use Rattle.elf_sections.specs.declared.section_header.SectionHeader.{SectionHeader}
@@ -58,7 +64,8 @@ no_table file = record {
 abbrev pub table_with : FileHeader → SectionHeader → Result Place ElfError
 table_with file first =
     or_refused SectionTableCut
-    (range_in file.header.table_offset (count_of file.header first * file.header.entry_size) file.length)
+    (range_in file.header.table_offset (count_of file.header first * file.header.entry_size)
+    file.length)
     >>= λ range.
     Ok (record {
       layout = file.layout;

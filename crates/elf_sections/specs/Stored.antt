@@ -1,5 +1,7 @@
--- Where the data of a section are in a file that isn't read whole, and what they are once they are read.
+-- Where the data of a section are in a file that isn't read whole, and what they are once they are
+-- read.
 use Rattle.std.specs.Prelude.{ℕ, List, if◌then◌else◌, Option, Some, None, Result, Ok, Err}
+use Rattle.elf_sections.specs.ElfNumbers.{SHF_COMPRESSED}
 use Rattle.elf_sections.specs.Steps.{◌>>=◌}
 use Rattle.elf_sections.specs.SectionHeader.{has_flag}
 use Rattle.elf_sections.specs.Compression.{uncompressed, uncompressed_old, has_old_name, old_name}
@@ -16,19 +18,23 @@ use Rattle.elf_sections.specs.declared.stored.StoredSection.{StoredSection}
 
 -- ---- where they are, and how they are stored
 
-abbrev pub stored_at : Layout → StoredForm → Result FileRange ElfError → Result (Option StoredSection) ElfError
-stored_at layout form range = range >>= λ range. Ok (Some (record { layout = layout; range = range; form = form }))
+abbrev pub stored_at : Layout → StoredForm → Result FileRange ElfError
+    → Result (Option StoredSection) ElfError
+stored_at layout form range =
+    range >>= λ range. Ok (Some (record { layout = layout; range = range; form = form }))
 
--- SHF_COMPRESSED
+-- how a section that has its own name is stored
 abbrev pub stored_form : SectionHeader → StoredForm
-stored_form header = if has_flag header 0x800 then Compressed else Plain
+stored_form header = if has_flag header SHF_COMPRESSED then Compressed else Plain
 
 abbrev pub old_stored : Listed → Option SectionHeader → Result (Option StoredSection) ElfError
 old_stored list None = Ok None
 old_stored list (Some header) = stored_at list.layout Old (header_range list.length header)
 
-abbrev pub stored_or_old : Listed → List ℕ → Option SectionHeader → Result (Option StoredSection) ElfError
-stored_or_old list name (Some header) = stored_at list.layout (stored_form header) (stored_range list.length header)
+abbrev pub stored_or_old : Listed → List ℕ → Option SectionHeader
+    → Result (Option StoredSection) ElfError
+stored_or_old list name (Some header) =
+    stored_at list.layout (stored_form header) (stored_range list.length header)
 stored_or_old list name None =
     if has_old_name name then old_stored list (header_named list (old_name name)) else Ok None
 
@@ -52,7 +58,8 @@ abbrev pub data_there : List ℕ → Option StoredSection → Result (Option (Li
 data_there bytes None = Ok None
 data_there bytes (Some section) = some_of (stored_data section (bytes_at bytes section.range))
 
-abbrev pub data_at : List ℕ → Result (Option StoredSection) ElfError → Result (Option (List ℕ)) ElfError
+abbrev pub data_at : List ℕ → Result (Option StoredSection) ElfError
+    → Result (Option (List ℕ)) ElfError
 data_at bytes found = found >>= data_there bytes
 
 -- the data of a section of a file that is read whole

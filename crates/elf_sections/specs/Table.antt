@@ -1,9 +1,16 @@
 -- The section table of a file, and the names of its sections.
-use Rattle.std.specs.Prelude.{ℕ, ◌+◌, ◌*◌, List, [], ◌∷◌, ◌++◌, map, length, drop, slice_get, nat_eq, nat_lt, Bool, not, ◌&&◌, if◌then◌else◌, Option, Some, None, Result, Ok, Err}
+use Rattle.std.specs.Prelude.{ℕ, ◌+◌, ◌*◌, List, [], ◌∷◌, ◌++◌, map, length, drop, slice_get}
+use Rattle.std.specs.Prelude.{nat_eq, nat_lt, Bool, not, ◌&&◌, if◌then◌else◌, Option, Some, None}
+use Rattle.std.specs.Prelude.{Result, Ok, Err}
 use Rattle.std.specs.List.{range_with_len, list_all, starts_with}
+use Rattle.elf_sections.specs.ElfNumbers.{SHN_UNDEF, SHN_XINDEX}
 use Rattle.elf_sections.specs.SectionHeader.{section_header_size, section_header, section_bytes}
 use Rattle.elf_sections.specs.declared.error.ElfError.{ElfError}
-use Rattle.elf_sections.specs.declared.error.ElfError.TheVariants.{SectionHeaderSize, SectionTableCut, NamesCut}
+use Rattle.elf_sections.specs.declared.error.ElfError.TheVariants.{
+  SectionHeaderSize,
+  SectionTableCut,
+  NamesCut,
+}
 use Rattle.elf_sections.specs.declared.header.Header.{Header}
 use Rattle.elf_sections.specs.declared.layout.Layout.{Layout}
 use Rattle.elf_sections.specs.declared.section_header.SectionHeader.{SectionHeader}
@@ -24,7 +31,8 @@ count_of header first = if nat_eq header.count 0 then first.size else header.cou
 
 -- the index of the section of names: where e_shstrndx is SHN_XINDEX, as the link of section 0 says
 abbrev pub names_index_of : Header → SectionHeader → ℕ
-names_index_of header first = if nat_eq header.names_index 0xffff then first.link else header.names_index
+names_index_of header first =
+    if nat_eq header.names_index SHN_XINDEX then first.link else header.names_index
 
 -- the section table of a file; none where e_shoff is 0
 abbrev pub table_at : Layout → Header → List ℕ → Result Table ElfError
@@ -55,7 +63,8 @@ names_in file None = Err NamesCut
 -- the names of the sections; none where the index is SHN_UNDEF
 abbrev pub names_at : List ℕ → Table → Result (List ℕ) ElfError
 names_at file table =
-    if nat_eq table.names_index 0 then Ok [] else names_in file (slice_get table.headers table.names_index)
+    if nat_eq table.names_index SHN_UNDEF then Ok []
+    else names_in file (slice_get table.headers table.names_index)
 
 -- whether this text, which a zero byte ends, stands at an offset of the names
 abbrev pub is_name_at : List ℕ → ℕ → List ℕ → Bool

@@ -13,6 +13,15 @@ use crate::layout::Layout;
 use crate::note::{build_id_in, padded};
 
 /// The name of the file with a program's debug information (`.gnu_debuglink`).
+///
+/// <!-- part of crates/debug_files/src/program_file.rt -->
+/// ```rust
+/// let Some(link) = sections.debug_link(&section) else {
+///     return Ok(None);
+/// };
+/// match str::from_utf8(link.name) {
+///     Ok(name) => Ok(Some(Link {
+/// ```
 #[derive(Clone, Copy, Debug, PartialEq, Eq)]
 pub struct DebugLink<'a> {
     /// The name of the file, without a zero byte.

@@ -31,6 +31,14 @@ const REL: u16 = 1;
 const DEBUG: &[u8] = b".debug_";
 
 /// An ELF file, whose sections are looked up by their names.
+///
+/// <!-- part of crates/uses/src/where_is.rt -->
+/// ```rust
+/// fn section<'a>(elf: &Elf<'a>, name: &[u8]) -> Result<EndianSlice<'a, LittleEndian>> {
+///     let bytes = elf.section(name)?.unwrap_or(&[]);
+///     Ok(EndianSlice::new(bytes, LittleEndian))
+/// }
+/// ```
 #[derive(Clone, Copy, Debug)]
 pub struct Elf<'a> {
     pub(crate) bytes: &'a [u8],
@@ -84,8 +92,8 @@ impl<'a> Elf<'a> {
         self.layout.address_size()
     }
 
-    /// Whether this is an object file that isn't linked (`e_type` is `ET_REL`): its sections have no
-    /// addresses yet, and the addresses in them are still to be relocated.
+    /// Whether this is an object file that isn't linked (`e_type` is `ET_REL`): its sections have
+    /// no addresses yet, and the addresses in them are still to be relocated.
     pub fn is_relocatable(&self) -> bool
         ensures { result ≡ nat_eq (file_of self.now).kind 1 }
     {

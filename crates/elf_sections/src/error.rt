@@ -8,14 +8,25 @@ use std::alloc::AllocError;
 use std::fmt;
 
 /// Why a file isn't read as an ELF file, or a section of it isn't answered.
+///
+/// <!-- part of crates/checks_reading/src/sought.rt -->
+/// ```rust
+/// fn refusal_of_beginning(count: usize) -> ElfError {
+///     match count {
+///         0..=3 => ElfError::NotElf,
+///         4..=51 => ElfError::HeaderCut,
+///         _ => ElfError::SectionTableCut,
+///     }
+/// }
+/// ```
 #[derive(Clone, Copy, Debug, PartialEq, Eq)]
 pub enum ElfError {
     /// The file doesn't begin with the bytes 7f 45 4c 46 (`EI_MAG0` to `EI_MAG3`).
     NotElf,
     /// The class (`EI_CLASS`) is neither 1, for 32 bits, nor 2, for 64 bits.
     Class(u8),
-    /// The order of bytes (`EI_DATA`) is neither 1, the least significant one first, nor 2, the most
-    /// significant one first.
+    /// The order of bytes (`EI_DATA`) is neither 1, the least significant one first, nor 2, the
+    /// most significant one first.
     ByteOrder(u8),
     /// The version (`EI_VERSION`) isn't 1.
     Version(u8),

@@ -7,6 +7,15 @@ use crate::error::ElfError;
 use crate::section_header::{COMPRESSED, NOBITS, SectionHeader};
 
 /// A part of a file, which has no bytes where the size is 0.
+///
+/// <!-- part of crates/debug_files/src/outline.rt -->
+/// ```rust
+/// let start = FileRange {
+///     offset: 0,
+///     size: length.min(FileHeader::SIZE as u64),
+/// };
+/// let start = bytes_of(alloc, file, start)?;
+/// ```
 #[derive(Clone, Copy, Debug, PartialEq, Eq)]
 pub struct FileRange {
     /// How many bytes of the file come before it.

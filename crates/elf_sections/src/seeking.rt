@@ -34,6 +34,14 @@ use gimli_core::Endianity;
 const REL: u16 = 1;
 
 /// The header of a file, and the file's length.
+///
+/// <!-- part of crates/debug_files/src/outline.rt -->
+/// ```rust
+/// let start = bytes_of(alloc, file, start)?;
+/// let header = FileHeader::parse(&start, length)?;
+/// let first = bytes_of(alloc, file, header.first_entry()?)?;
+/// let table = header.table(&first)?;
+/// ```
 #[derive(Clone, Copy, Debug)]
 pub struct FileHeader {
     layout: Layout,
@@ -42,6 +50,13 @@ pub struct FileHeader {
 }
 
 /// Where the section table of a file is, and what is known of it before it is read.
+///
+/// <!-- part of crates/debug_files/src/outline.rt -->
+/// ```rust
+/// let table = header.table(&first)?;
+/// let entries = bytes_of(alloc, file, table.range())?;
+/// let names = bytes_of(alloc, file, table.names(&entries)?)?;
+/// ```
 #[derive(Clone, Copy, Debug)]
 pub struct FileTable {
     layout: Layout,
@@ -58,6 +73,17 @@ pub struct FileTable {
 }
 
 /// The sections of a file, by its section table and their names.
+///
+/// <!-- part of crates/checks_reading/src/sought.rt -->
+/// ```rust
+/// let sections = outline.sections()?;
+/// Ok((
+///     sections.is_big_endian(),
+///     sections.address_size(),
+///     sections.is_relocatable(),
+///     sections.lowest_code_address(),
+/// ))
+/// ```
 #[derive(Clone, Copy, Debug)]
 pub struct SectionList<'a> {
     pub(crate) layout: Layout,

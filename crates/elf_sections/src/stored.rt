@@ -31,6 +31,15 @@ pub(crate) enum StoredForm {
 }
 
 /// A section whose bytes aren't read yet: where they are, and how they are stored.
+///
+/// <!-- part of crates/debug_files/src/outline.rt -->
+/// ```rust
+/// let Some(section) = sections.stored(alloc, name)? else {
+///     return Ok(None);
+/// };
+/// let bytes = bytes_of(alloc, file, section.range())?;
+/// let held = section.section_data(alloc, bytes)?;
+/// ```
 #[derive(Clone, Copy, Debug)]
 pub struct StoredSection {
     layout: Layout,

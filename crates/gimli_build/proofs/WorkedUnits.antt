@@ -6,7 +6,8 @@ use Rattle.gimli_core.specs.declared.common.Format.{Format}
 use Rattle.gimli_core.specs.declared.common.Format.TheVariants.{Dwarf32, Dwarf64}
 use Rattle.gimli_bytes.specs.Number.{uleb}
 use Rattle.gimli_bytes.specs.declared.address.Address.TheVariants.{Constant, Symbol}
-use Rattle.gimli_bytes.specs.declared.error.Error.TheVariants.{IncompatibleLineProgramEncoding, UnsupportedVersion, NeedVersion, LineStringFormMismatch, ValueTooLarge, InvalidAddress}
+use Rattle.gimli_bytes.specs.declared.error.Error.TheVariants.{IncompatibleLineProgramEncoding, UnsupportedVersion, NeedVersion, LineStringFormMismatch}
+use Rattle.gimli_bytes.specs.declared.error.Error.TheVariants.{ValueTooLarge, InvalidAddress}
 use Rattle.gimli_bytes.specs.Texts.{texts_in, no_texts}
 use Rattle.gimli_build.specs.LineText.{LineText, Inline, InLineStrings}
 use Rattle.gimli_build.specs.Tables.{File, no_details}
@@ -156,7 +157,8 @@ two_operations : first_cause false unit_4 (bare_program 3 2 (SetAddress (Symbol 
 unfolding uleb base_byte
 two_operations = refl
 
-file_by_reference : first_cause false unit_4 (built unit_4 usual (((InLineStrings 0, 0), no_details) ∷ []) (SetAddress (Symbol 0 (pos 0)) ∷ [])) no_texts ≡ Some LineStringFormMismatch
+file_by_reference : first_cause false unit_4 (built unit_4 usual (((InLineStrings 0, 0), no_details) ∷ []) (SetAddress (Symbol 0 (pos 0)) ∷ [])) no_texts
+    ≡ Some LineStringFormMismatch
 unfolding uleb base_byte
 file_by_reference = refl
 
@@ -164,11 +166,13 @@ symbol_first : first_cause false unit_4 (bare_program 4 1 (SetAddress (Symbol 0 
 unfolding uleb base_byte
 symbol_first = refl
 
-wide_address_first : first_cause false unit_4 (bare_program 4 1 (SetAddress (Constant (2 ^ 32)) ∷ SetAddress (Symbol 0 (pos 0)) ∷ [])) no_texts ≡ Some ValueTooLarge
+wide_address_first : first_cause false unit_4 (bare_program 4 1 (SetAddress (Constant (2 ^ 32)) ∷ SetAddress (Symbol 0 (pos 0)) ∷ [])) no_texts
+    ≡ Some ValueTooLarge
 unfolding uleb base_byte
 wide_address_first = refl
 
-mismatched_directories : first_cause false encoding_5 (built_5 (Inline w ∷ InLineStrings 0 ∷ []) (a_c ∷ []) false []) (texts_in [] (w ∷ [])) ≡ Some LineStringFormMismatch
+mismatched_directories : first_cause false encoding_5 (built_5 (Inline w ∷ InLineStrings 0 ∷ []) (a_c ∷ []) false []) (texts_in [] (w ∷ []))
+    ≡ Some LineStringFormMismatch
 unfolding uleb base_byte
 mismatched_directories = refl
 

@@ -51,13 +51,19 @@ empty_built is_none encoding line_encoding directories files = record {
 abbrev pub no_program : Built
 no_program =
     empty_built true (record { address_size = 0; format = Dwarf32; version = 2 })
-    (record { minimum_instruction_length = 1; maximum_operations_per_instruction = 1; default_is_stmt = true; line_base = negsuc 4; line_range = 14 })
+    (record {
+      minimum_instruction_length = 1;
+      maximum_operations_per_instruction = 1;
+      default_is_stmt = true;
+      line_base = negsuc 4;
+      line_range = 14;
+    })
     [] []
 
 -- ---- positions and addresses
 
--- the offset and the operation that an item leaves off at: the sequence begins, or counts anew, after an end and a
--- set address
+-- the offset and the operation that an item leaves off at: the sequence begins, or counts anew,
+-- after an end and a set address
 abbrev pub position_after : BuiltItem → ℕ × ℕ
 position_after (Row r) = (r.address_offset, r.op_index)
 position_after (SetAddress a) = (0, 0)
@@ -72,8 +78,8 @@ abbrev pub address_value : Address → ℕ
 address_value (Constant a) = a
 address_value (Symbol symbol addend) = 0
 
--- the address that offsets count from after these items, the nearest first: the last that was set in the sequence,
--- else 0
+-- the address that offsets count from after these items, the nearest first: the last that was set
+-- in the sequence, else 0
 abbrev pub base_of : List BuiltItem → ℕ
 base_of [] = 0
 base_of (SetAddress a ∷ past) = address_value a

@@ -21,4 +21,6 @@ built_of a = record {
 }
 
 abbrev pub IsKept : Inside → Type 0
-IsKept a = IsProgram a.none a.encoding a.line_encoding a.tables.directories (keys_of a.tables.files) a.items
+IsKept a =
+    IsProgram a.none a.encoding a.line_encoding a.tables.directories (keys_of a.tables.files)
+    a.items

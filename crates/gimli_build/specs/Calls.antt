@@ -13,7 +13,8 @@ use Rattle.gimli_build.specs.declared.built.items.BuiltItem.TheVariants.{SetAddr
 
 -- after `new`: these tables, and nothing else is built yet
 abbrev pub new_program : Encoding → LineEncoding → Tables → Built
-new_program encoding line_encoding tables = empty_built false encoding line_encoding tables.directories tables.files
+new_program encoding line_encoding tables =
+    empty_built false encoding line_encoding tables.directories tables.files
 
 -- ---- tables
 
@@ -29,15 +30,26 @@ after_file key given p = record p { files = with_file p.files key given }
 
 -- after `begin_sequence`, with an address or without
 abbrev pub after_begin : Option Address → Built → Built
-after_begin address p = record p { items = p.items ++ option_to_list (option_map SetAddress address); in_sequence = true }
+after_begin address p = record p {
+  items = p.items ++ option_to_list (option_map SetAddress address);
+  in_sequence = true;
+}
 
 -- after `set_address`
 abbrev pub after_address : Address → Built → Built
-after_address address p = record p { items = p.items ++ SetAddress address ∷ []; row = row_after_address p.in_sequence p.row; in_sequence = true }
+after_address address p = record p {
+  items = p.items ++ SetAddress address ∷ [];
+  row = row_after_address p.in_sequence p.row;
+  in_sequence = true;
+}
 
 -- after `generate_row`, where this was the current row
 abbrev pub after_row : LineRow → Built → Built
-after_row row p = record p { items = p.items ++ Row row ∷ []; row = without_marks row; in_sequence = true }
+after_row row p = record p {
+  items = p.items ++ Row row ∷ [];
+  row = without_marks row;
+  in_sequence = true;
+}
 
 -- after `end_sequence` at this offset
 abbrev pub after_end : ℕ → Built → Built

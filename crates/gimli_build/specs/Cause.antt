@@ -1,5 +1,7 @@
 -- Why a unit can't be written: the first cause, in the order of what is written.
-use Rattle.std.specs.Prelude.{◌≡◌, ◌⊎◌, ℕ, ◌+◌, ◌^◌, List, [], ◌∷◌, ◌++◌, length, map, flat_map, drop, sum_by, unwrap_or, Bool, not, ◌&&◌, nat_eq, nat_le, nat_lt, if◌then◌else◌, Option, Some, None, Result, Ok, Err}
+use Rattle.std.specs.Prelude.{◌≡◌, ◌⊎◌, ℕ, ◌+◌, ◌^◌, List, [], ◌∷◌, ◌++◌, length, map, flat_map}
+use Rattle.std.specs.Prelude.{drop, sum_by, unwrap_or, Bool, not, ◌&&◌, nat_eq, nat_le, nat_lt}
+use Rattle.std.specs.Prelude.{if◌then◌else◌, Option, Some, None, Result, Ok, Err}
 use Rattle.gimli_core.specs.Numbers.{word_size}
 use Rattle.gimli_core.specs.declared.common.Encoding.{Encoding}
 use Rattle.gimli_core.specs.declared.common.Format.{Format}
@@ -7,13 +9,24 @@ use Rattle.gimli_core.specs.declared.common.Format.TheVariants.{Dwarf32, Dwarf64
 use Rattle.gimli_bytes.specs.Number.{uleb}
 use Rattle.gimli_bytes.specs.declared.address.Address.TheVariants.{Constant, Symbol}
 use Rattle.gimli_bytes.specs.declared.error.Error.{Error}
-use Rattle.gimli_bytes.specs.declared.error.Error.TheVariants.{OutOfMemory, IncompatibleLineProgramEncoding, UnsupportedVersion, NeedVersion, LineStringFormMismatch, ValueTooLarge, InvalidAddress, InitialLengthOverflow}
+use Rattle.gimli_bytes.specs.declared.error.Error.TheVariants.{
+  OutOfMemory,
+  IncompatibleLineProgramEncoding,
+  UnsupportedVersion,
+  NeedVersion,
+  LineStringFormMismatch,
+  ValueTooLarge,
+  InvalidAddress,
+  InitialLengthOverflow,
+}
 use Rattle.gimli_bytes.specs.Texts.{offset_of, StringTables}
 use Rattle.gimli_build.specs.Codes.{DW_FORM_string}
 use Rattle.gimli_build.specs.LineText.{LineText, Inline, InStrings, InLineStrings}
 use Rattle.gimli_build.specs.Tables.{File}
 use Rattle.gimli_build.specs.Built.{Built}
-use Rattle.gimli_build.specs.Version5Tables.{text_form, first_form, path_texts, sources, empty_text, texts_after, directory_formats, file_formats, formats_bytes, detail_bytes}
+use Rattle.gimli_build.specs.Version5Tables.{text_form, first_form, path_texts, sources, empty_text}
+use Rattle.gimli_build.specs.Version5Tables.{texts_after, directory_formats, file_formats}
+use Rattle.gimli_build.specs.Version5Tables.{formats_bytes, detail_bytes}
 use Rattle.gimli_build.specs.Unit.{is_incompatible, opcode_bytes, program_bytes}
 use Rattle.gimli_build.specs.declared.built.items.BuiltItem.{BuiltItem}
 use Rattle.gimli_build.specs.declared.built.items.BuiltItem.TheVariants.{SetAddress}
@@ -44,7 +57,8 @@ offset_cause format texts (InLineStrings i) = word_cause format (offset_of texts
 -- a text that hasn't the form of its table, or whose offset is too large
 abbrev pub text_cause : Format → StringTables → ℕ × LineText → Option Error
 text_cause format texts t =
-    first_of (cause_if (not (nat_eq (text_form t.1) t.0)) LineStringFormMismatch ∷ offset_cause format texts t.1 ∷ [])
+    first_of (cause_if (not (nat_eq (text_form t.1) t.0)) LineStringFormMismatch
+    ∷ offset_cause format texts t.1 ∷ [])
 
 -- the texts of a file in version 5: its path, and its source or the empty text
 abbrev pub file_texts : Built → StringTables → File → List (ℕ × LineText)
@@ -53,12 +67,14 @@ file_texts p texts f =
     (first_form (path_texts p.files), f.0.0)
     ∷ (if p.file_has_source then (form, unwrap_or f.1.source (empty_text form texts)) ∷ [] else [])
 
--- the texts that are emitted, in order, each with the form of its table's texts; up to version 4 that is the form
--- string, and the working directory isn't emitted
+-- the texts that are emitted, in order, each with the form of its table's texts; up to version 4
+-- that is the form string, and the working directory isn't emitted
 abbrev pub emitted_texts : Built → StringTables → List (ℕ × LineText)
 emitted_texts p texts =
-    if nat_le p.encoding.version 4 then map (λ t. (DW_FORM_string, t)) (drop 1 p.directories ++ path_texts p.files)
-    else map (λ t. (first_form p.directories, t)) p.directories ++ flat_map (file_texts p texts) p.files
+    if nat_le p.encoding.version 4
+    then map (λ t. (DW_FORM_string, t)) (drop 1 p.directories ++ path_texts p.files)
+    else map (λ t. (first_form p.directories, t)) p.directories
+    ++ flat_map (file_texts p texts) p.files
 
 -- a symbol as address, or a constant that is wider than an address
 abbrev pub item_cause : ℕ → BuiltItem → Option Error
@@ -75,40 +91,50 @@ text_size format t = word_size format
 
 -- a file up to version 4
 abbrev pub file_size : Format → File → ℕ
-file_size format f = text_size format f.0.0 + length (uleb f.0.1) + length (uleb f.1.timestamp) + length (uleb f.1.size)
+file_size format f =
+    text_size format f.0.0 + length (uleb f.0.1) + length (uleb f.1.timestamp)
+    + length (uleb f.1.size)
 
 -- a file of version 5
 abbrev pub entry_size : Built → StringTables → File → ℕ
 entry_size p texts f =
     sum_by (λ t. text_size p.encoding.format t.1) (file_texts p texts f) + length (detail_bytes p f)
 
--- the tables: up to version 4 each is closed by a zero byte; in version 5 formats and a number stand before each
+-- the tables: up to version 4 each is closed by a zero byte; in version 5 formats and a number
+-- stand before each
 abbrev pub tables_size : Built → StringTables → ℕ
 tables_size p texts =
     if nat_le p.encoding.version 4
-    then (sum_by (text_size p.encoding.format) (drop 1 p.directories) + 1) + (sum_by (file_size p.encoding.format) p.files + 1)
-    else (length (formats_bytes (directory_formats p)) + length (uleb (length p.directories)) + sum_by (text_size p.encoding.format) p.directories)
-    + (length (formats_bytes (file_formats p)) + length (uleb (length p.files)) + sum_by (entry_size p texts) p.files)
+    then (sum_by (text_size p.encoding.format) (drop 1 p.directories) + 1)
+    + (sum_by (file_size p.encoding.format) p.files + 1)
+    else (length (formats_bytes (directory_formats p)) + length (uleb (length p.directories))
+    + sum_by (text_size p.encoding.format) p.directories)
+    + (length (formats_bytes (file_formats p)) + length (uleb (length p.files))
+    + sum_by (entry_size p texts) p.files)
 
--- how many bytes the header length counts: the numbers of the line encoding, the opcode base and twelve operand counts,
--- and the tables
+-- how many bytes the header length counts: the numbers of the line encoding, the opcode base and
+-- twelve operand counts, and the tables
 abbrev pub header_length : Built → StringTables → ℕ
-header_length p texts = (if nat_le 4 p.encoding.version then 5 else 4) + length opcode_bytes + tables_size p texts
+header_length p texts =
+    (if nat_le 4 p.encoding.version then 5 else 4) + length opcode_bytes + tables_size p texts
 
 -- how many bytes are there, where nothing is refused
 abbrev pub size_of : Result (List ℕ) Error → ℕ
 size_of (Ok bytes) = length bytes
 size_of (Err e) = 0
 
--- how many bytes the unit length counts: the version and what stands with it, the header length and what it counts, and
--- the instructions
+-- how many bytes the unit length counts: the version and what stands with it, the header length and
+-- what it counts, and the instructions
 abbrev pub unit_length : Bool → Built → StringTables → ℕ
 unit_length big p texts =
-    (if nat_le p.encoding.version 4 then 2 else 4) + word_size p.encoding.format + header_length p texts + size_of (program_bytes big p)
+    (if nat_le p.encoding.version 4 then 2 else 4) + word_size p.encoding.format
+    + header_length p texts + size_of (program_bytes big p)
 
 -- the greatest words of the 32-bit format are reserved
 abbrev pub unit_length_cause : Format → ℕ → Option Error
-unit_length_cause Dwarf32 n = first_of (cause_if (nat_le (2 ^ 32) n) ValueTooLarge ∷ cause_if (nat_le 0xffff_fff0 n) InitialLengthOverflow ∷ [])
+unit_length_cause Dwarf32 n =
+    first_of (cause_if (nat_le (2 ^ 32) n) ValueTooLarge
+    ∷ cause_if (nat_le 0xffff_fff0 n) InitialLengthOverflow ∷ [])
 unit_length_cause Dwarf64 n = None
 
 -- ---- the first cause
@@ -119,8 +145,12 @@ first_cause big unit p handed =
     let texts = texts_after p handed in
     first_of (
     cause_if (is_incompatible unit p.encoding) IncompatibleLineProgramEncoding
-    ∷ cause_if (not (nat_le 2 p.encoding.version && nat_le p.encoding.version 5)) (UnsupportedVersion p.encoding.version)
-    ∷ cause_if (nat_lt p.encoding.version 4 && not (nat_eq p.line_encoding.maximum_operations_per_instruction 1)) (NeedVersion 4)
+    ∷ cause_if (not (nat_le 2 p.encoding.version && nat_le p.encoding.version 5))
+    (UnsupportedVersion p.encoding.version)
+    ∷ cause_if
+    (nat_lt p.encoding.version 4
+    && not (nat_eq p.line_encoding.maximum_operations_per_instruction 1))
+    (NeedVersion 4)
     ∷ first_of (map (text_cause p.encoding.format texts) (emitted_texts p texts))
     ∷ word_cause p.encoding.format (header_length p texts)
     ∷ first_of (map (item_cause p.encoding.address_size) p.items)

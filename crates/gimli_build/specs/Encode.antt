@@ -1,14 +1,33 @@
--- The instructions that a built row or end is written as, from the row before it (DWARF 5, section 6.2.5).
-use Rattle.std.specs.Prelude.{ℕ, ◌+◌, ◌-◌, ◌*◌, ◌/◌, Bool, true, false, not, ◌&&◌, nat_eq, nat_le, if◌then◌else◌, List, [], ◌∷◌, ◌++◌, ℤ, pos, ◌+ℤ◌, ◌-ℤ◌, unsigned_abs, int_le, int_lt}
+-- The instructions that a built row or end is written as, from the row before it (DWARF 5, section
+-- 6.2.5).
+use Rattle.std.specs.Prelude.{ℕ, ◌+◌, ◌-◌, ◌*◌, ◌/◌, Bool, true, false, not, ◌&&◌, nat_eq, nat_le}
+use Rattle.std.specs.Prelude.{if◌then◌else◌, List, [], ◌∷◌, ◌++◌, ℤ, pos, ◌+ℤ◌, ◌-ℤ◌, unsigned_abs}
+use Rattle.std.specs.Prelude.{int_le, int_lt}
 use Rattle.gimli_core.specs.declared.common.LineEncoding.{LineEncoding}
-use Rattle.gimli_line.specs.declared.run.instruction.LineInstruction.TheVariants.{Special, Copy, AdvancePc, AdvanceLine, SetFile, SetColumn, NegateStatement, SetBasicBlock, ConstAddPc, SetPrologueEnd, SetEpilogueBegin, SetIsa, EndSequence, SetDiscriminator}
+use Rattle.gimli_line.specs.declared.run.instruction.LineInstruction.TheVariants.{
+  Special,
+  Copy,
+  AdvancePc,
+  AdvanceLine,
+  SetFile,
+  SetColumn,
+  NegateStatement,
+  SetBasicBlock,
+  ConstAddPc,
+  SetPrologueEnd,
+  SetEpilogueBegin,
+  SetIsa,
+  EndSequence,
+  SetDiscriminator,
+}
 use Rattle.gimli_line.specs.run.Instruction.{Ins}
 use Rattle.gimli_build.specs.declared.built.row.LineRow.{LineRow}
 use Rattle.gimli_build.specs.Due.{when}
 use Rattle.gimli_build.specs.FileNumber.{file_number}
 use Rattle.gimli_build.specs.Advance.{operations}
 
--- the opcode base of each program that is built: the first special opcode, after the twelve standard ones
+-- the opcode base of each program that is built: the first special opcode, after the twelve
+-- standard ones
 abbrev pub built_opcode_base : ℕ
 built_opcode_base = 13
 
@@ -44,9 +63,12 @@ still_opcode e = built_opcode_base + unsigned_abs e.line_base
 abbrev pub is_special_advance : LineEncoding → ℤ → Bool
 is_special_advance e d = int_le e.line_base d && int_lt d (e.line_base +ℤ pos e.line_range)
 
--- the special opcode that is due for a line advance: that advance, where special opcodes have it, and no operation
+-- the special opcode that is due for a line advance: that advance, where special opcodes have it,
+-- and no operation
 abbrev pub line_opcode : LineEncoding → ℤ → ℕ
-line_opcode e d = if is_special_advance e d then built_opcode_base + unsigned_abs (d -ℤ e.line_base) else still_opcode e
+line_opcode e d =
+    if is_special_advance e d then built_opcode_base + unsigned_abs (d -ℤ e.line_base)
+    else still_opcode e
 
 -- what comes before it
 abbrev pub line_part : LineEncoding → ℤ → List Ins
@@ -62,8 +84,8 @@ constant_advance e = 242 / e.line_range
 abbrev pub row_maker : LineEncoding → ℕ → Ins
 row_maker e s = if nat_eq s (still_opcode e) then Copy else Special s
 
--- n operations, and a row, where this special opcode is due for the line: by one special opcode, by const_add_pc and
--- another one, or by advance_pc
+-- n operations, and a row, where this special opcode is due for the line: by one special opcode, by
+-- const_add_pc and another one, or by advance_pc
 abbrev pub operation_part : LineEncoding → ℕ → ℕ → List Ins
 operation_part e s n =
     if nat_le (s + n * e.line_range) 255 then row_maker e (s + n * e.line_range) ∷ []
@@ -77,8 +99,10 @@ operation_part e s n =
 abbrev pub row_instructions : ℕ → LineEncoding → LineRow → LineRow → List Ins
 row_instructions version e previous row =
     let d = pos row.line -ℤ pos previous.line in
-    let n = operations e previous.address_offset previous.op_index row.address_offset row.op_index in
-    marks row ++ changes version previous row ++ line_part e d ++ operation_part e (line_opcode e d) n
+    let n =
+    operations e previous.address_offset previous.op_index row.address_offset row.op_index in
+    marks row ++ changes version previous row ++ line_part e d
+    ++ operation_part e (line_opcode e d) n
 
 -- an end at an offset and an operation
 abbrev pub end_instructions : LineEncoding → LineRow → ℕ → ℕ → List Ins

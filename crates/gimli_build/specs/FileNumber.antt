@@ -1,7 +1,8 @@
 -- How the rows of a program number the files (DWARF 5, section 6.2.2).
 use Rattle.std.specs.Prelude.{ℕ, ◌+◌, nat_eq, nat_le, if◌then◌else◌}
 
--- the number of the file with this index: they count from 1 on up to version 4, and from 0 on in the later ones
+-- the number of the file with this index: they count from 1 on up to version 4, and from 0 on in
+-- the later ones
 abbrev pub file_number : ℕ → ℕ → ℕ
 file_number version index = if nat_le version 4 then index + 1 else index
 

@@ -8,5 +8,6 @@ use Rattle.gimli_bytes.specs.declared.error.Error.TheVariants.{ValueTooLarge}
 
 -- four bytes in the 32-bit format; eight in the 64-bit format, which hold the length of any section
 abbrev pub format_word : Bool → Format → ℕ → Result (List ℕ) Error
-format_word big Dwarf32 n = if nat_lt n (2 ^ 32) then Ok (number_bytes big 4 n) else Err ValueTooLarge
+format_word big Dwarf32 n =
+    if nat_lt n (2 ^ 32) then Ok (number_bytes big 4 n) else Err ValueTooLarge
 format_word big Dwarf64 n = Ok (number_bytes big 8 n)

@@ -1,14 +1,35 @@
 -- The bytes of instructions as they are written (DWARF 5, sections 6.2.5.2 and 6.2.5.3).
-use Rattle.std.specs.Prelude.{ℕ, ◌+◌, ◌^◌, ◌<◌, ◌≤◌, Bool, List, [], ◌∷◌, ◌++◌, length, flat_map, Result, FitsSigned}
+use Rattle.std.specs.Prelude.{ℕ, ◌+◌, ◌^◌, ◌<◌, ◌≤◌, Bool, List, [], ◌∷◌, ◌++◌, length, flat_map}
+use Rattle.std.specs.Prelude.{Result, FitsSigned}
 use Rattle.std.specs.Int.{w64}
 use Rattle.gimli_core.specs.Reading.{result_map}
 use Rattle.gimli_bytes.specs.Number.{uleb, sleb, address_bytes}
 use Rattle.gimli_bytes.specs.declared.address.Address.{Address}
 use Rattle.gimli_bytes.specs.declared.error.Error.{Error}
-use Rattle.gimli_line.specs.declared.run.instruction.LineInstruction.TheVariants.{Special, Copy, AdvancePc, AdvanceLine, SetFile, SetColumn, NegateStatement, SetBasicBlock, ConstAddPc, SetPrologueEnd, SetEpilogueBegin, SetIsa, EndSequence, SetDiscriminator}
+use Rattle.gimli_line.specs.declared.run.instruction.LineInstruction.TheVariants.{
+  Special,
+  Copy,
+  AdvancePc,
+  AdvanceLine,
+  SetFile,
+  SetColumn,
+  NegateStatement,
+  SetBasicBlock,
+  ConstAddPc,
+  SetPrologueEnd,
+  SetEpilogueBegin,
+  SetIsa,
+  EndSequence,
+  SetDiscriminator,
+}
 use Rattle.gimli_line.specs.run.Instruction.{Ins}
 use Rattle.gimli_build.specs.declared.built.row.LineRow.{LineRow}
-use Rattle.gimli_build.specs.Codes.{DW_LNE_end_sequence, DW_LNE_set_address, DW_LNE_set_discriminator, DW_LNS_advance_line, DW_LNS_advance_pc, DW_LNS_const_add_pc, DW_LNS_copy, DW_LNS_negate_stmt, DW_LNS_set_basic_block, DW_LNS_set_column, DW_LNS_set_epilogue_begin, DW_LNS_set_file, DW_LNS_set_isa, DW_LNS_set_prologue_end}
+use Rattle.gimli_build.specs.Codes.{DW_LNE_end_sequence, DW_LNE_set_address}
+use Rattle.gimli_build.specs.Codes.{DW_LNE_set_discriminator, DW_LNS_advance_line}
+use Rattle.gimli_build.specs.Codes.{DW_LNS_advance_pc, DW_LNS_const_add_pc, DW_LNS_copy}
+use Rattle.gimli_build.specs.Codes.{DW_LNS_negate_stmt, DW_LNS_set_basic_block, DW_LNS_set_column}
+use Rattle.gimli_build.specs.Codes.{DW_LNS_set_epilogue_begin, DW_LNS_set_file, DW_LNS_set_isa}
+use Rattle.gimli_build.specs.Codes.{DW_LNS_set_prologue_end}
 use Rattle.gimli_build.specs.FileNumber.{file_number}
 use Rattle.gimli_build.specs.Encode.{built_opcode_base}
 
@@ -38,7 +59,8 @@ instructions_bytes list = flat_map instruction_bytes list
 -- a set address: what a symbol stands for isn't known
 abbrev pub set_address_bytes : Bool → Address → ℕ → Result (List ℕ) Error
 set_address_bytes big address size =
-    result_map (λ operand. 0 ∷ uleb (size + 1) ++ DW_LNE_set_address ∷ operand) (address_bytes big address size)
+    result_map (λ operand. 0 ∷ uleb (size + 1) ++ DW_LNE_set_address ∷ operand)
+    (address_bytes big address size)
 
 -- an instruction that rows and ends are written with, whose operand 64 bits hold
 abbrev pub IsWritten : Ins → Type 0

@@ -1,5 +1,6 @@
 -- The instructions of built items, and the rows that they are read as.
-use Rattle.std.specs.Prelude.{ℕ, ◌+◌, ◌-◌, ◌*◌, ◌^◌, ◌<◌, ◌≤◌, Bool, List, [], ◌∷◌, ◌++◌, Result, Ok}
+use Rattle.std.specs.Prelude.{ℕ, ◌+◌, ◌-◌, ◌*◌, ◌^◌, ◌<◌, ◌≤◌, Bool, List, [], ◌∷◌, ◌++◌, Result}
+use Rattle.std.specs.Prelude.{Ok}
 use Rattle.gimli_core.specs.declared.common.Encoding.{Encoding}
 use Rattle.gimli_core.specs.declared.common.LineEncoding.{LineEncoding}
 use Rattle.gimli_bytes.specs.declared.error.Error.{Error}
@@ -12,54 +13,79 @@ use Rattle.gimli_build.specs.declared.built.items.BuiltItem.TheVariants.{SetAddr
 use Rattle.gimli_build.specs.Built.{address_value, position_after}
 use Rattle.gimli_build.specs.Rows.{initial_row}
 use Rattle.gimli_build.specs.Encode.{row_instructions, end_instructions}
-use Rattle.gimli_build.specs.InstructionBytes.{instructions_bytes, set_address_bytes, FitsInstructions}
+use Rattle.gimli_build.specs.InstructionBytes.{
+  instructions_bytes,
+  set_address_bytes,
+  FitsInstructions,
+}
 use Rattle.gimli_build.specs.SameRow.{read_row, read_end}
 use Rattle.gimli_build.specs.Joined.{result_append}
 
--- the row that the next item follows: after a set address offsets count anew, after an end a sequence starts
+-- the row that the next item follows: after a set address offsets count anew, after an end a
+-- sequence starts
 abbrev pub next_previous : ℕ → Bool → LineRow → BuiltItem → LineRow
-next_previous version is_stmt previous (SetAddress a) = record previous { address_offset = 0; op_index = 0 }
+next_previous version is_stmt previous (SetAddress a) = record previous {
+  address_offset = 0;
+  op_index = 0;
+}
 next_previous version is_stmt previous (Row r) = r
 next_previous version is_stmt previous (End offset op_index) = initial_row version is_stmt
 
 abbrev pub item_instructions : ℕ → LineEncoding → LineRow → BuiltItem → List Ins
 item_instructions version e previous (SetAddress a) = read.SetAddress (address_value a) ∷ []
 item_instructions version e previous (Row r) = row_instructions version e previous r
-item_instructions version e previous (End offset op_index) = end_instructions e previous offset op_index
+item_instructions version e previous (End offset op_index) =
+    end_instructions e previous offset op_index
 
 -- items one after the other, from the row before the first
 abbrev pub items_instructions : ℕ → LineEncoding → LineRow → List BuiltItem → List Ins
 items_instructions version e previous [] = []
 items_instructions version e previous (item ∷ items) =
-    item_instructions version e previous item ++ items_instructions version e (next_previous version e.default_is_stmt previous item) items
+    item_instructions version e previous item
+    ++ items_instructions version e (next_previous version e.default_is_stmt previous item) items
 
 -- the rows that they are read as, where the address `base` was set before them
 abbrev pub items_rows : ℕ → LineEncoding → ℕ → LineRow → List BuiltItem → List ReadRow
 items_rows version e base previous [] = []
-items_rows version e base previous (SetAddress a ∷ items) = items_rows version e (address_value a) (next_previous version e.default_is_stmt previous (SetAddress a)) items
-items_rows version e base previous (Row r ∷ items) = read_row version base r ∷ items_rows version e base r items
-items_rows version e base previous (End offset op_index ∷ items) = read_end version base previous offset op_index ∷ items_rows version e 0 (initial_row version e.default_is_stmt) items
+items_rows version e base previous (SetAddress a ∷ items) =
+    items_rows version e (address_value a)
+    (next_previous version e.default_is_stmt previous (SetAddress a)) items
+items_rows version e base previous (Row r ∷ items) =
+    read_row version base r ∷ items_rows version e base r items
+items_rows version e base previous (End offset op_index ∷ items) =
+    read_end version base previous offset op_index
+    ∷ items_rows version e 0 (initial_row version e.default_is_stmt) items
 
--- addresses hold them, and none of them is a tombstone: each set address is at least the address reached, and isn't
--- one of the two greatest, which stand for nothing
+-- addresses hold them, and none of them is a tombstone: each set address is at least the address
+-- reached, and isn't one of the two greatest, which stand for nothing
 abbrev pub AddressesFit : ℕ → ℕ → ℕ × ℕ → List BuiltItem → Type 0
 AddressesFit size base position [] = Unit {0}
-AddressesFit size base position (SetAddress a ∷ items) = (base + position.0 ≤ address_value a) × (address_value a < 2 ^ (8 * size) - 2) × AddressesFit size (address_value a) (position_after (SetAddress a)) items
-AddressesFit size base position (Row r ∷ items) = (base + r.address_offset < 2 ^ (8 * size)) × AddressesFit size base (position_after (Row r)) items
-AddressesFit size base position (End offset op_index ∷ items) = (base + offset < 2 ^ (8 * size)) × AddressesFit size 0 (position_after (End offset op_index)) items
+AddressesFit size base position (SetAddress a ∷ items) =
+    (base + position.0 ≤ address_value a) × (address_value a < 2 ^ (8 * size) - 2)
+    × AddressesFit size (address_value a) (position_after (SetAddress a)) items
+AddressesFit size base position (Row r ∷ items) =
+    (base + r.address_offset < 2 ^ (8 * size))
+    × AddressesFit size base (position_after (Row r)) items
+AddressesFit size base position (End offset op_index ∷ items) =
+    (base + offset < 2 ^ (8 * size))
+    × AddressesFit size 0 (position_after (End offset op_index)) items
 
 -- ---- their bytes
 
 abbrev pub item_bytes : Bool → Encoding → LineEncoding → LineRow → BuiltItem → Result (List ℕ) Error
 item_bytes big encoding e previous (SetAddress a) = set_address_bytes big a encoding.address_size
-item_bytes big encoding e previous (Row r) = Ok (instructions_bytes (row_instructions encoding.version e previous r))
-item_bytes big encoding e previous (End offset op_index) = Ok (instructions_bytes (end_instructions e previous offset op_index))
+item_bytes big encoding e previous (Row r) =
+    Ok (instructions_bytes (row_instructions encoding.version e previous r))
+item_bytes big encoding e previous (End offset op_index) =
+    Ok (instructions_bytes (end_instructions e previous offset op_index))
 
 -- items, from the row before the first, or the refusal of the first set address that has one
-abbrev pub items_bytes : Bool → Encoding → LineEncoding → LineRow → List BuiltItem → Result (List ℕ) Error
+abbrev pub items_bytes : Bool → Encoding → LineEncoding → LineRow → List BuiltItem
+    → Result (List ℕ) Error
 items_bytes big encoding e previous [] = Ok []
 items_bytes big encoding e previous (item ∷ items) =
-    result_append (item_bytes big encoding e previous item) (items_bytes big encoding e (next_previous encoding.version e.default_is_stmt previous item) items)
+    result_append (item_bytes big encoding e previous item) (items_bytes big encoding e
+    (next_previous encoding.version e.default_is_stmt previous item) items)
 
 -- 64 bits hold the numbers of the rows, as they do in any program
 abbrev pub FitsItem : ℕ → BuiltItem → Type 0

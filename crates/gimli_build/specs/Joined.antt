@@ -1,4 +1,5 @@
--- Bytes that are written one part after the other, where each part may be refused: the first refusal counts.
+-- Bytes that are written one part after the other, where each part may be refused: the first
+-- refusal counts.
 use Rattle.std.specs.Prelude.{ℕ, List, [], ◌∷◌, ◌++◌, length, Result, Ok, Err}
 use Rattle.gimli_bytes.specs.declared.error.Error.{Error}
 
@@ -9,11 +10,13 @@ result_append (Ok first) (Err e) = Err e
 result_append (Err e) rest = Err e
 
 -- the parts of a list
-abbrev pub result_concat : {A : Type 0} → (A → Result (List ℕ) Error) → List A → Result (List ℕ) Error
+abbrev pub result_concat : {A : Type 0} → (A → Result (List ℕ) Error) → List A
+    → Result (List ℕ) Error
 result_concat part [] = Ok []
 result_concat part (x ∷ xs) = result_append (part x) (result_concat part xs)
 
 -- bytes after their length; the length is refused last, since it is known last
-abbrev pub after_length : (ℕ → Result (List ℕ) Error) → Result (List ℕ) Error → Result (List ℕ) Error
+abbrev pub after_length : (ℕ → Result (List ℕ) Error) → Result (List ℕ) Error
+    → Result (List ℕ) Error
 after_length length_of (Ok bytes) = result_append (length_of (length bytes)) (Ok bytes)
 after_length length_of (Err e) = Err e

@@ -16,4 +16,6 @@ lends_row p r = Lends the_row row_row p r (λ row. record p.now { row = row })
 
 -- the program ends with the details that were last written through r
 abbrev pub lends_info : MutBor Built → ℕ → MutBor FileInfo → Fml
-lends_info p i r = Lends the_row info_row p r (λ info. record p.now { files = with_details p.now.files i (details info) })
+lends_info p i r =
+    Lends the_row info_row p r (λ info.
+    record p.now { files = with_details p.now.files i (details info) })

@@ -1,8 +1,13 @@
 -- Texts of a line program, without where they lie in memory.
-use Rattle.std.specs.Prelude.{◌≢◌, ℕ, ◌<◌, Bool, false, List, [], length, slice_get, unwrap_or, bytes_eq, nat_eq, nat_le, if◌then◌else◌, All}
+use Rattle.std.specs.Prelude.{◌≢◌, ℕ, ◌<◌, Bool, false, List, [], length, slice_get, unwrap_or}
+use Rattle.std.specs.Prelude.{bytes_eq, nat_eq, nat_le, if◌then◌else◌, All}
 use Rattle.gimli_bytes.specs.Texts.{with_text, index_of_text, StringTables}
 use Rattle.gimli_build.specs.declared.built.line_string.LineString.{LineString}
-use Rattle.gimli_build.specs.declared.built.line_string.LineString.TheVariants.{String, StringRef, LineStringRef}
+use Rattle.gimli_build.specs.declared.built.line_string.LineString.TheVariants.{
+  String,
+  StringRef,
+  LineStringRef,
+}
 
 -- a text: its bytes, or its index in the table of strings or of line strings
 pub data LineText : Type 0 where
@@ -37,10 +42,12 @@ bytes_in texts (InLineStrings i) = unwrap_or (slice_get texts.line_strings i) []
 
 -- bytes as a text of a program of this version, and the line strings with it
 abbrev pub made_text : ℕ → List (List ℕ) → List ℕ → LineText
-made_text version line_strings bytes = if nat_le version 4 then Inline bytes else InLineStrings (index_of_text line_strings bytes)
+made_text version line_strings bytes =
+    if nat_le version 4 then Inline bytes else InLineStrings (index_of_text line_strings bytes)
 
 abbrev pub made_table : ℕ → List (List ℕ) → List ℕ → List (List ℕ)
-made_table version line_strings bytes = if nat_le version 4 then line_strings else with_text line_strings bytes
+made_table version line_strings bytes =
+    if nat_le version 4 then line_strings else with_text line_strings bytes
 
 -- ---- what the texts of directories and files may be
 

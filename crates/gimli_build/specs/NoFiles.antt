@@ -16,4 +16,6 @@ pub record DefinesNoFile (a : RunState) : Type 0 where
 
 -- rows at the start of the program of a header
 abbrev pub program_started : Bool → Header → Notation → ℕ → HeaderOrders → RunState
-program_started appends h notation offset orders = start_of_run appends h notation offset orders (record { bytes = h.program; notation = notation })
+program_started appends h notation offset orders =
+    start_of_run appends h notation offset orders
+    (record { bytes = h.program; notation = notation })

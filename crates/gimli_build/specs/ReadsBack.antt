@@ -1,5 +1,6 @@
 -- What is read of a unit that was built.
-use Rattle.std.specs.Prelude.{◌≡◌, ℕ, ◌-◌, ◌<◌, ◌≤◌, All, List, [], ◌++◌, length, map, slice_get, Bool, false, None, option_map, nat_le, if◌then◌else◌}
+use Rattle.std.specs.Prelude.{◌≡◌, ℕ, ◌-◌, ◌<◌, ◌≤◌, All, List, [], ◌++◌, length, map, slice_get}
+use Rattle.std.specs.Prelude.{Bool, false, None, option_map, nat_le, if◌then◌else◌}
 use Rattle.std.specs.Option.{option_to_list}
 use Rattle.gimli_core.specs.Notation.{Notation}
 use Rattle.gimli_core.specs.Values.{Value}
@@ -25,20 +26,25 @@ use Rattle.gimli_build.specs.Built.{Built}
 use Rattle.gimli_build.specs.Unit.{operand_counts}
 use Rattle.gimli_build.specs.Cause.{emitted_texts}
 
--- the bytes are a unit with this header and nothing after it, and between the tables and the program there is nothing
-pub record IsUnit (notation : Notation) (unit_entry : UnitEntry) (unit : List ℕ) (h : Header) : Type 0 where
+-- the bytes are a unit with this header and nothing after it, and between the tables and the
+-- program there is nothing
+pub record IsUnit (notation : Notation) (unit_entry : UnitEntry) (unit : List ℕ) (h : Header)
+    : Type 0 where
   pub spelled : (header_production notation unit_entry).Spells unit h
-  -- the version, the header length and so on; its `fields` are the bytes that the header length counts
+  -- the version, the header length and so on; its `fields` are the bytes that the header length
+  -- counts
   pub opening : Opening
   pub before : List ℕ
   pub parts : unit ≡ before ++ opening.fields ++ h.program
   pub whole : length opening.fields ≡ h.header_length
-  pub no_slack : (fields_production notation unit_entry h.unit_length opening h.program).Spells opening.fields h
+  pub no_slack : (fields_production notation unit_entry h.unit_length opening h.program).Spells
+      opening.fields h
 
 -- the directories from index 0 on: up to version 4 the one that was handed is the first
 abbrev pub directories_from_zero : Header → List Value
 directories_from_zero h =
-    if nat_le h.parameters.encoding.version 4 then option_to_list (option_map String h.comp_dir) ++ h.directories else h.directories
+    if nat_le h.parameters.encoding.version 4
+    then option_to_list (option_map String h.comp_dir) ++ h.directories else h.directories
 
 -- a content type and a form as they are read
 abbrev pub table_format : ℕ × ℕ → FileEntryFormat
@@ -54,7 +60,8 @@ abbrev pub IsDirectory : Sections → StringTables → Value → LineText → Ty
 IsDirectory sections texts read built = IsText sections read (bytes_in texts built)
 
 -- a read file stands for a built one, with what was stored of it
-pub record IsFile (sections : Sections) (p : Built) (texts : StringTables) (read : ReadFile) (built : File) : Type 0 where
+pub record IsFile (sections : Sections) (p : Built) (texts : StringTables) (read : ReadFile)
+    (built : File) : Type 0 where
   pub path : IsText sections read.path_name (bytes_in texts built.0.0)
   pub directory : read.directory_index ≡ built.0.1
   pub timestamp : read.timestamp ≡ (stored_details p texts built.1).timestamp
@@ -66,20 +73,24 @@ pub record IsFile (sections : Sections) (p : Built) (texts : StringTables) (read
 abbrev pub DecodesAs : Notation → Header → Built → Type 0
 DecodesAs notation h p = Decodes notation h h.program (program_instructions p) None
 
--- the bytes are a unit, and what is read of it is what was built: the encodings, the directories and the files with
--- these tables and these sections, and the instructions of each item, up to the end of the program. Where addresses hold
--- the items, and none is a tombstone, its events are the built rows and ends
-pub record ReadsBack (notation : Notation) (unit_entry : UnitEntry) (sections : Sections) (p : Built) (texts : StringTables) (unit : List ℕ) : Type 0 where
+-- the bytes are a unit, and what is read of it is what was built: the encodings, the directories
+-- and the files with these tables and these sections, and the instructions of each item, up to the
+-- end of the program. Where addresses hold the items, and none is a tombstone, its events are the
+-- built rows and ends
+pub record ReadsBack (notation : Notation) (unit_entry : UnitEntry) (sections : Sections)
+    (p : Built) (texts : StringTables) (unit : List ℕ) : Type 0 where
   pub header : Header
   pub is_unit : IsUnit notation unit_entry unit header
   pub parameters : header.parameters ≡ built_rules p.encoding p.line_encoding
   pub counts : header.operand_counts ≡ operand_counts
   pub formats : nat_le p.encoding.version 4 ≡ false → AreFormats p header
-  pub directories : OneByOne (IsDirectory sections texts) (directories_from_zero header) p.directories
+  pub directories : OneByOne (IsDirectory sections texts) (directories_from_zero header)
+      p.directories
   pub files : OneByOne (IsFile sections p texts) header.files p.files
   pub decoding : DecodesAs notation header p
   pub rows : AddressesFit p.encoding.address_size 0 (0, 0) p.items
-      → (rows : List ReadRow) × Events notation header header.program (map row rows) × RowsMatch p.encoding.version [] p.items rows
+      → (rows : List ReadRow) × Events notation header header.program (map row rows)
+      × RowsMatch p.encoding.version [] p.items rows
 
 -- an offset of a reader is below this limit, and holds the offset that stands for a text
 abbrev pub IsOffsetHeld : ℕ → StringTables → LineText → Type 0
@@ -87,17 +98,21 @@ IsOffsetHeld limit texts (Inline text) = Unit {0}
 IsOffsetHeld limit texts (InStrings i) = offset_of texts.strings i < limit
 IsOffsetHeld limit texts (InLineStrings i) = offset_of texts.line_strings i < limit
 
--- how such a unit has to be read: in the order in which it was written, with its address size, up to version 4 with the
--- working directory, and beside the sections of its tables; by a reader whose offsets hold the numbers of the unit
-pub record IsReadWell (notation : Notation) (unit_entry : UnitEntry) (sections : Sections) (big : Bool) (p : Built) (texts : StringTables) (unit : List ℕ) : Type 0 where
+-- how such a unit has to be read: in the order in which it was written, with its address size, up
+-- to version 4 with the working directory, and beside the sections of its tables; by a reader whose
+-- offsets hold the numbers of the unit
+pub record IsReadWell (notation : Notation) (unit_entry : UnitEntry) (sections : Sections)
+    (big : Bool) (p : Built) (texts : StringTables) (unit : List ℕ) : Type 0 where
   pub order : notation.big ≡ big
   pub address_size : unit_entry.address_size ≡ p.encoding.address_size
-  pub directory : p.encoding.version ≤ 4 → unit_entry.directory ≡ option_map (bytes_in texts) (slice_get p.directories 0)
+  pub directory : p.encoding.version ≤ 4
+      → unit_entry.directory ≡ option_map (bytes_in texts) (slice_get p.directories 0)
   pub strings_are : sections.strings ≡ table_bytes texts.strings
   pub line_strings_are : sections.line_strings ≡ table_bytes texts.line_strings
   -- an extended instruction has at most 11 bytes after its length
   pub instructions_held : 11 < notation.limit
-  -- any offset holds a word of the 32-bit format; in the 64-bit format the unit length counts all but the first 12 bytes
+  -- any offset holds a word of the 32-bit format; in the 64-bit format the unit length counts all
+  -- but the first 12 bytes
   pub length_held : p.encoding.format ≡ Dwarf64 → length unit - 12 < notation.limit
   -- and from version 5 on, a text may be an offset
   pub texts_held : 5 ≤ p.encoding.version → p.encoding.format ≡ Dwarf64
@@ -106,4 +121,5 @@ pub record IsReadWell (notation : Notation) (unit_entry : UnitEntry) (sections :
 -- whoever reads these bytes well reads the program back
 abbrev pub ReadsBackAs : Bool → Built → StringTables → List ℕ → Type 0
 ReadsBackAs big p texts unit = (notation : Notation) (unit_entry : UnitEntry) (sections : Sections)
-    → IsReadWell notation unit_entry sections big p texts unit → ReadsBack notation unit_entry sections p texts unit
+    → IsReadWell notation unit_entry sections big p texts unit
+    → ReadsBack notation unit_entry sections p texts unit

@@ -21,7 +21,12 @@ initial_row version is_stmt = record {
 
 -- the row once it was built: what stands for one row alone goes
 abbrev pub without_marks : LineRow → LineRow
-without_marks r = record r { discriminator = 0; basic_block = false; prologue_end = false; epilogue_begin = false }
+without_marks r = record r {
+  discriminator = 0;
+  basic_block = false;
+  prologue_end = false;
+  epilogue_begin = false;
+}
 
 -- the row at another offset and op_index
 abbrev pub at_position : ℕ × ℕ → LineRow → LineRow
@@ -29,4 +34,5 @@ at_position position r = record r { address_offset = position.0; op_index = posi
 
 -- the row where an address was set: in a sequence its position is now told from there
 abbrev pub row_after_address : Bool → LineRow → LineRow
-row_after_address in_sequence r = if in_sequence then record r { address_offset = 0; op_index = 0 } else r
+row_after_address in_sequence r =
+    if in_sequence then record r { address_offset = 0; op_index = 0 } else r

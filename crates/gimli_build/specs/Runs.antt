@@ -1,4 +1,5 @@
--- A run of the instructions of a built program: where it stands between two items, what can come next, and what it gives.
+-- A run of the instructions of a built program: where it stands between two items, what can come
+-- next, and what it gives.
 use Rattle.std.specs.Prelude.{◌≡◌, ℕ, ◌+◌, ◌-◌, ◌*◌, ◌^◌, ◌<◌, ◌≤◌, List, ◌++◌, map}
 use Rattle.gimli_core.specs.declared.common.Encoding.{Encoding}
 use Rattle.gimli_core.specs.declared.common.LineEncoding.{LineEncoding}
@@ -30,7 +31,12 @@ pub record Run : Type 0 where
 
 -- at the start of a program
 abbrev pub run_start : Encoding → LineEncoding → Run
-run_start encoding e = record { encoding = encoding; line_encoding = e; base = 0; previous = initial_row encoding.version e.default_is_stmt }
+run_start encoding e = record {
+  encoding = encoding;
+  line_encoding = e;
+  base = 0;
+  previous = initial_row encoding.version e.default_is_stmt;
+}
 
 -- after a row
 abbrev pub past_row : LineRow → Run → Run
@@ -38,7 +44,10 @@ past_row r here = record here { previous = r }
 
 -- after a set address: offsets count from it, from 0 on
 abbrev pub past_address : ℕ → Run → Run
-past_address address here = record here { base = address; previous = at_position (0, 0) here.previous }
+past_address address here = record here {
+  base = address;
+  previous = at_position (0, 0) here.previous;
+}
 
 -- ---- what can come next
 
@@ -48,7 +57,8 @@ position_of here = (here.previous.address_offset, here.previous.op_index)
 
 -- a row or an end at the offset o and the operation i can follow the row before
 abbrev pub Follows : Run → ℕ → ℕ → Type 0
-Follows here o i = CanFollow here.line_encoding here.previous.address_offset here.previous.op_index o i
+Follows here o i =
+    CanFollow here.line_encoding here.previous.address_offset here.previous.op_index o i
 
 -- a program may have these encodings, and a row can stand where the row before does
 pub record IsUnderWay (here : Run) : Type 0 where
@@ -67,13 +77,14 @@ pub record IsNextEnd (here : Run) (o i : ℕ) : Type 0 where
   pub follows : Follows here o i
   pub address : here.base + o < 2 ^ (8 * here.encoding.address_size)
 
--- an address can be set next: it isn't below the address reached, and isn't one of the two greatest, which stand for nothing
+-- an address can be set next: it isn't below the address reached, and isn't one of the two
+-- greatest, which stand for nothing
 pub record IsNextAddress (here : Run) (address : ℕ) : Type 0 where
   pub forward : here.base + here.previous.address_offset ≤ address
   pub shown : address < 2 ^ (8 * here.encoding.address_size) - 2
 
--- items can be next: each can be built after the one before it, addresses hold them and none is a tombstone; the line
--- before fits a signed number, and the version is known
+-- items can be next: each can be built after the one before it, addresses hold them and none is a
+-- tombstone; the line before fits a signed number, and the version is known
 pub record AreNext (here : Run) (items : List BuiltItem) : Type 0 where
   pub built : AreBuilt here.line_encoding (position_of here) items
   pub addresses : AddressesFit here.encoding.address_size here.base (position_of here) items
@@ -98,10 +109,12 @@ given_end here o i = read_end here.encoding.version here.base here.previous o i
 
 -- the same of items
 abbrev pub written_items : Run → List BuiltItem → List Ins
-written_items here items = items_instructions here.encoding.version here.line_encoding here.previous items
+written_items here items =
+    items_instructions here.encoding.version here.line_encoding here.previous items
 
 abbrev pub given_items : Run → List BuiltItem → List ReadRow
-given_items here items = items_rows here.encoding.version here.line_encoding here.base here.previous items
+given_items here items =
+    items_rows here.encoding.version here.line_encoding here.base here.previous items
 
 -- ---- the machine there
 
@@ -117,9 +130,12 @@ registers here = registers_after_row here.encoding.version here.base here.previo
 abbrev pub events_from : Run → List Ins → List Event
 events_from here instructions = run (rules here) (registers here) instructions
 
--- these instructions, run from there, give these rows and leave these registers, whatever instructions follow
+-- these instructions, run from there, give these rows and leave these registers, whatever
+-- instructions follow
 abbrev pub Gives : Run → List Ins → List ReadRow → ReadRow → Type 0
-Gives here instructions rows left = (list : List Ins) → events_from here (instructions ++ list) ≡ map row rows ++ run (rules here) left list
+Gives here instructions rows left =
+    (list : List Ins)
+    → events_from here (instructions ++ list) ≡ map row rows ++ run (rules here) left list
 
 -- ---- whole programs
 
@@ -133,10 +149,12 @@ program_rows p = given_items (run_start p.encoding p.line_encoding) p.items
 
 -- what they give, run from the registers of a start
 abbrev pub run_of_program : Built → List Event
-run_of_program p = (let rules = built_rules p.encoding p.line_encoding in run rules (initial rules) (program_instructions p))
+run_of_program p =
+    (let rules = built_rules p.encoding p.line_encoding in run rules (initial rules)
+    (program_instructions p))
 
--- a program can be run: it may have these encodings, the version is known, each item can be built after the one before it,
--- addresses hold them, and none is a tombstone
+-- a program can be run: it may have these encodings, the version is known, each item can be built
+-- after the one before it, addresses hold them, and none is a tombstone
 pub record CanRun (p : Built) : Type 0 where
   pub accepts : Accepts p.encoding p.line_encoding
   pub version : p.encoding.version ≤ 5

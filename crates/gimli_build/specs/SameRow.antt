@@ -13,7 +13,11 @@ use Rattle.gimli_build.specs.declared.built.items.BuiltItem.TheVariants.{SetAddr
 
 -- what the instructions of a built program are executed by
 abbrev pub built_rules : Encoding → LineEncoding → Parameters
-built_rules encoding e = record { encoding = encoding; line_encoding = e; opcode_base = built_opcode_base }
+built_rules encoding e = record {
+  encoding = encoding;
+  line_encoding = e;
+  opcode_base = built_opcode_base;
+}
 
 -- a row, where the address `base` was set before it
 abbrev pub read_row : ℕ → ℕ → LineRow → ReadRow
@@ -35,11 +39,21 @@ read_row version base row = record {
 
 -- the registers after it
 abbrev pub registers_after_row : ℕ → ℕ → LineRow → ReadRow
-registers_after_row version base row = record (read_row version base row) { basic_block = false; prologue_end = false; epilogue_begin = false; discriminator = 0 }
+registers_after_row version base row = record (read_row version base row) {
+  basic_block = false;
+  prologue_end = false;
+  epilogue_begin = false;
+  discriminator = 0;
+}
 
 -- an end at an offset and an operation, after a row
 abbrev pub read_end : ℕ → ℕ → LineRow → ℕ → ℕ → ReadRow
-read_end version base previous offset op_index = record (registers_after_row version base previous) { address = base + offset; op_index = op_index; end_sequence = true }
+read_end version base previous offset op_index =
+    record (registers_after_row version base previous) {
+      address = base + offset;
+      op_index = op_index;
+      end_sequence = true;
+    }
 
 -- a read row says what a built one says, where the address `base` was set before it
 abbrev pub IsSameRow : ℕ → ℕ → LineRow → ReadRow → Type 0
@@ -54,7 +68,11 @@ pub record IsSameEnd (base offset op_index : ℕ) (read : ReadRow) : Type 0 wher
 -- the rows are the built rows and ends one by one, after items, the nearest first
 abbrev pub RowsMatch : ℕ → List BuiltItem → List BuiltItem → List ReadRow → Type 0
 RowsMatch version past [] rows = rows ≡ []
-RowsMatch version past (SetAddress a ∷ items) rows = RowsMatch version (SetAddress a ∷ past) items rows
-RowsMatch version past (Row r ∷ items) (read ∷ rows) = IsSameRow version (base_of past) r read × RowsMatch version (Row r ∷ past) items rows
-RowsMatch version past (End offset op_index ∷ items) (read ∷ rows) = IsSameEnd (base_of past) offset op_index read × RowsMatch version (End offset op_index ∷ past) items rows
+RowsMatch version past (SetAddress a ∷ items) rows =
+    RowsMatch version (SetAddress a ∷ past) items rows
+RowsMatch version past (Row r ∷ items) (read ∷ rows) =
+    IsSameRow version (base_of past) r read × RowsMatch version (Row r ∷ past) items rows
+RowsMatch version past (End offset op_index ∷ items) (read ∷ rows) =
+    IsSameEnd (base_of past) offset op_index read
+    × RowsMatch version (End offset op_index ∷ past) items rows
 RowsMatch version past (item ∷ items) [] = ⊥

@@ -1,6 +1,9 @@
 -- What a row needs few bytes for (DWARF 5, section 6.2.5.1).
 use Rattle.std.specs.Prelude.{◌≡◌, ℕ, ◌-◌, ◌≤◌, false, Some, ℤ, pos, ◌-ℤ◌, length}
-use Rattle.gimli_line.specs.declared.run.instruction.LineInstruction.TheVariants.{Special, ConstAddPc}
+use Rattle.gimli_line.specs.declared.run.instruction.LineInstruction.TheVariants.{
+  Special,
+  ConstAddPc,
+}
 use Rattle.gimli_line.specs.header.Parameters.{Parameters}
 use Rattle.gimli_line.specs.run.Registers.{line_advance}
 use Rattle.gimli_line.specs.run.OperationPointer.{operation_advance}
@@ -17,7 +20,8 @@ pub record HasSpecial (parameters : Parameters) (d : ℤ) (n : ℕ) : Type 0 whe
   pub line : line_advance parameters (Special opcode) ≡ Some d
   pub operations : operation_advance parameters (Special opcode) ≡ Some n
 
--- a row differs from the row before it in its position and its line alone, and nothing stands for it alone
+-- a row differs from the row before it in its position and its line alone, and nothing stands for
+-- it alone
 pub record OnlyMoves (previous built : LineRow) : Type 0 where
   pub file : built.file ≡ previous.file
   pub column : built.column ≡ previous.column
@@ -40,7 +44,9 @@ abbrev pub lines_to : Run → LineRow → ℤ
 lines_to here r = pos r.line -ℤ pos here.previous.line
 
 abbrev pub operations_to : Run → LineRow → ℕ
-operations_to here r = operations here.line_encoding here.previous.address_offset here.previous.op_index r.address_offset r.op_index
+operations_to here r =
+    operations here.line_encoding here.previous.address_offset here.previous.op_index
+    r.address_offset r.op_index
 
 -- a special opcode has both advances of the row
 abbrev pub SpecialSuffices : Run → LineRow → Type 0

@@ -7,7 +7,12 @@ use Rattle.gimli_build.specs.declared.built.line_string.LineString.{LineString}
 use Rattle.gimli_build.specs.declared.built.files.FileInfo.{FileInfo}
 
 abbrev pub details : FileInfo → Details
-details i = record { timestamp = i.timestamp; size = i.size; md5 = i.md5; source = option_map line_text i.source }
+details i = record {
+  timestamp = i.timestamp;
+  size = i.size;
+  md5 = i.md5;
+  source = option_map line_text i.source;
+}
 
 -- what an iterator of files gives
 abbrev pub file_seen : ℕ × Bor LineString × ℕ → ℕ × LineText × ℕ

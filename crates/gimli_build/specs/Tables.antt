@@ -1,5 +1,7 @@
 -- The directories and the files of a line program, as lists.
-use Rattle.std.specs.Prelude.{◌≡◌, ◌≢◌, ℕ, suc, zero, ◌+◌, ◌<◌, ◌≤◌, Bool, ◌&&◌, List, [], ◌∷◌, ◌++◌, length, slice_get, map, replicate, nat_eq, if◌then◌else◌, Option, Some, None, unwrap_or, All, AllPairs}
+use Rattle.std.specs.Prelude.{◌≡◌, ◌≢◌, ℕ, suc, zero, ◌+◌, ◌<◌, ◌≤◌, Bool, ◌&&◌, List, [], ◌∷◌}
+use Rattle.std.specs.Prelude.{◌++◌, length, slice_get, map, replicate, nat_eq, if◌then◌else◌}
+use Rattle.std.specs.Prelude.{Option, Some, None, unwrap_or, All, AllPairs}
 use Rattle.std.specs.List.{list_any, position_or_len}
 use Rattle.gimli_build.specs.LineText.{LineText, line_text_eq, HasNoZero}
 
@@ -7,7 +9,8 @@ use Rattle.gimli_build.specs.LineText.{LineText, line_text_eq, HasNoZero}
 
 -- the directories after one is added: one that is there changes nothing, any other goes last
 abbrev pub with_directory : List LineText → LineText → List LineText
-with_directory directories t = if list_any (line_text_eq t) directories then directories else directories ++ t ∷ []
+with_directory directories t =
+    if list_any (line_text_eq t) directories then directories else directories ++ t ∷ []
 
 -- the index of a directory, which is the end where it isn't there
 abbrev pub index_of_directory : List LineText → LineText → ℕ
@@ -49,11 +52,13 @@ with_details [] i details = []
 with_details (f ∷ files) zero details = (f.0, details) ∷ files
 with_details (f ∷ files) (suc i) details = f ∷ with_details files i details
 
--- the files after one is added, with details or without: a file that is there takes the details that come, and any
--- other goes last
+-- the files after one is added, with details or without: a file that is there takes the details
+-- that come, and any other goes last
 abbrev pub with_file : List File → FileKey → Option Details → List File
 with_file files key given =
-    if has_file files key then (elim given [ Some details ↦ with_details files (index_of_file files key) details | None ↦ files ])
+    if has_file files key
+    then (elim given
+    [ Some details ↦ with_details files (index_of_file files key) details | None ↦ files ])
     else files ++ (key, unwrap_or given no_details) ∷ []
 
 -- ---- both
@@ -70,8 +75,8 @@ pub record Keeps {A : Type 0} (old new : List A) : Type 0 where
   pub grows : length old ≤ length new
   pub stays : (i : ℕ) → i < length old → slice_get new i ≡ slice_get old i
 
--- no directory is twice there, nor is a file; a text in the program has no zero byte; the directory of each file is
--- there
+-- no directory is twice there, nor is a file; a text in the program has no zero byte; the directory
+-- of each file is there
 pub record AreTables (directories : List LineText) (keys : List FileKey) : Type 0 where
   pub distinct_directories : AllPairs (λ s t. s ≢ t) directories
   pub directories_end : All HasNoZero directories

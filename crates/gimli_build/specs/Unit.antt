@@ -1,5 +1,7 @@
--- The bytes of a unit as it is written, or the first cause why it can't be (DWARF 5, section 6.2.4; DWARF 4, section 6.2.4).
-use Rattle.std.specs.Prelude.{ℕ, List, [], ◌∷◌, Bool, not, ◌&&◌, ◌||◌, nat_eq, nat_le, nat_lt, if◌then◌else◌, Result, Ok, Err, ℤ}
+-- The bytes of a unit as it is written, or the first cause why it can't be (DWARF 5, section 6.2.4;
+-- DWARF 4, section 6.2.4).
+use Rattle.std.specs.Prelude.{ℕ, List, [], ◌∷◌, Bool, not, ◌&&◌, ◌||◌, nat_eq, nat_le, nat_lt}
+use Rattle.std.specs.Prelude.{if◌then◌else◌, Result, Ok, Err, ℤ}
 use Rattle.std.specs.Int.{w8, cast_unsigned}
 use Rattle.gimli_core.specs.Numbers.{number_bytes}
 use Rattle.gimli_core.specs.declared.common.Encoding.{Encoding}
@@ -8,7 +10,11 @@ use Rattle.gimli_core.specs.declared.common.Format.{Format}
 use Rattle.gimli_core.specs.declared.common.Format.TheVariants.{Dwarf32, Dwarf64}
 use Rattle.gimli_bytes.specs.Number.{length_word}
 use Rattle.gimli_bytes.specs.declared.error.Error.{Error}
-use Rattle.gimli_bytes.specs.declared.error.Error.TheVariants.{IncompatibleLineProgramEncoding, UnsupportedVersion, NeedVersion}
+use Rattle.gimli_bytes.specs.declared.error.Error.TheVariants.{
+  IncompatibleLineProgramEncoding,
+  UnsupportedVersion,
+  NeedVersion,
+}
 use Rattle.gimli_bytes.specs.Texts.{StringTables}
 use Rattle.gimli_build.specs.FormatWord.{format_word}
 use Rattle.gimli_build.specs.Joined.{result_append, after_length}
@@ -22,16 +28,22 @@ use Rattle.gimli_build.specs.Built.{Built}
 -- ---- the fixed fields
 
 abbrev pub version_bytes : Bool → ℕ → Result (List ℕ) Error
-version_bytes big version = if nat_le 2 version && nat_le version 5 then Ok (number_bytes big 2 version) else Err (UnsupportedVersion version)
+version_bytes big version =
+    if nat_le 2 version && nat_le version 5 then Ok (number_bytes big 2 version)
+    else Err (UnsupportedVersion version)
 
 -- the version, and in version 5 the address size and a segment selector size of 0
 abbrev pub opening_bytes : Bool → Encoding → Result (List ℕ) Error
-opening_bytes big encoding = result_append (version_bytes big encoding.version) (Ok (if nat_le encoding.version 4 then [] else encoding.address_size ∷ 0 ∷ []))
+opening_bytes big encoding =
+    result_append (version_bytes big encoding.version)
+    (Ok (if nat_le encoding.version 4 then [] else encoding.address_size ∷ 0 ∷ []))
 
--- how many operations an instruction of the machine has: before version 4 it is one, and no byte says so
+-- how many operations an instruction of the machine has: before version 4 it is one, and no byte
+-- says so
 abbrev pub operations_bytes : ℕ → ℕ → Result (List ℕ) Error
 operations_bytes version operations =
-    if nat_le 4 version then Ok (operations ∷ []) else (if nat_eq operations 1 then Ok [] else Err (NeedVersion 4))
+    if nat_le 4 version then Ok (operations ∷ [])
+    else (if nat_eq operations 1 then Ok [] else Err (NeedVersion 4))
 
 abbrev pub flag_byte : Bool → ℕ
 flag_byte flag = if flag then 1 else 0
@@ -60,8 +72,10 @@ opcode_bytes = built_opcode_base ∷ operand_counts
 -- the directories and the files
 abbrev pub tables_bytes : Bool → Built → StringTables → Result (List ℕ) Error
 tables_bytes big p texts =
-    if nat_le p.encoding.version 4 then result_append (directories_bytes p.directories) (files_bytes p.files)
-    else result_append (directory_table_bytes big p.encoding.format texts p) (file_table_bytes big p.encoding.format texts p)
+    if nat_le p.encoding.version 4
+    then result_append (directories_bytes p.directories) (files_bytes p.files)
+    else result_append (directory_table_bytes big p.encoding.format texts p)
+    (file_table_bytes big p.encoding.format texts p)
 
 -- what the header length counts
 abbrev pub fields_bytes : Bool → Built → StringTables → Result (List ℕ) Error
@@ -72,17 +86,20 @@ fields_bytes big p texts =
 
 -- the header length, and what it counts
 abbrev pub header_bytes : Bool → Built → StringTables → Result (List ℕ) Error
-header_bytes big p texts = after_length (λ n. format_word big p.encoding.format n) (fields_bytes big p texts)
+header_bytes big p texts =
+    after_length (λ n. format_word big p.encoding.format n) (fields_bytes big p texts)
 
 -- the instructions
 abbrev pub program_bytes : Bool → Built → Result (List ℕ) Error
 program_bytes big p =
-    items_bytes big p.encoding p.line_encoding (initial_row p.encoding.version p.line_encoding.default_is_stmt) p.items
+    items_bytes big p.encoding p.line_encoding
+    (initial_row p.encoding.version p.line_encoding.default_is_stmt) p.items
 
 -- what the unit length counts
 abbrev pub inside_bytes : Bool → Built → StringTables → Result (List ℕ) Error
 inside_bytes big p texts =
-    result_append (opening_bytes big p.encoding) (result_append (header_bytes big p texts) (program_bytes big p))
+    result_append (opening_bytes big p.encoding)
+    (result_append (header_bytes big p texts) (program_bytes big p))
 
 -- what tells the format, in front of the word of a length
 abbrev pub escape_bytes : Bool → Format → List ℕ
@@ -92,15 +109,20 @@ escape_bytes big Dwarf64 = number_bytes big 4 0xffff_ffff
 -- the unit length, and what it counts
 abbrev pub whole_bytes : Bool → Built → StringTables → Result (List ℕ) Error
 whole_bytes big p texts =
-    after_length (λ n. result_append (Ok (escape_bytes big p.encoding.format)) (length_word big p.encoding.format n)) (inside_bytes big p texts)
+    after_length
+    (λ n. result_append (Ok (escape_bytes big p.encoding.format))
+    (length_word big p.encoding.format n))
+    (inside_bytes big p texts)
 
--- a unit of this encoding has no line program of that one: up to version 4 a file number is never 0, and addresses
--- have one size
+-- a unit of this encoding has no line program of that one: up to version 4 a file number is never
+-- 0, and addresses have one size
 abbrev pub is_incompatible : Encoding → Encoding → Bool
-is_incompatible unit program = (nat_lt unit.version 5 && nat_le 5 program.version) || not (nat_eq unit.address_size program.address_size)
+is_incompatible unit program =
+    (nat_lt unit.version 5 && nat_le 5 program.version)
+    || not (nat_eq unit.address_size program.address_size)
 
--- what is written of a program for a unit of this encoding, with these tables of strings and line strings, which gain the
--- empty text where it is needed
+-- what is written of a program for a unit of this encoding, with these tables of strings and line
+-- strings, which gain the empty text where it is needed
 abbrev pub unit_bytes : Bool → Encoding → Built → StringTables → Result (List ℕ) Error
 unit_bytes big unit p texts =
     if is_incompatible unit p.encoding then Err IncompatibleLineProgramEncoding

@@ -16,8 +16,8 @@ use Rattle.gimli_build.specs.InstructionBytes.{set_address_bytes, FitsInstructio
 use Rattle.gimli_build.specs.Items.{items_bytes, AreFit}
 use Rattle.gimli_build.specs.Runs.{Run, Follows, position_of}
 
--- a reader at a unit: the header has the opcode base of what is built, and the reader's offsets hold the length of the
--- longest instruction
+-- a reader at a unit: the header has the opcode base of what is built, and the reader's offsets
+-- hold the length of the longest instruction
 pub record UnitReader : Type 0 where
   pub notation : Notation
   pub header : Header
@@ -36,23 +36,26 @@ AreSpelled u instructions bytes = Each (Spells u) bytes instructions
 
 -- the bytes of a set address, or their refusal
 abbrev pub bytes_of_address : UnitReader → ℕ → Result (List ℕ) Error
-bytes_of_address u address = set_address_bytes u.notation.big (Constant address) u.header.parameters.encoding.address_size
+bytes_of_address u address =
+    set_address_bytes u.notation.big (Constant address) u.header.parameters.encoding.address_size
 
 -- the bytes of items, or the first refusal
 abbrev pub bytes_of_items : UnitReader → Run → List BuiltItem → Result (List ℕ) Error
-bytes_of_items u here items = items_bytes u.notation.big here.encoding here.line_encoding here.previous items
+bytes_of_items u here items =
+    items_bytes u.notation.big here.encoding here.line_encoding here.previous items
 
 -- ---- what can be written
 
--- a row can be written next: rows can be encoded, it can follow, and 64 bits hold its numbers and the line before
+-- a row can be written next: rows can be encoded, it can follow, and 64 bits hold its numbers and
+-- the line before
 pub record IsWritableRow (here : Run) (r : LineRow) : Type 0 where
   pub encode : CanEncode here.line_encoding
   pub follows : Follows here r.address_offset r.op_index
   pub line_before : here.previous.line < 2 ^ 63
   pub fits : FitsInstructions here.encoding.version r
 
--- items can be written next, in a unit of the run's encoding: rows can be encoded, each item can be built after the one
--- before it, and 64 bits hold their numbers and the line before
+-- items can be written next, in a unit of the run's encoding: rows can be encoded, each item can be
+-- built after the one before it, and 64 bits hold their numbers and the line before
 pub record AreWritable (u : UnitReader) (here : Run) (items : List BuiltItem) : Type 0 where
   pub encoding : u.header.parameters.encoding ≡ here.encoding
   pub encode : CanEncode here.line_encoding

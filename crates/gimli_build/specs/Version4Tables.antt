@@ -1,4 +1,5 @@
--- The tables of a unit up to version 4 as they are written (DWARF 4, section 6.2.4, parts 11 and 12).
+-- The tables of a unit up to version 4 as they are written (DWARF 4, section 6.2.4, parts 11 and
+-- 12).
 use Rattle.std.specs.Prelude.{ℕ, ◌++◌, List, [], ◌∷◌, drop, Result, Ok, Err}
 use Rattle.gimli_bytes.specs.Number.{uleb}
 use Rattle.gimli_bytes.specs.declared.error.Error.{Error}
@@ -14,11 +15,13 @@ name_bytes t = Err LineStringFormMismatch
 
 -- the directories but for the working directory, and a zero byte that closes them
 abbrev pub directories_bytes : List LineText → Result (List ℕ) Error
-directories_bytes directories = result_append (result_concat name_bytes (drop 1 directories)) (Ok (0 ∷ []))
+directories_bytes directories =
+    result_append (result_concat name_bytes (drop 1 directories)) (Ok (0 ∷ []))
 
 -- a file: its path, its directory, its timestamp and its size
 abbrev pub file_bytes : File → Result (List ℕ) Error
-file_bytes f = result_append (name_bytes f.0.0) (Ok (uleb f.0.1 ++ uleb f.1.timestamp ++ uleb f.1.size))
+file_bytes f =
+    result_append (name_bytes f.0.0) (Ok (uleb f.0.1 ++ uleb f.1.timestamp ++ uleb f.1.size))
 
 -- the files, and a zero byte that closes them
 abbrev pub files_bytes : List File → Result (List ℕ) Error

@@ -1,5 +1,6 @@
 -- The tables of a unit of version 5 as they are written (DWARF 5, section 6.2.4, parts 13 to 20).
-use Rattle.std.specs.Prelude.{ℕ, ◌++◌, List, [], ◌∷◌, length, map, Bool, ◌&&◌, nat_eq, nat_le, if◌then◌else◌, Some, None, unwrap_or, Result, Ok, Err}
+use Rattle.std.specs.Prelude.{ℕ, ◌++◌, List, [], ◌∷◌, length, map, Bool, ◌&&◌, nat_eq, nat_le}
+use Rattle.std.specs.Prelude.{if◌then◌else◌, Some, None, unwrap_or, Result, Ok, Err}
 use Rattle.std.specs.Option.{is_none}
 use Rattle.std.specs.List.{flat_map, list_any}
 use Rattle.gimli_core.specs.declared.common.Format.{Format}
@@ -7,7 +8,10 @@ use Rattle.gimli_bytes.specs.Number.{uleb}
 use Rattle.gimli_bytes.specs.Texts.{with_text, index_of_text, offset_of, StringTables}
 use Rattle.gimli_bytes.specs.declared.error.Error.{Error}
 use Rattle.gimli_bytes.specs.declared.error.Error.TheVariants.{LineStringFormMismatch}
-use Rattle.gimli_build.specs.Codes.{DW_FORM_data16, DW_FORM_line_strp, DW_FORM_string, DW_FORM_strp, DW_FORM_udata, DW_LNCT_LLVM_source, DW_LNCT_MD5, DW_LNCT_directory_index, DW_LNCT_path, DW_LNCT_size, DW_LNCT_timestamp}
+use Rattle.gimli_build.specs.Codes.{DW_FORM_data16, DW_FORM_line_strp, DW_FORM_string, DW_FORM_strp}
+use Rattle.gimli_build.specs.Codes.{DW_FORM_udata, DW_LNCT_LLVM_source, DW_LNCT_MD5}
+use Rattle.gimli_build.specs.Codes.{DW_LNCT_directory_index, DW_LNCT_path, DW_LNCT_size}
+use Rattle.gimli_build.specs.Codes.{DW_LNCT_timestamp}
 use Rattle.gimli_build.specs.Due.{when}
 use Rattle.gimli_build.specs.LineText.{LineText, Inline, InStrings, InLineStrings}
 use Rattle.gimli_build.specs.Tables.{File}
@@ -41,7 +45,8 @@ sources (f ∷ files) = elim f.1.source [ Some t ↦ t ∷ sources files | None 
 
 -- a source is to be written, and a file has none: the empty text stands for it
 abbrev pub needs_empty : Built → Bool
-needs_empty p = nat_le 5 p.encoding.version && p.file_has_source && list_any (λ f. is_none f.1.source) p.files
+needs_empty p =
+    nat_le 5 p.encoding.version && p.file_has_source && list_any (λ f. is_none f.1.source) p.files
 
 -- the empty text in a form, with these tables
 abbrev pub empty_text : ℕ → StringTables → LineText
@@ -50,7 +55,8 @@ empty_text form texts =
     else (if nat_eq form DW_FORM_line_strp then InLineStrings (index_of_text texts.line_strings [])
     else Inline [])
 
--- the tables once a program is written: they have gained the empty text where it is needed and has their form
+-- the tables once a program is written: they have gained the empty text where it is needed and has
+-- their form
 abbrev pub texts_after : Built → StringTables → StringTables
 texts_after p texts = record {
   strings =
@@ -71,7 +77,8 @@ formats_bytes formats = length formats ∷ flat_map (λ f. uleb f.0 ++ uleb f.1)
 abbrev pub directory_formats : Built → List (ℕ × ℕ)
 directory_formats p = (DW_LNCT_path, first_form p.directories) ∷ []
 
--- a path and the index of a directory, and what the flags say: a timestamp, a size, an MD5 digest and a source
+-- a path and the index of a directory, and what the flags say: a timestamp, a size, an MD5 digest
+-- and a source
 abbrev pub file_formats : Built → List (ℕ × ℕ)
 file_formats p =
     (DW_LNCT_path, first_form (path_texts p.files)) ∷ (DW_LNCT_directory_index, DW_FORM_udata)
@@ -99,7 +106,8 @@ module _ (big : Bool) (format : Format) (texts : StringTables) where
 
   -- a text of a table whose texts have this form
   abbrev pub text_in_form : ℕ → LineText → Result (List ℕ) Error
-  text_in_form form t = if nat_eq (text_form t) form then text_bytes t else Err LineStringFormMismatch
+  text_in_form form t =
+      if nat_eq (text_form t) form then text_bytes t else Err LineStringFormMismatch
 
   -- the directories, after their formats and their number
   abbrev pub directory_table_bytes : Built → Result (List ℕ) Error
@@ -111,7 +119,8 @@ module _ (big : Bool) (format : Format) (texts : StringTables) where
   abbrev pub source_bytes : Built → File → Result (List ℕ) Error
   source_bytes p f =
       if p.file_has_source
-      then (let form = first_form (sources p.files) in text_in_form form (unwrap_or f.1.source (empty_text form texts)))
+      then (let form = first_form (sources p.files) in
+      text_in_form form (unwrap_or f.1.source (empty_text form texts)))
       else Ok []
 
   abbrev pub file_entry_bytes : Built → File → Result (List ℕ) Error

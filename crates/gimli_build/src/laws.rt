@@ -1,7 +1,9 @@
-//! Laws of what is written: the instructions of rows and ends, run by the machine of the reading half, give what was
-//! built; their bytes spell them; they are few; and they define no file. And laws of equality and of clones.
+//! Laws of what is written: the instructions of rows and ends, run by the machine of the reading
+//! half, give what was built; their bytes spell them; they are few; and they define no file. And
+//! laws of equality and of clones.
 
-ghost use Rattle.std.specs.Prelude.{◌≡◌, ℕ, Bool, false, All, ◌≤◌, List, [], ◌∷◌, length, map, IfOk};
+ghost use Rattle.std.specs.Prelude.{◌≡◌, ℕ, Bool, false, All, ◌≤◌, List, [], ◌∷◌, length, map};
+ghost use Rattle.std.specs.Prelude.{IfOk};
 ghost use Rattle.std.specs.Bool.{Decides};
 ghost use Rattle.gimli_core.specs.Equality.{ClonesGiveSame};
 ghost use Rattle.gimli_core.specs.Notation.{Notation};
@@ -21,14 +23,23 @@ ghost use Rattle.gimli_line.specs.run.Machine.{initial};
 ghost use Rattle.gimli_line.specs.declared.run.instruction.LineInstruction.TheVariants.{SetAddress};
 ghost use Rattle.gimli_build.specs.declared.built.row.LineRow.{LineRow};
 ghost use Rattle.gimli_build.specs.declared.built.items.BuiltItem.{BuiltItem};
-ghost use Rattle.gimli_build.specs.InstructionBytes.{instruction_bytes, instructions_bytes, IsWritten};
+ghost use Rattle.gimli_build.specs.InstructionBytes.{
+  instruction_bytes,
+  instructions_bytes,
+  IsWritten,
+};
 ghost use Rattle.gimli_build.specs.SameRow.{built_rules};
-ghost use Rattle.gimli_build.specs.Runs.{Run, run_start, past_row, past_address, rules, registers, events_from, Gives};
-ghost use Rattle.gimli_build.specs.Runs.{Follows, IsUnderWay, IsNextRow, IsNextEnd, IsNextAddress, AreNext};
-ghost use Rattle.gimli_build.specs.Runs.{written_row, given_row, written_end, given_end, written_items, given_items};
+ghost use Rattle.gimli_build.specs.Runs.{Run, run_start, past_row, past_address, rules, registers};
+ghost use Rattle.gimli_build.specs.Runs.{events_from, Gives};
+ghost use Rattle.gimli_build.specs.Runs.{Follows, IsUnderWay, IsNextRow, IsNextEnd, IsNextAddress};
+ghost use Rattle.gimli_build.specs.Runs.{AreNext};
+ghost use Rattle.gimli_build.specs.Runs.{written_row, given_row, written_end, given_end};
+ghost use Rattle.gimli_build.specs.Runs.{written_items, given_items};
 ghost use Rattle.gimli_build.specs.Runs.{program_rows, run_of_program, CanRun};
-ghost use Rattle.gimli_build.specs.UnitReader.{UnitReader, Spells, AreSpelled, bytes_of_address, bytes_of_items, IsWritableRow, AreWritable};
-ghost use Rattle.gimli_build.specs.Sizes.{IsMove, SpecialSuffices, SpecialAndConstantSuffice, row_size};
+ghost use Rattle.gimli_build.specs.UnitReader.{UnitReader, Spells, AreSpelled, bytes_of_address};
+ghost use Rattle.gimli_build.specs.UnitReader.{bytes_of_items, IsWritableRow, AreWritable};
+ghost use Rattle.gimli_build.specs.Sizes.{IsMove, SpecialSuffices, SpecialAndConstantSuffice};
+ghost use Rattle.gimli_build.specs.Sizes.{row_size};
 ghost use Rattle.gimli_build.specs.Built.{Built};
 ghost use Rattle.gimli_build.specs.ReadsBack.{DecodesAs};
 ghost use Rattle.gimli_build.specs.NoFiles.{DefinesNoFile, program_started};
@@ -48,22 +59,22 @@ pub use gimli_bytes::laws::{
 };
 use std::hash::Hash;
 
-/// The instructions of a row, run from the registers after the row before it, make one row, which is the
-/// built one, and leave the registers after it; whatever instructions follow.
+/// The instructions of a row, run from the registers after the row before it, make one row, which
+/// is the built one, and leave the registers after it; whatever instructions follow.
 pub fn row_runs()
     ensures { (here : Run) (r : LineRow) → IsUnderWay here → IsNextRow here r →
         Gives here (written_row here r) (given_row here r ∷ []) (registers (past_row r here)) }
 {}
 
-/// The instructions of an end at the offset o and the operation i, run from the registers after the row before it,
-/// make one row, which ends the sequence there, and leave the registers of a start.
+/// The instructions of an end at the offset o and the operation i, run from the registers after the
+/// row before it, make one row, which ends the sequence there, and leave the registers of a start.
 pub fn end_runs()
     ensures { (here : Run) (o i : ℕ) → IsUnderWay here → IsNextEnd here o i →
         Gives here (written_end here o i) (given_end here o i ∷ []) (initial (rules here)) }
 {}
 
-/// A set address that isn't below the address reached, and isn't one of the two greatest, which stand for
-/// nothing, makes no row; offsets count from it, from 0 on.
+/// A set address that isn't below the address reached, and isn't one of the two greatest, which
+/// stand for nothing, makes no row; offsets count from it, from 0 on.
 pub fn set_address_runs()
     ensures { (here : Run) (address : ℕ) → IsNextAddress here address →
         Gives here (SetAddress address ∷ []) [] (registers (past_address address here)) }
@@ -75,8 +86,8 @@ pub fn start_is_initial()
         initial (built_rules encoding e) ≡ registers (run_start encoding e) }
 {}
 
-/// The bytes of an instruction of a row or an end spell it, in each unit with the opcode base 13 whose reader
-/// has offsets that hold the length of the longest.
+/// The bytes of an instruction of a row or an end spell it, in each unit with the opcode base 13
+/// whose reader has offsets that hold the length of the longest.
 pub fn instruction_is_spelled()
     ensures { (u : UnitReader) (i : Ins) → IsWritten i → Spells u (instruction_bytes i) i }
 {}
@@ -104,9 +115,9 @@ pub fn rows_are_short()
     ensures { (here : Run) (r : LineRow) → length (written_row here r) ≤ 11 }
 {}
 
-/// A row that differs from the one before it in its position and its line alone is one byte, where a special opcode
-/// has both its line advance and its operation advance; and two bytes at most, where a special opcode has them
-/// with the advance of const_add_pc taken off.
+/// A row that differs from the one before it in its position and its line alone is one byte, where
+/// a special opcode has both its line advance and its operation advance; and two bytes at most,
+/// where a special opcode has them with the advance of const_add_pc taken off.
 pub fn moving_rows_are_short()
     ensures one { (here : Run) (r : LineRow) →
         IsMove here r → SpecialSuffices here r → row_size here r ≡ 1 }
@@ -114,8 +125,9 @@ pub fn moving_rows_are_short()
         IsMove here r → SpecialAndConstantSuffice here r → row_size here r ≤ 2 }
 {}
 
-/// The instructions of built items, run from the registers after the row before them, give one row for each row
-/// and each end, in order, and no fault, where addresses hold them and no set address is a tombstone.
+/// The instructions of built items, run from the registers after the row before them, give one row
+/// for each row and each end, in order, and no fault, where addresses hold them and no set address
+/// is a tombstone.
 pub fn items_run()
     ensures { (here : Run) (items : List BuiltItem) → IsUnderWay here → AreNext here items →
         events_from here (written_items here items) ≡ map row (given_items here items) }
@@ -126,7 +138,8 @@ pub fn program_runs()
     ensures { (p : Built) → CanRun p → run_of_program p ≡ map row (program_rows p) }
 {}
 
-/// The bytes of built items, where they are written, are the spellings of their instructions, one after the other.
+/// The bytes of built items, where they are written, are the spellings of their instructions, one
+/// after the other.
 pub fn items_are_spelled()
     ensures { (u : UnitReader) (here : Run) (items : List BuiltItem) → AreWritable u here items →
         IfOk (bytes_of_items u here items) (AreSpelled u (written_items here items)) }
@@ -152,8 +165,9 @@ pub fn written_rows_take_no_memory()
         FaultIs (with_reset_row old) new e → e ≡ AddressOverflow }
 {}
 
-/// `==` holds of two texts, and of two ids, exactly where they are the same text and the same index; and of what is
-/// known of two files where they have the same timestamp, size and digest, and the same text or none as source.
+/// `==` holds of two texts, and of two ids, exactly where they are the same text and the same
+/// index; and of what is known of two files where they have the same timestamp, size and digest,
+/// and the same text or none as source.
 pub fn equal_texts_and_files()
     ensures text { (s t : LineString) →
         Decides (⟦<LineString as PartialEq>⟧.eq s t) (line_text s ≡ line_text t) }
@@ -165,7 +179,8 @@ pub fn equal_texts_and_files()
 
 /// Equal ids hash alike.
 pub fn equal_ids_hash_alike()
-    ensures directory { HashAlike ⟦<DirectoryId as PartialEq>⟧.eq ⟦<DirectoryId as Hash>⟧.hash_input }
+    ensures directory { HashAlike ⟦<DirectoryId as PartialEq>⟧.eq
+        ⟦<DirectoryId as Hash>⟧.hash_input }
     ensures file { HashAlike ⟦<FileId as PartialEq>⟧.eq ⟦<FileId as Hash>⟧.hash_input }
 {}
 

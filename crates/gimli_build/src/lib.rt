@@ -1,10 +1,10 @@
 //! Line number programs of DWARF, versions 2 to 5, as they are built and written.
 //!
-//! A program means lists: its directories, its files, and the set addresses, rows and ends in the order in
-//! which they were built. Nothing of their encoding is kept.
+//! A program means lists: its directories, its files, and the set addresses, rows and ends in the
+//! order in which they were built. Nothing of their encoding is kept.
 //!
-//! Four layers, each on those before it: what builder calls build; directories and files as they are written, and rows
-//! and ends beside them; and the unit of both.
+//! Four layers, each on those before it: what builder calls build; directories and files as they
+//! are written, and rows and ends beside them; and the unit of both.
 #![tactic(auto)]
 
 mod built;

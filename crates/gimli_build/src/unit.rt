@@ -7,7 +7,8 @@ ghost use Rattle.gimli_build.specs.LineText.{line_text};
 ghost use Rattle.gimli_build.specs.Conditions.{CanWrite};
 ghost use Rattle.gimli_build.specs.inside.Conditions.{IsBuilt};
 ghost use Rattle.gimli_build.specs.inside.EmptySource.{StandsForNone};
-ghost use Rattle.gimli_build.specs.Unit.{version_bytes, opening_bytes, inside_bytes, whole_bytes, is_incompatible, unit_bytes};
+ghost use Rattle.gimli_build.specs.Unit.{version_bytes, opening_bytes, inside_bytes, whole_bytes};
+ghost use Rattle.gimli_build.specs.Unit.{is_incompatible, unit_bytes};
 ghost use Rattle.gimli_build.specs.Cause.{first_cause, IsWriteRefusal};
 ghost use Rattle.gimli_build.specs.ReadsBack.{ReadsBackAs};
 ghost use Rattle.gimli_build.specs.WrittenTables.{HaveEmptySource, KeepTables};
@@ -80,8 +81,8 @@ impl LineProgram {
     }
 }
 
-/// Whether a unit of one encoding has no line program of the other: addresses have one size, and up to version 4 a
-/// file number is never 0.
+/// Whether a unit of one encoding has no line program of the other: addresses have one size, and up
+/// to version 4 a file number is never 0.
 fn is_incompatible(unit: Encoding, program: Encoding) -> bool
     ensures { result ≡ is_incompatible unit program }
 {

@@ -1,5 +1,6 @@
 -- What calls leave, once the relocations are applied.
-use Rattle.std.proofs.Common.{arith, ◌≡◌, ◌≢◌, ◌⊎◌, inl, inr, ℕ, ◌+◌, ◌*◌, ◌^◌, ◌<◌, ◌≤◌, ℤ, pos, negsuc, Bool, true, false, if◌then◌else◌, List, [], ◌∷◌, ◌++◌, length, refl, ap, sym, ◌∙◌, subst, Ok, Err, length-append, w64}
+use Rattle.std.proofs.Common.{arith, ◌≡◌, ◌≢◌, ◌⊎◌, inl, inr, ℕ, ◌+◌, ◌*◌, ◌^◌, ◌<◌, ◌≤◌, ℤ, pos, negsuc, Bool, true, false, if◌then◌else◌, List, [], ◌∷◌, ◌++◌}
+use Rattle.std.proofs.Common.{length, refl, ap, sym, ◌∙◌, subst, Ok, Err, length-append, w64}
 use Rattle.std.specs.Prelude.{All, Result, nat_lt, nat_eq, ◌||◌, ◌+ℤ◌, FitsSigned}
 use Rattle.std.specs.Int.{cast_unsigned, cast_signed}
 use Rattle.std.proofs.lemmas.Int.{ints, of_z-to_z}
@@ -10,7 +11,9 @@ use Rattle.gimli_bytes.specs.inside.Pieces.{put_over}
 use Rattle.gimli_bytes.specs.Number.{udata}
 use Rattle.gimli_bytes.specs.Written.{overwrite_of, patch}
 use Rattle.gimli_bytes.specs.Relocatable.{Relocatable}
-use Rattle.gimli_bytes.specs.Relocations.{Placement, Call, Bytes, AddressOf, OffsetInto, ReferenceTo, BytesAt, OffsetAt, place_of, relocated, all_relocated, applied, IsApart, AreInside, number_in_place, with_place, with_place_at, relocation_at, with_relocation, result_then, after_call, after_calls, plainly_after, plainly_after_calls, CallFits, LeavesPlaces, CallsFit}
+use Rattle.gimli_bytes.specs.Relocations.{Placement, Call, Bytes, AddressOf, OffsetInto, ReferenceTo, BytesAt, OffsetAt, place_of, relocated, all_relocated}
+use Rattle.gimli_bytes.specs.Relocations.{applied, IsApart, AreInside, number_in_place, with_place, with_place_at, relocation_at, with_relocation, result_then}
+use Rattle.gimli_bytes.specs.Relocations.{after_call, after_calls, plainly_after, plainly_after_calls, CallFits, LeavesPlaces, CallsFit}
 use Rattle.gimli_bytes.specs.declared.address.Address.TheVariants.{Constant, Symbol}
 use Rattle.gimli_bytes.specs.declared.error.Error.{Error}
 use Rattle.gimli_bytes.specs.declared.error.Error.TheVariants.{

@@ -22,8 +22,10 @@ address-Decides (Symbol s d) (Symbol t e) =
 
 pub string_id-Decides : (a b : StringId) → Decides (string_ids.eq a b) (a ≡ b)
 string_id-Decides a b =
-    Decides-like (string_ids.eq a b) (λ same. ap (λ (n : ℕ). let id : StringId = record { 0 = n } in id) same) (λ same. ap (λ (id : StringId). id.0) same) (Decides-eqb a.0 b.0)
+    Decides-like (string_ids.eq a b) (λ same. ap (λ (n : ℕ). let id : StringId = record { 0 = n } in id) same) (λ same. ap (λ (id : StringId). id.0) same)
+    (Decides-eqb a.0 b.0)
 
 pub line_string_id-Decides : (a b : LineStringId) → Decides (line_string_ids.eq a b) (a ≡ b)
 line_string_id-Decides a b =
-    Decides-like (line_string_ids.eq a b) (λ same. ap (λ (n : ℕ). let id : LineStringId = record { 0 = n } in id) same) (λ same. ap (λ (id : LineStringId). id.0) same) (Decides-eqb a.0 b.0)
+    Decides-like (line_string_ids.eq a b) (λ same. ap (λ (n : ℕ). let id : LineStringId = record { 0 = n } in id) same)
+    (λ same. ap (λ (id : LineStringId). id.0) same) (Decides-eqb a.0 b.0)

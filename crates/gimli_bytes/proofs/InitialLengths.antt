@@ -26,12 +26,14 @@ later old mid at begins is = omega (arith, ap length begins, length-take (length
 pub place_32 : (format : Format) (old : List ℕ) (at : ℕ) → format ≡ Dwarf32 → at ≡ length old → at ≡ length old + escape_size format
 place_32 format old at short is = rw short (omega arith)
 
-pub place_64 : (format : Format) (big : Bool) (n : ℕ) (old mid : List ℕ) (at : ℕ) → format ≡ Dwarf64 → mid ≡ old ++ number_bytes big 4 n → at ≡ length mid → at ≡ length old + escape_size format
+pub place_64 : (format : Format) (big : Bool) (n : ℕ) (old mid : List ℕ) (at : ℕ) → format ≡ Dwarf64 → mid ≡ old ++ number_bytes big 4 n → at ≡ length mid
+    → at ≡ length old + escape_size format
 place_64 format big n old mid at long escape is = rw long (omega (arith, ap length escape, length-append old (number_bytes big 4 n), size_4 big n))
 
 -- ---- its bytes
 
-pub opened_32 : {W X Y : Type 0} {sink : Ghosts W} {old new : W} {x : X} {y : Y} (format : Format) → format ≡ Dwarf32 → IsAppend sink old new (Ok x) (Ok (number_bytes (sink.big old) 4 0)) → IsAppendInParts sink old new (Ok y) (Ok (open_length (sink.big old) format))
+pub opened_32 : {W X Y : Type 0} {sink : Ghosts W} {old new : W} {x : X} {y : Y} (format : Format) → format ≡ Dwarf32
+    → IsAppend sink old new (Ok x) (Ok (number_bytes (sink.big old) 4 0)) → IsAppendInParts sink old new (Ok y) (Ok (open_length (sink.big old) format))
 opened_32 format short word = rw short (record {
   keeps = word.keeps;
   ordered = word.ordered;
@@ -39,11 +41,15 @@ opened_32 format short word = rw short (record {
   err = λ memory_alone. tt;
 })
 
-pub opened_64 : {W X Y Z : Type 0} {sink : Ghosts W} {old mid new : W} {x : X} {y : Y} {z : Z} (format : Format) → format ≡ Dwarf64 → IsAppend sink old mid (Ok x) (Ok (number_bytes (sink.big old) 4 0xffff_ffff)) → IsAppend sink mid new (Ok y) (Ok (number_bytes (sink.big mid) 8 0)) → IsAppendInParts sink old new (Ok z) (Ok (open_length (sink.big old) format))
+pub opened_64 : {W X Y Z : Type 0} {sink : Ghosts W} {old mid new : W} {x : X} {y : Y} {z : Z} (format : Format) → format ≡ Dwarf64
+    → IsAppend sink old mid (Ok x) (Ok (number_bytes (sink.big old) 4 0xffff_ffff)) → IsAppend sink mid new (Ok y) (Ok (number_bytes (sink.big mid) 8 0))
+    → IsAppendInParts sink old new (Ok z) (Ok (open_length (sink.big old) format))
 opened_64 {sink = sink} {old = old} {mid = mid} {new = new} format long escape word = rw long (record {
   keeps = begins_then (sink.contents old) (sink.contents mid) (sink.contents new) escape.keeps word.keeps;
   ordered = word.ordered ∙ escape.ordered;
-  ok = λ keeps_bytes. both (sink.contents old) (number_bytes (sink.big old) 4 0xffff_ffff) (number_bytes (sink.big old) 8 0) (sink.contents mid) (sink.contents new)
+  ok =
+      λ keeps_bytes.
+      both (sink.contents old) (number_bytes (sink.big old) 4 0xffff_ffff) (number_bytes (sink.big old) 8 0) (sink.contents mid) (sink.contents new)
       (escape.ok keeps_bytes) (word.ok keeps_bytes ∙ ap (λ (b : Bool). sink.contents mid ++ number_bytes b 8 0) escape.ordered);
   err = λ memory_alone. tt;
 })

@@ -1,5 +1,6 @@
 -- The groups of a number, one at a time.
-use Rattle.std.proofs.Common.{◌≡◌, ℕ, zero, suc, ◌+◌, ◌-◌, ◌/◌, ◌%◌, ◌<◌, ◌≤◌, true, false, List, [], ◌∷◌, ◌++◌, length, take, set, refl, sym, ap, ◌∙◌, arith, if◌then◌else◌, append_assoc, ℤ, pos, negsuc}
+use Rattle.std.proofs.Common.{◌≡◌, ℕ, zero, suc, ◌+◌, ◌-◌, ◌/◌, ◌%◌, ◌<◌, ◌≤◌, true, false, List, [], ◌∷◌, ◌++◌, length, take, set, refl, sym, ap, ◌∙◌, arith}
+use Rattle.std.proofs.Common.{if◌then◌else◌, append_assoc, ℤ, pos, negsuc}
 use Rattle.std.proofs.Math.Nat.{mod-eq_of_lt}
 use Rattle.std.proofs.lemmas.List.{take_more_set}
 use Rattle.std.proofs.lemmas.Bool.{lt-ltb, le-ltb}
@@ -31,7 +32,8 @@ uleb_step bytes i v all short low high so =
     ∙ so
 
 -- the last byte in the buffer
-pub uleb_end : (bytes : List ℕ) (i v : ℕ) (all : List ℕ) → i < length bytes → v < 128 → take i bytes ++ uleb_within (9 - i) v ≡ all → take (i + 1) (set bytes i v) ≡ all
+pub uleb_end : (bytes : List ℕ) (i v : ℕ) (all : List ℕ) → i < length bytes → v < 128 → take i bytes ++ uleb_within (9 - i) v ≡ all
+    → take (i + 1) (set bytes i v) ≡ all
 uleb_end bytes i v all short low so =
     take_more_set bytes i v short ∙ ap (λ t. take i bytes ++ t) (sym (uleb_last (9 - i) v low)) ∙ so
 
@@ -53,7 +55,8 @@ pub sleb_more : (k : ℕ) (z : ℤ) → has_seven_bits z ≡ false → sleb_with
 unfolding sleb_within
 sleb_more k z h = ap (λ b. if b then low_bits z ∷ [] else (low_bits z + 128) ∷ sleb_within k (high_bits z)) h
 
-pub sleb_step : (bytes : List ℕ) (i : ℕ) (z : ℤ) (all : List ℕ) → i < length bytes → i < 9 → has_seven_bits z ≡ false → take i bytes ++ sleb_within (9 - i) z ≡ all
+pub sleb_step : (bytes : List ℕ) (i : ℕ) (z : ℤ) (all : List ℕ) → i < length bytes → i < 9 → has_seven_bits z ≡ false
+    → take i bytes ++ sleb_within (9 - i) z ≡ all
     → take (i + 1) (set bytes i (low_bits z + 128)) ++ sleb_within (9 - (i + 1)) (int_div_euclid z (pos 128)) ≡ all
 sleb_step bytes i z all short low high so =
     let down : 9 - i ≡ suc (9 - (i + 1)) = omega arith in
@@ -64,6 +67,7 @@ sleb_step bytes i z all short low high so =
     ∙ ap (λ (k : ℕ). take i bytes ++ sleb_within k z) (sym down)
     ∙ so
 
-pub sleb_end : (bytes : List ℕ) (i : ℕ) (z : ℤ) (all : List ℕ) → i < length bytes → has_seven_bits z ≡ true → take i bytes ++ sleb_within (9 - i) z ≡ all → take (i + 1) (set bytes i (low_bits z)) ≡ all
+pub sleb_end : (bytes : List ℕ) (i : ℕ) (z : ℤ) (all : List ℕ) → i < length bytes → has_seven_bits z ≡ true → take i bytes ++ sleb_within (9 - i) z ≡ all
+    → take (i + 1) (set bytes i (low_bits z)) ≡ all
 sleb_end bytes i z all short low so =
     take_more_set bytes i (low_bits z) short ∙ ap (λ t. take i bytes ++ t) (sym (sleb_last (9 - i) z low)) ∙ so

@@ -16,7 +16,8 @@ begins_then a b c first second =
     sym (take-take (length a) (length b) c le) ∙ ap (λ (l : List ℕ). take (length a) l) second ∙ first
 
 -- one that is refused, after what is written so far: for memory, whatever bytes are wanted of it and of the whole
-pub refused_after : {W X Y : Type 0} {sink : Ghosts W} {old mid new : W} {e : Error} (part whole : List ℕ) → Begins (sink.contents old) (sink.contents mid) → sink.big mid ≡ sink.big old → IsAppend {X = X} sink mid new (Err e) (Ok part) → IsAppendInParts {X = Y} sink old new (Err e) (Ok whole)
+pub refused_after : {W X Y : Type 0} {sink : Ghosts W} {old mid new : W} {e : Error} (part whole : List ℕ) → Begins (sink.contents old) (sink.contents mid)
+    → sink.big mid ≡ sink.big old → IsAppend {X = X} sink mid new (Err e) (Ok part) → IsAppendInParts {X = Y} sink old new (Err e) (Ok whole)
 refused_after {sink = sink} {old = old} {mid = mid} {new = new} part whole keeps ordered refused = record {
   keeps = begins_then (sink.contents old) (sink.contents mid) (sink.contents new) keeps refused.keeps;
   ordered = refused.ordered ∙ ordered;
@@ -25,5 +26,6 @@ refused_after {sink = sink} {old = old} {mid = mid} {new = new} part whole keeps
 }
 
 -- the first one refused
-pub refused_first : {W X Y : Type 0} {sink : Ghosts W} {old new : W} {e : Error} (part whole : List ℕ) → IsAppend {X = X} sink old new (Err e) (Ok part) → IsAppendInParts {X = Y} sink old new (Err e) (Ok whole)
+pub refused_first : {W X Y : Type 0} {sink : Ghosts W} {old new : W} {e : Error} (part whole : List ℕ) → IsAppend {X = X} sink old new (Err e) (Ok part)
+    → IsAppendInParts {X = Y} sink old new (Err e) (Ok whole)
 refused_first {sink = sink} {old = old} part whole refused = refused_after part whole (begins_self (sink.contents old)) refl refused

@@ -1,5 +1,6 @@
 -- Lemmas on pieces.
-use Rattle.std.proofs.Common.{arith, ◌≡◌, ℕ, zero, suc, ◌+◌, ◌-◌, ◌*◌, ◌/◌, ◌%◌, ◌<◌, ◌≤◌, List, [], ◌∷◌, ◌++◌, length, take, drop, set, get_or, refl, ap, sym, ◌∙◌, append_assoc, length-append, length-take}
+use Rattle.std.proofs.Common.{arith, ◌≡◌, ℕ, zero, suc, ◌+◌, ◌-◌, ◌*◌, ◌/◌, ◌%◌, ◌<◌, ◌≤◌, List, [], ◌∷◌, ◌++◌, length, take, drop, set, get_or, refl, ap, sym}
+use Rattle.std.proofs.Common.{◌∙◌, append_assoc, length-append, length-take}
 use Rattle.std.specs.Prelude.{All, true, false, nat_lt, Ok, Err}
 use Rattle.std.specs.List.{concat}
 use Rattle.std.specs.Int.{div_ceil}
@@ -46,14 +47,17 @@ put_over-after p c at bytes =
     rw (take-append-add p c at, back) (simp append_assoc)
 
 -- two parts, one after the other
-pub put_over-twice : (old : List ℕ) (at : ℕ) (a b : List ℕ) → at + length a ≤ length old → put_over (put_over old at a) (at + length a) b ≡ put_over old at (a ++ b)
+pub put_over-twice : (old : List ℕ) (at : ℕ) (a b : List ℕ) → at + length a ≤ length old
+    → put_over (put_over old at a) (at + length a) b ≡ put_over old at (a ++ b)
 put_over-twice old at a b h =
     let front : length (take at old ++ a) ≡ at + length a = omega (arith, length-append (take at old) a, length-take at old) in
     let taken : take (at + length a) (put_over old at a) ≡ take at old ++ a = take_at (take at old ++ a) (drop (at + length a) old) (at + length a) front in
-    let dropped : drop (at + length a) (put_over old at a) ≡ drop (at + length a) old = drop_at (take at old ++ a) (drop (at + length a) old) (at + length a) front in
+    let dropped : drop (at + length a) (put_over old at a)
+    ≡ drop (at + length a) old = drop_at (take at old ++ a) (drop (at + length a) old) (at + length a) front in
     let far : at + length (a ++ b) ≡ at + length a + length b = omega (arith, length-append a b) in
     let back : drop (at + length a + length b) (put_over old at a) ≡ drop (at + length (a ++ b)) old =
-    sym (drop-drop (length b) (at + length a) (put_over old at a)) ∙ ap (drop (length b)) dropped ∙ drop-drop (length b) (at + length a) old ∙ ap (λ k. drop k old) (sym far) in
+    sym (drop-drop (length b) (at + length a) (put_over old at a)) ∙ ap (drop (length b)) dropped ∙ drop-drop (length b) (at + length a) old
+    ∙ ap (λ k. drop k old) (sym far) in
     rw (taken, back) (simp append_assoc)
 
 -- what ends with them
@@ -62,11 +66,13 @@ take-put_over old at bytes h =
     take_at (take at old ++ bytes) (drop (at + length bytes) old) (at + length bytes) (omega (arith, length-append (take at old) bytes, length-take at old))
 
 -- what ends after them
-pub put_over-take : (old : List ℕ) (len at : ℕ) (bytes : List ℕ) → at + length bytes ≤ len → len ≤ length old → take len (put_over old at bytes) ≡ put_over (take len old) at bytes
+pub put_over-take : (old : List ℕ) (len at : ℕ) (bytes : List ℕ) → at + length bytes ≤ len → len ≤ length old
+    → take len (put_over old at bytes) ≡ put_over (take len old) at bytes
 put_over-take old len at bytes h k =
     let parts = put_over-front (take len old) (drop len old) at bytes (omega (arith, length-take len old)) in
     let whole : put_over (take len old) at bytes ++ drop len old ≡ put_over old at bytes = rw (take-append-drop len old) at parts in
-    let size : length (put_over (take len old) at bytes) ≡ len = omega (arith, length-put_over (take len old) at bytes (omega (arith, length-take len old)), length-take len old) in
+    let size : length (put_over (take len old) at bytes)
+    ≡ len = omega (arith, length-put_over (take len old) at bytes (omega (arith, length-take len old)), length-take len old) in
     rw (← whole) (take_at (put_over (take len old) at bytes) (drop len old) len size)
 
 -- ---- bytes put into a piece
@@ -194,7 +200,8 @@ HoldPieces-grown n len more d k ps qs all h is s count ceil size =
     rw is (HoldPieces-more n len more ps qs h s counted)
 
 -- bytes put after those in use
-pub bytes-more : (n len : ℕ) (ps qs all rs : List (List ℕ)) (bytes : List ℕ) → HoldPieces n len ps → all ≡ ps ++ qs → concat rs ≡ put_over (concat all) len bytes
+pub bytes-more : (n len : ℕ) (ps qs all rs : List (List ℕ)) (bytes : List ℕ) → HoldPieces n len ps → all ≡ ps ++ qs
+    → concat rs ≡ put_over (concat all) len bytes
     → take (len + length bytes) (concat rs) ≡ take len (concat ps) ++ bytes
 bytes-more n len ps qs all rs bytes h is e =
     let inside = bytes-within n len ps h in
@@ -205,7 +212,8 @@ bytes-more n len ps qs all rs bytes h is e =
     ∙ ap (λ (l : List ℕ). l ++ bytes) (ap (λ (l : List ℕ). take len l) joined ∙ take-append-le len (concat ps) (concat qs) inside)
 
 -- bytes put over some of those in use
-pub bytes-over : (n len at : ℕ) (ps rs : List (List ℕ)) (bytes : List ℕ) → HoldPieces n len ps → at + length bytes ≤ len → concat rs ≡ put_over (concat ps) at bytes
+pub bytes-over : (n len at : ℕ) (ps rs : List (List ℕ)) (bytes : List ℕ) → HoldPieces n len ps → at + length bytes ≤ len
+    → concat rs ≡ put_over (concat ps) at bytes
     → take len (concat rs) ≡ put_over (take len (concat ps)) at bytes
 bytes-over n len at ps rs bytes h fits e =
     ap (λ (l : List ℕ). take len l) e ∙ put_over-take (concat ps) len at bytes fits (bytes-within n len ps h)
@@ -217,13 +225,15 @@ take-before old at bytes h =
 
 -- ---- the refusals of a place
 
-pub patched-inside : (old : List ℕ) (at : ℕ) (bytes new : List ℕ) → at + length bytes ≤ length old → new ≡ put_over old at bytes → overwrite_of old at bytes ≡ Ok new
+pub patched-inside : (old : List ℕ) (at : ℕ) (bytes new : List ℕ) → at + length bytes ≤ length old → new ≡ put_over old at bytes
+    → overwrite_of old at bytes ≡ Ok new
 patched-inside old at bytes new h is =
     let first : nat_lt (length old) at ≡ false = le-ltb (length old) at (omega arith) in
     let second : nat_lt (length old) (at + length bytes) ≡ false = le-ltb (length old) (at + length bytes) h in
     rw (first, second, is) refl
 
-pub patched-past : (old : List ℕ) (at : ℕ) (bytes : List ℕ) → at ≤ length old → length old < at + length bytes → overwrite_of old at bytes ≡ Err LengthOutOfBounds
+pub patched-past : (old : List ℕ) (at : ℕ) (bytes : List ℕ) → at ≤ length old → length old < at + length bytes
+    → overwrite_of old at bytes ≡ Err LengthOutOfBounds
 patched-past old at bytes h past =
     let first : nat_lt (length old) at ≡ false = le-ltb (length old) at h in
     let second : nat_lt (length old) (at + length bytes) ≡ true = lt-ltb (length old) (at + length bytes) past in
@@ -235,6 +245,7 @@ piece-count n len ps h =
     count_is n len (length ps) h.positive h.enough h.needed ∙ ap (λ k. div_ceil k n) (sym (bytes-length n len ps h))
 
 -- where no more are needed
-pub no_piece : (n len more : ℕ) (ps : List (List ℕ)) → HoldPieces n len ps → NeedsNoPiece n (length (take len (concat ps))) more → div_ceil (len + more) n ≡ length ps
+pub no_piece : (n len more : ℕ) (ps : List (List ℕ)) → HoldPieces n len ps → NeedsNoPiece n (length (take len (concat ps))) more
+    → div_ceil (len + more) n ≡ length ps
 no_piece n len more ps h e =
     ap (λ k. div_ceil (k + more) n) (sym (bytes-length n len ps h)) ∙ e ∙ sym (piece-count n len ps h)

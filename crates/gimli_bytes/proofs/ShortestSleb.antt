@@ -1,5 +1,6 @@
 -- The written spelling of a signed number is the shortest.
-use Rattle.std.proofs.Common.{◌≡◌, ℕ, zero, suc, ◌+◌, ◌-◌, ◌*◌, ◌/◌, ◌%◌, ◌^◌, ◌<◌, ◌≤◌, Bool, true, false, List, [], ◌∷◌, length, refl, sym, ap, ◌∙◌, arith, inl, inr, ℤ, pos, negsuc, ◌-ℤ◌, if◌then◌else◌, w64}
+use Rattle.std.proofs.Common.{◌≡◌, ℕ, zero, suc, ◌+◌, ◌-◌, ◌*◌, ◌/◌, ◌%◌, ◌^◌, ◌<◌, ◌≤◌, Bool, true, false, List, [], ◌∷◌, length, refl, sym, ap, ◌∙◌, arith}
+use Rattle.std.proofs.Common.{inl, inr, ℤ, pos, negsuc, ◌-ℤ◌, if◌then◌else◌, w64}
 use Rattle.std.specs.Prelude.{FitsSigned}
 use Rattle.std.proofs.Math.Nat.{pow-succ', mod-eq_of_lt}
 use Rattle.std.proofs.lemmas.Nat.{pow-add}
@@ -51,7 +52,8 @@ sign_taken false n p = omega (arith, ints)
 within : (b : ℕ) (bytes : List ℕ) (n : ℕ) (z : ℤ) → Groups (b ∷ bytes) n → signed_value (b ∷ bytes) n ≡ z → mag z < 64 * 128 ^ length bytes
 within b bytes n z h value = by (is_negative (b ∷ bytes)) refl (sym (sign_taken (is_negative (b ∷ bytes)) n (2 ^ (7 * suc (length bytes)))) ∙ value)
   where
-    by : (sign : Bool) → is_negative (b ∷ bytes) ≡ sign → (if sign then pos n -ℤ pos (2 ^ (7 * suc (length bytes))) else pos n) ≡ z → mag z < 64 * 128 ^ length bytes
+    by : (sign : Bool) → is_negative (b ∷ bytes) ≡ sign → (if sign then pos n -ℤ pos (2 ^ (7 * suc (length bytes))) else pos n) ≡ z
+        → mag z < 64 * 128 ^ length bytes
     by false sign e = within_positive n (64 * 128 ^ length bytes) z (Groups-positive b bytes n h sign) e
     by true sign e =
         let power : 2 ^ (7 * suc (length bytes)) ≡ 128 * 128 ^ length bytes = power_of_128 (suc (length bytes)) ∙ pow-succ' 128 (length bytes) in
@@ -73,7 +75,8 @@ unfolding sleb_within
 length-sleb_within zero j z h = omega arith
 length-sleb_within (suc more) j z h = by (has_seven_bits z) refl j h (λ i. length-sleb_within more i (high_bits z))
   where
-    by : (b : Bool) → has_seven_bits z ≡ b → (j : ℕ) → mag z < 64 * 128 ^ j → ((i : ℕ) → mag (high_bits z) < 64 * 128 ^ i → length (sleb_within more (high_bits z)) ≤ suc i)
+    by : (b : Bool) → has_seven_bits z ≡ b → (j : ℕ) → mag z < 64 * 128 ^ j
+        → ((i : ℕ) → mag (high_bits z) < 64 * 128 ^ i → length (sleb_within more (high_bits z)) ≤ suc i)
         → length (sleb_within (suc more) z) ≤ suc j
     by true e j h rest = omega (arith, ap length (sleb_last (suc more) z e))
     by false e zero h rest = absurd (omega (arith, h, more_bits z e))

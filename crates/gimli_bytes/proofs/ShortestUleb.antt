@@ -44,7 +44,8 @@ Groups-uleb_within (suc more) n h = elim (cases_lt n 128) [
   | inr high ↦
       let power : 128 ^ suc (suc more) ≡ 128 * 128 ^ suc more = pow-succ' 128 (suc more) in
       let rest : n / 128 < 128 ^ suc more = omega (arith, power, h) in
-      rw (uleb_more more n high) (Groups-cons (n % 128 + 128) (uleb_within more (n / 128)) n (n / 128) (omega arith) (omega arith) (Groups-uleb_within more (n / 128) rest))
+      rw (uleb_more more n high)
+      (Groups-cons (n % 128 + 128) (uleb_within more (n / 128)) n (n / 128) (omega arith) (omega arith) (Groups-uleb_within more (n / 128) rest))
 ]
 
 -- any spelling is at least as long

@@ -12,11 +12,13 @@ zero_byte : (big : Bool) → number_bytes big 1 0 ≡ 0 ∷ []
 zero_byte true = refl
 zero_byte false = refl
 
-one_more : (items : List (Vec ℕ Global)) (i : ℕ) (item : Vec ℕ Global) → i < length items → item ≡ get_or items i item → table_bytes (texts_of (take (i + 1) items)) ≡ table_bytes (texts_of (take i items)) ++ (item.items ++ 0 ∷ [])
+one_more : (items : List (Vec ℕ Global)) (i : ℕ) (item : Vec ℕ Global) → i < length items → item ≡ get_or items i item
+    → table_bytes (texts_of (take (i + 1) items)) ≡ table_bytes (texts_of (take i items)) ++ (item.items ++ 0 ∷ [])
 one_more items i item lt is = grind (arith, common_steps)
 
 -- a text and its zero byte after the texts before it
-pub text_put : (items : List (Vec ℕ Global)) (i : ℕ) (item : Vec ℕ Global) (big : Bool) (text old mid later new : List ℕ) → i < length items → item ≡ get_or items i item → text ≡ item.items
+pub text_put : (items : List (Vec ℕ Global)) (i : ℕ) (item : Vec ℕ Global) (big : Bool) (text old mid later new : List ℕ) → i < length items
+    → item ≡ get_or items i item → text ≡ item.items
     → mid ≡ old ++ table_bytes (texts_of (take i items)) → later ≡ mid ++ text → new ≡ later ++ number_bytes big 1 0
     → new ≡ old ++ table_bytes (texts_of (take (i + 1) items))
 text_put items i item big text old mid later new lt is same before put ended =
@@ -26,6 +28,8 @@ text_put items i item big text old mid later new lt is same before put ended =
     ∙ append_assoc (old ++ done) item.items (0 ∷ []) ∙ append_assoc old done (item.items ++ 0 ∷ [])
     ∙ ap (λ (l : List ℕ). old ++ l) (sym (one_more items i item lt is))
 
-pub all_put : (items keys : List (Vec ℕ Global)) (i : ℕ) (texts : List (List ℕ)) (old new : List ℕ) → length items ≤ i → items ≡ keys → texts_of keys ≡ texts → new ≡ old ++ table_bytes (texts_of (take i items)) → new ≡ old ++ table_bytes texts
+pub all_put : (items keys : List (Vec ℕ Global)) (i : ℕ) (texts : List (List ℕ)) (old new : List ℕ) → length items ≤ i → items ≡ keys → texts_of keys ≡ texts
+    → new ≡ old ++ table_bytes (texts_of (take i items)) → new ≡ old ++ table_bytes texts
 all_put items keys i texts old new end same seen put =
-    put ∙ ap (λ (l : List (Vec ℕ Global)). old ++ table_bytes (texts_of l)) (take_all i items end ∙ same) ∙ ap (λ (l : List (List ℕ)). old ++ table_bytes l) seen
+    put ∙ ap (λ (l : List (Vec ℕ Global)). old ++ table_bytes (texts_of l)) (take_all i items end ∙ same)
+    ∙ ap (λ (l : List (List ℕ)). old ++ table_bytes l) seen

@@ -1,5 +1,6 @@
 -- The keys of a table, seen as texts.
-use Rattle.std.proofs.Common.{◌≡◌, ◌≢◌, ℕ, zero, suc, ◌+◌, Bool, true, false, cond, not, ◌||◌, List, [], ◌∷◌, ◌++◌, map, length, take, drop, get_or, Some, None, refl, sym, ap, ◌∙◌, arith, true≢false, position, nat_lt, if◌then◌else◌, ◌<◌, ◌≤◌, append_assoc, length-append}
+use Rattle.std.proofs.Common.{◌≡◌, ◌≢◌, ℕ, zero, suc, ◌+◌, Bool, true, false, cond, not, ◌||◌, List, [], ◌∷◌, ◌++◌, map, length, take, drop, get_or, Some, None}
+use Rattle.std.proofs.Common.{refl, sym, ap, ◌∙◌, arith, true≢false, position, nat_lt, if◌then◌else◌, ◌<◌, ◌≤◌, append_assoc, length-append}
 use Rattle.std.specs.Prelude.{bytes_eq, All, Contains, slice_get}
 use Rattle.std.specs.List.{list_any, position_or_len, prefix_len}
 use Rattle.std.specs.declared.vec.Vec.{Vec}
@@ -48,7 +49,8 @@ pub index_there : (ks : List (Vec ℕ Global)) (t : List ℕ) (i : ℕ) → Some
 index_there ks t i e = index_found (λ k. bytes_eq t k.items) ks i e ∙ place_is ks t
 
 -- the place of a new text
-pub place_new : (ks : List (Vec ℕ Global)) (t : List ℕ) (v : Vec ℕ Global) → v.items ≡ t → position_or_len (λ k. bytes_eq v.items k.items) ks ≡ index_of_text (texts_of ks) t
+pub place_new : (ks : List (Vec ℕ Global)) (t : List ℕ) (v : Vec ℕ Global) → v.items ≡ t
+    → position_or_len (λ k. bytes_eq v.items k.items) ks ≡ index_of_text (texts_of ks) t
 place_new ks t v e = ap (λ (x : List ℕ). position_or_len (λ (k : Vec ℕ Global). bytes_eq x k.items) ks) e ∙ place_is ks t
 
 -- the keys after a new one
@@ -80,7 +82,9 @@ with_text-AreTexts ts t so clean = by (list_any (bytes_eq t) ts) refl
     by : (b : Bool) → list_any (bytes_eq t) ts ≡ b → AreTexts (if b then ts else ts ++ t ∷ [])
     by true h = so
     by false h = record {
-      distinct = all_pairs_push (λ s u. s ≢ u) ts t so.distinct (λ k d short same. true≢false (sym (list_any_at (bytes_eq t) ts k d short ((bytes_eq-Decides t (get_or ts k d)).1 (sym same))) ∙ h));
+      distinct =
+          all_pairs_push (λ s u. s ≢ u) ts t so.distinct (λ k d short same.
+          true≢false (sym (list_any_at (bytes_eq t) ts k d short ((bytes_eq-Decides t (get_or ts k d)).1 (sym same))) ∙ h));
       no_zero = All-push (λ u. All (λ b. b ≢ 0) u) ts t so.no_zero clean;
     }
 
@@ -135,9 +139,11 @@ with_text-KeepsTexts ts t = by (list_any (bytes_eq t) ts)
 pub length-table_bytes : (ts : List (List ℕ)) → length (table_bytes ts) ≡ byte_count ts
 length-table_bytes [] = refl
 length-table_bytes (t ∷ ts) =
-    omega (arith, length-append (t ++ 0 ∷ []) (table_bytes ts), length-append t (0 ∷ []), sum_by-cons (λ (x : List ℕ). length x + 1) t ts, length-table_bytes ts)
+    omega
+    (arith, length-append (t ++ 0 ∷ []) (table_bytes ts), length-append t (0 ∷ []), sum_by-cons (λ (x : List ℕ). length x + 1) t ts, length-table_bytes ts)
 
-pub table_bytes-at : (ts : List (List ℕ)) (i : ℕ) (t : List ℕ) → slice_get ts i ≡ Some t → drop (offset_of ts i) (table_bytes ts) ≡ t ++ 0 ∷ table_bytes (drop (i + 1) ts)
+pub table_bytes-at : (ts : List (List ℕ)) (i : ℕ) (t : List ℕ) → slice_get ts i ≡ Some t
+    → drop (offset_of ts i) (table_bytes ts) ≡ t ++ 0 ∷ table_bytes (drop (i + 1) ts)
 table_bytes-at [] i t h = cc
 table_bytes-at (s ∷ ts) zero t h =
     let same : s ≡ t = cc in
@@ -158,7 +164,8 @@ byte_count-part ks n =
     let e : texts_of (take n ks) ≡ take n (texts_of ks) = sym (take-map (λ (k : Vec ℕ Global). k.items) n ks) in
     rw e (sum_by-take-le (λ (x : List ℕ). length x + 1) (texts_of ks) n)
 
-pub byte_count-more : (ks : List (Vec ℕ Global)) (i : ℕ) (v : Vec ℕ Global) → i < length ks → v ≡ get_or ks i v → byte_count (texts_of (take (i + 1) ks)) ≡ byte_count (texts_of (take i ks)) + (length v.items + 1)
+pub byte_count-more : (ks : List (Vec ℕ Global)) (i : ℕ) (v : Vec ℕ Global) → i < length ks → v ≡ get_or ks i v
+    → byte_count (texts_of (take (i + 1) ks)) ≡ byte_count (texts_of (take i ks)) + (length v.items + 1)
 byte_count-more ks i v h e =
     let more =
     ap (λ (l : List (Vec ℕ Global)). byte_count (texts_of l)) (take_more ks i v h)

@@ -15,11 +15,13 @@ use Rattle.gimli_bytes.specs.declared.sink.Sink.{Ghosts}
 use Rattle.gimli_bytes.proofs.Parts.{begins_self}
 
 -- what is wanted, said otherwise
-pub append_as : {W X : Type 0} {sink : Ghosts W} {old new : W} {result : Result X Error} {wanted other : Result (List ℕ) Error} → wanted ≡ other → IsAppend sink old new result other → IsAppend sink old new result wanted
+pub append_as : {W X : Type 0} {sink : Ghosts W} {old new : W} {result : Result X Error} {wanted other : Result (List ℕ) Error} → wanted ≡ other
+    → IsAppend sink old new result other → IsAppend sink old new result wanted
 append_as is append = rw is append
 
 -- refused before anything is written
-pub refused_at_once : {W X : Type 0} {sink : Ghosts W} {wanted : Result (List ℕ) Error} {e : Error} (old : W) → wanted ≡ Err e → IsAppend {X = X} sink old old (Err e) wanted
+pub refused_at_once : {W X : Type 0} {sink : Ghosts W} {wanted : Result (List ℕ) Error} {e : Error} (old : W) → wanted ≡ Err e
+    → IsAppend {X = X} sink old old (Err e) wanted
 refused_at_once {sink = sink} old is = rw is (record {
   keeps = begins_self (sink.contents old);
   ordered = refl;
@@ -31,7 +33,8 @@ refused_at_once {sink = sink} old is = rw is (record {
 
 -- ---- signed numbers
 
-pub signed_as : (big : Bool) (z passed : ℤ) (size known : ℕ) (bits : Result ℕ Error) → size ≡ known → (nat_eq known 1 || nat_eq known 2 || nat_eq known 4 || nat_eq known 8) ≡ true → bits ≡ twos_complement known passed → passed ≡ z
+pub signed_as : (big : Bool) (z passed : ℤ) (size known : ℕ) (bits : Result ℕ Error) → size ≡ known
+    → (nat_eq known 1 || nat_eq known 2 || nat_eq known 4 || nat_eq known 8) ≡ true → bits ≡ twos_complement known passed → passed ≡ z
     → sdata big z size ≡ result_map (number_bytes big known) bits
 signed_as big z passed size known bits is one bits_are same = rw (is, one, bits_are, same) refl
 
@@ -48,24 +51,31 @@ other_signed big z size a b c d = rw (ne_eqb size 1 a, ne_eqb size 2 b, ne_eqb s
 same_format : (format encoding : DwEhPe) → format.0 ≡ bit_and encoding.0 0x0f → format_of encoding ≡ format
 same_format format encoding is = ap (λ (n : ℕ). let f : DwEhPe = record { 0 = n } in f) (sym is)
 
-pub absolute_pointer : (big : Bool) (old : List ℕ) (address : Address) (n : ℕ) (encoding : DwEhPe) (format : DwEhPe) (size : ℕ) → address ≡ Constant n → bit_and encoding.0 0x70 ≡ 0 → format.0 ≡ bit_and encoding.0 0x0f
+pub absolute_pointer : (big : Bool) (old : List ℕ) (address : Address) (n : ℕ) (encoding : DwEhPe) (format : DwEhPe) (size : ℕ) → address ≡ Constant n
+    → bit_and encoding.0 0x70 ≡ 0 → format.0 ≡ bit_and encoding.0 0x0f
     → pointer_at_end big old address encoding size ≡ pointer_data big n format size
-absolute_pointer big old address n encoding format size constant kind is = rw (constant, kind) (ap (λ (f : DwEhPe). pointer_data big n f size) (same_format format encoding is))
+absolute_pointer big old address n encoding format size constant kind is =
+    rw (constant, kind) (ap (λ (f : DwEhPe). pointer_data big n f size) (same_format format encoding is))
 
-pub relative_pointer : (big : Bool) (old : List ℕ) (address : Address) (n place : ℕ) (encoding : DwEhPe) (format : DwEhPe) (size : ℕ) → address ≡ Constant n → bit_and encoding.0 0x70 ≡ 0x10 → place ≡ length old → format.0 ≡ bit_and encoding.0 0x0f
+pub relative_pointer : (big : Bool) (old : List ℕ) (address : Address) (n place : ℕ) (encoding : DwEhPe) (format : DwEhPe) (size : ℕ) → address ≡ Constant n
+    → bit_and encoding.0 0x70 ≡ 0x10 → place ≡ length old → format.0 ≡ bit_and encoding.0 0x0f
     → pointer_at_end big old address encoding size ≡ pointer_data big ((n + (2 ^ 64 - place)) % 2 ^ 64) format size
-relative_pointer big old address n place encoding format size constant kind later is = rw (constant, kind, ← later) (ap (λ (f : DwEhPe). pointer_data big ((n + (2 ^ 64 - place)) % 2 ^ 64) f size) (same_format format encoding is))
+relative_pointer big old address n place encoding format size constant kind later is =
+    rw (constant, kind, ← later) (ap (λ (f : DwEhPe). pointer_data big ((n + (2 ^ 64 - place)) % 2 ^ 64) f size) (same_format format encoding is))
 
-pub other_pointer : (big : Bool) (old : List ℕ) (address : Address) (n : ℕ) (encoding : DwEhPe) (size : ℕ) → address ≡ Constant n → bit_and encoding.0 0x70 ≢ 0 → bit_and encoding.0 0x70 ≢ 0x10
+pub other_pointer : (big : Bool) (old : List ℕ) (address : Address) (n : ℕ) (encoding : DwEhPe) (size : ℕ) → address ≡ Constant n → bit_and encoding.0 0x70 ≢ 0
+    → bit_and encoding.0 0x70 ≢ 0x10
     → pointer_at_end big old address encoding size ≡ Err (UnsupportedPointerEncoding encoding)
 other_pointer big old address n encoding size constant not_absolute not_relative = rw (constant, ne_eqb _ _ not_absolute, ne_eqb _ _ not_relative) refl
 
 -- ---- pointer formats
 
-pub formatted_as : (big : Bool) (n : ℕ) (format : DwEhPe) (size known : ℕ) → format.0 ≡ known → pointer_data big n format size ≡ (let f : DwEhPe = record { 0 = known } in pointer_data big n f size)
+pub formatted_as : (big : Bool) (n : ℕ) (format : DwEhPe) (size known : ℕ) → format.0 ≡ known
+    → pointer_data big n format size ≡ (let f : DwEhPe = record { 0 = known } in pointer_data big n f size)
 formatted_as big n format size known is = ap (λ (k : ℕ). let f : DwEhPe = record { 0 = k } in pointer_data big n f size) is
 
-pub other_format : (big : Bool) (n : ℕ) (format : DwEhPe) (size : ℕ) → format.0 ≢ 0x00 → format.0 ≢ 0x01 → format.0 ≢ 0x02 → format.0 ≢ 0x03 → format.0 ≢ 0x04 → format.0 ≢ 0x09 → format.0 ≢ 0x0a → format.0 ≢ 0x0b → format.0 ≢ 0x0c
+pub other_format : (big : Bool) (n : ℕ) (format : DwEhPe) (size : ℕ) → format.0 ≢ 0x00 → format.0 ≢ 0x01 → format.0 ≢ 0x02 → format.0 ≢ 0x03 → format.0 ≢ 0x04
+    → format.0 ≢ 0x09 → format.0 ≢ 0x0a → format.0 ≢ 0x0b → format.0 ≢ 0x0c
     → pointer_data big n format size ≡ Err (UnsupportedPointerEncoding format)
 other_format big n format size a b c d e f g h i =
     rw (ne_eqb _ _ a, ne_eqb _ _ b, ne_eqb _ _ c, ne_eqb _ _ d, ne_eqb _ _ e, ne_eqb _ _ f, ne_eqb _ _ g, ne_eqb _ _ h, ne_eqb _ _ i) refl

@@ -1,6 +1,8 @@
--- The bytes of a number as it is written, or the refusal of its value or its size. "big" says that the most
--- significant byte comes first.
-use Rattle.std.specs.Prelude.{ℕ, zero, suc, ◌+◌, ◌-◌, ◌*◌, ◌/◌, ◌%◌, ◌^◌, Bool, ◌||◌, nat_lt, nat_eq, if◌then◌else◌, List, [], ◌∷◌, ◌++◌, length, Result, Ok, Err, ℤ, pos, negsuc, bit_and}
+-- The bytes of a number as it is written, or the refusal of its value or its size. "big" says that
+-- the most significant byte comes first.
+use Rattle.std.specs.Prelude.{ℕ, zero, suc, ◌+◌, ◌-◌, ◌*◌, ◌/◌, ◌%◌, ◌^◌, Bool, ◌||◌, nat_lt}
+use Rattle.std.specs.Prelude.{nat_eq, if◌then◌else◌, List, [], ◌∷◌, ◌++◌, length, Result, Ok, Err}
+use Rattle.std.specs.Prelude.{ℤ, pos, negsuc, bit_and}
 use Rattle.std.specs.Int.{w64, cast_signed}
 use Rattle.gimli_core.specs.Numbers.{number_bytes}
 use Rattle.gimli_core.specs.Reading.{result_map}
@@ -10,7 +12,13 @@ use Rattle.gimli_core.specs.declared.constants.DwEhPe.{DwEhPe}
 use Rattle.gimli_bytes.specs.declared.address.Address.{Address}
 use Rattle.gimli_bytes.specs.declared.address.Address.TheVariants.{Constant, Symbol}
 use Rattle.gimli_bytes.specs.declared.error.Error.{Error}
-use Rattle.gimli_bytes.specs.declared.error.Error.TheVariants.{ValueTooLarge, UnsupportedWordSize, InitialLengthOverflow, InvalidAddress, UnsupportedPointerEncoding}
+use Rattle.gimli_bytes.specs.declared.error.Error.TheVariants.{
+  ValueTooLarge,
+  UnsupportedWordSize,
+  InitialLengthOverflow,
+  InvalidAddress,
+  UnsupportedPointerEncoding,
+}
 
 -- ---- numbers of a size that is handed (DWARF 5, section 7.5.5)
 
@@ -24,7 +32,8 @@ udata big n size =
 -- the number of so many bytes that stands for z in two's complement
 abbrev pub twos_complement : ℕ → ℤ → Result ℕ Error
 twos_complement size (pos n) = if nat_lt n (2 ^ (8 * size - 1)) then Ok n else Err ValueTooLarge
-twos_complement size (negsuc n) = if nat_lt n (2 ^ (8 * size - 1)) then Ok (2 ^ (8 * size) - suc n) else Err ValueTooLarge
+twos_complement size (negsuc n) =
+    if nat_lt n (2 ^ (8 * size - 1)) then Ok (2 ^ (8 * size) - suc n) else Err ValueTooLarge
 
 -- a signed number of 1, 2, 4 or 8 bytes
 abbrev pub sdata : Bool → ℤ → ℕ → Result (List ℕ) Error
@@ -35,10 +44,12 @@ sdata big z size =
 
 -- ---- LEB128 (DWARF 5, section 7.6)
 
--- seven bits a byte, the least significant first, until nothing is left; at most so many bytes before the last
+-- seven bits a byte, the least significant first, until nothing is left; at most so many bytes
+-- before the last
 abbrev pub uleb_within : ℕ → ℕ → List ℕ
 uleb_within zero n = n % 128 ∷ []
-uleb_within (suc more) n = if nat_lt n 128 then n ∷ [] else (n % 128 + 128) ∷ uleb_within more (n / 128)
+uleb_within (suc more) n =
+    if nat_lt n 128 then n ∷ [] else (n % 128 + 128) ∷ uleb_within more (n / 128)
 
 -- an unsigned number of 64 bits
 unfoldable pub uleb : ℕ → List ℕ
@@ -59,11 +70,13 @@ abbrev pub has_seven_bits : ℤ → Bool
 has_seven_bits (pos n) = nat_lt n 64
 has_seven_bits (negsuc n) = nat_lt n 64
 
--- seven bits a byte, the least significant first, until no more than the sign is left; at most so many bytes before
--- the last
+-- seven bits a byte, the least significant first, until no more than the sign is left; at most so
+-- many bytes before the last
 unfoldable pub sleb_within : ℕ → ℤ → List ℕ
 sleb_within zero z = low_bits z ∷ []
-sleb_within (suc more) z = if has_seven_bits z then low_bits z ∷ [] else (low_bits z + 128) ∷ sleb_within more (high_bits z)
+sleb_within (suc more) z =
+    if has_seven_bits z then low_bits z ∷ []
+    else (low_bits z + 128) ∷ sleb_within more (high_bits z)
 
 -- a signed number of 64 bits
 unfoldable pub sleb : ℤ → List ℕ
@@ -97,7 +110,8 @@ length_word big Dwarf64 n = Ok (number_bytes big 8 n)
 
 -- ---- pointers of .eh_frame
 
--- the formats of a pointer, and how it is applied (Linux Standard Base, "DWARF Exception Header Encoding")
+-- the formats of a pointer, and how it is applied (Linux Standard Base,
+-- "DWARF Exception Header Encoding")
 abbrev pub DW_EH_PE_absptr : ℕ
 DW_EH_PE_absptr = 0x00
 
@@ -146,12 +160,14 @@ pointer_data big n format size =
 abbrev pub format_of : DwEhPe → DwEhPe
 format_of encoding = record { 0 = bit_and encoding.0 0x0f }
 
--- an address in a pointer encoding, as it is or relative to the place where it is written; the bit 0x80 (indirect)
--- isn't looked at
+-- an address in a pointer encoding, as it is or relative to the place where it is written; the bit
+-- 0x80 (indirect) isn't looked at
 abbrev pub pointer_bytes : Bool → ℕ → Address → DwEhPe → ℕ → Result (List ℕ) Error
 pointer_bytes big place (Constant n) encoding size =
-    if nat_eq (bit_and encoding.0 0x70) DW_EH_PE_absptr then pointer_data big n (format_of encoding) size
-    else (if nat_eq (bit_and encoding.0 0x70) DW_EH_PE_pcrel then pointer_data big ((n + (2 ^ 64 - place)) % 2 ^ 64) (format_of encoding) size
+    if nat_eq (bit_and encoding.0 0x70) DW_EH_PE_absptr
+    then pointer_data big n (format_of encoding) size
+    else (if nat_eq (bit_and encoding.0 0x70) DW_EH_PE_pcrel
+    then pointer_data big ((n + (2 ^ 64 - place)) % 2 ^ 64) (format_of encoding) size
     else Err (UnsupportedPointerEncoding encoding))
 pointer_bytes big place (Symbol symbol addend) encoding size = Err InvalidAddress
 

@@ -9,4 +9,5 @@ pub record Section (E : Type 0) : Type 0 where
 -- a section is stored as the pair of its fields
 abbrev pub section_code : {E : Type 0} → Coded E → Coded (Section E)
 section_code {E = E} e =
-    code_by (List ℕ × E) (coded× (coded_list coded_ℕ) e) (λ s. (s.bytes, s.endian)) (λ p. record { bytes = p.0; endian = p.1 }) (λ _. refl)
+    code_by (List ℕ × E) (coded× (coded_list coded_ℕ) e) (λ s. (s.bytes, s.endian))
+    (λ p. record { bytes = p.0; endian = p.1 }) (λ _. refl)

@@ -1,8 +1,10 @@
 -- String tables as lists of texts.
-use Rattle.std.specs.Prelude.{◌≡◌, ◌≢◌, ℕ, ◌+◌, ◌<◌, List, [], ◌∷◌, ◌++◌, length, take, slice_get, if◌then◌else◌, sum_by, bytes_eq, All, AllPairs}
+use Rattle.std.specs.Prelude.{◌≡◌, ◌≢◌, ℕ, ◌+◌, ◌<◌, List, [], ◌∷◌, ◌++◌, length, take, slice_get}
+use Rattle.std.specs.Prelude.{if◌then◌else◌, sum_by, bytes_eq, All, AllPairs}
 use Rattle.std.specs.List.{list_any, position_or_len, flat_map}
 
--- the texts of a table: no two are the same, and none has a zero byte, which ends a text in a section
+-- the texts of a table: no two are the same, and none has a zero byte, which ends a text in a
+-- section
 pub record AreTexts (texts : List (List ℕ)) : Type 0 where
   pub distinct : AllPairs (λ s t. s ≢ t) texts
   pub no_zero : All (λ t. All (λ b. b ≢ 0) t) texts

@@ -7,6 +7,15 @@ use gimli_core::DwEhPe;
 use std::alloc::{AllocError, AllocFailed};
 
 /// Why something isn't written.
+///
+/// <!-- part of crates/checks_writing/src/own_writer.rt -->
+/// ```rust
+/// if !program.can_generate_row() {
+///     return Err(Error::InvalidRange);
+/// }
+/// program.generate_row()?;
+/// Ok(())
+/// ```
 #[derive(Clone, Copy, Debug, PartialEq, Eq, thiserror::Error)]
 pub enum Error {
     /// A place past the end of the section.

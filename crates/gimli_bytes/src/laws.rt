@@ -1,6 +1,7 @@
 //! Laws of what is written, of equality and of clones.
 
-ghost use Rattle.std.specs.Prelude.{◌≡◌, ◌≢◌, ℕ, ◌+◌, ◌<◌, ◌≤◌, ◌^◌, ℤ, List, ◌∷◌, ◌++◌, length, drop, Some, Ok, All, slice_get, FitsSigned};
+ghost use Rattle.std.specs.Prelude.{◌≡◌, ◌≢◌, ℕ, ◌+◌, ◌<◌, ◌≤◌, ◌^◌, ℤ, List, ◌∷◌, ◌++◌, length};
+ghost use Rattle.std.specs.Prelude.{drop, Some, Ok, All, slice_get, FitsSigned};
 ghost use Rattle.std.specs.Bool.{Decides};
 ghost use Rattle.std.specs.Int.{w64};
 ghost use Rattle.gimli_core.specs.Equality.{ClonesGiveSame, IsExact, IsSameClone};
@@ -35,7 +36,8 @@ pub fn equal_addresses_and_ids()
 pub fn equal_addresses_and_ids_hash_alike()
     ensures address { HashAlike ⟦<Address as PartialEq>⟧.eq ⟦<Address as Hash>⟧.hash_input }
     ensures string { HashAlike ⟦<StringId as PartialEq>⟧.eq ⟦<StringId as Hash>⟧.hash_input }
-    ensures line_string { HashAlike ⟦<LineStringId as PartialEq>⟧.eq ⟦<LineStringId as Hash>⟧.hash_input }
+    ensures line_string { HashAlike ⟦<LineStringId as PartialEq>⟧.eq
+        ⟦<LineStringId as Hash>⟧.hash_input }
 {}
 
 /// `==` of errors holds exactly where they are of one kind and agree in what they hold.

@@ -1,11 +1,21 @@
 //! The shortest LEB128 of a number (DWARF 5, 7.6), in an array on the stack.
 
 ghost use Rattle.std.specs.Prelude.{◌≡◌, ◌<◌};
-ghost use Rattle.gimli_bytes.specs.Number.{uleb, sleb, low_bits as low_bits_of, has_seven_bits as holds_seven_bits};
+ghost use Rattle.gimli_bytes.specs.Number.{uleb, sleb, low_bits as low_bits_of};
+ghost use Rattle.gimli_bytes.specs.Number.{has_seven_bits as holds_seven_bits};
 
 use std::marker::Model;
 
 /// A number as LEB128: seven bits a byte, the least significant first.
+///
+/// <!-- part of crates/gimli_build/src/rows/instruction.rt -->
+/// ```rust
+/// let operand = Leb128::unsigned(discriminator);
+/// write_byte(w, 0)?;
+/// w.write_uleb128(operand.bytes().len() as u64 + 1)?;
+/// write_byte(w, constants::DW_LNE_set_discriminator.0)?;
+/// w.write(operand.bytes())
+/// ```
 #[derive(Debug, Drop)]
 pub struct Leb128 {
     bytes: [u8; 10],

@@ -1,8 +1,8 @@
 //! Writers of DWARF sections, tables of strings, and the errors of writing.
 //!
-//! A [`Writer`] means the list of its bytes, an order of bytes, and three facts of the type: whether it keeps exactly its
-//! bytes, whether it fails for memory alone, and whether it appends all bytes of a `write` or none. A string table means
-//! a list of distinct texts.
+//! A [`Writer`] means the list of its bytes, an order of bytes, and three facts of the type:
+//! whether it keeps exactly its bytes, whether it fails for memory alone, and whether it appends
+//! all bytes of a `write` or none. A string table means a list of distinct texts.
 #![tactic(auto)]
 
 mod address;

@@ -1,6 +1,7 @@
 //! A writer into pieces of one size, all full but the last.
 
-ghost use Rattle.std.specs.Prelude.{◌≡◌, ℕ, ◌+◌, ◌<◌, ◌≤◌, ◌^◌, ◌++◌, [], true, IsOk, IfOk, IfErr, OnOk, OnErr, All, length};
+ghost use Rattle.std.specs.Prelude.{◌≡◌, ℕ, ◌+◌, ◌<◌, ◌≤◌, ◌^◌, ◌++◌, [], true, IsOk, IfOk, IfErr};
+ghost use Rattle.std.specs.Prelude.{OnOk, OnErr, All, length};
 ghost use Rattle.std.specs.List.{concat};
 ghost use Rattle.std.specs.Int.{div_ceil};
 ghost use Rattle.gimli_bytes.specs.Pieces.{ArePieces, NeedsNoPiece};
@@ -87,8 +88,17 @@ fn put(pieces: &mut Vec<Piece>, size: usize, at: usize, bytes: &[u8])
     }
 }
 
-/// A section in pieces of `N` bytes, all full but the last, and the order of its numbers. It keeps exactly its bytes and fails for
-/// memory alone, where a length past the greatest `usize` counts as a refused growth. A refused `write` changes nothing.
+/// A section in pieces of `N` bytes, all full but the last, and the order of its numbers. It keeps
+/// exactly its bytes and fails for memory alone, where a length past the greatest `usize` counts as
+/// a refused growth. A refused `write` changes nothing.
+///
+/// <!-- part of crates/checks_writing/src/many.rt -->
+/// ```rust
+/// let mut section: PieceVec<BigEndian, 16> = PieceVec::new(alloc, BigEndian);
+/// fill(&mut section)?;
+/// check(rt, section.into_vec()?.as_slice() == wanted);
+/// Ok(())
+/// ```
 #[derive(Debug, Drop)]
 pub struct PieceVec<E: Endianity, const N: usize> {
     pieces: Vec<Piece>,
@@ -112,7 +122,8 @@ impl<E: Endianity, const N: usize> Model for PieceVec<E, N> {
 }
 
 impl<E: Endianity, const N: usize> PieceVec<E, N> {
-    /// An empty section, which has no piece and takes no memory. Requires pieces of at least one byte.
+    /// An empty section, which has no piece and takes no memory. Requires pieces of at least one
+    /// byte.
     pub fn new(alloc: Global, endian: E) -> PieceVec<E, N>
         requires { 1 ≤ N }
         ensures { result ≡ record { bytes = []; endian = endian } }
@@ -219,6 +230,13 @@ impl<E: Endianity, const N: usize> Writer for PieceVec<E, N> {
 }
 
 /// The pieces of a [`PieceVec`], in order.
+///
+/// <!-- part of crates/linetool_commands/src/demo.rt -->
+/// ```rust
+/// for piece in section.pieces() {
+///     if print_bytes(piece, out).is_err() {
+///         return Err(Refusal::Output);
+/// ```
 #[derive(Debug, Drop)]
 pub struct Pieces<'a> {
     pieces: &'a [Piece],

@@ -6,6 +6,14 @@ ghost use Rattle.std.specs.Prelude.{ℕ, Bool, List};
 ///
 /// It has no call, and nothing of it is left in a program. It stands apart from `Writer`, so that
 /// the clauses of its calls can name it whole.
+///
+/// <!-- part of crates/checks_writing/src/own_writer.rt -->
+/// ```rust
+/// impl Sink for OwnWriter {
+///     ghost contents = { λ w. w.section.bytes };
+///
+///     ghost big = { λ w. false };
+/// ```
 pub trait Sink {
     /// The bytes of the section.
     ghost contents: { Self → List ℕ };

@@ -1,7 +1,9 @@
 //! The tables of texts of `.debug_str` and `.debug_line_str`: each text once, at a fixed offset.
 
-ghost use Rattle.std.specs.Prelude.{◌≡◌, ◌≢◌, ℕ, ◌<◌, ◌^◌, List, [], length, IfOk, IfErr, OnOk, OnErr, Ok, Some, IsOk, IsTrue, All, Contains, slice_get};
-ghost use Rattle.gimli_bytes.specs.Texts.{AreTexts, KeepsTexts, with_text, index_of_text, offset_of, table_bytes, byte_count};
+ghost use Rattle.std.specs.Prelude.{◌≡◌, ◌≢◌, ℕ, ◌<◌, ◌^◌, List, [], length, IfOk, IfErr, OnOk};
+ghost use Rattle.std.specs.Prelude.{OnErr, Ok, Some, IsOk, IsTrue, All, Contains, slice_get};
+ghost use Rattle.gimli_bytes.specs.Texts.{AreTexts, KeepsTexts, with_text, index_of_text};
+ghost use Rattle.gimli_bytes.specs.Texts.{offset_of, table_bytes, byte_count};
 ghost use Rattle.gimli_bytes.specs.Written.{IsAppendInParts};
 
 use crate::error::{Error, Result};
@@ -110,10 +112,26 @@ impl Texts {
 }
 
 /// The index of a text in its [`StringTable`].
+///
+/// <!-- part of crates/checks_writing/src/own_writer.rt -->
+/// ```rust
+/// strings.add(b"pp")?;
+/// line_strings.add(b"q")?;
+/// let file = strings.add(b"a.c")?;
+/// Ok((line_strings.add(b"/w")?, file))
+/// ```
 #[derive(Clone, Copy, Debug, PartialEq, Eq, Hash)]
 pub struct StringId(pub usize);
 
 /// A table of distinct texts that is written to a section `.debug_str`.
+///
+/// <!-- part of crates/checks_writing/src/own_writer.rt -->
+/// ```rust
+/// strings.add(b"pp")?;
+/// line_strings.add(b"q")?;
+/// let file = strings.add(b"a.c")?;
+/// Ok((line_strings.add(b"/w")?, file))
+/// ```
 #[derive(Debug, Drop)]
 pub struct StringTable {
     texts: Texts,
@@ -171,8 +189,8 @@ impl StringTable {
         self.texts.get(id.0)
     }
 
-    /// Where the text of an id begins in the section, if the table is written to an empty one. Requires an id
-    /// of this table: below `count`.
+    /// Where the text of an id begins in the section, if the table is written to an empty one.
+    /// Requires an id of this table: below `count`.
     pub fn offset(&self, id: StringId) -> DebugStrOffset
         requires { id.0 < length self.now }
         ensures offset { result.0 ≡ offset_of self.now id.0 }
@@ -192,10 +210,25 @@ impl StringTable {
 }
 
 /// The index of a text in its [`LineStringTable`].
+///
+/// <!-- part of crates/checks_writing/src/own_writer.rt -->
+/// ```rust
+/// let working_dir = LineString::LineStringRef(directory);
+/// let source_file = LineString::StringRef(file);
+/// let lines = LineEncoding::default();
+/// ```
 #[derive(Clone, Copy, Debug, PartialEq, Eq, Hash)]
 pub struct LineStringId(pub usize);
 
 /// A table of distinct texts that is written to a section `.debug_line_str`.
+///
+/// <!-- part of crates/uses/src/make_unit.rt -->
+/// ```rust
+/// let mut line_strings = LineStringTable::default(alloc);
+/// let program = build(alloc, &mut line_strings)?;
+/// print_unit(alloc, &program, &mut line_strings, text)?;
+/// print_texts(alloc, &line_strings, text)
+/// ```
 #[derive(Debug, Drop)]
 pub struct LineStringTable {
     texts: Texts,
@@ -260,8 +293,8 @@ impl LineStringTable {
         self.texts.get(id.0)
     }
 
-    /// Where the text of an id begins in the section, if the table is written to an empty one. Requires an id
-    /// of this table: below `count`.
+    /// Where the text of an id begins in the section, if the table is written to an empty one.
+    /// Requires an id of this table: below `count`.
     pub fn offset(&self, id: LineStringId) -> DebugLineStrOffset
         requires { id.0 < length self.now }
         ensures offset { result.0 ≡ offset_of self.now id.0 }

@@ -3,7 +3,9 @@
 ghost use Rattle.std.specs.Prelude.{◌≡◌, ◌+◌, ◌≤◌, IsTrue, IfOk, Ok, Err, length};
 ghost use Rattle.gimli_core.specs.Numbers.{number_bytes, SpellsUleb128, SpellsSleb128, IsShortest};
 ghost use Rattle.gimli_bytes.specs.Written.{IsAppend, IsAppendInParts, IsOverwrite};
-ghost use Rattle.gimli_bytes.specs.Number.{udata, sdata, twos_complement, uleb, sleb, address_bytes, escape_size, open_length, length_word, pointer_data, pointer_at_end};
+ghost use Rattle.gimli_bytes.specs.Number.{udata, sdata, twos_complement, uleb, sleb};
+ghost use Rattle.gimli_bytes.specs.Number.{address_bytes, escape_size, open_length, length_word};
+ghost use Rattle.gimli_bytes.specs.Number.{pointer_data, pointer_at_end};
 
 use crate::address::Address;
 use crate::error::{Error, Result};
@@ -17,6 +19,14 @@ use gimli_core::{DwEhPe, Endianity, Format, SectionId, constants};
 /// whose names end in `_at`, which write over bytes that are there. Whatever the writer, a refused
 /// append leaves the old bytes as a beginning, a refused `_at` call changes no byte, and no `_at`
 /// call changes the length.
+///
+/// <!-- part of crates/checks_writing/src/own_writer.rt -->
+/// ```rust
+/// w.write_u8(0x01)?;
+/// w.write_u16(0x0203)?;
+/// w.write_u32(0x0405_0607)?;
+/// w.write_u64(0x0809_0a0b_0c0d_0e0f)?;
+/// ```
 pub trait Writer: Sink {
     /// The order of bytes.
     type Endian: Endianity;
@@ -368,6 +378,13 @@ pub trait Writer: Sink {
 }
 
 /// Where the word of an initial length stands.
+///
+/// <!-- part of crates/checks_writing/src/own_writer.rt -->
+/// ```rust
+/// w.write_eh_pointer_data(0x2324, DW_EH_PE_udata2, 4)?;
+/// let length = w.write_initial_length(Format::Dwarf64)?;
+/// Ok(length.0)
+/// ```
 #[derive(Clone, Copy, Debug)]
 pub struct InitialLengthOffset(pub usize);
 

@@ -1,5 +1,6 @@
 -- Arrays of the caller: what stands in them after a call.
-use Rattle.std.proofs.Common.{◌≡◌, ◌⊎◌, ℕ, zero, suc, ◌+◌, ◌<◌, ◌≤◌, Bool, true, false, List, [], ◌∷◌, ◌++◌, length, take, set, get_or, refl, sym, ap, subst, ◌∙◌, inl, inr, arith}
+use Rattle.std.proofs.Common.{◌≡◌, ◌⊎◌, ℕ, zero, suc, ◌+◌, ◌<◌, ◌≤◌, Bool, true, false, List, [], ◌∷◌, ◌++◌, length, take, set, get_or, refl, sym, ap, subst}
+use Rattle.std.proofs.Common.{◌∙◌, inl, inr, arith}
 use Rattle.std.specs.Prelude.{Some, ltb, min, slice_get}
 use Rattle.std.specs.List.{AllZip}
 use Rattle.std.proofs.lemmas.Bool.{ltb-true, ltb-false}
@@ -31,7 +32,8 @@ written_take zero (x ∷ xs) [] h = refl
 written_take (suc n) (x ∷ xs) [] h = refl
 written_take zero (x ∷ xs) (o ∷ old) h = elim h [ inl a ↦ absurd (omega arith) | inr b ↦ absurd (omega arith) ]
 written_take (suc n) (x ∷ xs) (o ∷ old) h =
-    ap (λ (ys : List _). x ∷ ys) (written_take n xs old (elim h as (λ _. (length xs ≤ n) ⊎ (length old ≤ n)) [ inl a ↦ inl (omega arith) | inr b ↦ inr (omega arith) ]))
+    ap (λ (ys : List _). x ∷ ys)
+    (written_take n xs old (elim h as (λ _. (length xs ≤ n) ⊎ (length old ≤ n)) [ inl a ↦ inl (omega arith) | inr b ↦ inr (omega arith) ]))
 
 -- one more byte of those that are copied
 pub copied_more : (bytes old now : List ℕ) (i : ℕ) → i < length bytes → now ≡ slots_with (take i bytes) old
@@ -102,6 +104,7 @@ take_within xs n room is = at_test (ltb room (length xs)) refl
     at_test true e = below (ltb-true room (length xs) e)
     at_test false e = above (ltb-false room (length xs) e)
 
-pub all_written : {B : Type 0} (R : ℕ → B → Type 0) (xs : List ℕ) (old now : List B) (i : ℕ) → i ≡ min (length xs) (length old) → AreWritten R (take i xs) old now
+pub all_written : {B : Type 0} (R : ℕ → B → Type 0) (xs : List ℕ) (old now : List B) (i : ℕ) → i ≡ min (length xs) (length old)
+    → AreWritten R (take i xs) old now
     → (ys : List B) × AllZip R (take (length old) xs) ys × (now ≡ slots_with ys old)
 all_written R xs old now i is w = (w.ys, subst (λ (zs : List ℕ). AllZip R zs w.ys) (take_within xs i (length old) is) w.each, w.copied)

@@ -1,5 +1,6 @@
 -- Causes of refusals, joined.
-use Rattle.std.proofs.Common.{◌≡◌, ℕ, ◌+◌, ◌≤◌, ◌<◌, Bool, true, false, if◌then◌else◌, List, [], ◌∷◌, length, map, Option, Some, None, slice_get, get_or, take, drop, nat_le, refl, sym, ap, subst, inl, inr, ◌∙◌, arith, length-append}
+use Rattle.std.proofs.Common.{◌≡◌, ℕ, ◌+◌, ◌≤◌, ◌<◌, Bool, true, false, if◌then◌else◌, List, [], ◌∷◌, length, map, Option, Some, None, slice_get, get_or, take}
+use Rattle.std.proofs.Common.{drop, nat_le, refl, sym, ap, subst, inl, inr, ◌∙◌, arith, length-append}
 use Rattle.std.specs.Prelude.{Any, All}
 use Rattle.std.proofs.lemmas.Bool.Decides.{nat_tests}
 use Rattle.std.proofs.lemmas.List.{at_drop_more, take_more}
@@ -21,7 +22,8 @@ use Rattle.gimli_c.specs.Refused.{encoding_fault}
 use Rattle.gimli_build.specs.Advance.{CanEncode}
 use Rattle.gimli_c.specs.Causes.HasFileFault.{no_directory, path_fault}
 use Rattle.gimli_c.specs.Causes.HasTableFault.{no_source, directory_fault, file_fault}
-use Rattle.gimli_c.specs.Handed.{AddsDirectories, AddsFiles, base_after, base_of, details_handed, encoding_of, first_ids, ids_of_directories, ids_of_files, key_handed, line_encoding_of, text_handed}
+use Rattle.gimli_c.specs.Handed.{AddsDirectories, AddsFiles, base_after, base_of, details_handed, encoding_of, first_ids, ids_of_directories, ids_of_files}
+use Rattle.gimli_c.specs.Handed.{key_handed, line_encoding_of, text_handed}
 use Rattle.gimli_c.specs.Handing.{Handed}
 
 -- what holds of the element at an index holds of some element
@@ -43,7 +45,8 @@ pub row_of_rows : (now old : Built) (files : ℕ) (base : Option ℕ) (position 
     → HasRowsFault old.line_encoding old.encoding.version files base position (drop i rows) status
 row_of_rows now old files base position rows i d status same_lines same within fault =
     let all : List GimliRow → Type 0 = λ xs. HasRowsFault old.line_encoding old.encoding.version files base position xs status in
-    let one : LineEncoding → Encoding → Type 0 = λ lines encoding. HasRowFault lines encoding.version files (base_of base (get_or rows i d)) position (get_or rows i d) status in
+    let one : LineEncoding → Encoding → Type 0 = λ lines encoding.
+    HasRowFault lines encoding.version files (base_of base (get_or rows i d)) position (get_or rows i d) status in
     subst all (sym (at_drop_more (λ xs. xs) rows i d within))
     (inl (subst (λ (lines : LineEncoding). one lines old.encoding) same_lines (subst (one now.line_encoding) same fault)))
 
@@ -70,7 +73,8 @@ count_of_files texts ids files (f ∷ more) =
     let rest = count_of_files texts ids (with_file files (key_handed texts ids f) (Some (details_handed f))) more in omega arith
 
 -- each directory has an id, and so has that of the compilation up to version 4
-pub directory_ids : (old new : Built) (texts : List ℕ) (names : List GimliName) (ids : List ℕ) (version : ℕ) → AddsDirectories old new (map (text_handed texts) names) ids
+pub directory_ids : (old new : Built) (texts : List ℕ) (names : List GimliName) (ids : List ℕ) (version : ℕ)
+    → AddsDirectories old new (map (text_handed texts) names) ids
     → old.encoding.version ≡ version → length ids ≡ first_index version + length names
 directory_ids old new texts names ids version adds same =
     let given = map (text_handed texts) names in
@@ -79,12 +83,14 @@ directory_ids old new texts names ids version adds same =
     omega (arith, parts, first, count_of_directories old.directories given, count_of_names texts names)
 
 -- each file has an id
-pub file_ids : (old new : Built) (texts ids : List ℕ) (files : List GimliFileName) (given : List ℕ) → AddsFiles old new texts ids files given → length given ≡ length files
+pub file_ids : (old new : Built) (texts ids : List ℕ) (files : List GimliFileName) (given : List ℕ) → AddsFiles old new texts ids files given
+    → length given ≡ length files
 file_ids old new texts ids files given adds = ap (λ (xs : List ℕ). length xs) adds.ids_are ∙ count_of_files texts ids old.files files
 
 -- ---- causes of what is handed over
 
-pub names_refused : (h : Handed) (version status : ℕ) → version ≡ h.encoding.version → Any (λ n. HasTextFault version h.texts n status) h.directories → HasHandedFault h status
+pub names_refused : (h : Handed) (version status : ℕ) → version ≡ h.encoding.version → Any (λ n. HasTextFault version h.texts n status) h.directories
+    → HasHandedFault h status
 names_refused h version status same any = of_tables (directory_fault (subst (λ (v : ℕ). Any (λ n. HasTextFault v h.texts n status) h.directories) same any))
 
 pub files_refused : (h : Handed) (version end status : ℕ) → version ≡ h.encoding.version → end ≡ first_index h.encoding.version + length h.directories
@@ -93,7 +99,8 @@ files_refused h version end status same ends any =
     let some : ℕ → ℕ → Type 0 = λ v e. Any (λ f. HasFileFault v h.texts e f status) h.files in
     of_tables (file_fault (subst (some h.encoding.version) ends (subst (λ (v : ℕ). some v end) same any)))
 
-pub rows_refused : (h : Handed) (p : Built) (files status : ℕ) → p.line_encoding ≡ line_encoding_of h.encoding → p.encoding ≡ encoding_of h.encoding → files ≡ length h.files
+pub rows_refused : (h : Handed) (p : Built) (files status : ℕ) → p.line_encoding ≡ line_encoding_of h.encoding → p.encoding ≡ encoding_of h.encoding
+    → files ≡ length h.files
     → HasRowsFault p.line_encoding p.encoding.version files None (0, 0) h.rows status → HasHandedFault h status
 rows_refused h p files status lines same count fault =
     let some : LineEncoding → Encoding → ℕ → Type 0 = λ l e n. HasRowsFault l e.version n None (0, 0) h.rows status in
@@ -103,9 +110,11 @@ rows_refused h p files status lines same count fault =
 
 -- ---- where no cause is
 
-pub file_is_well : (version : ℕ) (texts ids : List ℕ) (id : ℕ) (file : GimliFileName) → HasNone (HasTextFault version texts file.path) → slice_get ids file.directory ≡ Some id
+pub file_is_well : (version : ℕ) (texts ids : List ℕ) (id : ℕ) (file : GimliFileName) → HasNone (HasTextFault version texts file.path)
+    → slice_get ids file.directory ≡ Some id
     → HasNone (HasFileFault version texts (length ids) file)
-file_is_well version texts ids id file well there status (no_directory is past) = let within = slice_get_within ids file.directory id there in absurd (omega arith)
+file_is_well version texts ids id file well there status (no_directory is past) =
+    let within = slice_get_within ids file.directory id there in absurd (omega arith)
 file_is_well version texts ids id file well there status (path_fault fault) = well status fault
 
 -- what holds of the elements before an index and of the one there holds of those before the next
@@ -117,10 +126,12 @@ pub rows_left : (now old : Built) (files : ℕ) (base : Option ℕ) (position : 
     → now.line_encoding ≡ old.line_encoding → now.encoding ≡ old.encoding → i < length rows
     → HasNone (HasRowFault now.line_encoding now.encoding.version files (base_of base (get_or rows i d)) position (get_or rows i d))
     → HasRowsFault old.line_encoding old.encoding.version files base position (drop i rows) status
-    → HasRowsFault old.line_encoding old.encoding.version files (base_after base (get_or rows i d)) (position_after base (get_or rows i d)) (drop (i + 1) rows) status
+    → HasRowsFault old.line_encoding old.encoding.version files (base_after base (get_or rows i d)) (position_after base (get_or rows i d)) (drop (i + 1) rows)
+    status
 rows_left now old files base position rows i d status same_lines same within well fault =
     let all : List GimliRow → Type 0 = λ xs. HasRowsFault old.line_encoding old.encoding.version files base position xs status in
-    let one : LineEncoding → Encoding → Type 0 = λ lines encoding. HasNone (HasRowFault lines encoding.version files (base_of base (get_or rows i d)) position (get_or rows i d)) in
+    let one : LineEncoding → Encoding → Type 0 = λ lines encoding.
+    HasNone (HasRowFault lines encoding.version files (base_of base (get_or rows i d)) position (get_or rows i d)) in
     let none = subst (λ (lines : LineEncoding). one lines old.encoding) same_lines (subst (one now.line_encoding) same well) in
     elim (subst all (at_drop_more (λ xs. xs) rows i d within) fault) [ inl first ↦ absurd (none status first) | inr rest ↦ rest ]
 

@@ -6,7 +6,10 @@ use Rattle.std.proofs.lemmas.Option.{none-some}
 use Rattle.gimli_core.specs.Notation.{Notation}
 use Rattle.gimli_core.specs.Values.{Value}
 use Rattle.gimli_line.specs.header.File.{File}
-use Rattle.gimli_line.specs.declared.run.instruction.LineInstruction.TheVariants.{Special, Copy, AdvancePc, AdvanceLine, SetFile, SetColumn, NegateStatement, SetBasicBlock, ConstAddPc, FixedAddPc, SetPrologueEnd, SetEpilogueBegin, SetIsa, UnknownStandard0, UnknownStandard1, UnknownStandardN, EndSequence, SetAddress, DefineFile, SetDiscriminator, UnknownExtended}
+use Rattle.gimli_line.specs.declared.run.instruction.LineInstruction.TheVariants.{Special, Copy, AdvancePc, AdvanceLine, SetFile, SetColumn, NegateStatement}
+use Rattle.gimli_line.specs.declared.run.instruction.LineInstruction.TheVariants.{SetBasicBlock, ConstAddPc, FixedAddPc, SetPrologueEnd, SetEpilogueBegin}
+use Rattle.gimli_line.specs.declared.run.instruction.LineInstruction.TheVariants.{SetIsa, UnknownStandard0, UnknownStandard1, UnknownStandardN, EndSequence}
+use Rattle.gimli_line.specs.declared.run.instruction.LineInstruction.TheVariants.{SetAddress, DefineFile, SetDiscriminator, UnknownExtended}
 use Rattle.gimli_line.specs.header.Header.{Header, files_with, without_files, directory_of, file_of, from_one}
 use Rattle.gimli_line.specs.run.Instruction.{Ins, files_after}
 use Rattle.gimli_line.specs.run.InstructionReading.{decoded_at}
@@ -31,7 +34,8 @@ has_files p notation h complete files unit n at_end same are = record {
   complete_is = ap (λ (k : Header). record k { files = complete.files }) same ∙ ap (λ (fs : List File). record h { files = fs }) are;
 }
 
-pub some_text : (v : Option Value) (text slice old new : List ℕ) → Some text ≡ text_here v → slice ≡ text → new ≡ slots_with slice old → new ≡ slots_with (bytes_here v) old
+pub some_text : (v : Option Value) (text slice old new : List ℕ) → Some text ≡ text_here v → slice ≡ text → new ≡ slots_with slice old
+    → new ≡ slots_with (bytes_here v) old
 some_text v text slice old new t s n =
     n ∙ ap (λ (xs : List ℕ). slots_with xs old) (s ∙ ap (λ (o : Option (List ℕ)). unwrap_or o []) t)
 
@@ -110,7 +114,8 @@ pub file_stays : (a : RunState) (h : Header) (index : ℕ) (f : File) → withou
 file_stays a h index f same are is =
     let at : file_of (header_with a a.files) index ≡ Some f = ap (λ (k : Header). file_of k index) (sym (header_is a h same are)) ∙ sym is in
     let m = more_at_end a in
-    let stays : file_of (header_with a (a.files ++ m.more)) index ≡ Some f = entry_stays (nat_le a.fixed.parameters.encoding.version 4) a.fixed.comp_file a.files m.more index f at in
+    let stays : file_of (header_with a (a.files ++ m.more)) index
+    ≡ Some f = entry_stays (nat_le a.fixed.parameters.encoding.version 4) a.fixed.comp_file a.files m.more index f at in
     at ∙ sym (ap (λ (fs : List File). file_of (header_with a fs) index) m.parts ∙ stays)
 
 -- ---- a file that is looked up where it is known, and the header with all files

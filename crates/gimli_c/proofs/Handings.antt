@@ -51,13 +51,16 @@ module _ (Q : File → Type 0) (d : Details) (other : (k : FileKey) (e : Details
       by true = details_with files (index_of_file files k) all
       by false = All-push Q files (k, d) all one
 
-pub file_can : (p : Built) (k : FileKey) (d : Details) → CanWrite p no_texts → IsInline k.0 → d.source ≡ None → CanWrite (record p { files = with_file p.files k (Some d) }) no_texts
+pub file_can : (p : Built) (k : FileKey) (d : Details) → CanWrite p no_texts → IsInline k.0 → d.source ≡ None
+    → CanWrite (record p { files = with_file p.files k (Some d) }) no_texts
 file_can p k d can is none = record {
   program = can.program;
   directories = can.directories;
   paths = files_with (λ f. IsWithin no_texts f.0.0) d (λ _ _ q. q) p.files k can.paths (inline_within k.0 is);
-  sources = files_with (λ f. IfSome f.1.source (IsWithin no_texts)) d (λ _ _ _. no_source (IsWithin no_texts)) p.files k can.sources (no_source (IsWithin no_texts));
-  sources_end = λ late has. files_with (λ f. IfSome f.1.source HasNoZero) d (λ _ _ _. no_source HasNoZero) p.files k (can.sources_end late has) (no_source HasNoZero);
+  sources =
+      files_with (λ f. IfSome f.1.source (IsWithin no_texts)) d (λ _ _ _. no_source (IsWithin no_texts)) p.files k can.sources (no_source (IsWithin no_texts));
+  sources_end =
+      λ late has. files_with (λ f. IfSome f.1.source HasNoZero) d (λ _ _ _. no_source HasNoZero) p.files k (can.sources_end late has) (no_source HasNoZero);
 }
   where
     no_source : (P : LineText → Type 0) → IfSome d.source P
@@ -101,10 +104,13 @@ read_back written big p texts old new big_is old_is none gained given =
 
 pub built_source : (h : Handed) (p : Built) → IsBuiltOf h p → p.file_has_source ≡ false
 built_source h p b =
-    ap (λ (q : Built). q.file_has_source) b.others ∙ ap (λ (q : Built). q.file_has_source) b.files.others ∙ ap (λ (q : Built). q.file_has_source) b.directories.others
+    ap (λ (q : Built). q.file_has_source) b.others ∙ ap (λ (q : Built). q.file_has_source) b.files.others
+    ∙ ap (λ (q : Built). q.file_has_source) b.directories.others
 
-pub items_built : (details : ℕ) (e : GimliEncoding) (start between after p : Built) (texts : List (List ℕ)) (bytes ids given : List ℕ) (files : List GimliFileName)
-    (file_ids now : List ℕ) (rows : List GimliRow) → start.items ≡ [] → start.encoding ≡ encoding_of e → AddsDirectories (program_with details start) between texts ids
+pub items_built : (details : ℕ) (e : GimliEncoding) (start between after p : Built) (texts : List (List ℕ)) (bytes ids given : List ℕ)
+    (files : List GimliFileName)
+    (file_ids now : List ℕ) (rows : List GimliRow) → start.items ≡ [] → start.encoding ≡ encoding_of e
+    → AddsDirectories (program_with details start) between texts ids
     → AddsFiles between after bytes given files file_ids → now ≡ file_ids → AddsItems after p (items_handed after.encoding.version now None rows)
     → p.items ≡ items_handed e.version file_ids None rows
 items_built details e start between after p texts bytes ids given files file_ids now rows none is d f same a =

@@ -15,7 +15,10 @@ use Rattle.gimli_lookup.specs.Strings.{Strings}
 use Rattle.gimli_c.specs.Indexed.{section_read, entry_of, strings_in, unit_location, paths_in, AreUnitsIn, AreUnitsOf, HasNoPath, UnitRefused}
 use Rattle.gimli_c.specs.Status.{error_status}
 use Rattle.gimli_core.specs.declared.error.Error.{Error}
-use Rattle.gimli_core.specs.declared.error.Error.TheVariants.{UnexpectedEof, BadUnsignedLeb128, BadSignedLeb128, UnknownReservedLength, UnknownVersion, UnsupportedAddressSize, UnsupportedSegmentSize, MinimumInstructionLengthZero, MaximumOperationsPerInstructionZero, LineRangeZero, OpcodeBaseZero, MissingFileEntryFormatPath, UnknownForm, AddressOverflow, UnsupportedOffset, ExpectedStringAttributeValue, OutOfMemory}
+use Rattle.gimli_core.specs.declared.error.Error.TheVariants.{UnexpectedEof, BadUnsignedLeb128, BadSignedLeb128, UnknownReservedLength, UnknownVersion}
+use Rattle.gimli_core.specs.declared.error.Error.TheVariants.{UnsupportedAddressSize, UnsupportedSegmentSize, MinimumInstructionLengthZero}
+use Rattle.gimli_core.specs.declared.error.Error.TheVariants.{MaximumOperationsPerInstructionZero, LineRangeZero, OpcodeBaseZero, MissingFileEntryFormatPath}
+use Rattle.gimli_core.specs.declared.error.Error.TheVariants.{UnknownForm, AddressOverflow, UnsupportedOffset, ExpectedStringAttributeValue, OutOfMemory}
 use Rattle.gimli_c.specs.Location.{Location, location, HasUnit, HasNoUnit}
 use Rattle.gimli_c.proofs.Files.{complete, IsLookedUp}
 use Rattle.gimli_c.proofs.Locations.{Unit_at, same_unit}
@@ -48,14 +51,16 @@ record RefusedAt (p : Location) (status : ℕ) : Type 0 where
   is : HasNoUnit p status
 
 -- the unit of an index, by other names of its bytes, its offset and its header
-pub unit_here : (i : SectionIndex) (kept : KeptUnit) (section : List ℕ) (offset : ℕ) (h own : Header) → section ≡ i.section.items → offset ≡ kept.unit.offset → own ≡ h
+pub unit_here : (i : SectionIndex) (kept : KeptUnit) (section : List ℕ) (offset : ℕ) (h own : Header) → section ≡ i.section.items → offset ≡ kept.unit.offset
+    → own ≡ h
     → HasUnit (location section i.big i.address_size offset) own → Unit_at (unit_location i kept) h
 unit_here i kept section offset h own s o same unit =
     subst (λ (k : Header). Unit_at (unit_location i kept) k) same
     (subst (λ (n : ℕ). Unit_at (location i.section.items i.big i.address_size n) own) o
     (same_unit i.section.items section i.big i.big i.address_size offset own s refl unit))
 
-pub refused_here : (i : SectionIndex) (unit : ℕ) (kept : KeptUnit) (section : List ℕ) (offset status : ℕ) → slice_get i.units unit ≡ Some kept → section ≡ i.section.items
+pub refused_here : (i : SectionIndex) (unit : ℕ) (kept : KeptUnit) (section : List ℕ) (offset status : ℕ) → slice_get i.units unit ≡ Some kept
+    → section ≡ i.section.items
     → offset ≡ kept.unit.offset → HasNoUnit (location section i.big i.address_size offset) status → UnitRefused i unit status
 refused_here i unit kept section offset status is s o refused =
     let there : RefusedAt (unit_location i kept) status = subst (λ (n : ℕ). RefusedAt (location i.section.items i.big i.address_size n) status) o
@@ -68,8 +73,13 @@ pub same_paths : (p : Paths) (i : SectionIndex) (h : Header) (comp_dir line_stri
     → line_strings ≡ i.line_strings.items → strings ≡ i.strings.items → p ≡ paths_in i h comp_dir
 same_paths p i h comp_dir line_strings strings is l s =
     is
-    ∙ ap (λ (xs : List ℕ). let q : Paths = record { sections = record { debug_line_str = xs; debug_str = strings }; header = h; comp_dir = Some comp_dir } in q) l
-    ∙ ap (λ (xs : List ℕ). let q : Paths = record { sections = record { debug_line_str = i.line_strings.items; debug_str = xs }; header = h; comp_dir = Some comp_dir } in q) s
+    ∙ ap (λ (xs : List ℕ). let q : Paths = record { sections = record { debug_line_str = xs; debug_str = strings }; header = h; comp_dir = Some comp_dir } in q)
+    l
+    ∙ ap
+    (λ (xs : List ℕ). let q : Paths =
+    record { sections = record { debug_line_str = i.line_strings.items; debug_str = xs }; header = h; comp_dir = Some comp_dir } in
+    q)
+    s
 
 -- what follows from an answer, and from a refusal
 pub ok_more : {A E : Type 0} {P Q : A → Type 0} (r : Result A E) → ((a : A) → P a → Q a) → IfOk r P → IfOk r Q
@@ -118,7 +128,8 @@ same_path i start now h index comp_dir f l =
     ∙ ap (λ (k : Header). file_path (paths_in i (record k { files = files_at_end start }) comp_dir) f) l.fixed
 
 -- what stands at a location, by other names of the bytes of its section and of its offset
-pub location_here : (P : Location → Type 0) (i : SectionIndex) (kept : KeptUnit) (section : List ℕ) (offset : ℕ) → section ≡ i.section.items → offset ≡ kept.unit.offset
+pub location_here : (P : Location → Type 0) (i : SectionIndex) (kept : KeptUnit) (section : List ℕ) (offset : ℕ) → section ≡ i.section.items
+    → offset ≡ kept.unit.offset
     → P (location section i.big i.address_size offset) → P (unit_location i kept)
 location_here P i kept section offset s o p =
     subst (λ (n : ℕ). P (location i.section.items i.big i.address_size n)) o (subst (λ (x : List ℕ). P (location x i.big i.address_size offset)) s p)

@@ -1,5 +1,6 @@
 -- Runs: rows that are counted and copied.
-use Rattle.std.proofs.Common.{◌≡◌, ℕ, ◌+◌, ◌-◌, ◌<◌, ◌≤◌, ◌^◌, Bool, true, false, List, [], ◌∷◌, ◌++◌, length, map, drop, set, refl, sym, ap, subst, ◌∙◌, append_assoc, arith}
+use Rattle.std.proofs.Common.{◌≡◌, ℕ, ◌+◌, ◌-◌, ◌<◌, ◌≤◌, ◌^◌, Bool, true, false, List, [], ◌∷◌, ◌++◌, length, map, drop, set, refl, sym, ap, subst, ◌∙◌}
+use Rattle.std.proofs.Common.{append_assoc, arith}
 use Rattle.std.specs.Prelude.{Option, ltb}
 use Rattle.std.proofs.lemmas.List.{map-append, length-append, length-map, append-nil, drop-append-le, drop_all, length-drop}
 use Rattle.std.proofs.lemmas.Bool.{ltb-true, ltb-false}
@@ -63,7 +64,8 @@ one_more events left rest skip count old now next r way is skipped put = record 
   where
     below : count < skip → next ≡ slots_with (map row_seen (drop skip (way.seen ++ r ∷ []))) old
     below lt = skipped lt ∙ way.copied ∙ ap (λ (xs : List LineRow). slots_with (map row_seen xs) old)
-        (drop_all skip way.seen (omega (arith, way.count_is)) ∙ sym (drop_all skip (way.seen ++ r ∷ []) (omega (arith, way.count_is, length-append way.seen (r ∷ [])))))
+        (drop_all skip way.seen (omega (arith, way.count_is))
+        ∙ sym (drop_all skip (way.seen ++ r ∷ []) (omega (arith, way.count_is, length-append way.seen (r ∷ [])))))
 
     above : skip ≤ count → next ≡ slots_with (map row_seen (drop skip (way.seen ++ r ∷ []))) old
     above le =
@@ -82,7 +84,8 @@ one_more events left rest skip count old now next r way is skipped put = record 
 pub at_end : (events left : List Event) (skip count : ℕ) (old now : List GimliRow) (end : Option Error) → IsOnTheWay events left skip count old now
     → rows_of left ≡ [] → fault_of left ≡ end → Copied events skip old now count end
 at_end events left skip count old now end way none is =
-    let rows_are : rows_of events ≡ way.seen = ap rows_of way.given ∙ rows_after way.seen left ∙ ap (λ (xs : List LineRow). way.seen ++ xs) none ∙ append-nil way.seen in
+    let rows_are : rows_of events ≡ way.seen = ap rows_of way.given ∙ rows_after way.seen left ∙ ap (λ (xs : List LineRow). way.seen ++ xs) none
+    ∙ append-nil way.seen in
     record {
       count_is = way.count_is ∙ ap length (sym rows_are);
       end_is = sym is ∙ sym (fault_after way.seen left) ∙ ap fault_of (sym way.given);

@@ -12,7 +12,8 @@ use Rattle.gimli_build.specs.declared.built.items.BuiltItem.{BuiltItem}
 use Rattle.gimli_c.specs.Causes.{HasCause, HasHandedFault}
 use Rattle.gimli_c.specs.inside.Causes.{HasNone}
 use Rattle.gimli_c.specs.Causes.HasCause.{of_handed, of_unit}
-use Rattle.gimli_c.specs.Handed.{AddsDirectories, encoding_of, line_encoding_of, directories_handed, files_handed, first_ids, ids_of_directories, ids_of_files, items_handed, text_handed}
+use Rattle.gimli_c.specs.Handed.{AddsDirectories, encoding_of, line_encoding_of, directories_handed, files_handed, first_ids, ids_of_directories, ids_of_files}
+use Rattle.gimli_c.specs.Handed.{items_handed, text_handed}
 use Rattle.gimli_c.specs.Handing.{Handed, IsBuiltOf, program_with}
 use Rattle.gimli_c.specs.Start.{start_program}
 
@@ -54,13 +55,15 @@ is_program_of h p b =
     ∙ ap (λ (xs : List BuiltItem). let r : Built = record (with_tables h) { items = xs; row = p.row; in_sequence = p.in_sequence } in r) items
 
 -- so each of them has the same first cause
-same_cause : (h : Handed) (big : Bool) (p q : Built) → IsBuiltOf h p → IsBuiltOf h q → first_cause big p.encoding p no_texts ≡ first_cause big q.encoding q no_texts
+same_cause : (h : Handed) (big : Bool) (p q : Built) → IsBuiltOf h p → IsBuiltOf h q
+    → first_cause big p.encoding p no_texts ≡ first_cause big q.encoding q no_texts
 same_cause h big p q a b =
     let cause : Built → Option Error = λ r. first_cause big r.encoding r no_texts in
     let same : cause (program_of h p.row p.in_sequence) ≡ cause (program_of h q.row q.in_sequence) = refl in
     ap cause (is_program_of h p a) ∙ same ∙ sym (ap cause (is_program_of h q b))
 
 -- where a program that is built was written, nothing has a cause
-pub no_cause : (h : Handed) (p : Built) (status : ℕ) → HasNone (HasHandedFault h) → IsBuiltOf h p → first_cause h.big p.encoding p no_texts ≡ None → HasCause h status → ⊥
+pub no_cause : (h : Handed) (p : Built) (status : ℕ) → HasNone (HasHandedFault h) → IsBuiltOf h p → first_cause h.big p.encoding p no_texts ≡ None
+    → HasCause h status → ⊥
 no_cause h p status well built none (of_handed fault) = well status fault
 no_cause h p status well built none (of_unit unit) = none-some unit.cause (sym none ∙ same_cause h h.big p unit.program built unit.built ∙ unit.first)

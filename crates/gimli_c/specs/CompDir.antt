@@ -25,4 +25,5 @@ TellsDirectory sections offset directory =
 -- that directory in an array of the caller, and its length
 abbrev pub WritesDirectory : Sections → ℕ → List ℕ → List ℕ → ℕ → Type 0
 WritesDirectory sections offset old new size =
-    (whole : List ℕ) × TellsDirectory sections offset (Some whole) × (new ≡ slots_with whole old) × (size ≡ length whole)
+    (whole : List ℕ) × TellsDirectory sections offset (Some whole) × (new ≡ slots_with whole old)
+    × (size ≡ length whole)

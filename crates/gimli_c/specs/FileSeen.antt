@@ -1,7 +1,14 @@
 -- What C sees of a file, and of a directory.
-use Rattle.std.specs.Prelude.{◌≡◌, ◌+◌, ◌||◌, ℕ, true, List, [], Option, Some, None, length, nat_le, unwrap_or}
+use Rattle.std.specs.Prelude.{◌≡◌, ◌+◌, ◌||◌, ℕ, true, List, [], Option, Some, None, length, nat_le}
+use Rattle.std.specs.Prelude.{unwrap_or}
 use Rattle.gimli_core.specs.Values.{Value}
-use Rattle.gimli_core.specs.declared.attribute_value.AttributeValue.TheVariants.{String, DebugStrRef, DebugStrRefSup, DebugLineStrRef, DebugStrOffsetsIndex}
+use Rattle.gimli_core.specs.declared.attribute_value.AttributeValue.TheVariants.{
+  String,
+  DebugStrRef,
+  DebugStrRefSup,
+  DebugLineStrRef,
+  DebugStrOffsetsIndex,
+}
 use Rattle.gimli_line.specs.header.File.{File}
 use Rattle.gimli_line.specs.header.Header.{Header, directory_of, file_of, has_content}
 use Rattle.gimli_line.specs.run.EventsWithFiles.{FilesAtEnd}
@@ -64,15 +71,18 @@ pub record HasFiles (p : Location) (complete : Header) : Type 0 where
   pub at_end : FilesAtEnd (notation_at p) true header header.program files
   pub complete_is : complete ≡ record header { files = files }
 
--- the file of an index of the unit at the location, and the bytes of its path and directory where they stand there
-pub record GivesFile (p : Location) (index : ℕ) (seen : GimliFile) (path_old path_new directory_old directory_new : List ℕ) : Type 0 where
+-- the file of an index of the unit at the location, and the bytes of its path and directory where
+-- they stand there
+pub record GivesFile (p : Location) (index : ℕ) (seen : GimliFile)
+    (path_old path_new directory_old directory_new : List ℕ) : Type 0 where
   pub header : Header
   pub unit : HasFiles p header
   pub file : File
   pub is_file : file_of header index ≡ Some file
   pub seen_is : seen ≡ file_seen_by_c header file
   pub path_is : path_new ≡ slots_with (bytes_here (Some file.path_name)) path_old
-  pub directory_is : directory_new ≡ slots_with (bytes_here (directory_of header file.directory_index)) directory_old
+  pub directory_is : directory_new
+      ≡ slots_with (bytes_here (directory_of header file.directory_index)) directory_old
 
 -- the unit at the location has no file of the index
 pub record GivesNoFile (p : Location) (index : ℕ) : Type 0 where
@@ -81,7 +91,8 @@ pub record GivesNoFile (p : Location) (index : ℕ) : Type 0 where
   pub none : file_of header index ≡ None
 
 -- the directory of an index of the unit at the location, and its bytes where they stand there
-pub record GivesDirectory (p : Location) (index : ℕ) (seen : GimliText) (bytes_old bytes_new : List ℕ) : Type 0 where
+pub record GivesDirectory (p : Location) (index : ℕ) (seen : GimliText)
+    (bytes_old bytes_new : List ℕ) : Type 0 where
   pub header : Header
   pub unit : HasUnit p header
   pub directory : Value

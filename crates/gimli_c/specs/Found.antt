@@ -11,7 +11,8 @@ use Rattle.gimli_c.specs.Location.{Location, notation_at, HasUnit, HasNoUnit}
 use Rattle.gimli_c.specs.Seen.{row_seen}
 use Rattle.gimli_c.specs.Status.{error_status}
 
--- the program of the unit at the location gives rows and no fault, and these are the rows of each of its sequences
+-- the program of the unit at the location gives rows and no fault, and these are the rows of each
+-- of its sequences
 pub record HasSequences (p : Location) (rows : List (List LineRow)) : Type 0 where
   pub header : Header
   pub unit : HasUnit p header
@@ -41,6 +42,7 @@ pub record HasFault (p : Location) (status : ℕ) : Type 0 where
   pub first : HasFirstFault (notation_at p) header fault
   pub status_is : status ≡ error_status fault
 
--- nothing can be looked up at the location, since it has no unit, or the run of its program has a fault; this is the number
+-- nothing can be looked up at the location, since it has no unit, or the run of its program has a
+-- fault; this is the number
 abbrev pub HasNoSequences : Location → ℕ → Type 0
 HasNoSequences p status = HasNoUnit p status ⊎ HasFault p status

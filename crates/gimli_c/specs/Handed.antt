@@ -1,5 +1,7 @@
 -- What C hands over to be written.
-use Rattle.std.specs.Prelude.{◌≡◌, ◌≤◌, ℕ, ◌+◌, ◌-◌, ◌/◌, ◌%◌, Bool, not, nat_eq, nat_le, if◌then◌else◌, List, [], ◌∷◌, ◌++◌, slice_get, Option, Some, None, unwrap_or}
+use Rattle.std.specs.Prelude.{◌≡◌, ◌≤◌, ℕ, ◌+◌, ◌-◌, ◌/◌, ◌%◌, Bool, not, nat_eq, nat_le}
+use Rattle.std.specs.Prelude.{if◌then◌else◌, List, [], ◌∷◌, ◌++◌, slice_get, Option, Some, None}
+use Rattle.std.specs.Prelude.{unwrap_or}
 use Rattle.std.specs.List.{slice_range}
 use Rattle.gimli_core.specs.declared.common.Encoding.{Encoding}
 use Rattle.gimli_core.specs.declared.common.LineEncoding.{LineEncoding}
@@ -7,7 +9,8 @@ use Rattle.gimli_core.specs.declared.common.Format.TheVariants.{Dwarf32, Dwarf64
 use Rattle.gimli_bytes.specs.declared.address.Address.TheVariants.{Constant}
 use Rattle.gimli_build.specs.Built.{Built}
 use Rattle.gimli_build.specs.LineText.{LineText, Inline}
-use Rattle.gimli_build.specs.Tables.{File, FileKey, Details, with_directory, index_of_directory, with_file, index_of_file}
+use Rattle.gimli_build.specs.Tables.{File, FileKey, Details, with_directory, index_of_directory}
+use Rattle.gimli_build.specs.Tables.{with_file, index_of_file}
 use Rattle.gimli_build.specs.declared.built.row.LineRow.{LineRow}
 use Rattle.gimli_build.specs.declared.built.items.BuiltItem.{BuiltItem}
 use Rattle.gimli_build.specs.declared.built.items.BuiltItem.TheVariants.{SetAddress, Row, End}
@@ -54,10 +57,12 @@ has_flag bit flags = nat_eq (flags / bit % 2) 1
 abbrev pub ends : GimliRow → Bool
 ends r = has_flag 4 r.flags
 
--- the id of the file with a number: numbers count from 1 on up to version 4, and from 0 on in version 5
+-- the id of the file with a number: numbers count from 1 on up to version 4, and from 0 on in
+-- version 5
 abbrev pub id_of_file : ℕ → List ℕ → ℕ → Option ℕ
 id_of_file version ids number =
-    if nat_le version 4 then (if nat_eq number 0 then None else slice_get ids (number - 1)) else slice_get ids number
+    if nat_le version 4 then (if nat_eq number 0 then None else slice_get ids (number - 1))
+    else slice_get ids number
 
 -- a row of the file with an id, in a sequence that begins at the address `base`
 abbrev pub row_of_file : ℕ → ℕ → GimliRow → LineRow
@@ -81,7 +86,8 @@ row_handed version ids base r = row_of_file (unwrap_or (id_of_file version ids r
 
 -- a row or an end of such a sequence
 abbrev pub item_handed : ℕ → List ℕ → ℕ → GimliRow → BuiltItem
-item_handed version ids base r = if ends r then End (r.address - base) r.op_index else Row (row_handed version ids base r)
+item_handed version ids base r =
+    if ends r then End (r.address - base) r.op_index else Row (row_handed version ids base r)
 
 -- the address that the sequence begins at: that of its first row
 abbrev pub base_of : Option ℕ → GimliRow → ℕ
@@ -98,29 +104,34 @@ items_of_start None address = SetAddress (Constant address) ∷ []
 
 -- what a row adds: where a sequence begins its address, and the row or the end
 abbrev pub items_of_row : ℕ → List ℕ → Option ℕ → GimliRow → List BuiltItem
-items_of_row version ids base r = items_of_start base r.address ++ item_handed version ids (base_of base r) r ∷ []
+items_of_row version ids base r =
+    items_of_start base r.address ++ item_handed version ids (base_of base r) r ∷ []
 
 -- what rows add, one after the other
 abbrev pub items_handed : ℕ → List ℕ → Option ℕ → List GimliRow → List BuiltItem
 items_handed version ids base [] = []
-items_handed version ids base (r ∷ rows) = items_of_row version ids base r ++ items_handed version ids (base_after base r) rows
+items_handed version ids base (r ∷ rows) =
+    items_of_row version ids base r ++ items_handed version ids (base_after base r) rows
 
 -- ---- tables
 
 -- the directories once these texts were added, one after the other
 abbrev pub directories_handed : List LineText → List (List ℕ) → List LineText
 directories_handed directories [] = directories
-directories_handed directories (t ∷ texts) = directories_handed (with_directory directories (Inline t)) texts
+directories_handed directories (t ∷ texts) =
+    directories_handed (with_directory directories (Inline t)) texts
 
 -- their ids
 abbrev pub ids_of_directories : List LineText → List (List ℕ) → List ℕ
 ids_of_directories directories [] = []
 ids_of_directories directories (t ∷ texts) =
-    index_of_directory directories (Inline t) ∷ ids_of_directories (with_directory directories (Inline t)) texts
+    index_of_directory directories (Inline t)
+    ∷ ids_of_directories (with_directory directories (Inline t)) texts
 
 -- a file: its path and its directory, by the ids of these
 abbrev pub key_handed : List ℕ → List ℕ → GimliFileName → FileKey
-key_handed texts ids f = (Inline (text_handed texts f.path), unwrap_or (slice_get ids f.directory) 0)
+key_handed texts ids f =
+    (Inline (text_handed texts f.path), unwrap_or (slice_get ids f.directory) 0)
 
 abbrev pub details_handed : GimliFileName → Details
 details_handed f = record { timestamp = f.timestamp; size = f.size; md5 = f.md5; source = None }
@@ -136,7 +147,8 @@ abbrev pub ids_of_files : List ℕ → List ℕ → List File → List GimliFile
 ids_of_files texts ids files [] = []
 ids_of_files texts ids files (f ∷ more) =
     index_of_file files (key_handed texts ids f)
-    ∷ ids_of_files texts ids (with_file files (key_handed texts ids f) (Some (details_handed f))) more
+    ∷ ids_of_files texts ids (with_file files (key_handed texts ids f) (Some (details_handed f)))
+    more
 
 -- ---- the program that is built
 
@@ -144,14 +156,16 @@ ids_of_files texts ids files (f ∷ more) =
 abbrev pub first_ids : ℕ → List ℕ
 first_ids version = if nat_le version 4 then 0 ∷ [] else []
 
--- a program has these directories more, and is else what it was; these are the ids of all by their indices
+-- a program has these directories more, and is else what it was; these are the ids of all by their
+-- indices
 pub record AddsDirectories (old new : Built) (texts : List (List ℕ)) (ids : List ℕ) : Type 0 where
   pub directories_are : new.directories ≡ directories_handed old.directories texts
   pub ids_are : ids ≡ first_ids old.encoding.version ++ ids_of_directories old.directories texts
   pub others : new ≡ record old { directories = new.directories }
 
 -- a program has these files more, and is else what it was; these are their ids
-pub record AddsFiles (old new : Built) (texts ids : List ℕ) (files : List GimliFileName) (file_ids : List ℕ) : Type 0 where
+pub record AddsFiles (old new : Built) (texts ids : List ℕ) (files : List GimliFileName)
+    (file_ids : List ℕ) : Type 0 where
   pub files_are : new.files ≡ files_handed texts ids old.files files
   pub ids_are : file_ids ≡ ids_of_files texts ids old.files files
   pub others : new ≡ record old { files = new.files }

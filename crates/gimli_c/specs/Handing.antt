@@ -1,7 +1,8 @@
 -- The unit of what C hands over.
 use Rattle.std.specs.Prelude.{◌≡◌, ◌≤◌, ◌<◌, ℕ, Bool, false, List, [], length, map, None, Ok}
 use Rattle.gimli_bytes.specs.declared.error.Error.{Error}
-use Rattle.gimli_bytes.specs.declared.error.Error.TheVariants.{UnsupportedVersion, NeedVersion, ValueTooLarge, InitialLengthOverflow}
+use Rattle.gimli_bytes.specs.declared.error.Error.TheVariants.{UnsupportedVersion, NeedVersion}
+use Rattle.gimli_bytes.specs.declared.error.Error.TheVariants.{ValueTooLarge, InitialLengthOverflow}
 use Rattle.gimli_bytes.specs.Texts.{no_texts}
 use Rattle.gimli_build.specs.Built.{Built}
 use Rattle.gimli_build.specs.Conditions.{CanWrite}
@@ -11,7 +12,8 @@ use Rattle.gimli_c.specs.declared.encoding.GimliEncoding.{GimliEncoding}
 use Rattle.gimli_c.specs.declared.text.GimliName.{GimliName}
 use Rattle.gimli_c.specs.declared.tables.GimliFileName.{GimliFileName}
 use Rattle.gimli_c.specs.declared.row.GimliRow.{GimliRow}
-use Rattle.gimli_c.specs.Handed.{encoding_of, line_encoding_of, has_flag, text_handed, items_handed, AddsDirectories, AddsFiles}
+use Rattle.gimli_c.specs.Handed.{encoding_of, line_encoding_of, has_flag, text_handed, items_handed}
+use Rattle.gimli_c.specs.Handed.{AddsDirectories, AddsFiles}
 use Rattle.gimli_c.specs.Start.{start_program}
 use Rattle.gimli_c.specs.Written.{slots_with}
 
@@ -25,7 +27,8 @@ pub record Handed : Type 0 where
   pub files : List GimliFileName
   pub rows : List GimliRow
 
-abbrev pub handed_of : GimliEncoding → Bool → ℕ → List ℕ → List GimliName → List GimliFileName → List GimliRow → Handed
+abbrev pub handed_of : GimliEncoding → Bool → ℕ → List ℕ → List GimliName → List GimliFileName
+    → List GimliRow → Handed
 handed_of encoding big details texts directories files rows = record {
   encoding = encoding;
   big = big;
@@ -53,9 +56,12 @@ program_with details p = record p {
   file_has_source = false;
 }
 
--- a program of these encodings without rows, with the directories and the file that each starts with
+-- a program of these encodings without rows, with the directories and the file that each starts
+-- with
 pub record IsStart (h : Handed) (p : Built) : Type 0 where
-  pub program_is : p ≡ start_program (encoding_of h.encoding) (line_encoding_of h.encoding) h.texts h.directories h.files
+  pub program_is : p
+      ≡ start_program (encoding_of h.encoding) (line_encoding_of h.encoding) h.texts h.directories
+      h.files
   pub can : CanWrite p no_texts
 
 -- a program that is built of what is handed over
@@ -66,7 +72,8 @@ pub record IsBuiltOf (h : Handed) (p : Built) : Type 0 where
   pub file_ids : List ℕ
   pub between : Built
   pub after : Built
-  pub directories : AddsDirectories (program_with h.details start) between (map (text_handed h.texts) h.directories) directory_ids
+  pub directories : AddsDirectories (program_with h.details start) between
+      (map (text_handed h.texts) h.directories) directory_ids
   pub files : AddsFiles between after h.texts directory_ids h.files file_ids
   pub items : p.items ≡ items_handed h.encoding.version file_ids None h.rows
   pub others : p ≡ record after { items = p.items; row = p.row; in_sequence = p.in_sequence }

@@ -8,8 +8,8 @@ use Rattle.gimli_line.specs.header.HeaderGrammar.{SpellsUnit, HasHeaderFault}
 use Rattle.gimli_c.specs.declared.status.TheConstants.{UNSUPPORTED_ADDRESS_SIZE}
 use Rattle.gimli_c.specs.Status.{error_status}
 
--- a section of bytes, whether the most significant byte of a number comes first, the size of addresses up to version 4,
--- and the offset of a unit
+-- a section of bytes, whether the most significant byte of a number comes first, the size of
+-- addresses up to version 4, and the offset of a unit
 pub record Location : Type 0 where
   pub section : List ℕ
   pub big : Bool
@@ -28,19 +28,23 @@ notation_at p = notation_of p.big (2 ^ 64)
 abbrev pub unit_entry_at : Location → UnitEntry
 unit_entry_at p = record { address_size = p.address_size; directory = None; name = None }
 
--- addresses can have the size that was handed in, whatever the version of the unit is, and the bytes from the offset on begin
--- with a unit of this header
+-- addresses can have the size that was handed in, whatever the version of the unit is, and the
+-- bytes from the offset on begin with a unit of this header
 abbrev pub HasUnit : Location → Header → Type 0
 HasUnit p h =
-    (is_address_size p.address_size ≡ true) × SpellsUnit (notation_at p) (unit_entry_at p) (drop p.offset p.section) h
+    (is_address_size p.address_size ≡ true)
+    × SpellsUnit (notation_at p) (unit_entry_at p) (drop p.offset p.section) h
 
 -- addresses can have that size, and the bytes begin with no unit; this is the number of the refusal
 abbrev pub HasBadHeader : Location → ℕ → Type 0
 HasBadHeader p status =
     (is_address_size p.address_size ≡ true)
-    × (e : Error) × HasHeaderFault (notation_at p) (unit_entry_at p) (drop p.offset p.section) e × (status ≡ error_status e)
+    × (e : Error) × HasHeaderFault (notation_at p) (unit_entry_at p) (drop p.offset p.section) e
+    × (status ≡ error_status e)
 
--- no unit can be read there, and this is the number of the refusal; the size that was handed in comes first
+-- no unit can be read there, and this is the number of the refusal; the size that was handed in
+-- comes first
 abbrev pub HasNoUnit : Location → ℕ → Type 0
 HasNoUnit p status =
-    ((is_address_size p.address_size ≡ false) × (status ≡ UNSUPPORTED_ADDRESS_SIZE)) ⊎ HasBadHeader p status
+    ((is_address_size p.address_size ≡ false) × (status ≡ UNSUPPORTED_ADDRESS_SIZE))
+    ⊎ HasBadHeader p status

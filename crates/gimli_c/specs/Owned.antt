@@ -11,7 +11,8 @@ use Rattle.std.specs.declared.alloc.Global.{Global}
 abbrev pub the_heap : Global
 the_heap = record { memory = record { seal = tt } }
 
--- at an open handle stands a value, in a block that may be given back to the heap; a closed one is null
+-- at an open handle stands a value, in a block that may be given back to the heap; a closed one is
+-- null
 abbrev pub owned_at : (R : RattleType) → Ptr → Option R.Denot → Fml
 owned_at R p (Some x) = box_owns (ghosts.dealloc_token the_heap) R p x
 owned_at R p None = feq Ptr p null_ptr

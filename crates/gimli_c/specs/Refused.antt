@@ -1,5 +1,7 @@
--- Why an encoding that is handed over to be written is refused, and by which number (DWARF 5, section 6.2.4).
-use Rattle.std.specs.Prelude.{◌≡◌, ℕ, Bool, not, ◌&&◌, ◌||◌, nat_eq, nat_le, if◌then◌else◌, Option, Some, None}
+-- Why an encoding that is handed over to be written is refused, and by which number (DWARF 5,
+-- section 6.2.4).
+use Rattle.std.specs.Prelude.{◌≡◌, ℕ, Bool, not, ◌&&◌, ◌||◌, nat_eq, nat_le, if◌then◌else◌, Option}
+use Rattle.std.specs.Prelude.{Some, None}
 use Rattle.gimli_build.specs.Advance.{CanEncode}
 use Rattle.gimli_core.specs.Numbers.{is_address_size}
 use Rattle.gimli_c.specs.declared.encoding.GimliEncoding.{GimliEncoding}

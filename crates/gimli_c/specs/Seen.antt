@@ -9,7 +9,9 @@ flag holds bit = if holds then bit else 0
 
 -- the flags of a row, each a bit of its own
 abbrev pub flags_of : LineRow → ℕ
-flags_of r = flag r.is_stmt 1 + flag r.basic_block 2 + flag r.end_sequence 4 + flag r.prologue_end 8 + flag r.epilogue_begin 16
+flags_of r =
+    flag r.is_stmt 1 + flag r.basic_block 2 + flag r.end_sequence 4 + flag r.prologue_end 8
+    + flag r.epilogue_begin 16
 
 abbrev pub row_seen : LineRow → GimliRow
 row_seen r = record {

@@ -1,7 +1,25 @@
 -- The numbers that calls return.
 use Rattle.std.specs.Prelude.{ℕ, Option, Some, None}
 use Rattle.gimli_core.specs.declared.error.Error.{Error}
-use Rattle.gimli_core.specs.declared.error.Error.TheVariants.{UnexpectedEof, BadUnsignedLeb128, BadSignedLeb128, UnknownReservedLength, UnknownVersion, UnsupportedAddressSize, UnsupportedSegmentSize, MinimumInstructionLengthZero, MaximumOperationsPerInstructionZero, LineRangeZero, OpcodeBaseZero, MissingFileEntryFormatPath, UnknownForm, AddressOverflow, UnsupportedOffset, ExpectedStringAttributeValue, OutOfMemory}
+use Rattle.gimli_core.specs.declared.error.Error.TheVariants.{
+  UnexpectedEof,
+  BadUnsignedLeb128,
+  BadSignedLeb128,
+  UnknownReservedLength,
+  UnknownVersion,
+  UnsupportedAddressSize,
+  UnsupportedSegmentSize,
+  MinimumInstructionLengthZero,
+  MaximumOperationsPerInstructionZero,
+  LineRangeZero,
+  OpcodeBaseZero,
+  MissingFileEntryFormatPath,
+  UnknownForm,
+  AddressOverflow,
+  UnsupportedOffset,
+  ExpectedStringAttributeValue,
+  OutOfMemory,
+}
 
 -- the number of a refusal
 abbrev pub error_status : Error → ℕ

@@ -11,7 +11,8 @@ use Rattle.gimli_c.specs.Location.{Location, notation_at}
 use Rattle.gimli_c.specs.Run.{HasEvents, rows_of, fault_of}
 use Rattle.gimli_c.specs.Status.{fault_status}
 
--- the unit at an offset, with this header, whose program gives these events and has these files at its end
+-- the unit at an offset, with this header, whose program gives these events and has these files at
+-- its end
 abbrev pub unit_seen : ℕ → Header → List Event → List File → GimliUnit
 unit_seen offset h events files =
     let encoding = h.parameters.encoding in

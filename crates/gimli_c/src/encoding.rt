@@ -23,12 +23,13 @@ pub struct GimliEncoding {
     pub address_size: u8,
     /// The number of bytes of an offset: 4 or 8.
     pub offset_size: u8,
-    /// The number of bytes of the shortest machine instruction, from 1 on. All addresses of a sequence are a whole number of
-    /// these after the first.
+    /// The number of bytes of the shortest machine instruction, from 1 on. All addresses of a
+    /// sequence are a whole number of these after the first.
     pub minimum_instruction_length: u8,
     /// How many operations an instruction of the machine has, from 1 on; 1 before version 4.
     pub maximum_operations_per_instruction: u8,
-    /// What each sequence starts with in the register is_stmt: 0 for false, any other number for true.
+    /// What each sequence starts with in the register is_stmt: 0 for false, any other number for
+    /// true.
     pub default_is_stmt: u8,
     /// The least line advance of a special opcode, at most 0.
     pub line_base: i8,

@@ -1,13 +1,17 @@
 //! The rows of a unit that is written.
 
-ghost use Rattle.std.specs.Prelude.{◌≡◌, ◌≢◌, ◌<◌, ◌≤◌, ◌-◌, [], ◌∷◌, false, true, length, IfErr, IfNone, IfOk, IfSome, OnOk, None, slice_get, unwrap_or};
+ghost use Rattle.std.specs.Prelude.{◌≡◌, ◌≢◌, ◌<◌, ◌≤◌, ◌-◌, [], ◌∷◌, false, true, length, IfErr};
+ghost use Rattle.std.specs.Prelude.{IfNone, IfOk, IfSome, OnOk, None, slice_get, unwrap_or};
 ghost use Rattle.gimli_bytes.specs.Texts.{no_texts};
 ghost use Rattle.gimli_build.specs.declared.built.items.BuiltItem.{BuiltItem};
 ghost use Rattle.gimli_build.specs.Conditions.{CanWrite};
 ghost use Rattle.gimli_build.specs.Built.{previous_position};
-ghost use Rattle.gimli_c.specs.Causes.{CanStand, HasRowFault, HasRowsFault, LacksFile, position_after};
+ghost use Rattle.gimli_c.specs.Causes.{CanStand, HasRowFault, HasRowsFault, LacksFile};
+ghost use Rattle.gimli_c.specs.Causes.{position_after};
 ghost use Rattle.gimli_c.specs.inside.Causes.{HasNone};
-ghost use Rattle.gimli_c.specs.Handed.{IsRefusal, base_after, base_of, ends, id_of_file, items_handed, items_of_row, items_of_start, row_handed, row_of_file};
+ghost use Rattle.gimli_c.specs.Handed.{IsRefusal, base_after, base_of, ends, id_of_file};
+ghost use Rattle.gimli_c.specs.Handed.{items_handed, items_of_row, items_of_start, row_handed};
+ghost use Rattle.gimli_c.specs.Handed.{row_of_file};
 ghost use Rattle.gimli_c.specs.inside.Handed.{AddsItems};
 
 use crate::row::{
@@ -17,8 +21,8 @@ use crate::status::{NO_SUCH_FILE, OUT_OF_MEMORY, ROW_OUT_OF_ORDER, UNKNOWN_FLAG}
 use gimli_build::{FileId, LineProgram, LineRow};
 use gimli_bytes::Address;
 
-/// Adds rows in order. The address of each sequence is that of its first row. Requires a program that can be written, and
-/// leaves one.
+/// Adds rows in order. The address of each sequence is that of its first row. Requires a program
+/// that can be written, and leaves one.
 pub(crate) fn add_rows(
     program: &mut LineProgram,
     ids: &[FileId],
@@ -32,7 +36,8 @@ pub(crate) fn add_rows(
         (HasRowsFault program.old.line_encoding program.old.encoding.version (length ids.now)
         None (0, 0) rows.now)) }
     ensures err { IfErr result IsRefusal }
-    ensures cause { previous_position program.old.items ≡ (0, 0) → IfErr result (λ s. s ≢ OUT_OF_MEMORY →
+    ensures cause { previous_position program.old.items ≡ (0, 0)
+        → IfErr result (λ s. s ≢ OUT_OF_MEMORY →
         HasRowsFault program.old.line_encoding program.old.encoding.version (length ids.now)
         None (0, 0) rows.now s) }
 {
@@ -43,8 +48,8 @@ pub(crate) fn add_rows(
     Ok(())
 }
 
-/// Adds a row or an end, and returns the address of the sequence that the next row belongs to. Requires a program that
-/// can be written.
+/// Adds a row or an end, and returns the address of the sequence that the next row belongs to.
+/// Requires a program that can be written.
 fn add_row(
     program: &mut LineProgram,
     ids: &[FileId],
@@ -56,11 +61,13 @@ fn add_row(
     ensures ok { OnOk result (AddsItems program.old program.new
         (items_of_row program.old.encoding.version ids.now base row.now)) }
     ensures after { IfOk result (λ after. after ≡ base_after base row.now) }
-    ensures well { (base ≡ None → previous_position program.old.items ≡ (0, 0)) → OnOk result (HasNone
+    ensures well { (base ≡ None → previous_position program.old.items ≡ (0, 0))
+        → OnOk result (HasNone
         (HasRowFault program.old.line_encoding program.old.encoding.version (length ids.now)
         (base_of base row.now) (previous_position program.old.items) row.now)) }
     ensures err { IfErr result IsRefusal }
-    ensures position { OnOk result (previous_position program.new.items ≡ position_after base row.now) }
+    ensures position { OnOk result
+        (previous_position program.new.items ≡ position_after base row.now) }
     ensures cause { (base ≡ None → previous_position program.old.items ≡ (0, 0)) →
         IfErr result (λ s. s ≢ OUT_OF_MEMORY →
         HasRowFault program.old.line_encoding program.old.encoding.version (length ids.now)
@@ -79,8 +86,8 @@ fn add_row(
     }
 }
 
-/// The address of the sequence: where it begins, that of its first row, which is set. Requires a program that can be
-/// written.
+/// The address of the sequence: where it begins, that of its first row, which is set. Requires a
+/// program that can be written.
 fn begin(program: &mut LineProgram, base: Option<u64>, address: u64) -> Result<u64, u32>
     requires { CanWrite program.old no_texts }
     ensures can { CanWrite program.new no_texts }
@@ -100,7 +107,8 @@ fn begin(program: &mut LineProgram, base: Option<u64>, address: u64) -> Result<u
     }
 }
 
-/// Ends a sequence that begins at an address. Requires a program that can be written, and a row that isn't below it.
+/// Ends a sequence that begins at an address. Requires a program that can be written, and a row
+/// that isn't below it.
 fn add_end(program: &mut LineProgram, start: u64, row: &GimliRow) -> Result<(), u32>
     requires can { CanWrite program.old no_texts }
     requires above { start ≤ row.now.address }
@@ -112,7 +120,8 @@ fn add_end(program: &mut LineProgram, start: u64, row: &GimliRow) -> Result<(), 
     ensures err { IfErr result IsRefusal }
     ensures order { IfErr result (λ s. s ≢ OUT_OF_MEMORY → s ≡ ROW_OUT_OF_ORDER) }
     ensures cause { IfErr result (λ s. s ≢ OUT_OF_MEMORY →
-        CanStand program.old.line_encoding start (previous_position program.old.items) row.now → ⊥) }
+        CanStand program.old.line_encoding start (previous_position program.old.items) row.now
+        → ⊥) }
 {
     let offset = row.address - start;
     program.row().op_index = row.op_index;
@@ -125,8 +134,8 @@ fn add_end(program: &mut LineProgram, start: u64, row: &GimliRow) -> Result<(), 
     }
 }
 
-/// Adds a row to a sequence that begins at an address. Requires a program that can be written, and a row that isn't below
-/// it.
+/// Adds a row to a sequence that begins at an address. Requires a program that can be written, and
+/// a row that isn't below it.
 fn add_line(
     program: &mut LineProgram,
     ids: &[FileId],

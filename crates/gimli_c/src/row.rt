@@ -24,7 +24,8 @@ pub struct GimliRow {
     pub isa: u64,
     /// Tells blocks of the same file, line and column apart.
     pub discriminator: u64,
-    /// The sum of `IS_STMT`, `BASIC_BLOCK`, `END_SEQUENCE`, `PROLOGUE_END` and `EPILOGUE_BEGIN`, each where it holds.
+    /// The sum of `IS_STMT`, `BASIC_BLOCK`, `END_SEQUENCE`, `PROLOGUE_END` and `EPILOGUE_BEGIN`,
+    /// each where it holds.
     pub flags: u64,
 }
 

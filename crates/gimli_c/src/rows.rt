@@ -11,10 +11,11 @@ use crate::run::{copy_rows, fault_status, rows_fit};
 use crate::status::{OUT_OF_MEMORY, UNSUPPORTED_ADDRESS_SIZE, error_status};
 use std::alloc::Global;
 
-/// Runs the program of the unit at an offset. Its rows from the `skip`-th on, from 0, go into `rows`, as far as there
-/// is room; `count` is how many rows it has in all. The first fault ends the run: its number is returned, and the rows
-/// before it are there. Where memory is missing, `count` is 0, and the first rows may be there. For `address_size` and
-/// the order see `gimli_line_unit`.
+/// Runs the program of the unit at an offset. Its rows from the `skip`-th on, from 0, go into
+/// `rows`, as far as there is room; `count` is how many rows it has in all. The first fault ends
+/// the run: its number is returned, and the rows before it are there. Where memory is missing,
+/// `count` is 0, and the first rows may be there. For `address_size` and the order see
+/// `gimli_line_unit`.
 #[unsafe(no_mangle)]
 pub extern "C" fn gimli_line_rows(
     alloc: Global,

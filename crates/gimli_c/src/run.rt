@@ -1,6 +1,7 @@
 //! The run of a program, up to its first fault.
 
-ghost use Rattle.std.specs.Prelude.{List, true, false, ◌≡◌, ◌≢◌, ◌<◌, ◌≤◌, ◌^◌, ◌-◌, ◌∷◌, [], Some, IfErr, IfNone, IfOk, IfSome, OnErr, OnOk, length, set};
+ghost use Rattle.std.specs.Prelude.{List, true, false, ◌≡◌, ◌≢◌, ◌<◌, ◌≤◌, ◌^◌, ◌-◌, ◌∷◌, [], Some};
+ghost use Rattle.std.specs.Prelude.{IfErr, IfNone, IfOk, IfSome, OnErr, OnOk, length, set};
 ghost use Rattle.gimli_line.specs.run.Events.{row, fault};
 ghost use Rattle.gimli_line.specs.run.Rows.{events_left, files_at_end};
 ghost use Rattle.gimli_line.specs.header.Header.{file_of};
@@ -43,8 +44,9 @@ pub(crate) struct Run {
     pub(crate) fault: Option<Error>,
 }
 
-/// Goes over the rows of a run up to its first fault. Those from the `skip`-th on go into `room`, as far as there is some.
-/// Requires a number of rows that can be counted. Refused by `OutOfMemory` alone.
+/// Goes over the rows of a run up to its first fault. Those from the `skip`-th on go into `room`,
+/// as far as there is some. Requires a number of rows that can be counted. Refused by `OutOfMemory`
+/// alone.
 pub(crate) fn copy_rows<R: Reader>(
     rows: &mut OneShotLineRows<R>,
     skip: u64,
@@ -85,7 +87,8 @@ pub(crate) fn is_memory(error: Error) -> bool
     matches!(error, Error::OutOfMemory)
 }
 
-/// Puts the row of this number, from 0 on, where it belongs after the first `skip` ones, if there is room for it.
+/// Puts the row of this number, from 0 on, where it belongs after the first `skip` ones, if there
+/// is room for it.
 fn put_row(room: &mut [GimliRow], skip: u64, number: u64, row: &LineRow)
     ensures skipped { number < skip → room.new ≡ room.old }
     ensures put { skip ≤ number → room.new ≡ set room.old (number - skip) (row_seen row.now) }
@@ -102,7 +105,8 @@ fn put_row(room: &mut [GimliRow], skip: u64, number: u64, row: &LineRow)
 /// A program has fewer rows than a `u64` counts, since it has no fewer bytes.
 pub(crate) fn rows_fit<R: Reader>(program: &IncompleteLineProgram<R>)
     ensures { (events : List EventWithFiles)
-        → EventsWithFiles program.now.notation true program.now.meaning program.now.meaning.program events
+        → EventsWithFiles program.now.notation true program.now.meaning program.now.meaning.program
+        events
         → length (rows_of (events_of events)) < 2 ^ 64 }
 {
     laws::rows_are_bounded();
@@ -139,8 +143,8 @@ pub(crate) fn fault_status(fault: Option<Error>) -> u32
     }
 }
 
-/// Goes on until the file of an index is among the files: no further where it is, else to the end of the program, past its faults.
-/// Refused by `OutOfMemory` alone.
+/// Goes on until the file of an index is among the files: no further where it is, else to the end
+/// of the program, past its faults. Refused by `OutOfMemory` alone.
 pub(crate) fn run_to_file<R: Reader>(rows: &mut OneShotLineRows<R>, index: u64) -> Result<()>
     ensures file { OnOk result (file_of (header_with rows.new rows.new.files) index
         ≡ file_of (header_with rows.new (files_at_end rows.old)) index) }

@@ -17,7 +17,8 @@ pub const BAD_SIGNED_LEB128: u32 = 3;
 pub const UNKNOWN_RESERVED_LENGTH: u32 = 4;
 /// The version of a unit is none of 2 to 5.
 pub const UNKNOWN_VERSION: u32 = 5;
-/// The size of addresses, in bytes, isn't 1, 2, 4 or 8: that of the unit, or the one that was handed in.
+/// The size of addresses, in bytes, isn't 1, 2, 4 or 8: that of the unit, or the one that was
+/// handed in.
 pub const UNSUPPORTED_ADDRESS_SIZE: u32 = 6;
 /// The size of segment selectors isn't 0.
 pub const UNSUPPORTED_SEGMENT_SIZE: u32 = 7;
@@ -59,23 +60,24 @@ pub const NO_SOURCE_FILE: u32 = 24;
 pub const NO_SUCH_DIRECTORY: u32 = 25;
 /// No file has the number that a row has.
 pub const NO_SUCH_FILE: u32 = 26;
-/// A row can't follow the one before: its address is lower, or its operation at the same address is; or its address isn't a
-/// whole number of shortest instructions after the first of its sequence; or its operation or its line isn't one that a row
-/// can have.
+/// A row can't follow the one before: its address is lower, or its operation at the same address
+/// is; or its address isn't a whole number of shortest instructions after the first of its
+/// sequence; or its operation or its line isn't one that a row can have.
 pub const ROW_OUT_OF_ORDER: u32 = 27;
 /// A row has a flag that isn't known.
 pub const UNKNOWN_FLAG: u32 = 28;
 /// An instruction has several operations, before version 4.
 pub const NEED_VERSION_4: u32 = 29;
-/// A length that offsets of this size can't say, or the first address of a sequence is wider than addresses are.
+/// A length that offsets of this size can't say, or the first address of a sequence is wider than
+/// addresses are.
 pub const UNIT_TOO_LONG: u32 = 30;
 /// The unit is longer than the room for it.
 pub const NO_ROOM: u32 = 31;
 
 /// A handle is closed.
 pub const CLOSED: u32 = 32;
-/// A string of a path can't be told: it is given by an index, stands in the supplementary file or outside its section, or has
-/// no zero byte at its end; or a file's directory isn't there.
+/// A string of a path can't be told: it is given by an index, stands in the supplementary file or
+/// outside its section, or has no zero byte at its end; or a file's directory isn't there.
 pub const UNKNOWN_PATH: u32 = 33;
 
 /// The number of a refusal.

@@ -1,6 +1,7 @@
 //! The directories and the files of a unit that is written.
 
-ghost use Rattle.std.specs.Prelude.{◌≡◌, ◌≢◌, ◌<◌, ◌≤◌, [], All, Any, IfErr, IfOk, IfSome, OnOk, None, Some, false, length, map, option_map, slice_get};
+ghost use Rattle.std.specs.Prelude.{◌≡◌, ◌≢◌, ◌<◌, ◌≤◌, [], All, Any, IfErr, IfOk, IfSome, OnOk};
+ghost use Rattle.std.specs.Prelude.{None, Some, false, length, map, option_map, slice_get};
 ghost use Rattle.gimli_bytes.specs.Texts.{no_texts};
 ghost use Rattle.gimli_build.specs.Conditions.{Accepts, CanWrite};
 ghost use Rattle.gimli_build.specs.Built.{empty_built};
@@ -9,7 +10,8 @@ ghost use Rattle.gimli_build.specs.LineText.{line_text, Inline};
 ghost use Rattle.gimli_build.specs.Tables.{index_of_file, with_file};
 ghost use Rattle.gimli_c.specs.Causes.{HasFileFault, HasTableFault, HasTextFault};
 ghost use Rattle.gimli_c.specs.inside.Causes.{HasNone};
-ghost use Rattle.gimli_c.specs.Handed.{IsRefusal, AddsDirectories, AddsFiles, details_handed, first_ids, key_handed, text_handed};
+ghost use Rattle.gimli_c.specs.Handed.{IsRefusal, AddsDirectories, AddsFiles, details_handed};
+ghost use Rattle.gimli_c.specs.Handed.{first_ids, key_handed, text_handed};
 ghost use Rattle.gimli_c.specs.inside.Handed.{IsInline};
 ghost use Rattle.gimli_c.specs.Start.{start_program};
 
@@ -25,8 +27,8 @@ use std::alloc::Global;
 pub struct GimliFileName {
     /// The path, which is full or starts at the directory.
     pub path: GimliName,
-    /// The index of the directory: up to version 4 from 1 on, where 0 is the directory of the compilation; in version 5 from
-    /// 0 on.
+    /// The index of the directory: up to version 4 from 1 on, where 0 is the directory of the
+    /// compilation; in version 5 from 0 on.
     pub directory: u64,
     /// When the file was last changed, in a measure of the producer's own; 0 where it isn't known.
     pub timestamp: u64,
@@ -36,8 +38,8 @@ pub struct GimliFileName {
     pub md5: [u8; 16],
 }
 
-/// A program without rows. In version 5 its first directory and its first file are those that are handed over. Requires
-/// encodings that rows can be written by.
+/// A program without rows. In version 5 its first directory and its first file are those that are
+/// handed over. Requires encodings that rows can be written by.
 pub(crate) fn empty_built(
     alloc: Global,
     encoding: Encoding,
@@ -76,7 +78,8 @@ pub(crate) fn empty_built(
     new_program(alloc, encoding, lines, working, Some(own), path)
 }
 
-/// A program without rows. Requires such encodings, and texts without a zero byte. Refused by `OUT_OF_MEMORY` alone.
+/// A program without rows. Requires such encodings, and texts without a zero byte. Refused by
+/// `OUT_OF_MEMORY` alone.
 fn new_program(
     alloc: Global,
     encoding: Encoding,
@@ -118,8 +121,8 @@ fn name_at(names: &[GimliName], index: u64) -> Option<GimliName>
     names.get(index).copied()
 }
 
-/// Adds directories in order, and returns the ids of all by their indices. Requires a program that can be written, and
-/// leaves one.
+/// Adds directories in order, and returns the ids of all by their indices. Requires a program that
+/// can be written, and leaves one.
 pub(crate) fn add_directories(
     alloc: Global,
     program: &mut LineProgram,
@@ -153,7 +156,8 @@ pub(crate) fn add_directories(
     Ok(ids)
 }
 
-/// Up to version 4 the id of the directory of the compilation, whose index is 0. Requires a program that can be written.
+/// Up to version 4 the id of the directory of the compilation, whose index is 0. Requires a program
+/// that can be written.
 fn first_ids(alloc: Global, program: &LineProgram) -> Result<Vec<DirectoryId>, u32>
     requires { CanWrite program.now no_texts }
     ensures ids { IfOk result (λ ids. ids.items ≡ first_ids program.now.encoding.version) }
@@ -171,8 +175,8 @@ fn first_ids(alloc: Global, program: &LineProgram) -> Result<Vec<DirectoryId>, u
     Ok(ids)
 }
 
-/// Adds files in order, and returns their ids. The directories are those of these ids. Requires a program that can be
-/// written and has these directories, and leaves one.
+/// Adds files in order, and returns their ids. The directories are those of these ids. Requires a
+/// program that can be written and has these directories, and leaves one.
 pub(crate) fn add_files(
     alloc: Global,
     program: &mut LineProgram,
@@ -189,7 +193,8 @@ pub(crate) fn add_files(
         (HasFileFault program.old.encoding.version texts.now (length ids.now) f)) files.now) }
     ensures err { IfErr result IsRefusal }
     ensures cause { IfErr result (λ s. s ≢ OUT_OF_MEMORY →
-        Any (λ f. HasFileFault program.old.encoding.version texts.now (length ids.now) f s) files.now) }
+        Any (λ f. HasFileFault program.old.encoding.version texts.now (length ids.now) f s)
+        files.now) }
 {
     let mut file_ids = Vec::new(alloc);
     for file in files {
@@ -213,7 +218,9 @@ fn add_file(
     requires within { All (λ id. id < length program.old.directories) ids.now }
     ensures can { OnOk result (CanWrite program.new no_texts) }
     ensures ok { OnOk result (program.new ≡ record program.old {
-      files = with_file program.old.files (key_handed texts.now ids.now file.now) (Some (details_handed file.now));
+      files =
+          with_file program.old.files (key_handed texts.now ids.now file.now)
+          (Some (details_handed file.now));
     }) }
     ensures id { IfOk result (λ id.
         id ≡ index_of_file program.old.files (key_handed texts.now ids.now file.now)) }

@@ -20,8 +20,8 @@ pub struct GimliName {
     pub size: u64,
 }
 
-/// A text of a program of this version, or the number of a refusal. No text has a zero byte, and up to version 4 none is
-/// empty.
+/// A text of a program of this version, or the number of a refusal. No text has a zero byte, and up
+/// to version 4 none is empty.
 pub(crate) fn text_of(
     alloc: Global,
     version: u16,

@@ -22,10 +22,11 @@ pub struct GimliUnit {
     pub length: u64,
     /// The offset of what follows it in the section.
     pub next: u64,
-    /// How many directories its table has. Up to version 4 they have the indices from 1 on, in version 5 from 0 on.
+    /// How many directories its table has. Up to version 4 they have the indices from 1 on, in
+    /// version 5 from 0 on.
     pub directories: u64,
-    /// How many files it has, those that its program defines included. Up to version 4 they have the indices from 1 on,
-    /// in version 5 from 0 on.
+    /// How many files it has, those that its program defines included. Up to version 4 they have
+    /// the indices from 1 on, in version 5 from 0 on.
     pub files: u64,
     /// How many rows its program has, before its first fault.
     pub rows: u64,
@@ -39,9 +40,9 @@ pub struct GimliUnit {
     pub fault: u32,
 }
 
-/// Reads the unit at an offset, and runs its program. `big` says that the most significant byte of a number comes first.
-/// `address_size` is that of the compilation unit, which counts up to version 4; it has to be 1, 2, 4 or 8. Where another
-/// number than 0 is returned, `unit` stays as it was.
+/// Reads the unit at an offset, and runs its program. `big` says that the most significant byte of
+/// a number comes first. `address_size` is that of the compilation unit, which counts up to version
+/// 4; it has to be 1, 2, 4 or 8. Where another number than 0 is returned, `unit` stays as it was.
 #[unsafe(no_mangle)]
 pub extern "C" fn gimli_line_unit(
     alloc: Global,
@@ -71,8 +72,8 @@ pub extern "C" fn gimli_line_unit(
     }
 }
 
-/// What is said of the unit of a program, which stands at an offset. Requires that 64 bits hold the offset of what follows
-/// it. Refused by `OutOfMemory` alone.
+/// What is said of the unit of a program, which stands at an offset. Requires that 64 bits hold the
+/// offset of what follows it. Refused by `OutOfMemory` alone.
 fn read_unit<R: Reader>(program: IncompleteLineProgram<R>, offset: usize) -> Result<GimliUnit>
     requires { offset_after offset program.meaning < 2 ^ 64 }
     ensures ok { IfOk result (λ unit. IsReadUnit offset program.meaning program.notation unit) }

@@ -1,6 +1,7 @@
 //! A unit of directories, files and rows that are handed over.
 
-ghost use Rattle.std.specs.Prelude.{◌≡◌, ◌≢◌, ◌⊎◌, ℕ, [], Bool, Err, IfErr, IfOk, None, OnOk, Some, false};
+ghost use Rattle.std.specs.Prelude.{◌≡◌, ◌≢◌, ◌⊎◌, ℕ, [], Bool, Err, IfErr, IfOk, None, OnOk, Some};
+ghost use Rattle.std.specs.Prelude.{false};
 ghost use Rattle.gimli_bytes.specs.Texts.{no_texts};
 ghost use Rattle.gimli_build.specs.Cause.{first_cause};
 ghost use Rattle.gimli_build.specs.ReadsBack.{ReadsBackAs};
@@ -11,7 +12,8 @@ ghost use Rattle.gimli_c.specs.Causes.{HasCause, HasHandedFault};
 ghost use Rattle.gimli_c.specs.inside.Causes.{HasNone};
 ghost use Rattle.gimli_c.specs.Handed.{IsRefusal};
 ghost use Rattle.gimli_c.specs.Refused.{encoding_fault, HasBadLines};
-ghost use Rattle.gimli_c.specs.Handing.{GivesUnitOf, IsBuiltOf, NeedsRoom, handed_of, program_with, write_status};
+ghost use Rattle.gimli_c.specs.Handing.{GivesUnitOf, IsBuiltOf, NeedsRoom, handed_of, program_with};
+ghost use Rattle.gimli_c.specs.Handing.{write_status};
 
 use crate::encoding::{GimliEncoding, encodings};
 use crate::file::{HAS_MD5, HAS_SIZE, HAS_TIMESTAMP, copy_bytes};
@@ -29,12 +31,14 @@ use gimli_bytes::{DebugLine, EndianVec, Error, LineStringTable, StringTable};
 use gimli_core::RunTimeEndian;
 use std::alloc::Global;
 
-/// Writes a unit with these directories, files and rows to the front of `unit`; `size` is how many bytes it has. `NO_ROOM`
-/// where there are fewer in `unit`: then `size` says how many it takes, and nothing is written. Where another number than
-/// these is answered, `size` is 0; each but `OUT_OF_MEMORY` has its cause in what is handed over. Texts stand among the bytes
-/// of `texts`. A directory or a file that comes twice is there once; rows have its number then. `details` is the sum of
-/// `HAS_TIMESTAMP`, `HAS_SIZE` and `HAS_MD5`, each where version 5 is to have that detail; other bits are ignored. Only the
-/// first address of a sequence is tested against the size of addresses.
+/// Writes a unit with these directories, files and rows to the front of `unit`; `size` is how many
+/// bytes it has. `NO_ROOM` where there are fewer in `unit`: then `size` says how many it takes, and
+/// nothing is written. Where another number than these is answered, `size` is 0; each but
+/// `OUT_OF_MEMORY` has its cause in what is handed over. Texts stand among the bytes of `texts`. A
+/// directory or a file that comes twice is there once; rows have its number then. `details` is the
+/// sum of `HAS_TIMESTAMP`, `HAS_SIZE` and `HAS_MD5`, each where version 5 is to have that detail;
+/// other bits are ignored. Only the first address of a sequence is tested against the size of
+/// addresses.
 #[unsafe(no_mangle)]
 pub extern "C" fn gimli_line_write(
     alloc: Global,
@@ -120,8 +124,8 @@ fn with_details(mut program: LineProgram, details: u64) -> LineProgram
     program
 }
 
-/// The unit of a program whose texts all stand in it. Requires one that can be written, without sources of files. Refused by
-/// the first cause that the program has, or by `OutOfMemory`.
+/// The unit of a program whose texts all stand in it. Requires one that can be written, without
+/// sources of files. Refused by the first cause that the program has, or by `OutOfMemory`.
 fn section_of(
     alloc: Global,
     program: &LineProgram,
@@ -131,7 +135,8 @@ fn section_of(
     requires source { program.now.file_has_source ≡ false }
     ensures unit { IfOk result (λ section.
         Appends (unit_bytes big program.now.encoding program.now no_texts) [] section.bytes) }
-    ensures reads_back { IfOk result (λ section. ReadsBackAs big program.now no_texts section.bytes) }
+    ensures reads_back { IfOk result (λ section.
+        ReadsBackAs big program.now no_texts section.bytes) }
     ensures no_cause { OnOk result
         (first_cause big program.now.encoding program.now no_texts ≡ None) }
     ensures err { IfErr result (λ e. (e ≡ Error.OutOfMemory)

@@ -6,7 +6,8 @@ use Rattle.gimli_core.proofs.Productions.{reads_both, reads_done, reads_if}
 use Rattle.gimli_core.proofs.ProductionLaws.{reads_byte}
 use Rattle.gimli_core.proofs.UnsignedLeb.{reads_unsigned, reads_unsigned_16}
 use Rattle.gimli_core.proofs.SignedLaws.{reads_signed}
-use Rattle.gimli_compilation.specs.Abbreviation.{until, constant_production, specification_production, is_end, specifications_production, declared_production, declaration_production, ends_search, abbreviation_production}
+use Rattle.gimli_compilation.specs.Abbreviation.{until, constant_production, specification_production, is_end, specifications_production, declared_production}
+use Rattle.gimli_compilation.specs.Abbreviation.{declaration_production, ends_search, abbreviation_production}
 use Rattle.gimli_compilation.specs.inside.AbbreviationReading.{constant_at, specification_at, specifications_at, declared_at, declaration_at, abbreviation_at}
 use Rattle.gimli_compilation.proofs.Until.{TakesBytes, takes_both, reads_until}
 
@@ -26,7 +27,8 @@ specification_takes = takes_both unsigned_16 _ (record { none = λ n s. s.groups
 pub reads_specifications : Reads specifications_production specifications_at
 unfolding specifications_at
 reads_specifications =
-    reads_both (until is_end specification_production) _ _ _ (reads_until is_end specification_production specification_at reads_specification specification_takes) (λ values. reads_done values.0)
+    reads_both (until is_end specification_production) _ _ _
+    (reads_until is_end specification_production specification_at reads_specification specification_takes) (λ values. reads_done values.0)
 
 reads_declared : Reads declared_production declared_at
 unfolding declared_at
@@ -45,4 +47,5 @@ declaration_takes = takes_both unsigned _ (record { none = λ n s. s.groups })
 pub reads_abbreviation : (code : ℕ) → Reads (abbreviation_production code) (abbreviation_at code)
 unfolding abbreviation_at
 reads_abbreviation code =
-    reads_both (until (ends_search code) declaration_production) _ _ _ (reads_until (ends_search code) declaration_production declaration_at reads_declaration declaration_takes) (λ found. reads_done _)
+    reads_both (until (ends_search code) declaration_production) _ _ _
+    (reads_until (ends_search code) declaration_production declaration_at reads_declaration declaration_takes) (λ found. reads_done _)

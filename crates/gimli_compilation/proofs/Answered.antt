@@ -5,7 +5,11 @@ use Rattle.gimli_compilation.specs.declared.refusal.Refusal.{Refusal}
 use Rattle.gimli_compilation.specs.declared.refusal.Refusal.TheVariants.{Bytes, UnknownUnitType, MissingAbbreviation}
 use Rattle.gimli_compilation.specs.declared.sections.Compilation.{Compilation}
 use Rattle.gimli_compilation.specs.declared.sections.Outcome.{Outcome}
-use Rattle.gimli_compilation.specs.declared.sections.Outcome.TheVariants.{Found, UnknownUnitType as unknown_unit_type, MissingAbbreviation as missing_abbreviation}
+use Rattle.gimli_compilation.specs.declared.sections.Outcome.TheVariants.{
+  Found,
+  UnknownUnitType as unknown_unit_type,
+  MissingAbbreviation as missing_abbreviation,
+}
 use Rattle.gimli_compilation.specs.Sections.{Sections}
 use Rattle.gimli_compilation.specs.Unit.{BeginsWithOutcome, HasCompilationAt, HasRefusalAt}
 use Rattle.gimli_compilation.specs.inside.UnitReading.{unit_at, answer_of}
@@ -28,11 +32,14 @@ module _ (sections : Sections) where
   has_refusal offset (UnknownUnitType unit_type) s = ap answer_of (begun (drop offset sections.info) (unknown_unit_type unit_type) s)
   has_refusal offset (MissingAbbreviation code) s = ap answer_of (begun (drop offset sections.info) (missing_abbreviation code) s)
 
-  pub some_answer : (offset : ℕ) → ((compilation : Compilation (List ℕ)) × HasCompilationAt sections offset compilation) ⊎ ((refusal : Refusal) × HasRefusalAt sections offset refusal)
+  pub some_answer : (offset : ℕ)
+      → ((compilation : Compilation (List ℕ)) × HasCompilationAt sections offset compilation) ⊎ ((refusal : Refusal) × HasRefusalAt sections offset refusal)
   some_answer offset = at_read (unit_at sections (drop offset sections.info)) refl
     where
-      at_read : (r : Read (Outcome (List ℕ))) → unit_at sections (drop offset sections.info) ≡ r → ((compilation : Compilation (List ℕ)) × HasCompilationAt sections offset compilation) ⊎ ((refusal : Refusal) × HasRefusalAt sections offset refusal)
-      at_read (Ok (Found compilation), rest) is = let f = (reads_unit sections).found (drop offset sections.info) (Found compilation) rest is in inl (compilation, (f.0, rest, f.1, f.2))
+      at_read : (r : Read (Outcome (List ℕ))) → unit_at sections (drop offset sections.info) ≡ r
+          → ((compilation : Compilation (List ℕ)) × HasCompilationAt sections offset compilation) ⊎ ((refusal : Refusal) × HasRefusalAt sections offset refusal)
+      at_read (Ok (Found compilation), rest) is =
+          let f = (reads_unit sections).found (drop offset sections.info) (Found compilation) rest is in inl (compilation, (f.0, rest, f.1, f.2))
       at_read (Ok (unknown_unit_type unit_type), rest) is =
           let f = (reads_unit sections).found (drop offset sections.info) (unknown_unit_type unit_type) rest is in
           inr (UnknownUnitType unit_type, (f.0, rest, f.1, f.2))
@@ -41,10 +48,12 @@ module _ (sections : Sections) where
           inr (MissingAbbreviation code, (f.0, rest, f.1, f.2))
       at_read (Err e, rest) is = inr (Bytes e, (reads_unit sections).fault (drop offset sections.info) e (ap (λ (r : Read (Outcome (List ℕ))). r.0) is))
 
-  pub no_both : (offset : ℕ) (compilation : Compilation (List ℕ)) (refusal : Refusal) → HasCompilationAt sections offset compilation → HasRefusalAt sections offset refusal → ⊥
+  pub no_both : (offset : ℕ) (compilation : Compilation (List ℕ)) (refusal : Refusal) → HasCompilationAt sections offset compilation
+      → HasRefusalAt sections offset refusal → ⊥
   no_both offset compilation refusal s f = let both = sym (has_compilation offset compilation s) ∙ has_refusal offset refusal f in cc
 
-  pub one_compilation : (offset : ℕ) (compilation other : Compilation (List ℕ)) → HasCompilationAt sections offset compilation → HasCompilationAt sections offset other → compilation ≡ other
+  pub one_compilation : (offset : ℕ) (compilation other : Compilation (List ℕ)) → HasCompilationAt sections offset compilation
+      → HasCompilationAt sections offset other → compilation ≡ other
   one_compilation offset compilation other s t = let e = sym (has_compilation offset compilation s) ∙ has_compilation offset other t in cc
 
   pub one_refusal : (offset : ℕ) (refusal other : Refusal) → HasRefusalAt sections offset refusal → HasRefusalAt sections offset other → refusal ≡ other

@@ -6,7 +6,8 @@ use Rattle.gimli_core.specs.Reading.{Read, ◌>>=◌, byte_at, unsigned_at}
 use Rattle.gimli_core.specs.declared.error.Error.{Error}
 use Rattle.gimli_compilation.specs.declared.abbreviation.Specification.{Specification}
 use Rattle.gimli_compilation.specs.Abbreviation.{Declaration, declaration_production, ends_search}
-use Rattle.gimli_compilation.specs.inside.AbbreviationReading.{until_at, specifications_at, specifications_passed, listed, declared_at, declaration_at, abbreviation_at}
+use Rattle.gimli_compilation.specs.inside.AbbreviationReading.{until_at, specifications_at, specifications_passed, listed, declared_at, declaration_at}
+use Rattle.gimli_compilation.specs.inside.AbbreviationReading.{abbreviation_at}
 use Rattle.gimli_compilation.proofs.Until.{shrinks, until_more, until_last, until_refused}
 use Rattle.gimli_compilation.proofs.AbbreviationLaws.{reads_declaration, declaration_takes}
 use Rattle.gimli_compilation.proofs.Specifications.{passed_listed, passed_fault}
@@ -63,7 +64,8 @@ module _ (code : ℕ) (bytes : List ℕ) (n : ℕ) (second : List ℕ) (first : 
     unfolding abbreviation_at
     search_found same =
         let test : ends_search code (n, specifications) ≡ true = rw (ne_eqb n 0 some) (eq-eqb n code same) in
-        let found = until_last (ends_search code) declaration_production declaration_at reads_declaration declaration_takes bytes (n, specifications) left whole test in
+        let found =
+        until_last (ends_search code) declaration_production declaration_at reads_declaration declaration_takes bytes (n, specifications) left whole test in
         let shown : answer (Ok ([], (n, specifications)), left) ≡ (Ok (Some specifications), left) = rw (ne_eqb n 0 some) refl in
         sym (ap answer found ∙ shown)
 
@@ -71,7 +73,8 @@ module _ (code : ℕ) (bytes : List ℕ) (n : ℕ) (second : List ℕ) (first : 
     unfolding abbreviation_at
     search_more other =
         let test : ends_search code (n, specifications) ≡ false = rw (ne_eqb n 0 some) (ne_eqb n code other) in
-        let more = until_more (ends_search code) declaration_production declaration_at reads_declaration declaration_takes bytes (n, specifications) left whole test in
+        let more =
+        until_more (ends_search code) declaration_production declaration_at reads_declaration declaration_takes bytes (n, specifications) left whole test in
         ap answer more ∙ answer_put (n, specifications) (until_at (ends_search code) declaration_at left)
 
     pub search_smaller : length left < length bytes

@@ -1,5 +1,6 @@
 -- Keeping the directories of units, one after the other.
-use Rattle.std.proofs.Common.{◌≡◌, ◌≢◌, ℕ, ◌<◌, ◌≤◌, Bool, true, false, cond, if◌then◌else◌, List, [], ◌∷◌, ◌++◌, length, drop, Option, Some, None, Result, Ok, Err, refl, sym, ap, subst, ◌∙◌, inl, inr, arith, append_assoc}
+use Rattle.std.proofs.Common.{◌≡◌, ◌≢◌, ℕ, ◌<◌, ◌≤◌, Bool, true, false, cond, if◌then◌else◌, List, [], ◌∷◌, ◌++◌, length, drop, Option, Some, None, Result, Ok}
+use Rattle.std.proofs.Common.{Err, refl, sym, ap, subst, ◌∙◌, inl, inr, arith, append_assoc}
 use Rattle.std.specs.Prelude.{IfOk, IfErr, is_some, nat_eq, option_map}
 use Rattle.std.specs.BTreeMap.{is_at}
 use Rattle.std.specs.Cmp.{unsigned_tied}
@@ -39,7 +40,8 @@ module _ {D : Type 0} (old : ℕ → Option D) (key : ℕ) (directory : D) (line
       at_test false is = sym (first_none (old line))
 
   -- one that has none gets it
-  pub kept_new : (new : Option D) → is_some (old key) ≡ false → new ≡ cond (is_at (nat_cmp key) line) (Some directory) (old line) → new ≡ first_of (old line) (directory_in line (Some (key, directory)))
+  pub kept_new : (new : Option D) → is_some (old key) ≡ false → new ≡ cond (is_at (nat_cmp key) line) (Some directory) (old line)
+      → new ≡ first_of (old line) (directory_in line (Some (key, directory)))
   kept_new new fresh is = is ∙ ap (λ (test : Bool). cond test (Some directory) (old line)) (unsigned_tied key line) ∙ at_test (nat_eq key line) refl
     where
       at_test : (test : Bool) → nat_eq key line ≡ test → cond test (Some directory) (old line) ≡ first_of (old line) (if test then Some directory else None)
@@ -70,22 +72,27 @@ module _ {R : Type 0} (bytes : R → List ℕ) where
   first_seen (Some d) other = refl
   first_seen None other = refl
 
-  pub told : (line : ℕ) (given : Option (ℕ × R)) (old new : Option R) → new ≡ first_of old (directory_in line given) → option_map bytes new ≡ first_of (option_map bytes old) (directory_in line (option_map pair_seen given))
+  pub told : (line : ℕ) (given : Option (ℕ × R)) (old new : Option R) → new ≡ first_of old (directory_in line given)
+      → option_map bytes new ≡ first_of (option_map bytes old) (directory_in line (option_map pair_seen given))
   told line given old new is =
       ap (option_map bytes) is ∙ first_seen old (directory_in line given) ∙ ap (first_of (option_map bytes old)) (in_seen line given)
 
   module _ (sections : Sections) (offset : ℕ) where
     -- a unit gives what its compilation says
-    pub gives_of : (unit : Result (Compilation R) Refusal) → IfOk unit (λ compilation. HasCompilationAt sections offset (compilation_seen bytes compilation)) → IfErr unit (HasRefusalAt sections offset)
+    pub gives_of : (unit : Result (Compilation R) Refusal) → IfOk unit (λ compilation. HasCompilationAt sections offset (compilation_seen bytes compilation))
+        → IfErr unit (HasRefusalAt sections offset)
         → Gives sections offset (option_map pair_seen (given_by unit))
     gives_of (Ok compilation) says refused = inl (compilation_seen bytes compilation, says, paired_seen compilation.stmt_list compilation.comp_dir)
     gives_of (Err refusal) says refused = inr (refusal, refused, refl)
 
 -- ---- the walk
 
-among_push : {D : Type 0} (line : ℕ) (done : List (Option (ℕ × D))) (given : Option (ℕ × D)) → directory_among line (done ++ given ∷ []) ≡ first_of (directory_among line done) (directory_in line given)
+among_push : {D : Type 0} (line : ℕ) (done : List (Option (ℕ × D))) (given : Option (ℕ × D))
+    → directory_among line (done ++ given ∷ []) ≡ first_of (directory_among line done) (directory_in line given)
 among_push {D} line [] given = first_none (directory_in line given)
-among_push {D} line (first ∷ done) given = ap (first_of (directory_in line first)) (among_push line done given) ∙ regroup (directory_in line first) (directory_among line done) (directory_in line given)
+among_push {D} line (first ∷ done) given =
+    ap (first_of (directory_in line first)) (among_push line done given)
+    ∙ regroup (directory_in line first) (directory_among line done) (directory_in line given)
   where
     regroup : (a b c : Option D) → first_of a (first_of b c) ≡ first_of (first_of a b) c
     regroup (Some d) b c = refl
@@ -103,7 +110,8 @@ kept_none sections tell none = record { units = []; walk = λ others g. g; tells
 some_left : (bytes : List ℕ) (offset next : ℕ) → offset < next → next ≤ length bytes → drop offset bytes ≢ []
 some_left bytes offset next lt le = λ none. absurd (omega (arith, length-drop offset bytes, ap length none))
 
-pub kept_more : (sections : Sections) (offset next : ℕ) (given : Option (ℕ × List ℕ)) (tell told : ℕ → Option (List ℕ)) → Gives sections offset given → IsNextOffset sections offset next → offset < next → next ≤ length sections.info
+pub kept_more : (sections : Sections) (offset next : ℕ) (given : Option (ℕ × List ℕ)) (tell told : ℕ → Option (List ℕ)) → Gives sections offset given
+    → IsNextOffset sections offset next → offset < next → next ≤ length sections.info
     → ((line : ℕ) → told line ≡ first_of (tell line) (directory_in line given)) → Kept sections offset tell → Kept sections next told
 kept_more sections offset next given tell told gives follows lt le more kept = record {
   units = kept.units ++ given ∷ [];
@@ -113,6 +121,7 @@ kept_more sections offset next given tell told gives follows lt le more kept = r
   tells = λ line. more line ∙ ap (λ (o : Option (List ℕ)). first_of o (directory_in line given)) (kept.tells line) ∙ sym (among_push line kept.units given);
 }
 
-pub kept_all : (sections : Sections) (offset : ℕ) (tell : ℕ → Option (List ℕ)) → drop offset sections.info ≡ [] → Kept sections offset tell → TellsDirectories sections tell
+pub kept_all : (sections : Sections) (offset : ℕ) (tell : ℕ → Option (List ℕ)) → drop offset sections.info ≡ [] → Kept sections offset tell
+    → TellsDirectories sections tell
 kept_all sections offset tell end kept =
     (kept.units, subst (Give sections 0) (append-nil kept.units) (kept.walk [] end), kept.tells)

@@ -36,7 +36,9 @@ module _ (notation : Notation) where
     unfolding known_form_at
     reads_known_form form = at_shape (shape_among form (shapes encoding))
       where
-        at_shape : (found : Option Shape) → Reads (elim found [ Some shape ↦ shape_production notation shape | None ↦ refuse (UnknownForm (record { 0 = form })) ]) (λ bytes. elim found [ Some shape ↦ shape_at notation shape bytes | None ↦ (Err (UnknownForm (record { 0 = form })), bytes) ])
+        at_shape : (found : Option Shape)
+            → Reads (elim found [ Some shape ↦ shape_production notation shape | None ↦ refuse (UnknownForm (record { 0 = form })) ]) (λ bytes.
+            elim found [ Some shape ↦ shape_at notation shape bytes | None ↦ (Err (UnknownForm (record { 0 = form })), bytes) ])
         at_shape (Some shape) = reads_shape shape
         at_shape None = reads_refuse (UnknownForm (record { 0 = form }))
 

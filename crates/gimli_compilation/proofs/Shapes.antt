@@ -18,7 +18,8 @@ among_readable : (form : ℕ) (shape : Shape) (rows : List (ℕ × Shape)) → A
 among_readable form shape [] all is = absurd cc
 among_readable form shape (row ∷ rows) all is = at_test (nat_eq form row.0) is (among_readable form shape rows all.1)
   where
-    at_test : (test : Bool) → (if test then Some row.1 else shape_among form rows) ≡ Some shape → (shape_among form rows ≡ Some shape → IsReadable shape) → IsReadable shape
+    at_test : (test : Bool) → (if test then Some row.1 else shape_among form rows) ≡ Some shape → (shape_among form rows ≡ Some shape → IsReadable shape)
+        → IsReadable shape
     at_test true is others = let same : row.1 ≡ shape = cc in subst IsReadable same all.0
     at_test false is others = others is
 
@@ -48,4 +49,119 @@ module _ (encoding : Encoding) (known : IsTrue (is_address_size encoding.address
   form_readable form shape is =
       let address = address_readable encoding.address_size known in
       let word = word_readable encoding.format in
-      among_readable form shape (shapes encoding) (address, (reference_readable, (word, (word, (word, (word, (word, (word, (omega arith, (omega arith, (omega arith, (omega arith, (omega arith, (omega arith, (omega arith, (omega arith, (omega arith, (omega arith, (omega arith, (omega arith, (omega arith, (omega arith, (omega arith, (omega arith, (omega arith, (omega arith, (omega arith, (omega arith, (omega arith, (tt, (tt, (tt, (tt, (tt, (tt, (tt, (tt, (tt, (tt, (omega arith, (omega arith, (omega arith, (tt, (tt, (tt, tt))))))))))))))))))))))))))))))))))))))))))))) is
+      among_readable form shape (shapes encoding) (
+        address,
+        (
+          reference_readable,
+          (
+            word,
+            (
+              word,
+              (
+                word,
+                (
+                  word,
+                  (
+                    word,
+                    (
+                      word,
+                      (
+                        omega arith,
+                        (
+                          omega arith,
+                          (
+                            omega arith,
+                            (
+                              omega arith,
+                              (
+                                omega arith,
+                                (
+                                  omega arith,
+                                  (
+                                    omega arith,
+                                    (
+                                      omega arith,
+                                      (
+                                        omega arith,
+                                        (
+                                          omega arith,
+                                          (
+                                            omega arith,
+                                            (
+                                              omega arith,
+                                              (
+                                                omega arith,
+                                                (
+                                                  omega arith,
+                                                  (
+                                                    omega arith,
+                                                    (
+                                                      omega arith,
+                                                      (
+                                                        omega arith,
+                                                        (
+                                                          omega arith,
+                                                          (
+                                                            omega arith,
+                                                            (
+                                                              omega arith,
+                                                              (
+                                                                omega arith,
+                                                                (
+                                                                  tt,
+                                                                  (
+                                                                    tt,
+                                                                    (
+                                                                      tt,
+                                                                      (
+                                                                        tt,
+                                                                        (
+                                                                          tt,
+                                                                          (
+                                                                            tt,
+                                                                            (
+                                                                              tt,
+                                                                              (
+                                                                                tt,
+                                                                                (
+                                                                                  tt,
+                                                                                  (tt, (omega arith, (omega arith, (omega arith, (tt, (tt, (tt, tt))))))),
+                                                                                ),
+                                                                              ),
+                                                                            ),
+                                                                          ),
+                                                                        ),
+                                                                      ),
+                                                                    ),
+                                                                  ),
+                                                                ),
+                                                              ),
+                                                            ),
+                                                          ),
+                                                        ),
+                                                      ),
+                                                    ),
+                                                  ),
+                                                ),
+                                              ),
+                                            ),
+                                          ),
+                                        ),
+                                      ),
+                                    ),
+                                  ),
+                                ),
+                              ),
+                            ),
+                          ),
+                        ),
+                      ),
+                    ),
+                  ),
+                ),
+              ),
+            ),
+          ),
+        ),
+      )
+      is

@@ -4,7 +4,8 @@ use Rattle.gimli_core.specs.Reading.{Read, ◌>>=◌}
 use Rattle.gimli_core.specs.declared.error.Error.{Error}
 use Rattle.gimli_compilation.specs.declared.abbreviation.Specification.{Specification}
 use Rattle.gimli_compilation.specs.Abbreviation.{is_end, specification_production}
-use Rattle.gimli_compilation.specs.inside.AbbreviationReading.{until_at, specification_at, specifications_at, passed_of, specifications_passed, list_of, listed, IsListed}
+use Rattle.gimli_compilation.specs.inside.AbbreviationReading.{until_at, specification_at, specifications_at, passed_of, specifications_passed, list_of, listed}
+use Rattle.gimli_compilation.specs.inside.AbbreviationReading.{IsListed}
 use Rattle.gimli_compilation.proofs.Until.{shrinks, until_more, until_last, until_refused}
 use Rattle.gimli_compilation.proofs.AbbreviationLaws.{reads_specification, specification_takes}
 
@@ -28,15 +29,18 @@ module _ (bytes : List ℕ) (s : Specification) (left : List ℕ) (read : (Ok s,
   pub specifications_more : is_end s ≡ false → specifications_at bytes ≡ put_first s (specifications_at left)
   unfolding specifications_at
   specifications_more is =
-      rw (until_more is_end specification_production specification_at reads_specification specification_takes bytes s left (sym read) is) (first_put s (until_at is_end specification_at left))
+      rw (until_more is_end specification_production specification_at reads_specification specification_takes bytes s left (sym read) is)
+      (first_put s (until_at is_end specification_at left))
 
   pub specifications_last : is_end s ≡ true → specifications_at bytes ≡ (Ok [], left)
   unfolding specifications_at
-  specifications_last is = rw (until_last is_end specification_production specification_at reads_specification specification_takes bytes s left (sym read) is) refl
+  specifications_last is =
+      rw (until_last is_end specification_production specification_at reads_specification specification_takes bytes s left (sym read) is) refl
 
 pub specifications_refused : (bytes : List ℕ) (e : Error) (left : List ℕ) → (Err e, left) ≡ specification_at bytes → specifications_at bytes ≡ (Err e, left)
 unfolding specifications_at
-specifications_refused bytes e left is = rw (until_refused is_end specification_production specification_at reads_specification specification_takes bytes e left (sym is)) refl
+specifications_refused bytes e left is =
+    rw (until_refused is_end specification_production specification_at reads_specification specification_takes bytes e left (sym is)) refl
 
 -- ---- where nothing is kept
 
@@ -44,10 +48,12 @@ passed_put : (s : Specification) (r : Read (List Specification)) → passed_of (
 passed_put s (Ok xs, rest) = refl
 passed_put s (Err e, rest) = refl
 
-pub passed_more : (bytes : List ℕ) (s : Specification) (left : List ℕ) → (Ok s, left) ≡ specification_at bytes → is_end s ≡ false → specifications_passed bytes ≡ specifications_passed left
+pub passed_more : (bytes : List ℕ) (s : Specification) (left : List ℕ) → (Ok s, left) ≡ specification_at bytes → is_end s ≡ false
+    → specifications_passed bytes ≡ specifications_passed left
 passed_more bytes s left read is = ap passed_of (specifications_more bytes s left read is) ∙ passed_put s (specifications_at left)
 
-pub passed_last : (bytes : List ℕ) (s : Specification) (left : List ℕ) → (Ok s, left) ≡ specification_at bytes → is_end s ≡ true → specifications_passed bytes ≡ (Ok tt, left)
+pub passed_last : (bytes : List ℕ) (s : Specification) (left : List ℕ) → (Ok s, left) ≡ specification_at bytes → is_end s ≡ true
+    → specifications_passed bytes ≡ (Ok tt, left)
 passed_last bytes s left read is = ap passed_of (specifications_last bytes s left read is)
 
 pub passed_refused : (bytes : List ℕ) (e : Error) (left : List ℕ) → (Err e, left) ≡ specification_at bytes → specifications_passed bytes ≡ (Err e, left)
@@ -77,11 +83,13 @@ passed_fault bytes e left is = refused_of (specifications_at bytes) e left is
 
 -- ---- a list that was closed, read once more
 
-put_listed : (s : Specification) (r : Read (List Specification)) (xs : List Specification) (rest : List ℕ) → put_first s r ≡ (Ok xs, rest) → (ys : List Specification) × (end : List ℕ) × (r ≡ (Ok ys, end))
+put_listed : (s : Specification) (r : Read (List Specification)) (xs : List Specification) (rest : List ℕ) → put_first s r ≡ (Ok xs, rest)
+    → (ys : List Specification) × (end : List ℕ) × (r ≡ (Ok ys, end))
 put_listed s (Ok ys, end) xs rest e = (ys, end, refl)
 put_listed s (Err d, end) xs rest e = let p = ap (λ (t : Read (List Specification)). t.0) e in absurd cc
 
-list_put : (s : Specification) (r : Read (List Specification)) (ys : List Specification) (end : List ℕ) → r ≡ (Ok ys, end) → list_of (put_first s r) ≡ s ∷ list_of r
+list_put : (s : Specification) (r : Read (List Specification)) (ys : List Specification) (end : List ℕ) → r ≡ (Ok ys, end)
+    → list_of (put_first s r) ≡ s ∷ list_of r
 list_put s r ys end is = rw is refl
 
 module _ (bytes : List ℕ) (s : Specification) (left : List ℕ) (closed : IsListed bytes) (read : (Ok s, left) ≡ specification_at bytes) where
@@ -99,4 +107,5 @@ pub listed_last : (bytes : List ℕ) (s : Specification) (left : List ℕ) → (
 listed_last bytes s left read is = ap list_of (specifications_last bytes s left read is)
 
 pub never_refused : (bytes : List ℕ) (e : Error) (left : List ℕ) → IsListed bytes → (Err e, left) ≡ specification_at bytes → ⊥
-never_refused bytes e left closed is = let p = ap (λ (t : Read (List Specification)). t.0) (sym closed.parts ∙ specifications_refused bytes e left is) in absurd cc
+never_refused bytes e left closed is =
+    let p = ap (λ (t : Read (List Specification)). t.0) (sym closed.parts ∙ specifications_refused bytes e left is) in absurd cc

@@ -1,5 +1,6 @@
 -- Reading the first entry of a unit.
-use Rattle.std.proofs.Common.{◌≡◌, ℕ, ◌+◌, ◌*◌, ◌<◌, ◌≤◌, ◌^◌, Bool, true, false, if◌then◌else◌, List, [], ◌∷◌, ◌++◌, length, drop, take, Option, Some, None, Result, Ok, Err, refl, sym, ap, ◌∙◌, inl, inr, arith, append_assoc}
+use Rattle.std.proofs.Common.{◌≡◌, ℕ, ◌+◌, ◌*◌, ◌<◌, ◌≤◌, ◌^◌, Bool, true, false, if◌then◌else◌, List, [], ◌∷◌, ◌++◌, length, drop, take, Option, Some, None}
+use Rattle.std.proofs.Common.{Result, Ok, Err, refl, sym, ap, ◌∙◌, inl, inr, arith, append_assoc}
 use Rattle.std.specs.Prelude.{nat_lt, IfOk, IfErr}
 use Rattle.std.proofs.lemmas.Bool.{cases_lt}
 use Rattle.std.proofs.lemmas.List.{append-nil, drop_all, length-append, length-drop, take-append-drop}
@@ -28,12 +29,15 @@ use Rattle.gimli_compilation.specs.declared.sections.Outcome.TheVariants.{Found,
 use Rattle.gimli_compilation.specs.Form.{form_production}
 use Rattle.gimli_compilation.specs.Header.{Header, frame_production, header_production, is_unit_type}
 use Rattle.gimli_compilation.specs.Sections.{Sections}
-use Rattle.gimli_compilation.specs.Unit.{apart, from_offset, attributes_production, string_offset_production, text_from, text_by, text_of, compilation_production, table_production, declared_entry, entry_production, content_production, unit_production, BeginsWithOutcome, FollowsUnit, HasCompilationAt, HasRefusalAt}
+use Rattle.gimli_compilation.specs.Unit.{apart, from_offset, attributes_production, string_offset_production, text_from, text_by, text_of}
+use Rattle.gimli_compilation.specs.Unit.{compilation_production, table_production, declared_entry, entry_production, content_production, unit_production}
+use Rattle.gimli_compilation.specs.Unit.{BeginsWithOutcome, FollowsUnit, HasCompilationAt, HasRefusalAt}
 use Rattle.gimli_compilation.specs.Value.{attributes_with, no_attributes, section_offset}
 use Rattle.gimli_compilation.specs.inside.Value.{value_seen}
 use Rattle.gimli_compilation.specs.inside.AttributesReading.{attributes_at}
 use Rattle.gimli_compilation.specs.inside.HeaderReading.{frame_at, after_frame}
-use Rattle.gimli_compilation.specs.inside.UnitReading.{from_offset_at, text_from_at, place_of, string_offset_at, text_by_at, text_of_at, compilation_at, table_at, found_entry_at, declared_entry_at, entry_at, content_at, unit_at, outcome_seen, answer_of}
+use Rattle.gimli_compilation.specs.inside.UnitReading.{from_offset_at, text_from_at, place_of, string_offset_at, text_by_at, text_of_at, compilation_at}
+use Rattle.gimli_compilation.specs.inside.UnitReading.{table_at, found_entry_at, declared_entry_at, entry_at, content_at, unit_at, outcome_seen, answer_of}
 use Rattle.gimli_compilation.proofs.Guards.{reads_guard, reads_from_offset, reads_apart}
 use Rattle.gimli_compilation.proofs.FormLaws.{reads_form}
 use Rattle.gimli_compilation.proofs.AbbreviationLaws.{reads_abbreviation}
@@ -42,7 +46,8 @@ use Rattle.gimli_compilation.proofs.Until.{TakesBytes, takes_both}
 
 -- ---- attributes
 
-reads_attributes : (notation : Notation) (encoding : Encoding) (specifications : List Specification) (before : Attributes (List ℕ)) → Reads (attributes_production notation encoding before specifications) (attributes_at notation encoding before specifications)
+reads_attributes : (notation : Notation) (encoding : Encoding) (specifications : List Specification) (before : Attributes (List ℕ))
+    → Reads (attributes_production notation encoding before specifications) (attributes_at notation encoding before specifications)
 unfolding attributes_at
 reads_attributes notation encoding [] before = reads_done before
 reads_attributes notation encoding (s ∷ specifications) before =
@@ -61,24 +66,31 @@ place_known : (limit base index size : ℕ) (read : List ℕ → Read ℕ) (byte
 place_known limit base index size read bytes = at_test (nat_lt (base + index * size) (2 ^ 64))
   where
     at_test : (test : Bool) → (if test then from_offset_at limit (base + index * size) read bytes else (Err UnsupportedOffset, bytes))
-        ≡ ((let r : Read ℕ = (if test then Ok (base + index * size) else Err UnsupportedOffset, bytes) in r) >>= λ place rest. from_offset_at limit place read rest)
+        ≡ ((let r : Read ℕ = (if test then Ok (base + index * size) else Err UnsupportedOffset, bytes) in r) >>= λ place rest.
+        from_offset_at limit place read rest)
     at_test true = refl
     at_test false = refl
 
-reads_string_offset : (notation : Notation) (format : Format) (base index : ℕ) → Reads (string_offset_production notation format base index) (string_offset_at notation format base index)
+reads_string_offset : (notation : Notation) (format : Format) (base index : ℕ)
+    → Reads (string_offset_production notation format base index) (string_offset_at notation format base index)
 unfolding string_offset_at
 reads_string_offset notation format base index =
     let place = base + index * word_size format in
-    reads_same (string_offset_production notation format base index) _ _ (place_known notation.limit base index (word_size format) (number_at notation.big (word_size format)))
+    reads_same (string_offset_production notation format base index) _ _
+    (place_known notation.limit base index (word_size format) (number_at notation.big (word_size format)))
     (reads_guard (nat_lt place (2 ^ 64)) UnsupportedOffset (from_offset notation place (number notation.big (word_size format))) _
     (reads_from_offset notation place (number notation.big (word_size format)) _ (reads_number notation.big (word_size format))))
 
 module _ (sections : Sections) where
-  reads_named : (section : List ℕ) (offset : ℕ) → Reads (text_from sections section offset) (λ bytes. ((text_from_at sections.notation.limit offset section).0, bytes) >>= λ name rest. (Ok (Some name), rest))
+  reads_named : (section : List ℕ) (offset : ℕ)
+      → Reads (text_from sections section offset) (λ bytes. ((text_from_at sections.notation.limit offset section).0, bytes) >>= λ name rest.
+      (Ok (Some name), rest))
   reads_named section offset =
-      reads_both (apart section (from_offset sections.notation offset text)) _ _ _ (reads_apart section _ _ (reads_text_from sections.notation offset)) (λ name. reads_done (Some name))
+      reads_both (apart section (from_offset sections.notation offset text)) _ _ _ (reads_apart section _ _ (reads_text_from sections.notation offset)) (λ name.
+      reads_done (Some name))
 
-  reads_text_by : (format : Format) (base : Option ℕ) (kind : Kind) (n : ℕ) → Reads (text_by sections format base kind n) (text_by_at sections format base kind n)
+  reads_text_by : (format : Format) (base : Option ℕ) (kind : Kind) (n : ℕ)
+      → Reads (text_by sections format base kind n) (text_by_at sections format base kind n)
   unfolding text_by_at
   reads_text_by format base StringOffset n = reads_named sections.strings n
   reads_text_by format base LineStringOffset n = reads_named sections.line_strings n
@@ -89,17 +101,20 @@ module _ (sections : Sections) where
   reads_text_by format base SectionOffset n = reads_done None
   reads_text_by format base Other n = reads_done None
 
-  reads_text_of : (format : Format) (base : Option ℕ) (value : Value (List ℕ)) → Reads (text_of sections format base value) (text_of_at sections format base value)
+  reads_text_of : (format : Format) (base : Option ℕ) (value : Value (List ℕ))
+      → Reads (text_of sections format base value) (text_of_at sections format base value)
   reads_text_of format base (Number kind n) = reads_text_by format base kind n
   reads_text_of format base (Text name) = reads_done (Some name)
   reads_text_of format base Passed = reads_done None
 
-  reads_compilation : (encoding : Encoding) (attributes : Attributes (List ℕ)) → Reads (compilation_production sections encoding attributes) (compilation_at sections encoding attributes)
+  reads_compilation : (encoding : Encoding) (attributes : Attributes (List ℕ))
+      → Reads (compilation_production sections encoding attributes) (compilation_at sections encoding attributes)
   unfolding compilation_at
   reads_compilation encoding attributes =
       let base = section_offset attributes.str_offsets_base in
       reads_both (text_of sections encoding.format base attributes.comp_dir) _ _ _ (reads_text_of encoding.format base attributes.comp_dir)
-      (λ comp_dir. reads_both (text_of sections encoding.format base attributes.name) _ _ _ (reads_text_of encoding.format base attributes.name) (λ name. reads_done _))
+      (λ comp_dir. reads_both (text_of sections encoding.format base attributes.name) _ _ _ (reads_text_of encoding.format base attributes.name) (λ name.
+      reads_done _))
 
 -- ---- entries and units
 
@@ -118,10 +133,13 @@ section_offset_seen view (Text name) = refl
 section_offset_seen view Passed = refl
 
 -- both texts of a compilation are known
-pub compilation_done : (sections : Sections) (encoding : Encoding) (attributes : Attributes (List ℕ)) (base lines : Option ℕ) (comp_dir name : Option (List ℕ)) (bytes : List ℕ)
+pub compilation_done : (sections : Sections) (encoding : Encoding) (attributes : Attributes (List ℕ)) (base lines : Option ℕ) (comp_dir name : Option (List ℕ))
+    (bytes : List ℕ)
     → base ≡ section_offset attributes.str_offsets_base → lines ≡ section_offset attributes.stmt_list
-    → (Ok comp_dir, bytes) ≡ text_of_at sections encoding.format base attributes.comp_dir bytes → (Ok name, bytes) ≡ text_of_at sections encoding.format base attributes.name bytes
-    → (Ok (record { version = encoding.version; stmt_list = lines; comp_dir = comp_dir; name = name }), bytes) ≡ compilation_at sections encoding attributes bytes
+    → (Ok comp_dir, bytes) ≡ text_of_at sections encoding.format base attributes.comp_dir bytes
+    → (Ok name, bytes) ≡ text_of_at sections encoding.format base attributes.name bytes
+    → (Ok (record { version = encoding.version; stmt_list = lines; comp_dir = comp_dir; name = name }), bytes)
+    ≡ compilation_at sections encoding attributes bytes
 unfolding compilation_at
 compilation_done sections encoding attributes base lines comp_dir name bytes based lined first second =
     let one : (Ok comp_dir, bytes) ≡ text_of_at sections encoding.format (section_offset attributes.str_offsets_base) attributes.comp_dir bytes =
@@ -131,25 +149,30 @@ compilation_done sections encoding attributes base lines comp_dir name bytes bas
     rw (← one, ← two, lined) refl
 
 module _ (sections : Sections) where
-  reads_declared_entry : (encoding : Encoding) (code : ℕ) (found : Option (List Specification)) → Reads (declared_entry sections encoding code found) (declared_entry_at sections encoding code found)
+  reads_declared_entry : (encoding : Encoding) (code : ℕ) (found : Option (List Specification))
+      → Reads (declared_entry sections encoding code found) (declared_entry_at sections encoding code found)
   unfolding found_entry_at
   reads_declared_entry encoding code None = reads_done (MissingAbbreviation code)
   reads_declared_entry encoding code (Some specifications) =
-      reads_both (attributes_production sections.notation encoding no_attributes specifications) _ _ _ (reads_attributes sections.notation encoding specifications no_attributes)
-      (λ attributes. reads_both (compilation_production sections encoding attributes) _ _ _ (reads_compilation sections encoding attributes) (λ compilation. reads_done (Found compilation)))
+      reads_both (attributes_production sections.notation encoding no_attributes specifications) _ _ _
+      (reads_attributes sections.notation encoding specifications no_attributes)
+      (λ attributes. reads_both (compilation_production sections encoding attributes) _ _ _ (reads_compilation sections encoding attributes) (λ compilation.
+      reads_done (Found compilation)))
 
   reads_entry : (header : Header) → Reads (entry_production sections header) (entry_at sections header)
   unfolding entry_at
   reads_entry header =
       reads_both unsigned _ _ _ reads_unsigned
-      (λ code. reads_both (apart sections.abbreviations (table_production header.abbreviations code)) _ _ _ (reads_apart sections.abbreviations _ _ (reads_table header.abbreviations code))
+      (λ code. reads_both (apart sections.abbreviations (table_production header.abbreviations code)) _ _ _
+      (reads_apart sections.abbreviations _ _ (reads_table header.abbreviations code))
       (λ found. reads_declared_entry header.encoding code found))
 
   reads_content : (format : Format) → Reads (content_production sections format) (content_at sections format)
   unfolding content_at
   reads_content format =
       reads_both (header_production sections.notation format) _ _ _ (reads_header sections.notation format)
-      (λ header. reads_if (is_unit_type header.unit_type) (entry_production sections header) (done (UnknownUnitType header.unit_type)) _ _ (reads_entry header) (reads_done (UnknownUnitType header.unit_type)))
+      (λ header. reads_if (is_unit_type header.unit_type) (entry_production sections header) (done (UnknownUnitType header.unit_type)) _ _ (reads_entry header)
+      (reads_done (UnknownUnitType header.unit_type)))
 
   pub reads_unit : Reads (unit_production sections) (unit_at sections)
   unfolding unit_at
@@ -159,7 +182,8 @@ module _ (sections : Sections) where
 
   -- ---- an answer
 
-  pub content_done : (bytes rest left : List ℕ) (unit : List ℕ × Format) (outcome : Result (Outcome (List ℕ)) Error) → (Ok unit, rest) ≡ frame_at sections.notation bytes
+  pub content_done : (bytes rest left : List ℕ) (unit : List ℕ × Format) (outcome : Result (Outcome (List ℕ)) Error)
+      → (Ok unit, rest) ≡ frame_at sections.notation bytes
       → (outcome, left) ≡ content_at sections unit.1 unit.0 → (outcome, rest) ≡ unit_at sections bytes
   unfolding unit_at
   content_done bytes rest left unit outcome frame content =
@@ -174,14 +198,16 @@ module _ (sections : Sections) where
     begins : (outcome : Outcome (List ℕ)) → (Ok outcome, left) ≡ unit_at sections bytes → BeginsWithOutcome sections (drop offset sections.info) outcome
     begins outcome e = let f = reads_unit.found bytes outcome left (sym e) in (f.0, left, sym from ∙ f.1, f.2)
 
-    pub compilation_is : (outcome : Result (Outcome R) Error) (answer : Result (Compilation R) Refusal) → (result_map (outcome_seen view) outcome, left) ≡ unit_at sections bytes
+    pub compilation_is : (outcome : Result (Outcome R) Error) (answer : Result (Compilation R) Refusal)
+        → (result_map (outcome_seen view) outcome, left) ≡ unit_at sections bytes
         → answer ≡ answer_of outcome → IfOk answer (λ compilation. HasCompilationAt sections offset (view compilation))
     compilation_is (Ok (Found compilation)) answer e is = rw is (begins (Found (view compilation)) e)
     compilation_is (Ok (UnknownUnitType unit_type)) answer e is = rw is tt
     compilation_is (Ok (MissingAbbreviation code)) answer e is = rw is tt
     compilation_is (Err error) answer e is = rw is tt
 
-    pub refusal_is : (outcome : Result (Outcome R) Error) (answer : Result (Compilation R) Refusal) → (result_map (outcome_seen view) outcome, left) ≡ unit_at sections bytes
+    pub refusal_is : (outcome : Result (Outcome R) Error) (answer : Result (Compilation R) Refusal)
+        → (result_map (outcome_seen view) outcome, left) ≡ unit_at sections bytes
         → answer ≡ answer_of outcome → IfErr answer (HasRefusalAt sections offset)
     refusal_is (Ok (Found compilation)) answer e is = rw is tt
     refusal_is (Ok (UnknownUnitType unit_type)) answer e is = rw is (begins (UnknownUnitType unit_type) e)
@@ -197,21 +223,25 @@ length_takes big n Dwarf32 s = absurd (omega (arith, s.0.size_is))
 length_takes big n Dwarf64 s = absurd (omega (arith, ap length s.2, length-append s.0 s.1, s.3.size_is))
 
 frame_takes : (notation : Notation) → TakesBytes (frame_production notation)
-frame_takes notation = takes_both (unit_length notation) _ (takes_both (initial_length notation.big) _ (record { none = λ unit s. length_takes notation.big unit.0 unit.1 s }))
+frame_takes notation =
+    takes_both (unit_length notation) _ (takes_both (initial_length notation.big) _ (record { none = λ unit s. length_takes notation.big unit.0 unit.1 s }))
 
 some_front : (notation : Notation) (front : List ℕ) (unit : List ℕ × Format) → (frame_production notation).Spells front unit → 0 < length front
 some_front notation [] unit s = absurd ((frame_takes notation).none unit s)
 some_front notation (b ∷ front) unit s = omega arith
 
 -- what is left after a unit is an end of its section
-pub rest_is_end : (notation : Notation) (section : List ℕ) (offset : ℕ) (bytes after : List ℕ) → bytes ≡ drop offset section → after ≡ after_frame (frame_at notation bytes) → (front : List ℕ) × (section ≡ front ++ after)
+pub rest_is_end : (notation : Notation) (section : List ℕ) (offset : ℕ) (bytes after : List ℕ) → bytes ≡ drop offset section
+    → after ≡ after_frame (frame_at notation bytes) → (front : List ℕ) × (section ≡ front ++ after)
 rest_is_end notation section offset bytes after from is = at_read (frame_at notation bytes) refl is
   where
     at_read : (r : Read (List ℕ × Format)) → frame_at notation bytes ≡ r → after ≡ after_frame r → (front : List ℕ) × (section ≡ front ++ after)
     at_read (Ok unit, rest) same left =
         let f = (reads_frame notation).found bytes unit rest same in
-        let end : drop offset section ≡ f.0 ++ after = sym from ∙ f.1 ∙ ap (λ (xs : List ℕ). f.0 ++ xs) (sym left) in
-        (take offset section ++ f.0, sym (take-append-drop offset section) ∙ ap (λ (xs : List ℕ). take offset section ++ xs) end ∙ sym (append_assoc (take offset section) f.0 after))
+        let end : drop offset section ≡ f.0 ++ after = sym from ∙ f.1 ∙ ap (λ (xs : List ℕ). f.0 ++ xs) (sym left) in (
+          take offset section ++ f.0,
+          sym (take-append-drop offset section) ∙ ap (λ (xs : List ℕ). take offset section ++ xs) end ∙ sym (append_assoc (take offset section) f.0 after),
+        )
     at_read (Err e, rest) same left = (section, sym (append-nil section) ∙ ap (λ (xs : List ℕ). section ++ xs) (sym left))
 
 -- where the next unit begins
@@ -220,10 +250,12 @@ pub record Steps (notation : Notation) (section : List ℕ) (offset next : ℕ) 
   pub onward : offset < next
   pub inside : next ≤ length section
 
-pub next_offset : (notation : Notation) (section : List ℕ) (offset next : ℕ) (bytes after : List ℕ) → bytes ≡ drop offset section → (bytes ≡ [] → ⊥) → after ≡ after_frame (frame_at notation bytes)
+pub next_offset : (notation : Notation) (section : List ℕ) (offset next : ℕ) (bytes after : List ℕ) → bytes ≡ drop offset section → (bytes ≡ [] → ⊥)
+    → after ≡ after_frame (frame_at notation bytes)
     → next + length after ≡ length section → Steps notation section offset next
 next_offset notation section offset next bytes after from some is ends =
-    at_read (frame_at notation bytes) refl is (elim (cases_lt offset (length section)) [ inl lt ↦ lt | inr le ↦ absurd (some (from ∙ drop_all offset section le)) ])
+    at_read (frame_at notation bytes) refl is
+    (elim (cases_lt offset (length section)) [ inl lt ↦ lt | inr le ↦ absurd (some (from ∙ drop_all offset section le)) ])
   where
     at_read : (r : Read (List ℕ × Format)) → frame_at notation bytes ≡ r → after ≡ after_frame r → offset < length section → Steps notation section offset next
     at_read (Ok unit, rest) same left before =

@@ -1,5 +1,6 @@
 -- Reading values up to the one that ends them.
-use Rattle.std.proofs.Common.{◌≡◌, ℕ, zero, suc, ◌<◌, Bool, true, false, if◌then◌else◌, List, [], ◌∷◌, ◌++◌, length, Ok, Err, refl, sym, ap, subst, ◌∙◌, append_assoc, inl, inr, arith, IsTrue, IsFalse}
+use Rattle.std.proofs.Common.{◌≡◌, ℕ, zero, suc, ◌<◌, Bool, true, false, if◌then◌else◌, List, [], ◌∷◌, ◌++◌, length, Ok, Err, refl, sym, ap, subst, ◌∙◌}
+use Rattle.std.proofs.Common.{append_assoc, inl, inr, arith, IsTrue, IsFalse}
 use Rattle.std.proofs.lemmas.List.{length-append}
 use Rattle.gimli_core.specs.declared.error.Error.{Error}
 use Rattle.gimli_core.specs.Reading.{Read, ◌>>=◌}
@@ -22,11 +23,13 @@ nil_front (b ∷ front) rest is = absurd cc
 pub takes_both : {A B : Type 0} (l : Production A) (next : A → Production B) → TakesBytes l → TakesBytes (l >>> next)
 takes_both l next takes = record { none = λ y s. takes.none s.0 (subst (λ (front : List ℕ). l.Spells front s.0) (nil_front s.1 s.2 s.3) s.4) }
 
-longer : {A : Type 0} (l : Production A) (x : A) (front rest bytes : List ℕ) → TakesBytes l → bytes ≡ front ++ rest → l.Spells front x → length rest < length bytes
+longer : {A : Type 0} (l : Production A) (x : A) (front rest bytes : List ℕ) → TakesBytes l → bytes ≡ front ++ rest → l.Spells front x
+    → length rest < length bytes
 longer l x [] rest bytes takes whole s = absurd (takes.none x s)
 longer l x (b ∷ front) rest bytes takes whole s = omega (arith, ap length whole, length-append (b ∷ front) rest)
 
-pub shrinks : {A : Type 0} (l : Production A) (read : List ℕ → Read A) → Reads l read → TakesBytes l → (bytes : List ℕ) (x : A) (rest : List ℕ) → read bytes ≡ (Ok x, rest) → length rest < length bytes
+pub shrinks : {A : Type 0} (l : Production A) (read : List ℕ → Read A) → Reads l read → TakesBytes l → (bytes : List ℕ) (x : A) (rest : List ℕ)
+    → read bytes ≡ (Ok x, rest) → length rest < length bytes
 shrinks l read r takes bytes x rest e = let f = r.found bytes x rest e in longer l x f.0 rest bytes takes f.1 f.2
 
 -- ---- values up to the one that ends them
@@ -53,14 +56,16 @@ module _ {A : Type 0} (ends : A → Bool) (l : Production A) (read : List ℕ �
   enough (suc n) zero bytes lt also = absurd (omega arith)
   enough (suc n) (suc m) bytes lt also = at_read (read bytes) refl (λ rest fewer more. enough n m rest fewer more)
     where
-      at_read : (first : Read A) → read bytes ≡ first → ((rest : List ℕ) → length rest < n → length rest < m → until_below n ends read rest ≡ until_below m ends read rest)
+      at_read : (first : Read A) → read bytes ≡ first
+          → ((rest : List ℕ) → length rest < n → length rest < m → until_below n ends read rest ≡ until_below m ends read rest)
           → until_below (suc n) ends read bytes ≡ until_below (suc m) ends read bytes
       at_read (Ok x, rest) same others =
           let fewer = shrinks l read r takes bytes x rest same in
           rw same (step_same n m x rest (others rest (omega arith) (omega arith)))
       at_read (Err e, rest) same others = rw same refl
 
-  pub until_more : (bytes : List ℕ) (x : A) (rest : List ℕ) → read bytes ≡ (Ok x, rest) → ends x ≡ false → until_at ends read bytes ≡ put x (until_at ends read rest)
+  pub until_more : (bytes : List ℕ) (x : A) (rest : List ℕ) → read bytes ≡ (Ok x, rest) → ends x ≡ false
+      → until_at ends read bytes ≡ put x (until_at ends read rest)
   unfolding until_below
   until_more bytes x rest e is =
       let fewer = shrinks l read r takes bytes x rest e in
@@ -85,7 +90,8 @@ module _ {A : Type 0} (ends : A → Bool) (l : Production A) (read : List ℕ �
   -- a value, and what was found after it
   one_found : (more : ℕ) (x : A) (left first : List ℕ) (values : Values) (rest : List ℕ) → l.Spells first x
       → ((v : Values) (end : List ℕ) → until_below more ends read left ≡ (Ok v, end) → Found left v end)
-      → (test : Bool) → ends x ≡ test → (if test then (let s : Read Values = (Ok ([], x), left) in s) else put x (until_below more ends read left)) ≡ (Ok values, rest)
+      → (test : Bool) → ends x ≡ test
+      → (if test then (let s : Read Values = (Ok ([], x), left) in s) else put x (until_below more ends read left)) ≡ (Ok values, rest)
       → Found (first ++ left) values rest
   one_found more x left first values rest s others true is e =
       let p = ok_parts ([], x) values left rest e in
@@ -95,7 +101,8 @@ module _ {A : Type 0} (ends : A → Bool) (l : Production A) (read : List ℕ �
       let b = bind_ok (until_below more ends read left) (λ v end. (let s : Read Values = (Ok (x ∷ v.0, v.1), end) in s)) values rest e in
       let p = ok_parts (x ∷ b.0.0, b.0.1) values b.1 rest b.3 in
       let g = others b.0 b.1 b.2 in
-      let whole : first ++ left ≡ (first ++ g.0) ++ rest = ap (λ (xs : List ℕ). first ++ xs) (g.1 ∙ ap (λ (xs : List ℕ). g.0 ++ xs) p.1) ∙ sym (append_assoc first g.0 rest) in
+      let whole : first ++ left ≡ (first ++ g.0) ++ rest = ap (λ (xs : List ℕ). first ++ xs) (g.1 ∙ ap (λ (xs : List ℕ). g.0 ++ xs) p.1)
+      ∙ sym (append_assoc first g.0 rest) in
       let parts : first ++ g.0 ≡ (first ++ g.2.0) ++ g.2.1 = ap (λ (xs : List ℕ). first ++ xs) g.2.2 ∙ sym (append_assoc first g.2.0 g.2.1) in
       let each : Each GoesOn (first ++ g.2.0) (x ∷ b.0.0) = (first, g.2.0, refl, (s, is), g.2.3) in
       let here : (until ends l).Spells (first ++ g.0) (x ∷ b.0.0, b.0.1) = (first ++ g.2.0, g.2.1, parts, each, g.2.4, g.2.5) in
@@ -110,13 +117,15 @@ module _ {A : Type 0} (ends : A → Bool) (l : Production A) (read : List ℕ �
       let g = one_found more a.0 a.1 f.0 values rest f.2 (λ v end is. until_found more a.1 v end is) (ends a.0) refl a.3 in
       (g.0, f.1 ∙ g.1, g.2)
 
-  until_only : (xs : List A) (x : A) (front last rest : List ℕ) (more : ℕ) → length (front ++ (last ++ rest)) < more → Each GoesOn front xs → l.Spells last x → IsTrue (ends x)
+  until_only : (xs : List A) (x : A) (front last rest : List ℕ) (more : ℕ) → length (front ++ (last ++ rest)) < more → Each GoesOn front xs → l.Spells last x
+      → IsTrue (ends x)
       → until_below more ends read (front ++ (last ++ rest)) ≡ (Ok (xs, x), rest)
   unfolding until_below
   until_only xs x front last rest zero lt each s is = absurd (omega arith)
   until_only [] x front last rest (suc more) lt each s is = rw (each, r.only last x rest s, is) refl
   until_only (y ∷ ys) x front last rest (suc more) lt each s is =
-      let regrouped : front ++ (last ++ rest) ≡ each.0 ++ (each.1 ++ (last ++ rest)) = ap (λ (v : List ℕ). v ++ (last ++ rest)) each.2 ∙ append_assoc each.0 each.1 (last ++ rest) in
+      let regrouped : front ++ (last ++ rest) ≡ each.0 ++ (each.1 ++ (last ++ rest)) = ap (λ (v : List ℕ). v ++ (last ++ rest)) each.2
+      ∙ append_assoc each.0 each.1 (last ++ rest) in
       let first = r.only each.0 y (each.1 ++ (last ++ rest)) each.3.0 in
       let fewer = shrinks l read r takes (each.0 ++ (each.1 ++ (last ++ rest))) y (each.1 ++ (last ++ rest)) first in
       let others = until_only ys x each.1 last rest more (omega (arith, ap length regrouped)) each.4 s is in
@@ -129,13 +138,14 @@ module _ {A : Type 0} (ends : A → Bool) (l : Production A) (read : List ℕ �
       → (test : Bool) → ends x ≡ test → (if test then (let s : Read Values = (Ok ([], x), left) in s) else put x (until_below more ends read left)).0 ≡ Err e
       → Faulty (first ++ left) e
   one_fault more x left first e s others true is failed = absurd cc
-  one_fault more x left first e s others false is failed = elim (bind_fault (until_below more ends read left) (λ v end. (let s : Read Values = (Ok (x ∷ v.0, v.1), end) in s)) e failed) [
-    | inl p ↦
-        let g = others p in
-        let whole : first ++ left ≡ (first ++ g.1) ++ g.2 = ap (λ (xs : List ℕ). first ++ xs) g.3 ∙ sym (append_assoc first g.1 g.2) in
-        (x ∷ g.0, first ++ g.1, g.2, whole, (first, g.1, refl, (s, is), g.4), g.5)
-    | inr b ↦ let none = b.3 in absurd cc
-  ]
+  one_fault more x left first e s others false is failed =
+      elim (bind_fault (until_below more ends read left) (λ v end. (let s : Read Values = (Ok (x ∷ v.0, v.1), end) in s)) e failed) [
+        | inl p ↦
+            let g = others p in
+            let whole : first ++ left ≡ (first ++ g.1) ++ g.2 = ap (λ (xs : List ℕ). first ++ xs) g.3 ∙ sym (append_assoc first g.1 g.2) in
+            (x ∷ g.0, first ++ g.1, g.2, whole, (first, g.1, refl, (s, is), g.4), g.5)
+        | inr b ↦ let none = b.3 in absurd cc
+      ]
 
   until_fault : (more : ℕ) (bytes : List ℕ) (e : Error) → length bytes < more → (until_below more ends read bytes).0 ≡ Err e → Faulty bytes e
   unfolding until_below
@@ -149,7 +159,8 @@ module _ {A : Type 0} (ends : A → Bool) (l : Production A) (read : List ℕ �
         (g.0, g.1, g.2, f.1 ∙ g.3, g.4, g.5)
   ]
 
-  until_refuses : (xs : List A) (front rest : List ℕ) (e : Error) (more : ℕ) → length (front ++ rest) < more → Each GoesOn front xs → l.Fault rest e → (until_below more ends read (front ++ rest)).0 ≡ Err e
+  until_refuses : (xs : List A) (front rest : List ℕ) (e : Error) (more : ℕ) → length (front ++ rest) < more → Each GoesOn front xs → l.Fault rest e
+      → (until_below more ends read (front ++ rest)).0 ≡ Err e
   unfolding until_below
   until_refuses xs front rest e zero lt each f = absurd (omega arith)
   until_refuses [] front rest e (suc more) lt each f = rw each (bind_refused (read rest) (one more) e (r.refused rest e f))
@@ -159,7 +170,8 @@ module _ {A : Type 0} (ends : A → Bool) (l : Production A) (read : List ℕ �
       let fewer = shrinks l read r takes (each.0 ++ (each.1 ++ rest)) y (each.1 ++ rest) first in
       let others = until_refuses ys each.1 rest e more (omega (arith, ap length regrouped)) each.4 f in
       ap (λ (v : List ℕ). (until_below (suc more) ends read v).0) regrouped
-      ∙ rw (first, each.3.1) (bind_refused (until_below more ends read (each.1 ++ rest)) (λ v end. (let s : Read Values = (Ok (y ∷ v.0, v.1), end) in s)) e others)
+      ∙ rw (first, each.3.1)
+      (bind_refused (until_below more ends read (each.1 ++ rest)) (λ v end. (let s : Read Values = (Ok (y ∷ v.0, v.1), end) in s)) e others)
 
   pub reads_until : Reads (until ends l) (until_at ends read)
   reads_until = record {

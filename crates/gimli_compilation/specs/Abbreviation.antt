@@ -1,21 +1,29 @@
 -- Declarations of `.debug_abbrev` (DWARF 5, section 7.5.3).
-use Rattle.std.specs.Prelude.{◌≡◌, ℕ, List, [], ◌++◌, Bool, ◌&&◌, ◌||◌, nat_eq, if◌then◌else◌, IsTrue, IsFalse, Option, Some, None}
-use Rattle.gimli_core.specs.Production.{Production, ◌>>=◌, done, choose, byte, unsigned, unsigned_16, signed, Each}
+use Rattle.std.specs.Prelude.{◌≡◌, ℕ, List, [], ◌++◌, Bool, ◌&&◌, ◌||◌, nat_eq, if◌then◌else◌}
+use Rattle.std.specs.Prelude.{IsTrue, IsFalse, Option, Some, None}
+use Rattle.gimli_core.specs.Production.{Production, ◌>>=◌, ◌>>◌, done, choose, byte, unsigned}
+use Rattle.gimli_core.specs.Production.{unsigned_16, signed, Each}
+use Rattle.gimli_compilation.specs.DwarfNumbers.{DW_FORM_implicit_const}
 use Rattle.gimli_compilation.specs.declared.abbreviation.Specification.{Specification}
 
--- values one after the other up to the first that ends them, which comes last: those before it, and that one
+-- values one after the other up to the first that ends them, which comes last: those before it, and
+-- that one
 abbrev pub until : {A : Type 0} → (A → Bool) → Production A → Production (List A × A)
 until ends l =
     let GoesOn : List ℕ → _ → Type 0 = λ bytes x. l.Spells bytes x × IsFalse (ends x) in
     record {
-      Spells = λ bytes values. (front : List ℕ) × (last : List ℕ) × (bytes ≡ front ++ last) × Each GoesOn front values.0 × l.Spells last values.1 × IsTrue (ends values.1);
-      Fault = λ bytes e. (values : List _) × (front : List ℕ) × (rest : List ℕ) × (bytes ≡ front ++ rest) × Each GoesOn front values × l.Fault rest e;
+      Spells = λ bytes values.
+          (front : List ℕ) × (last : List ℕ) × (bytes ≡ front ++ last) × Each GoesOn front values.0
+          × l.Spells last values.1 × IsTrue (ends values.1);
+      Fault = λ bytes e.
+          (values : List _) × (front : List ℕ) × (rest : List ℕ) × (bytes ≡ front ++ rest)
+          × Each GoesOn front values × l.Fault rest e;
     }
 
 -- a number that stands in the declaration, in DW_FORM_implicit_const alone
 abbrev pub constant_production : ℕ → Production (Unit {0})
-constant_production form = choose (nat_eq form 0x21) (do
-  z ← signed
+constant_production form = choose (nat_eq form DW_FORM_implicit_const) (do
+  signed
   done tt) (done tt)
 
 -- the name and the form of an attribute
@@ -23,7 +31,7 @@ abbrev pub specification_production : Production Specification
 specification_production = do
   name ← unsigned_16
   form ← unsigned_16
-  constant ← constant_production form
+  constant_production form
   done (record { name = record { 0 = name }; form = record { 0 = form } })
 
 -- the pair of zeros that ends a declaration
@@ -36,7 +44,8 @@ specifications_production = do
   values ← until is_end specification_production
   done values.0
 
--- a declaration after its code: a tag, whether its entries have children, and the specifications of its attributes
+-- a declaration after its code: a tag, whether its entries have children, and the specifications of
+-- its attributes
 abbrev pub declared_production : Production (List Specification)
 declared_production = do
   tag ← unsigned
@@ -58,8 +67,8 @@ declaration_production = do
 abbrev pub ends_search : ℕ → Declaration → Bool
 ends_search code declaration = nat_eq declaration.0 0 || nat_eq declaration.0 code
 
--- the specifications of the first declaration of a code, whatever the order of the codes is; None where the table ends
--- before one. No declaration has the code 0
+-- the specifications of the first declaration of a code, whatever the order of the codes is; None
+-- where the table ends before one. No declaration has the code 0
 abbrev pub abbreviation_production : ℕ → Production (Option (List Specification))
 abbreviation_production code = do
   found ← until (ends_search code) declaration_production

@@ -1,5 +1,6 @@
 -- The directories of the compilations of a program, by the offsets of their line programs.
-use Rattle.std.specs.Prelude.{◌≡◌, ◌≢◌, ◌⊎◌, ℕ, List, [], ◌∷◌, drop, Option, Some, None, nat_eq, if◌then◌else◌}
+use Rattle.std.specs.Prelude.{◌≡◌, ◌≢◌, ◌⊎◌, ℕ, List, [], ◌∷◌, drop, Option, Some, None, nat_eq}
+use Rattle.std.specs.Prelude.{if◌then◌else◌}
 use Rattle.std.specs.BTreeMap.{is_at}
 use Rattle.std.specs.Map.{lookup}
 use Rattle.std.specs.Ordering.{nat_cmp}
@@ -29,7 +30,8 @@ first_of None other = other
 -- the directory of the first unit that has one for a line program
 abbrev pub directory_among : {D : Type 0} → ℕ → List (Option (ℕ × D)) → Option D
 directory_among line [] = None
-directory_among line (given ∷ others) = first_of (directory_in line given) (directory_among line others)
+directory_among line (given ∷ others) =
+    first_of (directory_in line given) (directory_among line others)
 
 -- the directory that a list of line programs and their directories has for a line program
 abbrev pub directory_for : {D : Type 0} → List (ℕ × D) → ℕ → Option D
@@ -39,14 +41,19 @@ module _ (sections : Sections) where
   -- the unit at an offset gives this: what its compilation says, or nothing where it is refused
   abbrev pub Gives : ℕ → Option (ℕ × List ℕ) → Type 0
   Gives offset given =
-      ((compilation : Compilation (List ℕ)) × HasCompilationAt sections offset compilation × (given ≡ line_directory compilation))
+      ((compilation : Compilation (List ℕ)) × HasCompilationAt sections offset compilation
+      × (given ≡ line_directory compilation))
       ⊎ ((refusal : Refusal) × HasRefusalAt sections offset refusal × (given ≡ None))
 
   -- the units of `.debug_info` from an offset on, one after the other, give these
   abbrev pub Give : ℕ → List (Option (ℕ × List ℕ)) → Type 0
   Give offset [] = drop offset sections.info ≡ []
-  Give offset (given ∷ others) = (drop offset sections.info ≢ []) × Gives offset given × ((next : ℕ) × IsNextOffset sections offset next × Give next others)
+  Give offset (given ∷ others) =
+      (drop offset sections.info ≢ []) × Gives offset given
+      × ((next : ℕ) × IsNextOffset sections offset next × Give next others)
 
   -- this tells for each line program the directory of the first unit that has one for it
   abbrev pub TellsDirectories : (ℕ → Option (List ℕ)) → Type 0
-  TellsDirectories tell = (units : List (Option (ℕ × List ℕ))) × Give 0 units × ((line : ℕ) → tell line ≡ directory_among line units)
+  TellsDirectories tell =
+      (units : List (Option (ℕ × List ℕ))) × Give 0 units
+      × ((line : ℕ) → tell line ≡ directory_among line units)

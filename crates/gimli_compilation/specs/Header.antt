@@ -2,12 +2,16 @@
 use Rattle.std.specs.Prelude.{ℕ, ◌+◌, List, Bool, ◌&&◌, ◌||◌, nat_eq, nat_le, if◌then◌else◌}
 use Rattle.gimli_core.specs.Notation.{Notation}
 use Rattle.gimli_core.specs.Numbers.{word_size}
-use Rattle.gimli_core.specs.Production.{Production, ◌>>=◌, done, check, choose, byte, number, some_bytes, address_size, offset_word, unit_length}
+use Rattle.gimli_core.specs.Production.{Production, ◌>>=◌, ◌>>◌, done, check, choose, byte, number}
+use Rattle.gimli_core.specs.Production.{some_bytes, address_size, offset_word, unit_length}
 use Rattle.gimli_core.specs.declared.common.Encoding.{Encoding}
 use Rattle.gimli_core.specs.declared.common.Format.{Format}
 use Rattle.gimli_core.specs.declared.error.Error.TheVariants.{UnknownVersion}
+use Rattle.gimli_compilation.specs.DwarfNumbers.{DW_UT_compile, DW_UT_type, DW_UT_skeleton}
+use Rattle.gimli_compilation.specs.DwarfNumbers.{DW_UT_split_compile, DW_UT_split_type}
 
--- the frame of a unit: its length, and as many bytes as that says; the format goes with these (section 7.4)
+-- the frame of a unit: its length, and as many bytes as that says; the format goes with these
+-- (section 7.4)
 abbrev pub frame_production : Notation → Production (List ℕ × Format)
 frame_production notation = do
   unit ← unit_length notation
@@ -18,18 +22,19 @@ frame_production notation = do
 abbrev pub version_production : Bool → Production ℕ
 version_production big = do
   version ← number big 2
-  known ← check (nat_le 2 version && nat_le version 5) (UnknownVersion version)
+  check (nat_le 2 version && nat_le version 5) (UnknownVersion version)
   done version
 
 -- the types of units (section 7.5.1): compile, type, partial, skeleton, split_compile, split_type
 abbrev pub is_unit_type : ℕ → Bool
-is_unit_type unit_type = nat_le 1 unit_type && nat_le unit_type 6
+is_unit_type unit_type = nat_le DW_UT_compile unit_type && nat_le unit_type DW_UT_split_type
 
--- what stands in the headers of some types alone: a signature and an offset for type and split_type, eight bytes that name
--- the compilation for skeleton and split_compile
+-- what stands in the headers of some types alone: a signature and an offset for type and
+-- split_type, eight bytes that name the compilation for skeleton and split_compile
 abbrev pub type_fields_size : ℕ → Format → ℕ
 type_fields_size unit_type format =
-    if nat_eq unit_type 2 || nat_eq unit_type 6 then 8 + word_size format else (if nat_eq unit_type 4 || nat_eq unit_type 5 then 8 else 0)
+    if nat_eq unit_type DW_UT_type || nat_eq unit_type DW_UT_split_type then 8 + word_size format
+    else (if nat_eq unit_type DW_UT_skeleton || nat_eq unit_type DW_UT_split_compile then 8 else 0)
 
 pub record Header : Type 0 where
   pub encoding : Encoding
@@ -51,7 +56,7 @@ module _ (notation : Notation) (format : Format) where
   old_fields_production version = do
     abbreviations ← offset_word notation format
     size ← address_size
-    done (header_of format version 1 abbreviations size)
+    done (header_of format version DW_UT_compile abbreviations size)
 
   abbrev pub new_fields_production : ℕ → Production Header
   new_fields_production version = do

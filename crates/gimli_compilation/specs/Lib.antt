@@ -1,3 +1,4 @@
+pub mod DwarfNumbers
 pub mod Value
 pub mod Form
 pub mod Abbreviation

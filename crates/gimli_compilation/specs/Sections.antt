@@ -18,7 +18,8 @@ pub record Sections : Type 0 where
   pub offsets_notation : Notation
 
 -- the sections of readers, by their bytes, their orders and the limit of their offsets
-abbrev pub sections_of : {R : Type 0} → (R → List ℕ) → (R → Bool) → ℕ → CompilationSections R → Sections
+abbrev pub sections_of : {R : Type 0} → (R → List ℕ) → (R → Bool) → ℕ → CompilationSections R
+    → Sections
 sections_of bytes big limit sections = record {
   info = bytes sections.debug_info;
   abbreviations = bytes sections.debug_abbrev;

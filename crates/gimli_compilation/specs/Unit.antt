@@ -1,9 +1,12 @@
--- What the first entry of a unit says of its compilation, and why a unit says nothing (DWARF 5, sections 3.1.1, 7.5.1 and
--- 7.5.2).
-use Rattle.std.specs.Prelude.{◌≡◌, ◌⊎◌, ℕ, ◌+◌, ◌*◌, ◌^◌, List, [], ◌∷◌, ◌++◌, length, drop, Option, Some, None, nat_lt}
+-- What the first entry of a unit says of its compilation, and why a unit says nothing (DWARF 5,
+-- sections 3.1.1, 7.5.1 and 7.5.2).
+use Rattle.std.specs.Prelude.{◌≡◌, ◌⊎◌, ℕ, ◌+◌, ◌*◌, ◌^◌, List, [], ◌∷◌, ◌++◌, length, drop, Option}
+use Rattle.std.specs.Prelude.{Some, None, nat_lt}
 use Rattle.gimli_core.specs.Notation.{Notation}
 use Rattle.gimli_core.specs.Numbers.{word_size}
-use Rattle.gimli_core.specs.Production.{Production, ◌>>=◌, done, check, choose, within, number, unsigned, text, some_bytes, below_limit}
+use Rattle.gimli_core.specs.Production.{Production, ◌>>=◌, ◌>>◌, done, check, choose, within}
+use Rattle.gimli_core.specs.Production.{number}
+use Rattle.gimli_core.specs.Production.{unsigned, text, some_bytes, below_limit}
 use Rattle.gimli_core.specs.declared.common.Encoding.{Encoding}
 use Rattle.gimli_core.specs.declared.common.Format.{Format}
 use Rattle.gimli_core.specs.declared.error.Error.{Error}
@@ -11,17 +14,30 @@ use Rattle.gimli_core.specs.declared.error.Error.TheVariants.{UnsupportedOffset}
 use Rattle.gimli_compilation.specs.declared.abbreviation.Specification.{Specification}
 use Rattle.gimli_compilation.specs.declared.attributes.Attributes.{Attributes}
 use Rattle.gimli_compilation.specs.declared.form.Kind.{Kind}
-use Rattle.gimli_compilation.specs.declared.form.Kind.TheVariants.{StringOffset, LineStringOffset, StringIndex}
+use Rattle.gimli_compilation.specs.declared.form.Kind.TheVariants.{
+  StringOffset,
+  LineStringOffset,
+  StringIndex,
+}
 use Rattle.gimli_compilation.specs.declared.form.Value.{Value}
 use Rattle.gimli_compilation.specs.declared.form.Value.TheVariants.{Number, Text, Passed}
 use Rattle.gimli_compilation.specs.declared.refusal.Refusal.{Refusal}
-use Rattle.gimli_compilation.specs.declared.refusal.Refusal.TheVariants.{Bytes, UnknownUnitType, MissingAbbreviation}
+use Rattle.gimli_compilation.specs.declared.refusal.Refusal.TheVariants.{
+  Bytes,
+  UnknownUnitType,
+  MissingAbbreviation,
+}
 use Rattle.gimli_compilation.specs.declared.sections.Compilation.{Compilation}
 use Rattle.gimli_compilation.specs.declared.sections.Outcome.{Outcome}
-use Rattle.gimli_compilation.specs.declared.sections.Outcome.TheVariants.{Found, UnknownUnitType as unknown_unit_type, MissingAbbreviation as missing_abbreviation}
+use Rattle.gimli_compilation.specs.declared.sections.Outcome.TheVariants.{
+  Found,
+  UnknownUnitType as unknown_unit_type,
+  MissingAbbreviation as missing_abbreviation,
+}
 use Rattle.gimli_compilation.specs.Abbreviation.{abbreviation_production}
 use Rattle.gimli_compilation.specs.Form.{form_production}
-use Rattle.gimli_compilation.specs.Header.{Header, frame_production, header_production, is_unit_type}
+use Rattle.gimli_compilation.specs.Header.{Header, frame_production, header_production}
+use Rattle.gimli_compilation.specs.Header.{is_unit_type}
 use Rattle.gimli_compilation.specs.Sections.{Sections}
 use Rattle.gimli_compilation.specs.Value.{attributes_with, no_attributes, section_offset}
 
@@ -35,11 +51,13 @@ apart others l = do
 abbrev pub from_offset : {A : Type 0} → Notation → ℕ → Production A → Production A
 from_offset notation offset l = do
   count ← below_limit notation (done offset)
-  before ← some_bytes count
+  some_bytes count
   l
 
--- the values of an entry, in the order of its specifications; each takes the place of what stood before for its attribute
-abbrev pub attributes_production : Notation → Encoding → Attributes (List ℕ) → List Specification → Production (Attributes (List ℕ))
+-- the values of an entry, in the order of its specifications; each takes the place of what stood
+-- before for its attribute
+abbrev pub attributes_production : Notation → Encoding → Attributes (List ℕ) → List Specification
+    → Production (Attributes (List ℕ))
 attributes_production notation encoding before [] = done before
 attributes_production notation encoding before (s ∷ specifications) = do
   value ← form_production notation encoding s.form.0
@@ -48,22 +66,24 @@ attributes_production notation encoding before (s ∷ specifications) = do
 -- the string offset of an index: a word in the table that begins at a base (section 7.26)
 abbrev pub string_offset_production : Notation → Format → ℕ → ℕ → Production ℕ
 string_offset_production notation format base index = do
-  small ← check (nat_lt (base + index * word_size format) (2 ^ 64)) UnsupportedOffset
+  check (nat_lt (base + index * word_size format) (2 ^ 64)) UnsupportedOffset
   from_offset notation (base + index * word_size format) (number notation.big (word_size format))
 
 -- the specifications of a code in the table at an offset
 abbrev pub table_production : ℕ → ℕ → Production (Option (List Specification))
 table_production offset code = do
-  before ← some_bytes offset
+  some_bytes offset
   abbreviation_production code
 
--- the offset after the unit that begins at an offset of a section: its own, and the size of its frame; where it has no frame,
--- the end of the section
+-- the offset after the unit that begins at an offset of a section: its own, and the size of its
+-- frame; where it has no frame, the end of the section
 abbrev pub FollowsUnit : Notation → List ℕ → ℕ → ℕ → Type 0
 FollowsUnit notation section offset next =
-    ((unit : List ℕ) × (after : List ℕ) × (content : List ℕ × Format) × (drop offset section ≡ unit ++ after)
+    ((unit : List ℕ) × (after : List ℕ) × (content : List ℕ × Format)
+    × (drop offset section ≡ unit ++ after)
     × (frame_production notation).Spells unit content × (next ≡ offset + length unit))
-    ⊎ ((e : Error) × (frame_production notation).Fault (drop offset section) e × (next ≡ length section))
+    ⊎ ((e : Error) × (frame_production notation).Fault (drop offset section) e
+    × (next ≡ length section))
 
 module _ (sections : Sections) where
   -- the text at an offset of a section
@@ -72,13 +92,15 @@ module _ (sections : Sections) where
     name ← apart section (from_offset sections.notation offset text)
     done (Some name)
 
-  -- the text that a number refers to: by its offset, or by its index in the table of the unit, whose base is known. None where
-  -- the unit has no base, or where the number is no such reference
+  -- the text that a number refers to: by its offset, or by its index in the table of the unit,
+  -- whose base is known. None where the unit has no base, or where the number is no such reference
   abbrev pub text_by : Format → Option ℕ → Kind → ℕ → Production (Option (List ℕ))
   text_by format base StringOffset n = text_from sections.strings n
   text_by format base LineStringOffset n = text_from sections.line_strings n
   text_by format (Some base) StringIndex n = do
-    offset ← apart sections.string_offsets (string_offset_production sections.offsets_notation format base n)
+    offset ←
+        apart sections.string_offsets
+        (string_offset_production sections.offsets_notation format base n)
     text_from sections.strings offset
   text_by format None StringIndex n = done None
   text_by format base kind n = done None
@@ -90,9 +112,11 @@ module _ (sections : Sections) where
   text_of format base Passed = done None
 
   -- what the attributes of an entry say
-  abbrev pub compilation_production : Encoding → Attributes (List ℕ) → Production (Compilation (List ℕ))
+  abbrev pub compilation_production : Encoding → Attributes (List ℕ)
+      → Production (Compilation (List ℕ))
   compilation_production encoding attributes = do
-    comp_dir ← text_of encoding.format (section_offset attributes.str_offsets_base) attributes.comp_dir
+    comp_dir ←
+        text_of encoding.format (section_offset attributes.str_offsets_base) attributes.comp_dir
     name ← text_of encoding.format (section_offset attributes.str_offsets_base) attributes.name
     done (record {
       version = encoding.version;
@@ -102,14 +126,16 @@ module _ (sections : Sections) where
     })
 
   -- an entry whose code is known: with a declaration its values, else none of its bytes
-  abbrev pub declared_entry : Encoding → ℕ → Option (List Specification) → Production (Outcome (List ℕ))
+  abbrev pub declared_entry : Encoding → ℕ → Option (List Specification)
+      → Production (Outcome (List ℕ))
   declared_entry encoding code None = done (missing_abbreviation code)
   declared_entry encoding code (Some specifications) = do
     attributes ← attributes_production sections.notation encoding no_attributes specifications
     compilation ← compilation_production encoding attributes
     done (Found compilation)
 
-  -- the first entry of a unit: its code, and a value for each attribute that the declaration of the code has
+  -- the first entry of a unit: its code, and a value for each attribute that the declaration of the
+  -- code has
   abbrev pub entry_production : Header → Production (Outcome (List ℕ))
   entry_production header = do
     code ← unsigned
@@ -120,7 +146,8 @@ module _ (sections : Sections) where
   abbrev pub content_production : Format → Production (Outcome (List ℕ))
   content_production format = do
     header ← header_production sections.notation format
-    choose (is_unit_type header.unit_type) (entry_production header) (done (unknown_unit_type header.unit_type))
+    choose (is_unit_type header.unit_type) (entry_production header)
+        (done (unknown_unit_type header.unit_type))
 
   -- a unit: its frame, and what stands at the front of its content
   abbrev pub unit_production : Production (Outcome (List ℕ))
@@ -130,18 +157,23 @@ module _ (sections : Sections) where
 
   -- the bytes begin with a unit of which this comes
   abbrev pub BeginsWithOutcome : List ℕ → Outcome (List ℕ) → Type 0
-  BeginsWithOutcome bytes outcome = (unit : List ℕ) × (after : List ℕ) × (bytes ≡ unit ++ after) × unit_production.Spells unit outcome
+  BeginsWithOutcome bytes outcome =
+      (unit : List ℕ) × (after : List ℕ) × (bytes ≡ unit ++ after)
+      × unit_production.Spells unit outcome
 
   -- from the offset on `.debug_info` begins with a unit whose first entry says this
   abbrev pub HasCompilationAt : ℕ → Compilation (List ℕ) → Type 0
-  HasCompilationAt offset compilation = BeginsWithOutcome (drop offset sections.info) (Found compilation)
+  HasCompilationAt offset compilation =
+      BeginsWithOutcome (drop offset sections.info) (Found compilation)
 
-  -- from the offset on it begins with no such unit, and this is why: the first part that isn't met, an unknown type, or a
-  -- code without a declaration
+  -- from the offset on it begins with no such unit, and this is why: the first part that isn't met,
+  -- an unknown type, or a code without a declaration
   abbrev pub HasRefusalAt : ℕ → Refusal → Type 0
   HasRefusalAt offset (Bytes e) = unit_production.Fault (drop offset sections.info) e
-  HasRefusalAt offset (UnknownUnitType unit_type) = BeginsWithOutcome (drop offset sections.info) (unknown_unit_type unit_type)
-  HasRefusalAt offset (MissingAbbreviation code) = BeginsWithOutcome (drop offset sections.info) (missing_abbreviation code)
+  HasRefusalAt offset (UnknownUnitType unit_type) =
+      BeginsWithOutcome (drop offset sections.info) (unknown_unit_type unit_type)
+  HasRefusalAt offset (MissingAbbreviation code) =
+      BeginsWithOutcome (drop offset sections.info) (missing_abbreviation code)
 
   -- the offset after the unit of `.debug_info` that begins at an offset
   abbrev pub IsNextOffset : ℕ → ℕ → Type 0

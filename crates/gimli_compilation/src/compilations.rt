@@ -17,6 +17,13 @@ use std::marker::Model;
 
 /// The directories of the compilations of a program, by the offsets of their line programs in
 /// `.debug_line`.
+///
+/// <!-- part of crates/checks_reading/src/compilations.rt -->
+/// ```rust
+/// let sections = sections(Little, UNITS, DECLARATIONS);
+/// let compilations = Compilations::new(alloc, &sections)?;
+/// Ok(compilations.directory_of(line).map(|text| text.slice()))
+/// ```
 #[derive(Drop)]
 pub struct Compilations<R: Reader> {
     directories: BTreeMap<u64, R>,

@@ -4,6 +4,14 @@ use gimli_core::Error;
 use std::fmt;
 
 /// Why the first entry of a unit can't be read.
+///
+/// <!-- part of crates/checks_reading/src/compilations.rt -->
+/// ```rust
+/// check_refusal(&rt, unknown_type, Refusal::UnknownUnitType(7));
+/// check_refusal(&rt, missing_code, Refusal::MissingAbbreviation(2));
+/// let unknown = Refusal::Bytes(Error::UnknownForm(DwForm(2)));
+/// check_refusal(&rt, unknown_form, unknown);
+/// ```
 #[derive(Clone, Copy, Debug, PartialEq, Eq)]
 pub enum Refusal {
     /// Bytes of the unit, of its declarations or of its texts could not be read. Never

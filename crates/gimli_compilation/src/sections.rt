@@ -16,6 +16,17 @@ use crate::refusal::Refusal;
 use gimli_core::{Encoding, Error, Format, Reader, ReaderOffset, Result};
 
 /// The sections from which compilations are read; empty where a program has none.
+///
+/// <!-- part of crates/uses/src/where_is.rt -->
+/// ```rust
+/// let sections = CompilationSections {
+///     debug_info: section(&elf, b".debug_info")?,
+///     debug_abbrev: section(&elf, b".debug_abbrev")?,
+///     debug_str: section(&elf, b".debug_str")?,
+///     debug_line_str: section(&elf, b".debug_line_str")?,
+///     debug_str_offsets: section(&elf, b".debug_str_offsets")?,
+/// };
+/// ```
 #[derive(Clone, Copy, Debug)]
 pub struct CompilationSections<R> {
     /// `.debug_info`
@@ -31,6 +42,16 @@ pub struct CompilationSections<R> {
 }
 
 /// What the first entry of a unit says of its compilation.
+///
+/// <!-- part of crates/checks_reading/src/compilations.rt -->
+/// ```rust
+/// let wanted = Ok(Compilation {
+///     version: 4,
+///     stmt_list: None,
+///     comp_dir: Some(EndianSlice::new(b"/u", Little)),
+///     name: Some(EndianSlice::new(b"a.c", Little)),
+/// });
+/// ```
 #[derive(Clone, Copy, Debug, PartialEq, Eq)]
 pub struct Compilation<R> {
     /// The version of the unit.

@@ -22,6 +22,14 @@ fn skip_unit<R: Reader>(input: &mut R)
 }
 
 /// A unit of `.debug_info`.
+///
+/// <!-- part of crates/checks_reading/src/compilations.rt -->
+/// ```rust
+/// for (offset, answer) in wanted {
+///     let found = units.next().map(|unit| (unit.offset, unit.compilation));
+///     check_equal(&rt, found, Some((offset, answer)));
+/// }
+/// ```
 #[derive(Clone, Copy, Debug)]
 pub struct CompilationUnit<R> {
     /// The offset of the unit in the section.
@@ -31,6 +39,15 @@ pub struct CompilationUnit<R> {
 }
 
 /// The units of `.debug_info` that are still to come, in order.
+///
+/// <!-- part of crates/checks_reading/src/compilations.rt -->
+/// ```rust
+/// for (offset, answer) in wanted {
+///     let found = units.next().map(|unit| (unit.offset, unit.compilation));
+///     check_equal(&rt, found, Some((offset, answer)));
+/// }
+/// check_equal(&rt, units.next().is_none(), true);
+/// ```
 #[derive(Drop)]
 pub struct CompilationUnits<R: Reader> {
     sections: CompilationSections<R>,

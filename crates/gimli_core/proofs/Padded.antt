@@ -1,5 +1,6 @@
 -- Numbers of fewer than eight bytes, read as numbers of eight whose most significant bytes are zero.
-use Rattle.std.proofs.Common.{◌≡◌, ℕ, zero, suc, ◌+◌, ◌-◌, ◌*◌, ◌^◌, ◌≤◌, Bool, true, false, List, [], ◌∷◌, ◌++◌, length, take, drop, reverse, Ok, inl, inr, refl, ap, ◌∙◌, arith, pow-suc}
+use Rattle.std.proofs.Common.{◌≡◌, ℕ, zero, suc, ◌+◌, ◌-◌, ◌*◌, ◌^◌, ◌≤◌, Bool, true, false, List, [], ◌∷◌, ◌++◌, length, take, drop, reverse, Ok, inl, inr}
+use Rattle.std.proofs.Common.{refl, ap, ◌∙◌, arith, pow-suc}
 use Rattle.std.proofs.Math.ListN.{replicate}
 use Rattle.std.proofs.lemmas.Bool.{cases_lt, le-ltb, lt-ltb}
 use Rattle.std.proofs.lemmas.List.{length-append, length-take-le, take_all, take-replicate, drop-replicate, reverse-append, length-replicate}
@@ -50,7 +51,8 @@ padded_big n slice le is =
     rw (take-put_mid (8 - n) (8 - (8 - n)) zeros_8 slice 8 whole room, front, reverse-append, le_value-append, le_value-zeros_reversed) (omega arith)
 
 -- bytes that were split off
-pub split_ok : (n : ℕ) (bytes slice rest : List ℕ) → ◌≡◌ {A = Read (List ℕ)} (Ok slice, rest) (split_at n bytes) → (n ≤ length bytes) × (slice ≡ take n bytes) × (rest ≡ drop n bytes)
+pub split_ok : (n : ℕ) (bytes slice rest : List ℕ) → ◌≡◌ {A = Read (List ℕ)} (Ok slice, rest) (split_at n bytes)
+    → (n ≤ length bytes) × (slice ≡ take n bytes) × (rest ≡ drop n bytes)
 split_ok n bytes slice rest e = elim (cases_lt (length bytes) n) [
   | inl lt ↦ let f = ap (λ (r : Read (List ℕ)). r.0) (rw (lt-ltb (length bytes) n lt, split_at) at e) in absurd cc
   | inr le ↦ let f = rw (le-ltb (length bytes) n le, split_at) at e in
@@ -59,7 +61,8 @@ split_ok n bytes slice rest e = elim (cases_lt (length bytes) n) [
 ]
 
 -- their number
-number_of_split : (big : Bool) (n size v : ℕ) (bytes slice rest after : List ℕ) → size ≡ n → ◌≡◌ {A = Read (List ℕ)} (Ok slice, after) (split_at size bytes) → rest ≡ after
+number_of_split : (big : Bool) (n size v : ℕ) (bytes slice rest after : List ℕ) → size ≡ n → ◌≡◌ {A = Read (List ℕ)} (Ok slice, after) (split_at size bytes)
+    → rest ≡ after
     → (n ≤ length bytes → length slice ≡ n → v ≡ value_of big slice) → ◌≡◌ {A = Read ℕ} (Ok v, rest) (number_at big n bytes)
 number_of_split big n size v bytes slice rest after same e is value =
     let taken = split_ok n bytes slice after (rw same at e) in
@@ -67,12 +70,16 @@ number_of_split big n size v bytes slice rest after same e is value =
     let number : v ≡ value_of big (take n bytes) = value taken.0 len ∙ ap (value_of big) taken.1 in
     rw (le-ltb (length bytes) n taken.0, number, is, taken.2) refl
 
-pub read_little : (n size v : ℕ) (buf bytes slice rest after : List ℕ) → n ≤ 8 → size ≡ n → ◌≡◌ {A = Read (List ℕ)} (Ok slice, after) (split_at size bytes) → rest ≡ after
+pub read_little : (n size v : ℕ) (buf bytes slice rest after : List ℕ) → n ≤ 8 → size ≡ n → ◌≡◌ {A = Read (List ℕ)} (Ok slice, after) (split_at size bytes)
+    → rest ≡ after
     → buf ≡ slice ++ drop n zeros_8 → v ≡ value_of false (take 8 buf) → ◌≡◌ {A = Read ℕ} (Ok v, rest) (number_at false n bytes)
 read_little n size v buf bytes slice rest after le same e is written value =
-    number_of_split false n size v bytes slice rest after same e is (λ there len. value ∙ ap (λ (b : List ℕ). value_of false (take 8 b)) written ∙ padded_little n slice le len)
+    number_of_split false n size v bytes slice rest after same e is (λ there len.
+    value ∙ ap (λ (b : List ℕ). value_of false (take 8 b)) written ∙ padded_little n slice le len)
 
-pub read_big : (n size v : ℕ) (buf bytes slice rest after : List ℕ) → n ≤ 8 → size ≡ n → ◌≡◌ {A = Read (List ℕ)} (Ok slice, after) (split_at size bytes) → rest ≡ after
+pub read_big : (n size v : ℕ) (buf bytes slice rest after : List ℕ) → n ≤ 8 → size ≡ n → ◌≡◌ {A = Read (List ℕ)} (Ok slice, after) (split_at size bytes)
+    → rest ≡ after
     → buf ≡ put_mid (8 - n) (8 - (8 - n)) zeros_8 slice → v ≡ value_of true (take 8 buf) → ◌≡◌ {A = Read ℕ} (Ok v, rest) (number_at true n bytes)
 read_big n size v buf bytes slice rest after le same e is written value =
-    number_of_split true n size v bytes slice rest after same e is (λ there len. value ∙ ap (λ (b : List ℕ). value_of true (take 8 b)) written ∙ padded_big n slice le len)
+    number_of_split true n size v bytes slice rest after same e is (λ there len.
+    value ∙ ap (λ (b : List ℕ). value_of true (take 8 b)) written ∙ padded_big n slice le len)

@@ -1,5 +1,6 @@
 -- Reading the single productions of a format: bytes, numbers, texts, lengths.
-use Rattle.std.proofs.Common.{◌≡◌, ◌≢◌, ℕ, suc, ◌+◌, ◌<◌, ◌≤◌, Bool, true, false, if◌then◌else◌, List, [], ◌∷◌, ◌++◌, length, take, drop, Ok, Err, refl, sym, ap, subst, ◌∙◌, arith, append_assoc, inl, inr, ◌⊎◌}
+use Rattle.std.proofs.Common.{◌≡◌, ◌≢◌, ℕ, suc, ◌+◌, ◌<◌, ◌≤◌, Bool, true, false, if◌then◌else◌, List, [], ◌∷◌, ◌++◌, length, take, drop, Ok, Err, refl, sym}
+use Rattle.std.proofs.Common.{ap, subst, ◌∙◌, arith, append_assoc, inl, inr, ◌⊎◌}
 use Rattle.std.specs.Prelude.{nat_eq, nat_lt}
 use Rattle.std.specs.Int.{w8, cast_signed}
 use Rattle.std.specs.List.{AllByRecursion, position_or_len}
@@ -12,20 +13,24 @@ use Rattle.gimli_core.specs.declared.error.Error.{Error}
 use Rattle.gimli_core.specs.declared.error.Error.TheVariants.{UnknownReservedLength, UnsupportedAddressSize, UnsupportedOffset}
 use Rattle.gimli_core.specs.Notation.{Notation}
 use Rattle.gimli_core.specs.Numbers.{SpellsNumber, SpellsInitialLength, value_of, is_address_size}
-use Rattle.gimli_core.specs.Reading.{Read, ◌>>=◌, result_map, eof, byte_at, signed_byte_at, number_at, split_at, text_at, word_at, initial_length_at, address_size_at, offset_of}
+use Rattle.gimli_core.specs.Reading.{Read, ◌>>=◌, result_map, eof, byte_at, signed_byte_at, number_at, split_at, text_at, word_at, initial_length_at}
+use Rattle.gimli_core.specs.Reading.{address_size_at, offset_of}
 use Rattle.gimli_core.specs.inside.Reading.{check_at, below_at}
-use Rattle.gimli_core.specs.Production.{Production, check, byte, signed_byte, number, some_bytes, text, address_size, below_limit, fits_offset, offset_word, initial_length, unit_length, IsWanting, Reads}
+use Rattle.gimli_core.specs.Production.{Production, check, byte, signed_byte, number, some_bytes, text, address_size, below_limit, fits_offset, offset_word}
+use Rattle.gimli_core.specs.Production.{initial_length, unit_length, IsWanting, Reads}
 use Rattle.gimli_core.proofs.Productions.{ok_parts, bind_ok, bind_fault, bind_refused, reads_both, reads_done, reads_check, reads_same}
 use Rattle.gimli_core.proofs.Padded.{split_ok}
 
 -- ---- bytes
 
 -- what is after a front of known length
-front_split : (n : ℕ) (front rest : List ℕ) → length front ≡ n → (n ≤ length (front ++ rest)) × (take n (front ++ rest) ≡ front) × (drop n (front ++ rest) ≡ rest)
+front_split : (n : ℕ) (front rest : List ℕ) → length front ≡ n
+    → (n ≤ length (front ++ rest)) × (take n (front ++ rest) ≡ front) × (drop n (front ++ rest) ≡ rest)
 front_split n front rest is = (omega (arith, length-append front rest), take_at front rest n is, drop_at front rest n is)
 
 -- a refusal for want of bytes
-want_fault : {A : Type 0} (n : ℕ) (bytes : List ℕ) (x : A) (left : List ℕ) (e : Error) → ((if nat_lt (length bytes) n then (let r : Read A = (Err (eof bytes), bytes) in r) else (Ok x, left)).0 ≡ Err e) → IsWanting n bytes e
+want_fault : {A : Type 0} (n : ℕ) (bytes : List ℕ) (x : A) (left : List ℕ) (e : Error)
+    → ((if nat_lt (length bytes) n then (let r : Read A = (Err (eof bytes), bytes) in r) else (Ok x, left)).0 ≡ Err e) → IsWanting n bytes e
 want_fault {A} n bytes x left e is = elim (cases_lt (length bytes) n) [
   | inl lt ↦ let p = rw (lt-ltb (length bytes) n lt) at is in (lt, cc)
   | inr le ↦ let p = rw (le-ltb (length bytes) n le) at is in absurd cc
@@ -78,7 +83,8 @@ reads_number big size = record {
   refused = λ bytes e f. rw (lt-ltb (length bytes) size f.0, f.1) refl;
 }
   where
-    number_found : (bytes : List ℕ) (n : ℕ) (rest : List ℕ) → number_at big size bytes ≡ (Ok n, rest) → (front : List ℕ) × (bytes ≡ front ++ rest) × SpellsNumber big size front n
+    number_found : (bytes : List ℕ) (n : ℕ) (rest : List ℕ) → number_at big size bytes ≡ (Ok n, rest)
+        → (front : List ℕ) × (bytes ≡ front ++ rest) × SpellsNumber big size front n
     number_found bytes n rest e = elim (cases_lt (length bytes) size) [
       | inl lt ↦ let p = ap (λ (r : Read ℕ). r.0) (rw (lt-ltb (length bytes) size lt, number_at) at e) in absurd cc
       | inr le ↦
@@ -145,7 +151,8 @@ text_found bytes name rest e = elim (cases_lt (place bytes) (length bytes)) [
   | inl lt ↦
       let p = ok_parts (take (place bytes) bytes) name (drop (place bytes + 1) bytes) rest (rw (lt-ltb (place bytes) (length bytes) lt, text_at) at e) in
       let zero = zero_at bytes lt in
-      let whole : bytes ≡ (name ++ 0 ∷ []) ++ rest = rw (← p.0, ← p.1) (zero.parts ∙ sym (append_assoc (take (place bytes) bytes) (0 ∷ []) (drop (place bytes + 1) bytes))) in
+      let whole : bytes
+      ≡ (name ++ 0 ∷ []) ++ rest = rw (← p.0, ← p.1) (zero.parts ∙ sym (append_assoc (take (place bytes) bytes) (0 ∷ []) (drop (place bytes + 1) bytes))) in
       (name ++ 0 ∷ [], whole, (rw (← p.0) zero.name, refl))
   | inr le ↦ let p = ap (λ (r : Read (List ℕ)). r.0) (rw (le-ltb (place bytes) (length bytes) le, text_at) at e) in absurd cc
 ]
@@ -192,7 +199,8 @@ bind_assoc (Err e, rest) f g = refl
 
 -- ---- sizes of addresses
 
-tested_size : (allowed : Bool) (n : ℕ) (d : Error) (rest : List ℕ) → (check_at allowed d rest >>= λ fits left. (let r : Read ℕ = (Ok n, left) in r)) ≡ (if allowed then Ok n else Err d, rest)
+tested_size : (allowed : Bool) (n : ℕ) (d : Error) (rest : List ℕ)
+    → (check_at allowed d rest >>= λ fits left. (let r : Read ℕ = (Ok n, left) in r)) ≡ (if allowed then Ok n else Err d, rest)
 tested_size true n d rest = refl
 tested_size false n d rest = refl
 
@@ -201,22 +209,28 @@ unfolding address_size_at
 reads_address_size =
     reads_same address_size _ address_size_at
     (λ bytes. bind_same (byte_at bytes) _ _ (λ n rest. tested_size (is_address_size n) n (UnsupportedAddressSize n) rest))
-    (reads_both byte _ byte_at _ reads_byte (λ n. reads_both (check (is_address_size n) (UnsupportedAddressSize n)) _ (check_at (is_address_size n) (UnsupportedAddressSize n)) _ (reads_check (is_address_size n) (UnsupportedAddressSize n)) (λ fits. reads_done n)))
+    (reads_both byte _ byte_at _ reads_byte (λ n.
+    reads_both (check (is_address_size n) (UnsupportedAddressSize n)) _ (check_at (is_address_size n) (UnsupportedAddressSize n)) _
+    (reads_check (is_address_size n) (UnsupportedAddressSize n)) (λ fits. reads_done n)))
 
 -- ---- offsets, words and lengths
 
 -- the test of a number
-test_of : (limit n : ℕ) (rest : List ℕ) → (check_at (nat_lt n limit) UnsupportedOffset rest >>= λ fits left. (let r : Read ℕ = (Ok n, left) in r)) ≡ (offset_of limit n, rest)
+test_of : (limit n : ℕ) (rest : List ℕ)
+    → (check_at (nat_lt n limit) UnsupportedOffset rest >>= λ fits left. (let r : Read ℕ = (Ok n, left) in r)) ≡ (offset_of limit n, rest)
 test_of limit n rest = elim (cases_lt n limit) [
   | inl lt ↦ rw (lt-ltb n limit lt, lt-leb limit n lt) refl
   | inr le ↦ rw (le-ltb n limit le, le-leb limit n le) refl
 ]
 
-pub reads_below_limit : (notation : Notation) (l : Production ℕ) (read : List ℕ → Read ℕ) → Reads l read → Reads (below_limit notation l) (below_at notation.limit read)
+pub reads_below_limit : (notation : Notation) (l : Production ℕ) (read : List ℕ → Read ℕ) → Reads l read
+    → Reads (below_limit notation l) (below_at notation.limit read)
 reads_below_limit notation l read r =
     reads_same (below_limit notation l) _ (below_at notation.limit read)
     (λ bytes. bind_same (read bytes) _ _ (test_of notation.limit))
-    (reads_both l _ read _ r (λ n. reads_both (check (nat_lt n notation.limit) UnsupportedOffset) _ (check_at (nat_lt n notation.limit) UnsupportedOffset) _ (reads_check (nat_lt n notation.limit) UnsupportedOffset) (λ fits. reads_done n)))
+    (reads_both l _ read _ r (λ n.
+    reads_both (check (nat_lt n notation.limit) UnsupportedOffset) _ (check_at (nat_lt n notation.limit) UnsupportedOffset) _
+    (reads_check (nat_lt n notation.limit) UnsupportedOffset) (λ fits. reads_done n)))
 
 -- a word that is an offset
 pub reads_offset_word : (notation : Notation) (format : Format) → Reads (offset_word notation format) (word_at notation.big notation.limit format)
@@ -224,11 +238,14 @@ unfolding word_at
 reads_offset_word notation Dwarf32 =
     reads_same (offset_word notation Dwarf32) _ (word_at notation.big notation.limit Dwarf32)
     (λ bytes. bind_done (number_at notation.big 4 bytes))
-    (reads_both (number notation.big 4) _ (number_at notation.big 4) _ (reads_number notation.big 4) (λ n. reads_both (check true UnsupportedOffset) _ (check_at true UnsupportedOffset) _ (reads_check true UnsupportedOffset) (λ fits. reads_done n)))
+    (reads_both (number notation.big 4) _ (number_at notation.big 4) _ (reads_number notation.big 4) (λ n.
+    reads_both (check true UnsupportedOffset) _ (check_at true UnsupportedOffset) _ (reads_check true UnsupportedOffset) (λ fits. reads_done n)))
 reads_offset_word notation Dwarf64 =
     reads_same (offset_word notation Dwarf64) _ (word_at notation.big notation.limit Dwarf64)
     (λ bytes. bind_same (number_at notation.big 8 bytes) _ _ (test_of notation.limit))
-    (reads_both (number notation.big 8) _ (number_at notation.big 8) _ (reads_number notation.big 8) (λ n. reads_both (check (nat_lt n notation.limit) UnsupportedOffset) _ (check_at (nat_lt n notation.limit) UnsupportedOffset) _ (reads_check (nat_lt n notation.limit) UnsupportedOffset) (λ fits. reads_done n)))
+    (reads_both (number notation.big 8) _ (number_at notation.big 8) _ (reads_number notation.big 8) (λ n.
+    reads_both (check (nat_lt n notation.limit) UnsupportedOffset) _ (check_at (nat_lt n notation.limit) UnsupportedOffset) _
+    (reads_check (nat_lt n notation.limit) UnsupportedOffset) (λ fits. reads_done n)))
 
 -- ---- initial lengths
 
@@ -275,7 +292,8 @@ module _ (big : Bool) where
   after_found n (reserved le other not_short is) rest u left first spelled e =
       let p = ap (λ (r : Read (ℕ × Format)). r.0) (rw (not_short, is) at e) in absurd cc
 
-  length_found : (bytes : List ℕ) (u : ℕ × Format) (rest : List ℕ) → length_at big bytes ≡ (Ok u, rest) → (front : List ℕ) × (bytes ≡ front ++ rest) × SpellsInitialLength big front u.1 u.0
+  length_found : (bytes : List ℕ) (u : ℕ × Format) (rest : List ℕ) → length_at big bytes ≡ (Ok u, rest)
+      → (front : List ℕ) × (bytes ≡ front ++ rest) × SpellsInitialLength big front u.1 u.0
   length_found bytes u rest e =
       let q = bind_ok (number_at big 4 bytes) (after_first big) u rest e in
       let f = (reads_number big 4).found bytes q.0 q.1 q.2 in
@@ -310,10 +328,12 @@ module _ (big : Bool) where
         inr (found.0, q.1, q.0, found.1, found.2, after_fault q.0 (first_of q.0) q.1 e q.3)
   ]
 
-  after_refused : (n : ℕ) (rest : List ℕ) (e : Error) → ((0xffff_fff0 ≤ n) × (n ≢ 0xffff_ffff) × (e ≡ UnknownReservedLength)) ⊎ ((n ≡ 0xffff_ffff) × IsWanting 8 rest e) → (after_first big n rest).0 ≡ Err e
+  after_refused : (n : ℕ) (rest : List ℕ) (e : Error)
+      → ((0xffff_fff0 ≤ n) × (n ≢ 0xffff_ffff) × (e ≡ UnknownReservedLength)) ⊎ ((n ≡ 0xffff_ffff) × IsWanting 8 rest e) → (after_first big n rest).0 ≡ Err e
   after_refused n rest e (inl f) = rw (le-ltb n 0xffff_fff0 f.0, ne_eqb n 0xffff_ffff f.1, f.2) refl
   after_refused n rest e (inr f) =
-      rw f.0 (bind_refused (number_at big 8 rest) (λ m left. (let r : Read (ℕ × Format) = (Ok (m, Dwarf64), left) in r)) e ((reads_number big 8).refused rest e f.1))
+      rw f.0
+      (bind_refused (number_at big 8 rest) (λ m left. (let r : Read (ℕ × Format) = (Ok (m, Dwarf64), left) in r)) e ((reads_number big 8).refused rest e f.1))
 
   length_refused : (bytes : List ℕ) (e : Error) → (initial_length big).Fault bytes e → (length_at big bytes).0 ≡ Err e
   length_refused bytes e (inl f) = bind_refused (number_at big 4 bytes) (after_first big) e ((reads_number big 4).refused bytes e f)
@@ -348,16 +368,20 @@ module _ (notation : Notation) where
   after_same n (short lt is) rest = rw is refl
   after_same n (long same not_short is) rest =
       let wrap : ℕ → List ℕ → Read (ℕ × Format) = λ m left. (Ok (m, Dwarf64), left) in
-      rw (not_short, is) (bind_assoc (number_at notation.big 8 rest) wrap with_test ∙ bind_same (number_at notation.big 8 rest) (λ m left. with_test (m, Dwarf64) left) as_offset test_long)
+      rw (not_short, is) (bind_assoc (number_at notation.big 8 rest) wrap with_test
+      ∙ bind_same (number_at notation.big 8 rest) (λ m left. with_test (m, Dwarf64) left) as_offset test_long)
   after_same n (reserved le other not_short is) rest = rw (not_short, is) refl
 
   unit_same : (bytes : List ℕ) → (length_at notation.big bytes >>= with_test) ≡ initial_length_at notation.big notation.limit bytes
   unfolding initial_length_at
   unit_same bytes =
       bind_assoc (number_at notation.big 4 bytes) (after_first notation.big) with_test
-      ∙ bind_same (number_at notation.big 4 bytes) (λ n rest. after_first notation.big n rest >>= with_test) after_tested (λ n rest. after_same n (first_of n) rest)
+      ∙ bind_same (number_at notation.big 4 bytes) (λ n rest. after_first notation.big n rest >>= with_test) after_tested (λ n rest.
+      after_same n (first_of n) rest)
 
   pub reads_unit_length : Reads (unit_length notation) (initial_length_at notation.big notation.limit)
   reads_unit_length =
       reads_same (unit_length notation) _ (initial_length_at notation.big notation.limit) unit_same
-      (reads_both (initial_length notation.big) _ (length_at notation.big) _ (reads_initial_length notation.big) (λ u. reads_both (check (fits_offset notation u.1 u.0) UnsupportedOffset) _ (check_at (fits_offset notation u.1 u.0) UnsupportedOffset) _ (reads_check (fits_offset notation u.1 u.0) UnsupportedOffset) (λ fits. reads_done u)))
+      (reads_both (initial_length notation.big) _ (length_at notation.big) _ (reads_initial_length notation.big) (λ u.
+      reads_both (check (fits_offset notation u.1 u.0) UnsupportedOffset) _ (check_at (fits_offset notation u.1 u.0) UnsupportedOffset) _
+      (reads_check (fits_offset notation u.1 u.0) UnsupportedOffset) (λ fits. reads_done u)))

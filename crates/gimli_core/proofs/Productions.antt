@@ -1,5 +1,6 @@
 -- Reading one production after another: what reads the productions reads what is put together of them.
-use Rattle.std.proofs.Common.{◌≡◌, ℕ, zero, suc, Bool, true, false, if◌then◌else◌, List, [], ◌∷◌, ◌++◌, Ok, Err, refl, sym, ap, ◌∙◌, append_assoc, ◌⊎◌, inl, inr}
+use Rattle.std.proofs.Common.{◌≡◌, ℕ, zero, suc, Bool, true, false, if◌then◌else◌, List, [], ◌∷◌, ◌++◌, Ok, Err, refl, sym, ap, ◌∙◌, append_assoc, ◌⊎◌, inl}
+use Rattle.std.proofs.Common.{inr}
 use Rattle.gimli_core.specs.declared.error.Error.{Error}
 use Rattle.gimli_core.specs.Reading.{Read, ◌>>=◌, times_at, with_rest, within_at}
 use Rattle.gimli_core.specs.inside.Reading.{check_at}
@@ -8,12 +9,14 @@ use Rattle.gimli_core.specs.Production.{Production, ◌>>=◌ as ◌>>>◌, done
 -- ---- steps that may fail
 
 -- what a step answered
-pub bind_ok : {A B : Type 0} (r : Read A) (f : A → List ℕ → Read B) (y : B) (rest : List ℕ) → (r >>= f) ≡ (Ok y, rest) → (x : A) × (left : List ℕ) × (r ≡ (Ok x, left)) × (f x left ≡ (Ok y, rest))
+pub bind_ok : {A B : Type 0} (r : Read A) (f : A → List ℕ → Read B) (y : B) (rest : List ℕ) → (r >>= f) ≡ (Ok y, rest)
+    → (x : A) × (left : List ℕ) × (r ≡ (Ok x, left)) × (f x left ≡ (Ok y, rest))
 bind_ok (Ok x, left) f y rest e = (x, left, refl, e)
 bind_ok (Err d, left) f y rest e = let p = ap (λ r. r.0) e in absurd cc
 
 -- which step refused
-pub bind_fault : {A B : Type 0} (r : Read A) (f : A → List ℕ → Read B) (e : Error) → (r >>= f).0 ≡ Err e → (r.0 ≡ Err e) ⊎ ((x : A) × (left : List ℕ) × (r ≡ (Ok x, left)) × ((f x left).0 ≡ Err e))
+pub bind_fault : {A B : Type 0} (r : Read A) (f : A → List ℕ → Read B) (e : Error) → (r >>= f).0 ≡ Err e
+    → (r.0 ≡ Err e) ⊎ ((x : A) × (left : List ℕ) × (r ≡ (Ok x, left)) × ((f x left).0 ≡ Err e))
 bind_fault (Ok x, left) f e is = inr (x, left, refl, is)
 bind_fault (Err d, left) f e is = let p : d ≡ e = cc in inl (rw p refl)
 
@@ -27,11 +30,13 @@ ok_parts {A} x y a b e = let p = ap (λ (r : Read A). r.0) e in let q = ap (λ (
 
 -- ---- a production, and after it the next
 
-module _ {A B : Type 0} (l : Production A) (next : A → Production B) (read : List ℕ → Read A) (after : A → List ℕ → Read B) (first : Reads l read) (second : (x : A) → Reads (next x) (after x)) where
+module _ {A B : Type 0} (l : Production A) (next : A → Production B) (read : List ℕ → Read A) (after : A → List ℕ → Read B) (first : Reads l read)
+    (second : (x : A) → Reads (next x) (after x)) where
   abbrev both : List ℕ → Read B
   both bytes = read bytes >>= after
 
-  reads_both_found : (bytes : List ℕ) (y : B) (rest : List ℕ) → both bytes ≡ (Ok y, rest) → (front : List ℕ) × (bytes ≡ front ++ rest) × (l >>> next).Spells front y
+  reads_both_found : (bytes : List ℕ) (y : B) (rest : List ℕ) → both bytes ≡ (Ok y, rest)
+      → (front : List ℕ) × (bytes ≡ front ++ rest) × (l >>> next).Spells front y
   reads_both_found bytes y rest e =
       let a = bind_ok (read bytes) after y rest e in
       let p = first.found bytes a.0 a.1 a.2 in
@@ -90,7 +95,8 @@ reads_check false d = record {
 
 -- ---- one production or another
 
-pub reads_if : {A : Type 0} (b : Bool) (l m : Production A) (r s : List ℕ → Read A) → Reads l r → Reads m s → Reads (choose b l m) (λ bytes. if b then r bytes else s bytes)
+pub reads_if : {A : Type 0} (b : Bool) (l m : Production A) (r s : List ℕ → Read A) → Reads l r → Reads m s
+    → Reads (choose b l m) (λ bytes. if b then r bytes else s bytes)
 reads_if true l m r s p q = p
 reads_if false l m r s p q = q
 
@@ -141,6 +147,7 @@ reads_same {A} l read other same r = record {
 
 -- ---- no spelling begins another
 
-pub no_other : {A : Type 0} (l : Production A) (read : List ℕ → Read A) → Reads l read → (a b s t : List ℕ) (x y : A) → l.Spells a x → l.Spells b y → a ++ s ≡ b ++ t → (x ≡ y) × (s ≡ t)
+pub no_other : {A : Type 0} (l : Production A) (read : List ℕ → Read A) → Reads l read → (a b s t : List ℕ) (x y : A) → l.Spells a x → l.Spells b y
+    → a ++ s ≡ b ++ t → (x ≡ y) × (s ≡ t)
 no_other l read r a b s t x y first second e =
     ok_parts x y s t (sym (r.only a x s first) ∙ ap read e ∙ r.only b y t second)

@@ -1,5 +1,6 @@
 -- Reading a signed LEB128 number takes a spelling of it.
-use Rattle.std.proofs.Common.{◌≡◌, ◌≢◌, ℕ, zero, suc, ◌+◌, ◌*◌, ◌%◌, ◌^◌, ◌<◌, ◌≤◌, Bool, true, false, if◌then◌else◌, ◌||◌, List, [], ◌∷◌, ◌++◌, length, Ok, Err, refl, sym, ap, ◌∙◌, arith, inl, inr}
+use Rattle.std.proofs.Common.{◌≡◌, ◌≢◌, ℕ, zero, suc, ◌+◌, ◌*◌, ◌%◌, ◌^◌, ◌<◌, ◌≤◌, Bool, true, false, if◌then◌else◌, ◌||◌, List, [], ◌∷◌, ◌++◌, length, Ok}
+use Rattle.std.proofs.Common.{Err, refl, sym, ap, ◌∙◌, arith, inl, inr}
 use Rattle.std.specs.Prelude.{ℤ, pos, ◌-ℤ◌, nat_le, nat_eq, FitsSigned}
 use Rattle.std.specs.Int.{w64}
 use Rattle.std.proofs.lemmas.Bool.{cases_lt, le-ltb, lt-ltb, eqb-true, eqb-false, le-leb, lt-leb}
@@ -44,7 +45,8 @@ record Front (more : ℕ) (bytes : List ℕ) (z : Difference) (rest : List ℕ) 
   above : z.1 ≤ z.0 + limit more
   parts : bytes ≡ front ++ rest
 
-last_of : (more b : ℕ) (bytes rest : List ℕ) (z : Difference) → b < 128 → last_group b ≡ z → bytes ≡ rest → b < limit more + (last_group b).1 → (last_group b).1 ≤ b + limit more → Front more (b ∷ bytes) z rest
+last_of : (more b : ℕ) (bytes rest : List ℕ) (z : Difference) → b < 128 → last_group b ≡ z → bytes ≡ rest → b < limit more + (last_group b).1
+    → (last_group b).1 ≤ b + limit more → Front more (b ∷ bytes) z rest
 last_of more b bytes rest z small same left low high =
     let zero_is = ap (λ (d : Difference). d.0) same in
     let one_is = ap (λ (d : Difference). d.1) same in
@@ -58,12 +60,14 @@ last_of more b bytes rest z small same left low high =
       parts = ap (λ (xs : List ℕ). b ∷ xs) left;
     }
 
-last_small : (more b : ℕ) (negative : Bool) → nat_le 64 b ≡ negative → b < 128 → (b < 128 * limit more + taken negative 1) × (taken negative 1 ≤ b + 128 * limit more)
+last_small : (more b : ℕ) (negative : Bool) → nat_le 64 b ≡ negative → b < 128
+    → (b < 128 * limit more + taken negative 1) × (taken negative 1 ≤ b + 128 * limit more)
 last_small more b true is small = (omega (arith, limit_pos more), omega (arith, limit_pos more))
 last_small more b false is small = (omega (arith, limit_pos more), omega (arith, limit_pos more))
 
 more_of : (more b : ℕ) (bytes rest front : List ℕ) (high z : Difference) → 128 ≤ b → z.0 ≡ b % 128 + 128 * high.0 → z.1 ≡ 128 * high.1
-    → Groups front high.0 → high.1 ≡ taken (is_negative front) (length front) → length front ≤ suc more → high.0 < limit more + high.1 → high.1 ≤ high.0 + limit more → bytes ≡ front ++ rest → Front (suc more) (b ∷ bytes) z rest
+    → Groups front high.0 → high.1 ≡ taken (is_negative front) (length front) → length front ≤ suc more → high.0 < limit more + high.1
+    → high.1 ≤ high.0 + limit more → bytes ≡ front ++ rest → Front (suc more) (b ∷ bytes) z rest
 more_of more b bytes rest [] high z large zero_is one_is groups sign short low up parts = absurd groups
 more_of more b bytes rest (c ∷ bs) high z large zero_is one_is groups sign short low up parts = record {
   front = b ∷ c ∷ bs;
@@ -75,8 +79,10 @@ more_of more b bytes rest (c ∷ bs) high z large zero_is one_is groups sign sho
   parts = ap (λ (xs : List ℕ). b ∷ xs) parts;
 }
 
-tenth_found : (b : ℕ) (bytes : List ℕ) (z : Difference) (rest : List ℕ) (zero_last minus_one_last : Bool) → nat_eq b 0 ≡ zero_last → nat_eq b 127 ≡ minus_one_last
-    → ◌≡◌ {A = Read Difference} (if zero_last || minus_one_last then (Ok (last_group b), bytes) else (Err BadSignedLeb128, bytes)) (Ok z, rest) → Front zero (b ∷ bytes) z rest
+tenth_found : (b : ℕ) (bytes : List ℕ) (z : Difference) (rest : List ℕ) (zero_last minus_one_last : Bool) → nat_eq b 0 ≡ zero_last
+    → nat_eq b 127 ≡ minus_one_last
+    → ◌≡◌ {A = Read Difference} (if zero_last || minus_one_last then (Ok (last_group b), bytes) else (Err BadSignedLeb128, bytes)) (Ok z, rest)
+    → Front zero (b ∷ bytes) z rest
 tenth_found b bytes z rest true m is is_m e =
     let p = ok_parts (last_group b) z bytes rest e in
     let same : b ≡ 0 = eqb-true b 0 is in
@@ -102,12 +108,14 @@ sleb_found (suc more) (b ∷ bytes) z rest e = elim (cases_lt b 128) [
       let q = bind_ok (sleb_at more bytes) after z rest (rw (le-ltb b 128 le) at e) in
       let p = ok_parts (b % 128 + 128 * q.0.0, 128 * q.0.1) z q.1 rest q.3 in
       let f = sleb_found more bytes q.0 q.1 q.2 in
-      more_of more b bytes rest f.front q.0 z le (sym (ap (λ (d : Difference). d.0) p.0)) (sym (ap (λ (d : Difference). d.1) p.0)) f.groups f.sign f.short f.below f.above (f.parts ∙ ap (λ (xs : List ℕ). f.front ++ xs) p.1)
+      more_of more b bytes rest f.front q.0 z le (sym (ap (λ (d : Difference). d.0) p.0)) (sym (ap (λ (d : Difference). d.1) p.0)) f.groups f.sign f.short
+      f.below f.above (f.parts ∙ ap (λ (xs : List ℕ). f.front ++ xs) p.1)
 ]
 
 -- ---- each spelling is taken
 
-tenth_only : (b n s : ℕ) (rest : List ℕ) (zero_last minus_one_last : Bool) → nat_eq b 0 ≡ zero_last → nat_eq b 127 ≡ minus_one_last → b < 128 → n ≡ b → s ≡ taken (nat_le 64 b) 1 → n < 1 + s → s ≤ n + 1
+tenth_only : (b n s : ℕ) (rest : List ℕ) (zero_last minus_one_last : Bool) → nat_eq b 0 ≡ zero_last → nat_eq b 127 ≡ minus_one_last → b < 128 → n ≡ b
+    → s ≡ taken (nat_le 64 b) 1 → n < 1 + s → s ≤ n + 1
     → ◌≡◌ {A = Read Difference} (if zero_last || minus_one_last then (Ok (last_group b), rest) else (Err BadSignedLeb128, rest)) (Ok (n, s), rest)
 tenth_only b n s rest true m is is_m small same sign low up = rw (same, sign) refl
 tenth_only b n s rest false true is is_m small same sign low up = rw (same, sign) refl
@@ -116,7 +124,8 @@ tenth_only b n s rest false false is is_m small same sign low up = elim (cases_l
   | inr le ↦ let all : s ≡ 128 = rw (le-leb 64 b le) at sign in let minus_one_last : b ≡ 127 = omega arith in absurd (eqb-false b 127 is_m minus_one_last)
 ]
 
-sleb_only : (more : ℕ) (front : List ℕ) (n s : ℕ) (rest : List ℕ) → Groups front n → s ≡ taken (is_negative front) (length front) → length front ≤ suc more → n < limit more + s → s ≤ n + limit more → sleb_at more (front ++ rest) ≡ (Ok (n, s), rest)
+sleb_only : (more : ℕ) (front : List ℕ) (n s : ℕ) (rest : List ℕ) → Groups front n → s ≡ taken (is_negative front) (length front) → length front ≤ suc more
+    → n < limit more + s → s ≤ n + limit more → sleb_at more (front ++ rest) ≡ (Ok (n, s), rest)
 unfolding sleb_at
 sleb_only more [] n s rest groups sign short low up = absurd groups
 sleb_only zero (b ∷ []) n s rest groups sign short low up = tenth_only b n s rest (nat_eq b 0) (nat_eq b 127) refl refl groups.0 groups.1 sign low up

@@ -1,5 +1,6 @@
 -- Reading a signed LEB128 number, one byte after another.
-use Rattle.std.proofs.Common.{◌≡◌, ℕ, zero, suc, ◌+◌, ◌-◌, ◌*◌, ◌%◌, ◌^◌, ◌<◌, ◌≤◌, Bool, true, false, if◌then◌else◌, List, [], ◌∷◌, Ok, Err, refl, sym, ap, ◌∙◌, arith, nat_eq}
+use Rattle.std.proofs.Common.{◌≡◌, ℕ, zero, suc, ◌+◌, ◌-◌, ◌*◌, ◌%◌, ◌^◌, ◌<◌, ◌≤◌, Bool, true, false, if◌then◌else◌, List, [], ◌∷◌, Ok, Err, refl, sym, ap}
+use Rattle.std.proofs.Common.{◌∙◌, arith, nat_eq}
 use Rattle.std.specs.Prelude.{ℤ, pos, ◌-ℤ◌, nat_le}
 use Rattle.std.proofs.Math.Nat.{mul-zero}
 use Rattle.std.proofs.lemmas.Bool.{le-ltb, lt-ltb, eqb-true}
@@ -43,7 +44,8 @@ last_byte scale low b more bytes lt =
     let small : b % 128 ≡ b = omega arith in
     rw (lt-ltb b 128 lt, small) (sign scale low b (nat_le 64 b) bytes)
   where
-    sign : (scale low b : ℕ) (negative : Bool) (bytes : List ℕ) → grown_z scale low (Ok (b, if negative then 128 else 0), bytes) ≡ ok_z bytes (pos (low + scale * b) -ℤ pos (if negative then scale * 128 else 0))
+    sign : (scale low b : ℕ) (negative : Bool) (bytes : List ℕ)
+        → grown_z scale low (Ok (b, if negative then 128 else 0), bytes) ≡ ok_z bytes (pos (low + scale * b) -ℤ pos (if negative then scale * 128 else 0))
     sign scale low b true bytes = refl
     sign scale low b false bytes = rw mul-zero refl
 
@@ -75,31 +77,37 @@ tenth value b rest false false is is_m = rw (is, is_m) refl
 -- ---- the exits of the loop, and a turn
 
 module _ (value : ℕ) (bytes : List ℕ) (total : Read ℤ) where
-  pub ends_err : (group : ℕ) (x : Error) (rest : List ℕ) → grown_z (2 ^ (7 * group)) value (sleb_at (9 - group) bytes) ≡ total → err x rest ≡ byte_at bytes → err_z x rest ≡ total
+  pub ends_err : (group : ℕ) (x : Error) (rest : List ℕ) → grown_z (2 ^ (7 * group)) value (sleb_at (9 - group) bytes) ≡ total → err x rest ≡ byte_at bytes
+      → err_z x rest ≡ total
   ends_err group x rest so_far e =
       let p = byte_err x rest bytes e in
       let q : grown_z (2 ^ (7 * group)) value (sleb_at (9 - group) bytes) ≡ err_z (eof []) [] = rw (p.0, at_end) refl in
       rw (p.1, p.2) (sym q ∙ so_far)
 
-  pub ends_ok : (group b : ℕ) (rest : List ℕ) → grown_z (2 ^ (7 * group)) value (sleb_at (9 - group) bytes) ≡ total → group < 9 → b < 128 → ok rest b ≡ byte_at bytes
+  pub ends_ok : (group b : ℕ) (rest : List ℕ) → grown_z (2 ^ (7 * group)) value (sleb_at (9 - group) bytes) ≡ total → group < 9 → b < 128
+      → ok rest b ≡ byte_at bytes
       → ok_z rest (pos (value + 2 ^ (7 * group) * (b % 128)) -ℤ pos (if nat_le 64 b then 2 ^ (7 * (group + 1)) else 0)) ≡ total
   ends_ok group b rest so_far lt small e =
       let p = byte_ok b rest bytes e in
       let k : 9 - group ≡ suc (9 - (group + 1)) = omega arith in
-      let q : grown_z (2 ^ (7 * group)) value (sleb_at (9 - group) bytes) ≡ ok_z rest (pos (value + 2 ^ (7 * group) * (b % 128)) -ℤ pos (if nat_le 64 b then 2 ^ (7 * group) * 128 else 0)) =
+      let q : grown_z (2 ^ (7 * group)) value (sleb_at (9 - group) bytes)
+      ≡ ok_z rest (pos (value + 2 ^ (7 * group) * (b % 128)) -ℤ pos (if nat_le 64 b then 2 ^ (7 * group) * 128 else 0)) =
       rw (k, p) (last_byte (2 ^ (7 * group)) value b (9 - (group + 1)) rest small) in
       rw (pow_next group) (sym q ∙ so_far)
 
-  pub goes_on : (group b : ℕ) (rest : List ℕ) → grown_z (2 ^ (7 * group)) value (sleb_at (9 - group) bytes) ≡ total → group < 9 → 128 ≤ b → ok rest b ≡ byte_at bytes
+  pub goes_on : (group b : ℕ) (rest : List ℕ) → grown_z (2 ^ (7 * group)) value (sleb_at (9 - group) bytes) ≡ total → group < 9 → 128 ≤ b
+      → ok rest b ≡ byte_at bytes
       → grown_z (2 ^ (7 * (group + 1))) (value + 2 ^ (7 * group) * (b % 128)) (sleb_at (9 - (group + 1)) rest) ≡ total
   goes_on group b rest so_far lt large e =
       let p = byte_ok b rest bytes e in
       let k : 9 - group ≡ suc (9 - (group + 1)) = omega arith in
-      let q : grown_z (2 ^ (7 * group)) value (sleb_at (9 - group) bytes) ≡ grown_z (2 ^ (7 * group) * 128) (value + 2 ^ (7 * group) * (b % 128)) (sleb_at (9 - (group + 1)) rest)
+      let q : grown_z (2 ^ (7 * group)) value (sleb_at (9 - group) bytes)
+      ≡ grown_z (2 ^ (7 * group) * 128) (value + 2 ^ (7 * group) * (b % 128)) (sleb_at (9 - (group + 1)) rest)
       = rw (k, p) (more_byte (2 ^ (7 * group)) value b (9 - (group + 1)) rest large) in
       rw (pow_next group) (sym q ∙ so_far)
 
-  pub ends_tenth : (group b : ℕ) (rest : List ℕ) → grown_z (2 ^ (7 * group)) value (sleb_at (9 - group) bytes) ≡ total → 9 ≤ group → group ≤ 9 → ok rest b ≡ byte_at bytes
+  pub ends_tenth : (group b : ℕ) (rest : List ℕ) → grown_z (2 ^ (7 * group)) value (sleb_at (9 - group) bytes) ≡ total → 9 ≤ group → group ≤ 9
+      → ok rest b ≡ byte_at bytes
       → ◌≡◌ {A = Read ℤ} (tenth_at value b, rest) total
   ends_tenth group b rest so_far ge le e =
       let p = byte_ok b rest bytes e in

@@ -20,7 +20,8 @@ found_within byte n bytes e =
 pub skip_front : (n : ℕ) (bytes rest : List ℕ) → ◌≡◌ {A = Read (Unit {0})} (Ok tt, rest) (skip_at n bytes) → (front : List ℕ) × (bytes ≡ front ++ rest)
 skip_front n bytes rest e = elim (cases_lt (length bytes) n) [
   | inl lt ↦ let p = ap (λ (r : Read (Unit {0})). r.0) (rw (lt-ltb (length bytes) n lt, skip_at) at e) in absurd cc
-  | inr le ↦ let left = ap (λ (r : Read (Unit {0})). r.1) (rw (le-ltb (length bytes) n le, skip_at) at e) in (take n bytes, sym (rw left (take-append-drop n bytes)))
+  | inr le ↦
+      let left = ap (λ (r : Read (Unit {0})). r.1) (rw (le-ltb (length bytes) n le, skip_at) at e) in (take n bytes, sym (rw left (take-append-drop n bytes)))
 ]
 
 -- so the byte itself can be skipped, after those before it

@@ -36,7 +36,8 @@ last_front more top b n bytes rest small fits same left = record {
   parts = ap (λ (xs : List ℕ). b ∷ xs) left;
 }
 
-more_front : (more top b n high : ℕ) (bytes rest front : List ℕ) → 128 ≤ b → n ≡ b % 128 + 128 * high → Groups front high → length front ≤ suc more → high < limit more top → bytes ≡ front ++ rest → Front (suc more) top (b ∷ bytes) n rest
+more_front : (more top b n high : ℕ) (bytes rest front : List ℕ) → 128 ≤ b → n ≡ b % 128 + 128 * high → Groups front high → length front ≤ suc more
+    → high < limit more top → bytes ≡ front ++ rest → Front (suc more) top (b ∷ bytes) n rest
 more_front more top b n high bytes rest [] large value groups short fits parts = absurd groups
 more_front more top b n high bytes rest (c ∷ bs) large value groups short fits parts = record {
   front = b ∷ c ∷ bs;
@@ -55,7 +56,8 @@ uleb_found zero top (b ∷ bytes) n rest small e = elim (cases_lt top b) [
   | inr le ↦ let p = ok_parts b n bytes rest (rw (le-ltb top b le) at e) in last_front zero top b n bytes rest (omega arith) (omega arith) p.0 p.1
 ]
 uleb_found (suc more) top (b ∷ bytes) n rest small e = elim (cases_lt b 128) [
-  | inl lt ↦ let p = ok_parts b n bytes rest (rw (lt-ltb b 128 lt) at e) in last_front (suc more) top b n bytes rest lt (omega (arith, limit_pos more top)) p.0 p.1
+  | inl lt ↦
+      let p = ok_parts b n bytes rest (rw (lt-ltb b 128 lt) at e) in last_front (suc more) top b n bytes rest lt (omega (arith, limit_pos more top)) p.0 p.1
   | inr le ↦
       let q = bind_ok (uleb_at more top bytes) (λ high left. (Ok (b % 128 + 128 * high), left)) n rest (rw (le-ltb b 128 le) at e) in
       let p = ok_parts (b % 128 + 128 * q.0) n q.1 rest q.3 in
@@ -65,7 +67,8 @@ uleb_found (suc more) top (b ∷ bytes) n rest small e = elim (cases_lt b 128) [
 
 -- ---- each spelling is taken
 
-uleb_only : (more top : ℕ) (front : List ℕ) (n : ℕ) (rest : List ℕ) → Groups front n → length front ≤ suc more → n < limit more top → uleb_at more top (front ++ rest) ≡ (Ok n, rest)
+uleb_only : (more top : ℕ) (front : List ℕ) (n : ℕ) (rest : List ℕ) → Groups front n → length front ≤ suc more → n < limit more top
+    → uleb_at more top (front ++ rest) ≡ (Ok n, rest)
 unfolding uleb_at
 uleb_only more top [] n rest groups short fits = absurd groups
 uleb_only zero top (b ∷ []) n rest groups short fits = let f : b ≤ top = omega arith in rw (le-ltb top b f, groups.1) refl
@@ -78,7 +81,8 @@ uleb_only (suc more) top (b ∷ c ∷ bs) n rest groups short fits =
 -- ---- refusals
 
 -- a fault after a byte whose high bit is set
-pub longer : (IsRefused : ℕ → Type 0) (bad : Error) (b : ℕ) → 128 ≤ b → (most : ℕ) (bytes : List ℕ) (e : Error) → IsLebFault most IsRefused bad bytes e → IsLebFault (suc most) IsRefused bad (b ∷ bytes) e
+pub longer : (IsRefused : ℕ → Type 0) (bad : Error) (b : ℕ) → 128 ≤ b → (most : ℕ) (bytes : List ℕ) (e : Error) → IsLebFault most IsRefused bad bytes e
+    → IsLebFault (suc most) IsRefused bad (b ∷ bytes) e
 longer IsRefused bad b le most bytes e (inl f) = inl (omega (arith, f.0), (le, f.1), f.2)
 longer IsRefused bad b le most bytes e (inr f) = inr (b ∷ f.0, f.1, f.2, ap (λ (xs : List ℕ). b ∷ xs) f.3, omega (arith, f.4), (le, f.5), f.6, f.7)
 
@@ -111,7 +115,9 @@ pub record Behind (IsRefused : ℕ → Type 0) (bad : Error) (most b : ℕ) (byt
   pub high : 128 ≤ b
   pub fault : IsLebFault most IsRefused bad bytes e
 
-pub first_high : (IsRefused : ℕ → Type 0) (bad : Error) (most : ℕ) (front : List ℕ) (last : ℕ) (rest : List ℕ) (b : ℕ) (bytes : List ℕ) (e : Error) → b ∷ bytes ≡ front ++ last ∷ rest → length front + 1 ≡ suc (suc most) → AllHigh front → IsRefused last → e ≡ bad → Behind IsRefused bad (suc most) b bytes e
+pub first_high : (IsRefused : ℕ → Type 0) (bad : Error) (most : ℕ) (front : List ℕ) (last : ℕ) (rest : List ℕ) (b : ℕ) (bytes : List ℕ) (e : Error)
+    → b ∷ bytes ≡ front ++ last ∷ rest → length front + 1 ≡ suc (suc most) → AllHigh front → IsRefused last → e ≡ bad
+    → Behind IsRefused bad (suc most) b bytes e
 first_high IsRefused bad most [] last rest b bytes e parts n high refused is = absurd (omega (arith, n))
 first_high IsRefused bad most (x ∷ front) last rest b bytes e parts n high refused is =
     let first : b ≡ x = cc in
@@ -130,7 +136,8 @@ uleb_refused top zero (b ∷ bytes) e (inr f) =
     let lt : top < b = rw same f.6 in
     rw (lt-ltb top b lt, f.7) refl
 uleb_refused top (suc more) (b ∷ bytes) e (inl f) =
-    rw (le-ltb b 128 f.1.0) (bind_refused (uleb_at more top bytes) (λ high rest. (Ok (b % 128 + 128 * high), rest)) e (uleb_refused top more bytes e (inl (omega (arith, f.0), f.1.1, f.2))))
+    rw (le-ltb b 128 f.1.0) (bind_refused (uleb_at more top bytes) (λ high rest. (Ok (b % 128 + 128 * high), rest)) e
+    (uleb_refused top more bytes e (inl (omega (arith, f.0), f.1.1, f.2))))
 uleb_refused top (suc more) (b ∷ bytes) e (inr f) =
     let p = first_high (λ c. top < c) BadUnsignedLeb128 more f.0 f.1 f.2 b bytes e f.3 f.4 f.5 f.6 f.7 in
     rw (le-ltb b 128 p.high) (bind_refused (uleb_at more top bytes) (λ high rest. (Ok (b % 128 + 128 * high), rest)) e (uleb_refused top more bytes e p.fault))
@@ -139,7 +146,9 @@ uleb_refused top (suc more) (b ∷ bytes) e (inr f) =
 
 pub reads_unsigned : Reads unsigned (uleb_at 9 1)
 reads_unsigned = record {
-  found = λ bytes n rest e. let f = uleb_found 9 1 bytes n rest (omega arith) e in (f.front, f.parts, record { groups = f.groups; short = omega (arith, f.short); fits = f.fits });
+  found =
+      λ bytes n rest e. let f = uleb_found 9 1 bytes n rest (omega arith) e in
+      (f.front, f.parts, record { groups = f.groups; short = omega (arith, f.short); fits = f.fits });
   only = λ front n rest s. uleb_only 9 1 front n rest s.groups (omega (arith, s.short)) s.fits;
   fault = uleb_fault 1 9;
   refused = uleb_refused 1 9;
@@ -147,7 +156,9 @@ reads_unsigned = record {
 
 pub reads_unsigned_16 : Reads unsigned_16 (uleb_at 2 3)
 reads_unsigned_16 = record {
-  found = λ bytes n rest e. let f = uleb_found 2 3 bytes n rest (omega arith) e in (f.front, f.parts, record { groups = f.groups; short = omega (arith, f.short); fits = f.fits });
+  found =
+      λ bytes n rest e. let f = uleb_found 2 3 bytes n rest (omega arith) e in
+      (f.front, f.parts, record { groups = f.groups; short = omega (arith, f.short); fits = f.fits });
   only = λ front n rest s. uleb_only 2 3 front n rest s.groups (omega (arith, s.short)) s.fits;
   fault = uleb_fault 3 2;
   refused = uleb_refused 3 2;

@@ -2,10 +2,34 @@
 use Rattle.std.specs.Prelude.{ℕ, List, [], ◌∷◌, Option, Some, None, not, nat_eq, if◌then◌else◌, ℤ}
 use Rattle.gimli_core.specs.Notation.{Notation}
 use Rattle.gimli_core.specs.Values.{Value}
-use Rattle.gimli_core.specs.Production.{Production, ◌>>=◌, done, refuse, number, unsigned, signed, text, some_bytes, below_limit, offset_word}
+use Rattle.gimli_core.specs.Production.{Production, ◌>>=◌, done, refuse, number, unsigned, signed}
+use Rattle.gimli_core.specs.Production.{text, some_bytes, below_limit, offset_word}
+use Rattle.gimli_core.specs.FormNumbers.{DW_FORM_block2, DW_FORM_block4, DW_FORM_data2}
+use Rattle.gimli_core.specs.FormNumbers.{DW_FORM_data4, DW_FORM_data8, DW_FORM_string}
+use Rattle.gimli_core.specs.FormNumbers.{DW_FORM_block, DW_FORM_block1, DW_FORM_data1, DW_FORM_flag}
+use Rattle.gimli_core.specs.FormNumbers.{DW_FORM_sdata, DW_FORM_strp, DW_FORM_udata}
+use Rattle.gimli_core.specs.FormNumbers.{DW_FORM_sec_offset, DW_FORM_strx, DW_FORM_strp_sup}
+use Rattle.gimli_core.specs.FormNumbers.{DW_FORM_data16, DW_FORM_line_strp, DW_FORM_strx1}
+use Rattle.gimli_core.specs.FormNumbers.{DW_FORM_strx2, DW_FORM_strx3, DW_FORM_strx4}
+use Rattle.gimli_core.specs.FormNumbers.{DW_FORM_GNU_str_index, DW_FORM_GNU_strp_alt}
 use Rattle.gimli_core.specs.declared.common.Format.{Format}
 use Rattle.gimli_core.specs.declared.error.Error.TheVariants.{UnknownForm}
-use Rattle.gimli_core.specs.declared.attribute_value.AttributeValue.TheVariants.{Block, Data1, Data2, Data4, Data8, Udata, Sdata, Flag, SecOffset, String, DebugStrRef, DebugStrRefSup, DebugLineStrRef, DebugStrOffsetsIndex}
+use Rattle.gimli_core.specs.declared.attribute_value.AttributeValue.TheVariants.{
+  Block,
+  Data1,
+  Data2,
+  Data4,
+  Data8,
+  Udata,
+  Sdata,
+  Flag,
+  SecOffset,
+  String,
+  DebugStrRef,
+  DebugStrRefSup,
+  DebugLineStrRef,
+  DebugStrOffsetsIndex,
+}
 
 -- how a value lies in the bytes, and which value it is
 pub data Shape : Type 0 where
@@ -33,15 +57,20 @@ index n = DebugStrOffsetsIndex (record { 0 = n })
 -- the forms that are known, by their numbers
 abbrev pub shapes : List (ℕ × Shape)
 shapes =
-    (0x0a, counted 1) ∷ (0x03, counted 2) ∷ (0x04, counted 4) ∷ (0x09, leb_counted) ∷ (0x1e, block 16)
-    ∷ (0x0b, fixed 1 Data1) ∷ (0x05, fixed 2 Data2) ∷ (0x06, fixed 4 Data4) ∷ (0x07, fixed 8 Data8)
-    ∷ (0x0f, leb Udata) ∷ (0x0d, signed_leb Sdata) ∷ (0x0c, fixed 1 (λ n. Flag (not (nat_eq n 0))))
-    ∷ (0x17, word_offset SecOffset) ∷ (0x08, string)
-    ∷ (0x0e, word_offset (λ n. DebugStrRef (record { 0 = n })))
-    ∷ (0x1d, word_offset (λ n. DebugStrRefSup (record { 0 = n }))) ∷ (0x1f21, word_offset (λ n. DebugStrRefSup (record { 0 = n })))
-    ∷ (0x1f, word_offset (λ n. DebugLineStrRef (record { 0 = n })))
-    ∷ (0x1a, leb_offset index) ∷ (0x1f02, leb_offset index)
-    ∷ (0x25, fixed 1 index) ∷ (0x26, fixed 2 index) ∷ (0x27, three_bytes index) ∷ (0x28, fixed 4 index) ∷ []
+    (DW_FORM_block1, counted 1) ∷ (DW_FORM_block2, counted 2) ∷ (DW_FORM_block4, counted 4)
+    ∷ (DW_FORM_block, leb_counted) ∷ (DW_FORM_data16, block 16)
+    ∷ (DW_FORM_data1, fixed 1 Data1) ∷ (DW_FORM_data2, fixed 2 Data2)
+    ∷ (DW_FORM_data4, fixed 4 Data4) ∷ (DW_FORM_data8, fixed 8 Data8)
+    ∷ (DW_FORM_udata, leb Udata) ∷ (DW_FORM_sdata, signed_leb Sdata)
+    ∷ (DW_FORM_flag, fixed 1 (λ n. Flag (not (nat_eq n 0))))
+    ∷ (DW_FORM_sec_offset, word_offset SecOffset) ∷ (DW_FORM_string, string)
+    ∷ (DW_FORM_strp, word_offset (λ n. DebugStrRef (record { 0 = n })))
+    ∷ (DW_FORM_strp_sup, word_offset (λ n. DebugStrRefSup (record { 0 = n })))
+    ∷ (DW_FORM_GNU_strp_alt, word_offset (λ n. DebugStrRefSup (record { 0 = n })))
+    ∷ (DW_FORM_line_strp, word_offset (λ n. DebugLineStrRef (record { 0 = n })))
+    ∷ (DW_FORM_strx, leb_offset index) ∷ (DW_FORM_GNU_str_index, leb_offset index)
+    ∷ (DW_FORM_strx1, fixed 1 index) ∷ (DW_FORM_strx2, fixed 2 index)
+    ∷ (DW_FORM_strx3, three_bytes index) ∷ (DW_FORM_strx4, fixed 4 index) ∷ []
 
 abbrev pub shape_among : ℕ → List (ℕ × Shape) → Option Shape
 shape_among form [] = None

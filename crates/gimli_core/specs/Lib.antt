@@ -4,6 +4,7 @@ pub mod Notation
 pub mod Values
 pub mod Reading
 pub mod Production
+pub mod FormNumbers
 pub mod Form
 pub mod Equality
 pub mod inside

@@ -1,5 +1,7 @@
 -- Numbers as bytes: what spells a number. "big" says that the most significant byte comes first.
-use Rattle.std.specs.Prelude.{◌≡◌, ℕ, ◌+◌, ◌*◌, ◌%◌, ◌<◌, ◌≤◌, ◌^◌, Bool, false, List, [], ◌∷◌, ◌++◌, length, reverse, ℤ, pos, ◌-ℤ◌, nat_le, nat_eq, ◌||◌, if◌then◌else◌, FitsSigned}
+use Rattle.std.specs.Prelude.{◌≡◌, ℕ, ◌+◌, ◌*◌, ◌%◌, ◌<◌, ◌≤◌, ◌^◌, Bool, false, List, [], ◌∷◌}
+use Rattle.std.specs.Prelude.{◌++◌, length, reverse, ℤ, pos, ◌-ℤ◌, nat_le, nat_eq, ◌||◌}
+use Rattle.std.specs.Prelude.{if◌then◌else◌, FitsSigned}
 use Rattle.std.specs.Int.{w64, bytes_low_first, bytes_high_first}
 use Rattle.gimli_core.specs.declared.common.Format.{Format}
 use Rattle.gimli_core.specs.declared.common.Format.TheVariants.{Dwarf32, Dwarf64}
@@ -30,9 +32,11 @@ number_bytes big size n = if big then bytes_high_first size n else bytes_low_fir
 abbrev pub Groups : List ℕ → ℕ → Type 0
 Groups [] n = ⊥
 Groups (b ∷ []) n = (b < 128) × (n ≡ b)
-Groups (b ∷ c ∷ bytes) n = (128 ≤ b) × (high : ℕ) × (n ≡ b % 128 + 128 * high) × Groups (c ∷ bytes) high
+Groups (b ∷ c ∷ bytes) n =
+    (128 ≤ b) × (high : ℕ) × (n ≡ b % 128 + 128 * high) × Groups (c ∷ bytes) high
 
--- an unsigned number of so many bits, in no more bytes than hold them: ten for 64 bits, three for 16
+-- an unsigned number of so many bits, in no more bytes than hold them: ten for 64 bits, three for
+-- 16
 pub record SpellsUleb128 (bits : ℕ) (bytes : List ℕ) (n : ℕ) : Type 0 where
   pub groups : Groups bytes n
   pub short : 7 * length bytes < bits + 7
@@ -57,7 +61,8 @@ pub record SpellsSleb128 (bytes : List ℕ) (z : ℤ) : Type 0 where
   pub fits : FitsSigned w64 z
 
 -- a spelling of x, and no other is shorter
-pub record IsShortest {X : Type 0} (Spells : List ℕ → X → Type 0) (bytes : List ℕ) (x : X) : Type 0 where
+pub record IsShortest {X : Type 0} (Spells : List ℕ → X → Type 0) (bytes : List ℕ) (x : X)
+    : Type 0 where
   pub spells : Spells bytes x
   pub least : (other : List ℕ) → Spells other x → length bytes ≤ length other
 
@@ -73,11 +78,13 @@ abbrev pub initial_length_size : Format → ℕ
 initial_length_size Dwarf32 = 4
 initial_length_size Dwarf64 = 12
 
--- the length of a unit, by which its format is known: four bytes below 0xffff_fff0, or the four bytes 0xffff_ffff and eight
--- further ones (DWARF 5, section 7.4)
+-- the length of a unit, by which its format is known: four bytes below 0xffff_fff0, or the four
+-- bytes 0xffff_ffff and eight further ones (DWARF 5, section 7.4)
 abbrev pub SpellsInitialLength : Bool → List ℕ → Format → ℕ → Type 0
 SpellsInitialLength big bytes Dwarf32 n = SpellsNumber big 4 bytes n × (n < 0xffff_fff0)
-SpellsInitialLength big bytes Dwarf64 n = (first : List ℕ) × (tail : List ℕ) × (bytes ≡ first ++ tail) × SpellsNumber big 4 first 0xffff_ffff × SpellsNumber big 8 tail n
+SpellsInitialLength big bytes Dwarf64 n =
+    (first : List ℕ) × (tail : List ℕ) × (bytes ≡ first ++ tail)
+    × SpellsNumber big 4 first 0xffff_ffff × SpellsNumber big 8 tail n
 
 -- the sizes of addresses, in bytes
 abbrev pub is_address_size : ℕ → Bool

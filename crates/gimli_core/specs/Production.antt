@@ -1,15 +1,24 @@
--- Productions of a format. A production says what spells a value, and which refusal it is where nothing does. Productions are put
--- together by concatenation: after the bytes of one come those of the next.
-use Rattle.std.specs.Prelude.{◌≡◌, ◌≢◌, ◌⊎◌, ℕ, zero, suc, ◌+◌, ◌<◌, ◌≤◌, List, [], ◌∷◌, ◌++◌, length, Bool, true, false, IsTrue, IsFalse, Ok, Err, ℤ, nat_lt}
+-- Productions of a format. A production says what spells a value, and which refusal it is where
+-- nothing does. Productions are put together by concatenation: after the bytes of one come those of
+-- the next.
+use Rattle.std.specs.Prelude.{◌≡◌, ◌≢◌, ◌⊎◌, ℕ, zero, suc, ◌+◌, ◌<◌, ◌≤◌, List, [], ◌∷◌, ◌++◌}
+use Rattle.std.specs.Prelude.{length, Bool, true, false, IsTrue, IsFalse, Ok, Err, ℤ, nat_lt}
 use Rattle.std.specs.Int.{w8, cast_signed}
 use Rattle.std.specs.List.{AllByRecursion}
-use Rattle.gimli_core.specs.Numbers.{SpellsNumber, SpellsUleb128, SpellsSleb128, SpellsInitialLength, word_size, is_address_size}
+use Rattle.gimli_core.specs.Numbers.{SpellsNumber, SpellsUleb128, SpellsSleb128}
+use Rattle.gimli_core.specs.Numbers.{SpellsInitialLength, word_size, is_address_size}
 use Rattle.gimli_core.specs.Notation.{Notation}
 use Rattle.gimli_core.specs.Reading.{Read, eof}
 use Rattle.gimli_core.specs.declared.common.Format.{Format}
 use Rattle.gimli_core.specs.declared.common.Format.TheVariants.{Dwarf32, Dwarf64}
 use Rattle.gimli_core.specs.declared.error.Error.{Error}
-use Rattle.gimli_core.specs.declared.error.Error.TheVariants.{BadUnsignedLeb128, BadSignedLeb128, UnknownReservedLength, UnsupportedAddressSize, UnsupportedOffset}
+use Rattle.gimli_core.specs.declared.error.Error.TheVariants.{
+  BadUnsignedLeb128,
+  BadSignedLeb128,
+  UnknownReservedLength,
+  UnsupportedAddressSize,
+  UnsupportedOffset,
+}
 
 pub record Production (A : Type 0) : Type 1 where
   -- the bytes are a spelling of x
@@ -27,9 +36,19 @@ done x = record { Spells = λ bytes y. (bytes ≡ []) × (y ≡ x); Fault = λ b
 infixl 10 ◌>>=◌
 abbrev pub ◌>>=◌ : {A B : Type 0} → Production A → (A → Production B) → Production B
 l >>= next = record {
-  Spells = λ bytes y. (x : _) × (front : List ℕ) × (rest : List ℕ) × (bytes ≡ front ++ rest) × l.Spells front x × (next x).Spells rest y;
-  Fault = λ bytes e. l.Fault bytes e ⊎ ((x : _) × (front : List ℕ) × (rest : List ℕ) × (bytes ≡ front ++ rest) × l.Spells front x × (next x).Fault rest e);
+  Spells = λ bytes y.
+      (x : _) × (front : List ℕ) × (rest : List ℕ) × (bytes ≡ front ++ rest) × l.Spells front x
+      × (next x).Spells rest y;
+  Fault = λ bytes e.
+      l.Fault bytes e
+      ⊎ ((x : _) × (front : List ℕ) × (rest : List ℕ) × (bytes ≡ front ++ rest) × l.Spells front x
+      × (next x).Fault rest e);
 }
+
+-- the same, where the value doesn't matter
+infixl 10 ◌>>◌
+abbrev pub ◌>>◌ : {A B : Type 0} → Production A → Production B → Production B
+l >> next = l >>= λ _. next
 
 -- a refusal, whatever comes
 abbrev pub refuse : {A : Type 0} → Error → Production A
@@ -37,7 +56,10 @@ refuse d = record { Spells = λ bytes x. ⊥; Fault = λ bytes e. e ≡ d }
 
 -- nothing where the test holds, else a refusal
 abbrev pub check : Bool → Error → Production (Unit {0})
-check b d = record { Spells = λ bytes x. (bytes ≡ []) × IsTrue b; Fault = λ bytes e. IsFalse b × (e ≡ d) }
+check b d = record {
+  Spells = λ bytes x. (bytes ≡ []) × IsTrue b;
+  Fault = λ bytes e. IsFalse b × (e ≡ d);
+}
 
 -- one production where the test holds, else the other
 abbrev pub choose : {A : Type 0} → Bool → Production A → Production A → Production A
@@ -47,7 +69,9 @@ choose false l m = m
 -- values one after the other
 abbrev pub Each : {A : Type 0} → (List ℕ → A → Type 0) → List ℕ → List A → Type 0
 Each Spells bytes [] = bytes ≡ []
-Each Spells bytes (x ∷ xs) = (front : List ℕ) × (rest : List ℕ) × (bytes ≡ front ++ rest) × Spells front x × Each Spells rest xs
+Each Spells bytes (x ∷ xs) =
+    (front : List ℕ) × (rest : List ℕ) × (bytes ≡ front ++ rest) × Spells front x
+    × Each Spells rest xs
 
 -- so many of a production
 abbrev pub times : {A : Type 0} → ℕ → Production A → Production (List A)
@@ -62,17 +86,21 @@ abbrev pub IsOpen : List ℕ → Type 0
 IsOpen [] = Unit {0}
 IsOpen (b ∷ bytes) = b ≢ 0
 
--- values one after the other, none of which begins with a zero byte, and a zero byte that closes them
+-- values one after the other, none of which begins with a zero byte, and a zero byte that closes
+-- them
 abbrev pub list_to_zero : {A : Type 0} → Production A → Production (List A)
 list_to_zero l = record {
   Spells = λ bytes xs. (front : List ℕ) × (bytes ≡ front ++ 0 ∷ []) × Each l.Spells front xs;
-  Fault = λ bytes e. (xs : List _) × (front : List ℕ) × (rest : List ℕ) × (bytes ≡ front ++ rest) × Each l.Spells front xs × IsOpen rest × l.Fault rest e;
+  Fault = λ bytes e.
+      (xs : List _) × (front : List ℕ) × (rest : List ℕ) × (bytes ≡ front ++ rest)
+      × Each l.Spells front xs × IsOpen rest × l.Fault rest e;
 }
 
 -- a production at the front of bytes that were taken before, and what is left over of these
 abbrev pub within : {A : Type 0} → List ℕ → Production A → Production (A × List ℕ)
 within inside l = record {
-  Spells = λ bytes x. (bytes ≡ []) × ((front : List ℕ) × (inside ≡ front ++ x.1) × l.Spells front x.0);
+  Spells =
+      λ bytes x. (bytes ≡ []) × ((front : List ℕ) × (inside ≡ front ++ x.1) × l.Spells front x.0);
   Fault = λ bytes e. l.Fault inside e;
 }
 
@@ -83,7 +111,10 @@ abbrev pub IsWanting : ℕ → List ℕ → Error → Type 0
 IsWanting n bytes e = (length bytes < n) × (e ≡ eof bytes)
 
 abbrev pub some_bytes : ℕ → Production (List ℕ)
-some_bytes n = record { Spells = λ bytes xs. (length bytes ≡ n) × (xs ≡ bytes); Fault = IsWanting n }
+some_bytes n = record {
+  Spells = λ bytes xs. (length bytes ≡ n) × (xs ≡ bytes);
+  Fault = IsWanting n;
+}
 
 -- bytes that aren't zero, and a zero byte
 abbrev pub text : Production (List ℕ)
@@ -110,23 +141,33 @@ signed_byte = do
 abbrev pub AllHigh : List ℕ → Type 0
 AllHigh bytes = AllByRecursion (λ b. 128 ≤ b) bytes
 
--- no LEB128 number of at most so many bytes: the bytes end before its last one, or that many bytes have the high
--- bit set but for the last of them, which isn't allowed
+-- no LEB128 number of at most so many bytes: the bytes end before its last one, or that many bytes
+-- have the high bit set but for the last of them, which isn't allowed
 abbrev pub IsLebFault : ℕ → (ℕ → Type 0) → Error → List ℕ → Error → Type 0
 IsLebFault most IsRefused bad bytes e =
     ((length bytes < most) × AllHigh bytes × (e ≡ eof []))
-    ⊎ ((front : List ℕ) × (last : ℕ) × (rest : List ℕ) × (bytes ≡ front ++ last ∷ rest) × (length front + 1 ≡ most) × AllHigh front × IsRefused last × (e ≡ bad))
+    ⊎ ((front : List ℕ) × (last : ℕ) × (rest : List ℕ) × (bytes ≡ front ++ last ∷ rest)
+    × (length front + 1 ≡ most) × AllHigh front × IsRefused last × (e ≡ bad))
 
 -- unsigned LEB128 numbers of 64 bits, and of 16
 abbrev pub unsigned : Production ℕ
-unsigned = record { Spells = SpellsUleb128 64; Fault = IsLebFault 10 (λ b. 1 < b) BadUnsignedLeb128 }
+unsigned = record {
+  Spells = SpellsUleb128 64;
+  Fault = IsLebFault 10 (λ b. 1 < b) BadUnsignedLeb128;
+}
 
 abbrev pub unsigned_16 : Production ℕ
-unsigned_16 = record { Spells = SpellsUleb128 16; Fault = IsLebFault 3 (λ b. 3 < b) BadUnsignedLeb128 }
+unsigned_16 = record {
+  Spells = SpellsUleb128 16;
+  Fault = IsLebFault 3 (λ b. 3 < b) BadUnsignedLeb128;
+}
 
 -- signed ones of 64 bits
 abbrev pub signed : Production ℤ
-signed = record { Spells = SpellsSleb128; Fault = IsLebFault 10 (λ b. (b ≢ 0) × (b ≢ 127)) BadSignedLeb128 }
+signed = record {
+  Spells = SpellsSleb128;
+  Fault = IsLebFault 10 (λ b. (b ≢ 0) × (b ≢ 127)) BadSignedLeb128;
+}
 
 -- ---- words, lengths and offsets
 
@@ -134,7 +175,7 @@ signed = record { Spells = SpellsSleb128; Fault = IsLebFault 10 (λ b. (b ≢ 0)
 abbrev pub address_size : Production ℕ
 address_size = do
   size ← byte
-  allowed ← check (is_address_size size) (UnsupportedAddressSize size)
+  check (is_address_size size) (UnsupportedAddressSize size)
   done size
 
 -- a word of the format
@@ -146,15 +187,17 @@ abbrev pub initial_length : Bool → Production (ℕ × Format)
 initial_length big = record {
   Spells = λ bytes u. SpellsInitialLength big bytes u.1 u.0;
   Fault = λ bytes e. IsWanting 4 bytes e
-      ⊎ ((first : List ℕ) × (rest : List ℕ) × (n : ℕ) × (bytes ≡ first ++ rest) × SpellsNumber big 4 first n
-      × (((0xffff_fff0 ≤ n) × (n ≢ 0xffff_ffff) × (e ≡ UnknownReservedLength)) ⊎ ((n ≡ 0xffff_ffff) × IsWanting 8 rest e)));
+      ⊎ ((first : List ℕ) × (rest : List ℕ) × (n : ℕ) × (bytes ≡ first ++ rest)
+      × SpellsNumber big 4 first n
+      × (((0xffff_fff0 ≤ n) × (n ≢ 0xffff_ffff) × (e ≡ UnknownReservedLength))
+      ⊎ ((n ≡ 0xffff_ffff) × IsWanting 8 rest e)));
 }
 
 -- a number that an offset of the reader has to hold
 abbrev pub below_limit : Notation → Production ℕ → Production ℕ
 below_limit notation l = do
   n ← l
-  fits ← check (nat_lt n notation.limit) UnsupportedOffset
+  check (nat_lt n notation.limit) UnsupportedOffset
   done n
 
 -- an offset of the reader holds a word: one of four bytes always fits
@@ -166,22 +209,25 @@ fits_offset notation Dwarf64 n = nat_lt n notation.limit
 abbrev pub offset_word : Notation → Format → Production ℕ
 offset_word notation format = do
   n ← word notation.big format
-  fits ← check (fits_offset notation format n) UnsupportedOffset
+  check (fits_offset notation format n) UnsupportedOffset
   done n
 
 -- the length of a unit, and its format
 abbrev pub unit_length : Notation → Production (ℕ × Format)
 unit_length notation = do
   unit ← initial_length notation.big
-  fits ← check (fits_offset notation unit.1 unit.0) UnsupportedOffset
+  check (fits_offset notation unit.1 unit.0) UnsupportedOffset
   done unit
 
 -- ---- reading a production
 
--- a function of bytes reads a production: what it takes is spelled so; what is spelled so it takes, whatever follows;
--- where it refuses, that is the production's fault; and it refuses for each fault of the production
+-- a function of bytes reads a production: what it takes is spelled so; what is spelled so it takes,
+-- whatever follows; where it refuses, that is the production's fault; and it refuses for each fault
+-- of the production
 pub record Reads {A : Type 0} (l : Production A) (read : List ℕ → Read A) : Type 0 where
-  pub found : (bytes : List ℕ) (x : A) (rest : List ℕ) → read bytes ≡ (Ok x, rest) → (front : List ℕ) × (bytes ≡ front ++ rest) × l.Spells front x
-  pub only : (front : List ℕ) (x : A) (rest : List ℕ) → l.Spells front x → read (front ++ rest) ≡ (Ok x, rest)
+  pub found : (bytes : List ℕ) (x : A) (rest : List ℕ) → read bytes ≡ (Ok x, rest)
+      → (front : List ℕ) × (bytes ≡ front ++ rest) × l.Spells front x
+  pub only : (front : List ℕ) (x : A) (rest : List ℕ) → l.Spells front x
+      → read (front ++ rest) ≡ (Ok x, rest)
   pub fault : (bytes : List ℕ) (e : Error) → (read bytes).0 ≡ Err e → l.Fault bytes e
   pub refused : (bytes : List ℕ) (e : Error) → l.Fault bytes e → (read bytes).0 ≡ Err e

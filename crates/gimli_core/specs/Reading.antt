@@ -1,11 +1,21 @@
 -- What readers take from the front of a list of bytes, and what they leave.
-use Rattle.std.specs.Prelude.{ℕ, zero, suc, ◌+◌, ◌*◌, ◌%◌, ◌^◌, Bool, List, [], ◌∷◌, length, take, drop, position, Result, Ok, Err, Some, None, nat_lt, nat_le, nat_eq, ◌||◌, if◌then◌else◌, ℤ, pos, ◌-ℤ◌}
+use Rattle.std.specs.Prelude.{ℕ, zero, suc, ◌+◌, ◌*◌, ◌%◌, ◌^◌, Bool, List, [], ◌∷◌, length, take}
+use Rattle.std.specs.Prelude.{drop, position, Result, Ok, Err, Some, None, nat_lt, nat_le, nat_eq}
+use Rattle.std.specs.Prelude.{◌||◌, if◌then◌else◌, ℤ, pos, ◌-ℤ◌}
 use Rattle.std.specs.Int.{w8, cast_signed}
 use Rattle.gimli_core.specs.Numbers.{value_of, is_address_size}
 use Rattle.gimli_core.specs.declared.common.Format.{Format}
 use Rattle.gimli_core.specs.declared.common.Format.TheVariants.{Dwarf32, Dwarf64}
 use Rattle.gimli_core.specs.declared.error.Error.{Error}
-use Rattle.gimli_core.specs.declared.error.Error.TheVariants.{UnexpectedEof, BadUnsignedLeb128, BadSignedLeb128, UnknownReservedLength, UnsupportedAddressSize, UnsupportedOffset, AddressOverflow}
+use Rattle.gimli_core.specs.declared.error.Error.TheVariants.{
+  UnexpectedEof,
+  BadUnsignedLeb128,
+  BadSignedLeb128,
+  UnknownReservedLength,
+  UnsupportedAddressSize,
+  UnsupportedOffset,
+  AddressOverflow,
+}
 
 -- what a call returns, and the bytes that it leaves
 abbrev pub Read : Type 0 → Type 0
@@ -20,7 +30,8 @@ abbrev pub ◌>>=◌ : {A B : Type 0} → Read A → (A → List ℕ → Read B)
 -- so many of a call
 abbrev pub times_at : {A : Type 0} → ℕ → (List ℕ → Read A) → List ℕ → Read (List A)
 times_at zero read bytes = (Ok [], bytes)
-times_at (suc n) read bytes = read bytes >>= λ x rest. times_at n read rest >>= λ xs left. (Ok (x ∷ xs), left)
+times_at (suc n) read bytes =
+    read bytes >>= λ x rest. times_at n read rest >>= λ xs left. (Ok (x ∷ xs), left)
 
 -- a call on bytes that were taken before: what it answers and what it leaves of these
 abbrev pub with_rest : {A : Type 0} → Read A → Result (A × List ℕ) Error
@@ -43,23 +54,29 @@ eof bytes = UnexpectedEof (record { 0 = length bytes })
 
 -- the first n bytes, and those after them
 abbrev pub split_at : ℕ → List ℕ → Read (List ℕ)
-split_at n bytes = if nat_lt (length bytes) n then (Err (eof bytes), bytes) else (Ok (take n bytes), drop n bytes)
+split_at n bytes =
+    if nat_lt (length bytes) n then (Err (eof bytes), bytes) else (Ok (take n bytes), drop n bytes)
 
 -- the first n bytes go
 abbrev pub skip_at : ℕ → List ℕ → Read (Unit {0})
-skip_at n bytes = if nat_lt (length bytes) n then (Err (eof bytes), bytes) else (Ok tt, drop n bytes)
+skip_at n bytes =
+    if nat_lt (length bytes) n then (Err (eof bytes), bytes) else (Ok tt, drop n bytes)
 
 -- the first n bytes stay
 abbrev pub truncate_at : ℕ → List ℕ → Read (Unit {0})
-truncate_at n bytes = if nat_lt (length bytes) n then (Err (eof bytes), bytes) else (Ok tt, take n bytes)
+truncate_at n bytes =
+    if nat_lt (length bytes) n then (Err (eof bytes), bytes) else (Ok tt, take n bytes)
 
 -- how many bytes stand before the first such byte
 abbrev pub find_at : ℕ → List ℕ → Result ℕ Error
-find_at byte bytes = elim (position (λ b. nat_eq b byte) bytes) [ Some n ↦ Ok n | None ↦ Err (eof bytes) ]
+find_at byte bytes =
+    elim (position (λ b. nat_eq b byte) bytes) [ Some n ↦ Ok n | None ↦ Err (eof bytes) ]
 
 -- the bytes before the first zero byte, which goes too
 abbrev pub text_at : List ℕ → Read (List ℕ)
-text_at bytes = elim (position (λ b. nat_eq b 0) bytes) [ Some n ↦ (Ok (take n bytes), drop (n + 1) bytes) | None ↦ (Err (eof bytes), bytes) ]
+text_at bytes =
+    elim (position (λ b. nat_eq b 0) bytes)
+    [ Some n ↦ (Ok (take n bytes), drop (n + 1) bytes) | None ↦ (Err (eof bytes), bytes) ]
 
 -- ---- numbers
 
@@ -74,18 +91,23 @@ signed_byte_at bytes = byte_at bytes >>= λ b rest. (Ok (cast_signed w8 b), rest
 
 -- a number of so many bytes, in this order
 abbrev pub number_at : Bool → ℕ → List ℕ → Read ℕ
-number_at big size bytes = if nat_lt (length bytes) size then (Err (eof bytes), bytes) else (Ok (value_of big (take size bytes)), drop size bytes)
+number_at big size bytes =
+    if nat_lt (length bytes) size then (Err (eof bytes), bytes)
+    else (Ok (value_of big (take size bytes)), drop size bytes)
 
 -- a number as an offset, below the limit of the offsets
 abbrev pub offset_of : ℕ → ℕ → Result ℕ Error
 offset_of limit n = if nat_le limit n then Err UnsupportedOffset else Ok n
 
--- the groups of seven bits of an unsigned number: at most so many bytes before the last, and then one of at most top
+-- the groups of seven bits of an unsigned number: at most so many bytes before the last, and then
+-- one of at most top
 unfoldable pub uleb_at : ℕ → ℕ → List ℕ → Read ℕ
 uleb_at zero top bytes =
     byte_at bytes >>= λ b rest. if nat_lt top b then (Err BadUnsignedLeb128, rest) else (Ok b, rest)
 uleb_at (suc more) top bytes =
-    byte_at bytes >>= λ b rest. if nat_lt b 128 then (Ok b, rest) else (uleb_at more top rest >>= λ high rest. (Ok (b % 128 + 128 * high), rest))
+    byte_at bytes >>= λ b rest.
+    if nat_lt b 128 then (Ok b, rest)
+    else (uleb_at more top rest >>= λ high rest. (Ok (b % 128 + 128 * high), rest))
 
 -- an unsigned LEB128 number of 64 bits, and one of 16
 abbrev pub unsigned_at : List ℕ → Read ℕ
@@ -94,7 +116,8 @@ unsigned_at bytes = uleb_at 9 1 bytes
 abbrev pub unsigned_16_at : List ℕ → Read ℕ
 unsigned_16_at bytes = uleb_at 2 3 bytes
 
--- a signed number as a difference: its groups as an unsigned number, and what the sign takes from it
+-- a signed number as a difference: its groups as an unsigned number, and what the sign takes from
+-- it
 abbrev pub Difference : Type 0
 Difference = ℕ × ℕ
 
@@ -105,9 +128,12 @@ last_group b = (b, if nat_le 64 b then 128 else 0)
 -- the groups of a signed number: at most so many bytes before the last, and then 00 or 7f
 unfoldable pub sleb_at : ℕ → List ℕ → Read Difference
 sleb_at zero bytes =
-    byte_at bytes >>= λ b rest. if nat_eq b 0 || nat_eq b 127 then (Ok (last_group b), rest) else (Err BadSignedLeb128, rest)
+    byte_at bytes >>= λ b rest.
+    if nat_eq b 0 || nat_eq b 127 then (Ok (last_group b), rest) else (Err BadSignedLeb128, rest)
 sleb_at (suc more) bytes =
-    byte_at bytes >>= λ b rest. if nat_lt b 128 then (Ok (last_group b), rest) else (sleb_at more rest >>= λ high rest. (Ok (b % 128 + 128 * high.0, 128 * high.1), rest))
+    byte_at bytes >>= λ b rest.
+    if nat_lt b 128 then (Ok (last_group b), rest)
+    else (sleb_at more rest >>= λ high rest. (Ok (b % 128 + 128 * high.0, 128 * high.1), rest))
 
 -- a signed LEB128 number of 64 bits
 abbrev pub signed_at : List ℕ → Read ℤ
@@ -125,13 +151,18 @@ unfoldable pub initial_length_at : Bool → ℕ → List ℕ → Read (ℕ × Fo
 initial_length_at big limit bytes =
     number_at big 4 bytes >>= λ n rest.
     if nat_lt n 0xffff_fff0 then (Ok (n, Dwarf32), rest)
-    else (if nat_eq n 0xffff_ffff then (number_at big 8 rest >>= λ n rest. (result_map (λ n. (n, Dwarf64)) (offset_of limit n), rest))
+    else (if nat_eq n 0xffff_ffff
+    then (number_at big 8 rest >>= λ n rest.
+    (result_map (λ n. (n, Dwarf64)) (offset_of limit n), rest))
     else (Err UnknownReservedLength, rest))
 
 -- the size of an address
 unfoldable pub address_size_at : List ℕ → Read ℕ
-address_size_at bytes = byte_at bytes >>= λ n rest. (if is_address_size n then Ok n else Err (UnsupportedAddressSize n), rest)
+address_size_at bytes =
+    byte_at bytes >>= λ n rest.
+    (if is_address_size n then Ok n else Err (UnsupportedAddressSize n), rest)
 
 -- the sum of an address and a length, where it is an address of the size
 abbrev pub sized_sum : ℕ → ℕ → ℕ → Result ℕ Error
-sized_sum address len size = if nat_lt (address + len) (2 ^ (8 * size)) then Ok (address + len) else Err AddressOverflow
+sized_sum address len size =
+    if nat_lt (address + len) (2 ^ (8 * size)) then Ok (address + len) else Err AddressOverflow

@@ -1,7 +1,22 @@
 -- The values of forms, with lists of bytes in place of readers and numbers in place of offsets.
 use Rattle.std.specs.Prelude.{◌≡◌, ℕ, Bool, List, Option, Some, None, pos, negsuc}
 use Rattle.gimli_core.specs.declared.attribute_value.AttributeValue.{AttributeValue}
-use Rattle.gimli_core.specs.declared.attribute_value.AttributeValue.TheVariants.{Block, Data1, Data2, Data4, Data8, Udata, Sdata, Flag, SecOffset, String, DebugStrRef, DebugStrRefSup, DebugLineStrRef, DebugStrOffsetsIndex}
+use Rattle.gimli_core.specs.declared.attribute_value.AttributeValue.TheVariants.{
+  Block,
+  Data1,
+  Data2,
+  Data4,
+  Data8,
+  Udata,
+  Sdata,
+  Flag,
+  SecOffset,
+  String,
+  DebugStrRef,
+  DebugStrRefSup,
+  DebugLineStrRef,
+  DebugStrOffsetsIndex,
+}
 
 abbrev pub Value : Type 0
 Value = AttributeValue (List ℕ) ℕ (Unit {0})
@@ -39,7 +54,8 @@ module _ {R Offset Endian : Type 0} (big : R → Bool) where
   value_order v = None
 
 -- a value, its readers seen by bytes and order, and its offsets by number
-module _ {R Offset Endian : Type 0} (bytes : R → List ℕ) (big : R → Bool) (number : Offset → ℕ) where
+module _ {R Offset Endian : Type 0} (bytes : R → List ℕ) (big : R → Bool)
+    (number : Offset → ℕ) where
   abbrev pub value_by : AttributeValue R Offset Endian → Value × Option Bool
   value_by v = (value_seen bytes number v, value_order big v)
 

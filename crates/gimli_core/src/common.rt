@@ -3,7 +3,17 @@
 ghost use Rattle.std.specs.Prelude.{◌≡◌, true, pos, negsuc, IsTrue};
 ghost use Rattle.gimli_core.specs.Numbers.{initial_length_size, word_size};
 
-/// Whether the words of a unit, as its lengths and its references into sections, have 32 or 64 bits.
+/// Whether the words of a unit, as its lengths and its references into sections, have 32 or 64
+/// bits.
+///
+/// <!-- part of crates/uses/src/make_unit.rt -->
+/// ```rust
+/// let encoding = Encoding {
+///     address_size: 8,
+///     format: Format::Dwarf32,
+///     version: 5,
+/// };
+/// ```
 #[derive(Clone, Copy, Debug, PartialEq, Eq)]
 pub enum Format {
     /// Words of four bytes.
@@ -23,7 +33,8 @@ impl Format {
         }
     }
 
-    /// The number of bytes that the length of a unit takes: 4, or in the 64-bit format 12 (DWARF 5, section 7.4).
+    /// The number of bytes that the length of a unit takes: 4, or in the 64-bit format 12 (DWARF 5,
+    /// section 7.4).
     pub fn initial_length_size(self) -> u8
         ensures { result ≡ initial_length_size self }
     {
@@ -35,6 +46,14 @@ impl Format {
 }
 
 /// What the numbers of a unit are encoded by.
+///
+/// <!-- part of crates/uses/src/shift.rt -->
+/// ```rust
+/// let encoding = Encoding {
+///     version: 5,
+///     ..source.header().encoding()
+/// };
+/// ```
 #[derive(Clone, Copy, Debug, PartialEq, Eq)]
 pub struct Encoding {
     /// The number of bytes of an address.
@@ -46,6 +65,13 @@ pub struct Encoding {
 }
 
 /// What the rows of a line program are encoded by.
+///
+/// <!-- part of crates/uses/src/make_unit.rt -->
+/// ```rust
+/// let lines = LineEncoding::default();
+/// let program = LineProgram::new(alloc, encoding, lines, directory, None, path, None)?;
+/// Ok(program)
+/// ```
 #[derive(Clone, Copy, Debug, PartialEq, Eq)]
 pub struct LineEncoding {
     /// The number of bytes of the shortest instruction of the machine.
@@ -81,6 +107,15 @@ impl Default for LineEncoding {
 }
 
 /// A section of debugging information.
+///
+/// <!-- part of crates/checks_writing/src/own_writer.rt -->
+/// ```rust
+/// fn write_offset(&mut self, val: usize, section: SectionId, size: u8) -> Result<()> {
+///     let is_str = section == SectionId::DebugStr;
+///     let letter = if is_str { b'S' } else { b'L' };
+///     self.write(&[letter, size, (val & 0xff) as u8])
+/// }
+/// ```
 #[derive(Clone, Copy, Debug, PartialEq, Eq)]
 pub enum SectionId {
     /// `.debug_info`
@@ -94,17 +129,47 @@ pub enum SectionId {
 }
 
 /// An offset into the section `.debug_line`, in bytes.
+///
+/// <!-- part of crates/checks_reading/src/units.rt -->
+/// ```rust
+/// pub fn program<R: Reader>(alloc: Global, section: R) -> Result<IncompleteLineProgram<R>> {
+///     let offset = DebugLineOffset(R::Offset::from_u8(0));
+///     DebugLine::from(section).program(alloc, offset, 4, None, None)
+/// }
+/// ```
 #[derive(Clone, Copy, Debug, PartialEq, Eq)]
 pub struct DebugLineOffset<T = usize>(pub T);
 
 /// An offset into the section `.debug_str`, in bytes.
+///
+/// <!-- part of crates/uses/src/reading.rt -->
+/// ```rust
+/// AttributeValue::String(text) => Ok(text),
+/// AttributeValue::DebugStrRef(offset) => text_from(sections.strings, offset.0),
+/// AttributeValue::DebugLineStrRef(offset) => text_from(sections.line_strings, offset.0),
+/// ```
 #[derive(Clone, Copy, Debug, PartialEq, Eq)]
 pub struct DebugStrOffset<T = usize>(pub T);
 
 /// An offset into the section `.debug_line_str`, in bytes.
+///
+/// <!-- part of crates/rows_calls/src/numbers.rt -->
+/// ```rust
+/// "DebugStrRef" => Ok(AttributeValue::DebugStrRef(DebugStrOffset(offset))),
+/// "DebugStrRefSup" => Ok(AttributeValue::DebugStrRefSup(DebugStrOffset(offset))),
+/// "DebugLineStrRef" => Ok(AttributeValue::DebugLineStrRef(DebugLineStrOffset(offset))),
+/// ```
 #[derive(Clone, Copy, Debug, PartialEq, Eq)]
 pub struct DebugLineStrOffset<T = usize>(pub T);
 
 /// An index into the string offsets of a unit.
+///
+/// <!-- part of crates/rows_calls/src/numbers.rt -->
+/// ```rust
+/// "DebugStrOffsetsIndex" => {
+///     let index = DebugStrOffsetsIndex(offset);
+///     Ok(AttributeValue::DebugStrOffsetsIndex(index))
+/// }
+/// ```
 #[derive(Clone, Copy, Debug, PartialEq, Eq)]
 pub struct DebugStrOffsetsIndex<T = usize>(pub T);

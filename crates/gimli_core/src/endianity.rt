@@ -4,6 +4,13 @@ ghost use Rattle.std.specs.Prelude.{◌≡◌, ◌++◌, ◌≤◌, Bool, true, 
 ghost use Rattle.gimli_core.specs.Numbers.{value_of, number_bytes};
 
 /// An order of bytes.
+///
+/// <!-- part of crates/rows_calls/src/order_calls.rt -->
+/// ```rust
+/// "is_big_endian" => Ok(Answer::truth(order.is_big_endian())),
+/// "is_little_endian" => Ok(Answer::truth(order.is_little_endian())),
+/// "read_u16" if bytes.len() >= 2 => Ok(Answer::of_number("u16", Ok(order.read_u16(bytes)))),
+/// ```
 pub trait Endianity: Copy + Eq {
     /// Whether the most significant byte comes first.
     ghost big: { Self → Bool };
@@ -124,14 +131,38 @@ pub trait Endianity: Copy + Eq {
 }
 
 /// The least significant byte first.
+///
+/// <!-- part of crates/uses/src/where_is.rt -->
+/// ```rust
+/// fn section<'a>(elf: &Elf<'a>, name: &[u8]) -> Result<EndianSlice<'a, LittleEndian>> {
+///     let bytes = elf.section(name)?.unwrap_or(&[]);
+///     Ok(EndianSlice::new(bytes, LittleEndian))
+/// }
+/// ```
 #[derive(Clone, Copy, Debug, PartialEq, Eq, Default)]
 pub struct LittleEndian;
 
 /// The most significant byte first.
+///
+/// <!-- part of crates/checks_writing/src/many.rt -->
+/// ```rust
+/// let mut section: PieceVec<BigEndian, 16> = PieceVec::new(alloc, BigEndian);
+/// fill(&mut section)?;
+/// check(rt, section.into_vec()?.as_slice() == wanted);
+/// Ok(())
+/// ```
 #[derive(Clone, Copy, Debug, PartialEq, Eq, Default)]
 pub struct BigEndian;
 
 /// An order that is known when the program runs.
+///
+/// <!-- part of crates/checks_reading/src/compilations.rt -->
+/// ```rust
+/// let offsets: &[u8] = match order {
+///     Little => b"\x0c\0\0\0\x05\0\0\0\x01\0\0\0\x04\0\0\0",
+///     Big => b"\0\0\0\x0c\0\x05\0\0\0\0\0\x01\0\0\0\x04",
+/// };
+/// ```
 #[derive(Clone, Copy, Debug, PartialEq, Eq)]
 pub enum RunTimeEndian {
     /// The least significant byte first.

@@ -4,10 +4,25 @@ use crate::constants::DwForm;
 use std::fmt;
 
 /// Where a reader refused: the number of bytes that were left in it.
+///
+/// <!-- part of crates/checks_reading/src/headers.rt -->
+/// ```rust
+/// for (unit, left) in LEFT {
+///     let refused = Some(UnexpectedEof(ReaderOffsetId(left)));
+///     check_equal_at(&rt, refusal(rt.alloc(), slice(unit)), refused, unit);
+/// }
+/// ```
 #[derive(Clone, Copy, Debug, PartialEq, Eq)]
 pub struct ReaderOffsetId(pub u64);
 
 /// Why bytes could not be read.
+///
+/// <!-- part of crates/uses/src/reading.rt -->
+/// ```rust
+/// if found.push(row).is_err() {
+///     return Err(Error::OutOfMemory);
+/// }
+/// ```
 #[derive(Clone, Copy, Debug, PartialEq, Eq)]
 pub enum Error {
     /// Bytes are missing. It holds the number of bytes that were left where they were looked for.

@@ -1,5 +1,5 @@
-//! Laws of the formats: the functions that the contracts of a reader's calls name read the productions of the grammar,
-//! in both directions, with their refusals.
+//! Laws of the formats: the functions that the contracts of a reader's calls name read the
+//! productions of the grammar, in both directions, with their refusals.
 
 ghost use Rattle.std.specs.Prelude.{ℕ, Bool, [], ◌≡◌, ◌<◌, ◌^◌};
 ghost use Rattle.gimli_core.specs.Numbers.{SpellsNumber, number_bytes};
@@ -7,8 +7,12 @@ ghost use Rattle.gimli_core.specs.Equality.{IsExact, ComparesBy, ClonesGiveSame,
 ghost use Rattle.gimli_core.specs.Notation.{Notation};
 ghost use Rattle.gimli_core.specs.Values.{value_by};
 ghost use Rattle.gimli_core.specs.declared.common.Format.{Format};
-ghost use Rattle.gimli_core.specs.Production.{Reads, byte, signed_byte, some_bytes, number, text, unsigned, unsigned_16, signed, address_size, offset_word, unit_length};
-ghost use Rattle.gimli_core.specs.Reading.{split_at, byte_at, signed_byte_at, number_at, text_at, unsigned_at, unsigned_16_at, signed_at, address_size_at, word_at, initial_length_at};
+ghost use Rattle.gimli_core.specs.Production.{Reads, byte, signed_byte, some_bytes, number, text};
+ghost use Rattle.gimli_core.specs.Production.{unsigned, unsigned_16, signed, address_size};
+ghost use Rattle.gimli_core.specs.Production.{offset_word, unit_length};
+ghost use Rattle.gimli_core.specs.Reading.{split_at, byte_at, signed_byte_at, number_at, text_at};
+ghost use Rattle.gimli_core.specs.Reading.{unsigned_at, unsigned_16_at, signed_at, address_size_at};
+ghost use Rattle.gimli_core.specs.Reading.{word_at, initial_length_at};
 
 use crate::attribute_value::AttributeValue;
 use crate::common::{
@@ -37,13 +41,14 @@ pub fn signed_numbers()
     ensures { Reads signed signed_at }
 {}
 
-/// `read_u16` to `read_u64`, `read_uint` and `read_address` take a spelling of their number, and each that is
-/// there, whatever follows.
+/// `read_u16` to `read_u64`, `read_uint` and `read_address` take a spelling of their number, and
+/// each that is there, whatever follows.
 pub fn fixed_numbers()
     ensures { (big : Bool) (size : ℕ) → Reads (number big size) (number_at big size) }
 {}
 
-/// `read_null_terminated_slice` takes a text and its zero byte, and each that is there, whatever follows.
+/// `read_null_terminated_slice` takes a text and its zero byte, and each that is there, whatever
+/// follows.
 pub fn texts()
     ensures { Reads text text_at }
 {}
@@ -68,15 +73,15 @@ pub fn address_sizes()
     ensures { Reads address_size address_size_at }
 {}
 
-/// `read_length` and `read_offset` take a word of the format that an offset holds, and each that is there,
-/// whatever follows.
+/// `read_length` and `read_offset` take a word of the format that an offset holds, and each that is
+/// there, whatever follows.
 pub fn words()
     ensures { (notation : Notation) (format : Format)
         → Reads (offset_word notation format) (word_at notation.big notation.limit format) }
 {}
 
-/// `read_initial_length` takes the length of a unit that an offset holds, and each that is there, whatever
-/// follows.
+/// `read_initial_length` takes the length of a unit that an offset holds, and each that is there,
+/// whatever follows.
 pub fn unit_lengths()
     ensures { (notation : Notation)
         → Reads (unit_length notation) (initial_length_at notation.big notation.limit) }
@@ -88,14 +93,14 @@ pub fn written_numbers()
         → SpellsNumber big size (number_bytes big size n) n }
 {}
 
-/// `==` of values holds exactly where they are of one form and agree in what they hold, if this is so of readers and of
-/// offsets.
+/// `==` of values holds exactly where they are of one form and agree in what they hold, if this is
+/// so of readers and of offsets.
 pub fn equal_values_are_same<R: Reader + PartialEq>()
     ensures { IsExact R.eq → IsExact R.Offset.eq → IsExact ⟦<AttributeValue<R> as PartialEq>⟧.eq }
 {}
 
-/// `==` of values holds exactly where they are of one form and agree in what they hold, readers in their bytes and order
-/// and offsets in their numbers, if this is so of readers and of offsets.
+/// `==` of values holds exactly where they are of one form and agree in what they hold, readers in
+/// their bytes and order and offsets in their numbers, if this is so of readers and of offsets.
 pub fn equal_values_look_same<R: Reader + PartialEq>()
     ensures { ComparesBy (both R.bytes R.big) R.eq → ComparesBy R.Offset.number R.Offset.eq →
         ComparesBy (value_by R.bytes R.big R.Offset.number) ⟦<AttributeValue<R> as PartialEq>⟧.eq }
@@ -111,8 +116,8 @@ pub fn equal_numbers_are_same()
     ensures places_of_refusals { IsExact ⟦<ReaderOffsetId as PartialEq>⟧.eq }
 {}
 
-/// `==` of offsets into a section, and of indices, holds exactly where the two are the same, if this is so of the type
-/// of offsets.
+/// `==` of offsets into a section, and of indices, holds exactly where the two are the same, if
+/// this is so of the type of offsets.
 pub fn equal_offsets_are_same<T: PartialEq>()
     ensures line_programs { IsExact T.eq → IsExact ⟦<DebugLineOffset<T> as PartialEq>⟧.eq }
     ensures strings { IsExact T.eq → IsExact ⟦<DebugStrOffset<T> as PartialEq>⟧.eq }
@@ -155,23 +160,26 @@ pub fn equal_orders_are_same()
         ⟦<RunTimeEndian as PartialEq>⟧.eq }
 {}
 
-/// `==` of readers over slices holds exactly where the two have the same bytes left and the same order, if `==` of orders
-/// is so.
+/// `==` of readers over slices holds exactly where the two have the same bytes left and the same
+/// order, if `==` of orders is so.
 pub fn equal_slices_are_same<'i, E: Endianity>()
     ensures { ComparesBy E.big E.eq → ComparesBy (both ⟦<EndianSlice<'i, E> as Reader>⟧.bytes
         ⟦<EndianSlice<'i, E> as Reader>⟧.big) ⟦<EndianSlice<'i, E> as PartialEq>⟧.eq }
 {}
 
-/// A reader over a slice has no byte left by default, and the order of bytes that its type of orders has by default.
+/// A reader over a slice has no byte left by default, and the order of bytes that its type of
+/// orders has by default.
 pub fn default_slices_are_empty<'i, E: Endianity + Default>()
     ensures bytes { (reader : _) → ⟦<EndianSlice<'i, E> as Default>⟧.is_default reader
         → ⟦<EndianSlice<'i, E> as Reader>⟧.bytes reader ≡ [] }
-    ensures order { (reader : _) (big : Bool) → ((endian : E) → E.is_default endian → E.big endian ≡ big)
+    ensures order { (reader : _) (big : Bool)
+        → ((endian : E) → E.is_default endian → E.big endian ≡ big)
         → ⟦<EndianSlice<'i, E> as Default>⟧.is_default reader
         → ⟦<EndianSlice<'i, E> as Reader>⟧.big reader ≡ big }
 {}
 
-/// `clone` of errors, sections, formats, encodings and orders of bytes is never refused, and gives the same.
+/// `clone` of errors, sections, formats, encodings and orders of bytes is never refused, and gives
+/// the same.
 pub fn clones_are_same()
     ensures errors { ClonesGiveSame ⟦<Error as Clone>⟧ }
     ensures sections { ClonesGiveSame ⟦<SectionId as Clone>⟧ }
@@ -195,7 +203,8 @@ pub fn clones_of_numbers_are_same()
 
 /// The same of readers over slices, if it is so of orders.
 pub fn clones_of_slices_are_same<'i, E: Endianity>()
-    ensures { GivesSame E.is_clone E.is_infallible → ClonesGiveSame ⟦<EndianSlice<'i, E> as Clone>⟧ }
+    ensures { GivesSame E.is_clone E.is_infallible
+        → ClonesGiveSame ⟦<EndianSlice<'i, E> as Clone>⟧ }
 {}
 
 /// The same of offsets into a section, and of indices, if it is so of the type of offsets.

@@ -1,6 +1,7 @@
 //! Steps of reading LEB128 numbers, seven bits at a time, the least significant first.
 
-ghost use Rattle.std.specs.Prelude.{◌≡◌, ◌+◌, ◌*◌, ◌%◌, ◌^◌, ◌<◌, ◌≤◌, ◌-ℤ◌, pos, if◌then◌else◌, nat_le};
+ghost use Rattle.std.specs.Prelude.{◌≡◌, ◌+◌, ◌*◌, ◌%◌, ◌^◌, ◌<◌, ◌≤◌, ◌-ℤ◌, pos, if◌then◌else◌};
+ghost use Rattle.std.specs.Prelude.{nat_le};
 ghost use Rattle.gimli_core.specs.inside.Reading.{tenth_at};
 
 use crate::error::{Error, Result};
@@ -15,7 +16,8 @@ pub(crate) fn with_group(value: u64, byte: u8, group: u32) -> u64
     value + (u64::from(byte % 128) << (7 * group))
 }
 
-/// The signed number of the groups up to this one, whose byte is the last: bit 6 of that is the sign.
+/// The signed number of the groups up to this one, whose byte is the last: bit 6 of that is the
+/// sign.
 pub(crate) fn sign_extended(value: u64, byte: u8, group: u32) -> i64
     requires low { value < 2 ^ (7 * (group + 1)) }
     requires group { group < 9 }

@@ -8,6 +8,14 @@ ghost use Rattle.gimli_core.specs.Reading.{result_map, offset_of, sized_sum};
 use crate::error::{Error, Result};
 
 /// A number of bytes in a reader, or an offset into a section. Each number of 32 bits has one.
+///
+/// <!-- part of crates/uses/src/where_is.rt -->
+/// ```rust
+/// let offset = header.offset().0.into_u64();
+/// let Some(directory) = self.compilations.directory_of(offset) else {
+///     return Paths::new(header, self.strings, None).of_row(alloc, row);
+/// };
+/// ```
 pub trait ReaderOffset: Copy + Eq + Ord {
     /// The number that it stands for.
     ghost number: { Self → ℕ };
@@ -27,7 +35,8 @@ pub trait ReaderOffset: Copy + Eq + Ord {
     fn from_u32(offset: u32) -> Self
         ensures { number result ≡ offset };
 
-    /// The offset of a number. Refused by `UnsupportedOffset`, exactly where it is too large for the type.
+    /// The offset of a number. Refused by `UnsupportedOffset`, exactly where it is too large for
+    /// the type.
     fn from_u64(offset: u64) -> Result<Self>
         ensures { result_map number result ≡ offset_of limit offset };
 
@@ -68,18 +77,29 @@ impl ReaderOffset for usize {
 }
 
 /// An address of a machine, whose size is given in bytes: 1, 2, 4 or 8.
+///
+/// <!-- part of crates/rows_calls/src/numbers.rt -->
+/// ```rust
+/// fn add_sized(address: u64, length: u64, size: u8) -> Result<Answer<'static>, Stop> {
+///     match size {
+///         1 | 2 | 4 | 8 => Ok(Answer::of_number("u64", address.add_sized(length, size))),
+///         _ => Err(Stop::Condition),
+///     }
+/// }
+/// ```
 pub trait ReaderAddress: Copy {
     /// The number that it stands for.
     ghost number: { Self → ℕ };
 
-    /// The address so many bytes further on. Refused by `AddressOverflow`, exactly where it is above the
-    /// greatest address of the size. Requires that `size` is 1, 2, 4 or 8.
+    /// The address so many bytes further on. Refused by `AddressOverflow`, exactly where it is
+    /// above the greatest address of the size. Requires that `size` is 1, 2, 4 or 8.
     fn add_sized(self, length: u64, size: u8) -> Result<Self>
         requires { IsTrue (is_address_size size) }
         ensures { result_map number result ≡ sized_sum (number self) length size };
 
-    /// The least address that stands for nothing: the greatest of the size but one. Linkers put it, or the
-    /// greatest, in place of an address that they dropped. Requires that `size` is 1, 2, 4 or 8.
+    /// The least address that stands for nothing: the greatest of the size but one. Linkers put it,
+    /// or the greatest, in place of an address that they dropped. Requires that `size` is 1, 2, 4
+    /// or 8.
     fn min_tombstone(size: u8) -> Self
         requires { IsTrue (is_address_size size) }
         ensures { number result ≡ 2 ^ (8 * size) - 2 };

@@ -1,9 +1,13 @@
 //! What a reader does: numbers, texts, lengths and addresses, taken from the front of bytes.
 
-ghost use Rattle.std.specs.Prelude.{◌≡◌, ℕ, ◌+◌, ◌-◌, ◌≤◌, ◌↔◌, ◌++◌, Bool, List, [], length, take, IsTrue, IfOk, IfErr, OnErr};
+ghost use Rattle.std.specs.Prelude.{◌≡◌, ℕ, ◌+◌, ◌-◌, ◌≤◌, ◌↔◌, ◌++◌, Bool, List, [], length, take};
+ghost use Rattle.std.specs.Prelude.{IsTrue, IfOk, IfErr, OnErr};
 ghost use Rattle.std.specs.Cow.{cow_slice_items};
 ghost use Rattle.gimli_core.specs.Numbers.{is_address_size};
-ghost use Rattle.gimli_core.specs.Reading.{result_map, split_at, skip_at, truncate_at, find_at, text_at, byte_at, signed_byte_at, number_at, unsigned_at, unsigned_16_at, signed_at, word_at, initial_length_at, address_size_at};
+ghost use Rattle.gimli_core.specs.Reading.{result_map, split_at, skip_at, truncate_at, find_at};
+ghost use Rattle.gimli_core.specs.Reading.{text_at, byte_at, signed_byte_at, number_at};
+ghost use Rattle.gimli_core.specs.Reading.{unsigned_at, unsigned_16_at, signed_at, word_at};
+ghost use Rattle.gimli_core.specs.Reading.{initial_length_at, address_size_at};
 
 use crate::common::Format;
 use crate::endianity::Endianity;
@@ -14,8 +18,15 @@ use std::borrow::CowSlice;
 
 /// Bytes that are read from the front, and an order of bytes for the numbers among them.
 ///
-/// A copy reads on by itself. Where bytes are missing, the refusal is `UnexpectedEof`. What a refused
-/// call leaves is said at each; where nothing is said, the reader stays as it was.
+/// A copy reads on by itself. Where bytes are missing, the refusal is `UnexpectedEof`. What a
+/// refused call leaves is said at each; where nothing is said, the reader stays as it was.
+///
+/// <!-- part of crates/uses/src/reading.rt -->
+/// ```rust
+/// let mut section = section;
+/// section.skip(offset)?;
+/// section.read_null_terminated_slice()
+/// ```
 pub trait Reader: Copy {
     /// The order of bytes.
     type Endian: Endianity;
@@ -48,13 +59,14 @@ pub trait Reader: Copy {
             ≡ truncate_at (Self.Offset.number len) (bytes self.old) }
         ensures order { big self.new ≡ big self.old };
 
-    /// How many bytes stand in `base` before those that are left here. Requires that those left here are an end of those
-    /// that are left in `base`.
+    /// How many bytes stand in `base` before those that are left here. Requires that those left
+    /// here are an end of those that are left in `base`.
     fn offset_from(&self, base: &Self) -> Self::Offset
         requires { (front : List ℕ) × (bytes base.now ≡ front ++ bytes self.now) }
         ensures { Self.Offset.number result + length (bytes self.now) ≡ length (bytes base.now) };
 
-    /// How many bytes stand before the first such byte. Refused by `UnexpectedEof` where there is none.
+    /// How many bytes stand before the first such byte. Refused by `UnexpectedEof` where there is
+    /// none.
     fn find(&self, byte: u8) -> Result<Self::Offset>
         ensures { result_map Self.Offset.number result ≡ find_at byte (bytes self.now) };
 
@@ -71,14 +83,14 @@ pub trait Reader: Copy {
         ensures order { big self.new ≡ big self.old }
         ensures part { IfOk result (λ part. big part ≡ big self.old) };
 
-    /// The bytes left, lent where they lie in one piece, else copied. Refused only by `OutOfMemory`, where
-    /// the copy found no memory.
+    /// The bytes left, lent where they lie in one piece, else copied. Refused only by
+    /// `OutOfMemory`, where the copy found no memory.
     fn to_slice(&self) -> Result<CowSlice<'_, u8>>
         ensures ok { IfOk result (λ slice. cow_slice_items slice ≡ bytes self.now) }
         ensures err { IfErr result (λ e. e ≡ Error.OutOfMemory) };
 
-    /// Takes as many bytes as the buffer has, into the buffer. Where they are missing, the buffer stays as
-    /// it was too.
+    /// Takes as many bytes as the buffer has, into the buffer. Where they are missing, the buffer
+    /// stays as it was too.
     fn read_slice(&mut self, buf: &mut [u8]) -> Result<()>
         ensures read { (result_map (λ _. buf.new) result, bytes self.new)
             ≡ split_at (length buf.old) (bytes self.old) }
@@ -179,8 +191,8 @@ pub trait Reader: Copy {
         Ok(text)
     }
 
-    /// Takes an unsigned LEB128 number. Refused by `BadUnsignedLeb128` where it doesn't fit 64 bits or has
-    /// more than ten bytes. A refused call has taken the bytes that it looked at.
+    /// Takes an unsigned LEB128 number. Refused by `BadUnsignedLeb128` where it doesn't fit 64 bits
+    /// or has more than ten bytes. A refused call has taken the bytes that it looked at.
     fn read_uleb128(&mut self) -> Result<u64>
         ensures read { (result, bytes self.new) ≡ unsigned_at (bytes self.old) }
         ensures order { big self.new ≡ big self.old }
@@ -200,8 +212,8 @@ pub trait Reader: Copy {
         Ok(with_group(value, last, 9))
     }
 
-    /// Takes an unsigned LEB128 number of 16 bits. Refused by `BadUnsignedLeb128` where it doesn't fit
-    /// them or has more than three bytes. A refused call has taken the bytes that it looked at.
+    /// Takes an unsigned LEB128 number of 16 bits. Refused by `BadUnsignedLeb128` where it doesn't
+    /// fit them or has more than three bytes. A refused call has taken the bytes that it looked at.
     #[tactic(auto, unfolding(crate::specs::Reading::uleb_at))]
     fn read_uleb128_u16(&mut self) -> Result<u16>
         ensures read { (result, bytes self.new) ≡ unsigned_16_at (bytes self.old) }
@@ -223,8 +235,8 @@ pub trait Reader: Copy {
         Ok(low + 128 * 128 * u16::from(third))
     }
 
-    /// Takes a signed LEB128 number. Refused by `BadSignedLeb128` where it doesn't fit 64 bits or has more
-    /// than ten bytes. A refused call has taken the bytes that it looked at.
+    /// Takes a signed LEB128 number. Refused by `BadSignedLeb128` where it doesn't fit 64 bits or
+    /// has more than ten bytes. A refused call has taken the bytes that it looked at.
     fn read_sleb128(&mut self) -> Result<i64>
         ensures read { (result, bytes self.new) ≡ signed_at (bytes self.old) }
         ensures order { big self.new ≡ big self.old }
@@ -241,12 +253,16 @@ pub trait Reader: Copy {
         with_tenth(value, last)
     }
 
-    /// Takes the length of a unit, and says which format it has. Refused by `UnknownReservedLength` at a
-    /// reserved first word, and by `UnsupportedOffset` where the offset type is too narrow. A refused call
-    /// has taken the first word, if it is there, and a length of eight bytes that is too large.
+    /// Takes the length of a unit, and says which format it has. Refused by `UnknownReservedLength`
+    /// at a reserved first word, and by `UnsupportedOffset` where the offset type is too narrow. A
+    /// refused call has taken the first word, if it is there, and a length of eight bytes that is
+    /// too large.
     #[tactic(auto, unfolding(crate::specs::Reading::initial_length_at))]
     fn read_initial_length(&mut self) -> Result<(Self::Offset, Format)>
-        ensures read { (result_map (λ read. (Self.Offset.number read.0, read.1)) result, bytes self.new)
+        ensures read { (
+          result_map (λ read. (Self.Offset.number read.0, read.1)) result,
+          bytes self.new,
+        )
             ≡ initial_length_at (big self.old) Self.Offset.limit (bytes self.old) }
         ensures order { big self.new ≡ big self.old }
     {
@@ -261,8 +277,8 @@ pub trait Reader: Copy {
         Ok((Self::Offset::from_u64(length)?, Format::Dwarf64))
     }
 
-    /// Takes the size of an address. Refused by `UnsupportedAddressSize` where it isn't 1, 2, 4 or 8; the
-    /// byte is taken then too.
+    /// Takes the size of an address. Refused by `UnsupportedAddressSize` where it isn't 1, 2, 4 or
+    /// 8; the byte is taken then too.
     #[tactic(auto, unfolding(crate::specs::Reading::address_size_at))]
     fn read_address_size(&mut self) -> Result<u8>
         ensures read { (result, bytes self.new) ≡ address_size_at (bytes self.old) }
@@ -275,7 +291,8 @@ pub trait Reader: Copy {
         }
     }
 
-    /// Takes an address of `size` bytes. Requires that `size` is 1, 2, 4 or 8, as `read_address_size` gives it.
+    /// Takes an address of `size` bytes. Requires that `size` is 1, 2, 4 or 8, as
+    /// `read_address_size` gives it.
     fn read_address(&mut self, size: u8) -> Result<u64>
         requires { IsTrue (is_address_size size) }
         ensures read { (result, bytes self.new) ≡ number_at (big self.old) size (bytes self.old) }
@@ -298,8 +315,8 @@ pub trait Reader: Copy {
         }
     }
 
-    /// Takes a length of one word of the format. Refused by `UnsupportedOffset` where the offset type is
-    /// too narrow; the word is taken then.
+    /// Takes a length of one word of the format. Refused by `UnsupportedOffset` where the offset
+    /// type is too narrow; the word is taken then.
     #[tactic(auto, unfolding(crate::specs::Reading::word_at))]
     fn read_length(&mut self, format: Format) -> Result<Self::Offset>
         ensures read { (result_map Self.Offset.number result, bytes self.new)
@@ -318,8 +335,8 @@ pub trait Reader: Copy {
         }
     }
 
-    /// Takes an offset of one word of the format. Refused by `UnsupportedOffset` where the offset type is
-    /// too narrow; the word is taken then.
+    /// Takes an offset of one word of the format. Refused by `UnsupportedOffset` where the offset
+    /// type is too narrow; the word is taken then.
     fn read_offset(&mut self, format: Format) -> Result<Self::Offset>
         ensures read { (result_map Self.Offset.number result, bytes self.new)
             ≡ word_at (big self.old) Self.Offset.limit format (bytes self.old) }

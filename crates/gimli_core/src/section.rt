@@ -5,6 +5,13 @@ ghost use Rattle.std.specs.Prelude.{◌≡◌};
 use crate::common::SectionId;
 
 /// A section over a reader of its bytes.
+///
+/// <!-- part of crates/checks_reading/src/headers.rt -->
+/// ```rust
+/// let owned = DebugLine::from(unit(alloc, HEADER, [PROGRAM, b""])?);
+/// let section = owned.borrow(|bytes| NarrowReader::new(alloc, bytes, RunTimeEndian::Little));
+/// check_lookups(rt, alloc, &section)
+/// ```
 pub trait Section<R>: From<R> {
     ghost use Rattle.gimli_core.specs.declared.common.SectionId.{SectionId};
 
@@ -23,5 +30,6 @@ pub trait Section<R>: From<R> {
         ensures { result.now ≡ contents self.now };
 
     /// A section that is made from a reader holds that reader.
-    ghost holds_reader: { (reader : R) (made : Self) → Self.from_gives reader made → contents made ≡ reader };
+    ghost holds_reader: { (reader : R) (made : Self) → Self.from_gives reader made
+        → contents made ≡ reader };
 }

@@ -9,7 +9,9 @@ use Rattle.gimli_index.proofs.Values.{value_at, no_value_at}
 pub numbers_ascend : (index : Index) → AreAscending (starts_of index) → NumbersAscend index
 numbers_ascend index ascending i j lt within =
     let before : i < index.starts = omega arith in
-    let higher = ascending i j (start_at index i) (start_at index j) lt (value_at (start_at index) index.starts i before) (value_at (start_at index) index.starts j within) in
+    let higher =
+    ascending i j (start_at index i) (start_at index j) lt (value_at (start_at index) index.starts i before)
+    (value_at (start_at index) index.starts j within) in
     omega (arith, higher)
 
 -- a start that is there has an index below their number, and is the start of that

@@ -38,7 +38,8 @@ last_above entries ascend k d within =
     ]
 
 -- the base isn't above any of them
-pub base_below : (entries : List Entry) (size : StartSize) → EntriesAscend entries → All (λ (e : Entry). base_for size (first_address entries) ≤ e.address) entries
+pub base_below : (entries : List Entry) (size : StartSize) → EntriesAscend entries
+    → All (λ (e : Entry). base_for size (first_address entries) ≤ e.address) entries
 base_below entries size ascend k d within = omega (arith, first_below entries ascend k d within)
 
 highest_is : (first last : ℕ) → size_for first last ≡ Four → highest_base (size_for first last) ≡ 0xffff_ffff_0000_0000

@@ -17,7 +17,8 @@ all_above : (a : ℕ) (f : ℕ → Start) (n first : ℕ) (current : Option Plac
     → said_from a f n first current ≡ current
 all_above a f zero first current above = refl
 all_above a f (suc n) first current above =
-    ap (said_from a f n (first + 1)) (cond-false (leb (f first).address a) (f first).place current (lt-leb (f first).address a (above first (omega arith) (omega arith))))
+    ap (said_from a f n (first + 1))
+    (cond-false (leb (f first).address a) (f first).place current (lt-leb (f first).address a (above first (omega arith) (omega arith))))
     ∙ all_above a f n (first + 1) current (λ k le lt. above k (omega arith) (omega arith))
 
 last_below : (a : ℕ) (f : ℕ → Start) (n first : ℕ) (current : Option Place) (i : ℕ) → first ≤ i → i < first + n → (f i).address ≤ a

@@ -9,7 +9,8 @@ one_put f xs i x old mid new within is before put =
     put ∙ ap (λ (l : List ℕ). l ++ f x) before ∙ flat_map_more f old (take i xs) x
     ∙ ap (λ l. old ++ flat_map f l) (ap (λ y. take i xs ++ y ∷ []) (sym is) ∙ sym (take_more xs i x within))
 
-pub all_put : {X : Type 0} (f : X → List ℕ) (xs : List X) (i : ℕ) (old new : List ℕ) → length xs ≤ i → new ≡ old ++ flat_map f (take i xs) → new ≡ old ++ flat_map f xs
+pub all_put : {X : Type 0} (f : X → List ℕ) (xs : List X) (i : ℕ) (old new : List ℕ) → length xs ≤ i → new ≡ old ++ flat_map f (take i xs)
+    → new ≡ old ++ flat_map f xs
 all_put f xs i old new end put = put ∙ ap (λ l. old ++ flat_map f l) (take_all i xs end)
 
 -- more bytes after some

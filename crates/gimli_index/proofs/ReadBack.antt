@@ -1,5 +1,7 @@
 -- What is written is read as what it was made of.
-use Rattle.std.proofs.Common.{◌≡◌, ℕ, zero, suc, ◌+◌, ◌-◌, ◌*◌, ◌^◌, ◌<◌, ◌≤◌, Bool, true, false, if◌then◌else◌, nat_lt, List, [], ◌∷◌, ◌++◌, length, take, drop, map, Option, Some, None, Result, Ok, Err, slice_get, refl, sym, ap, ◌∙◌, arith, length-append, append_assoc, inl, inr, subst, nat_eq}
+use Rattle.std.proofs.Common.{◌≡◌, ℕ, zero, suc, ◌+◌, ◌-◌, ◌*◌, ◌^◌, ◌<◌, ◌≤◌, Bool, true, false, if◌then◌else◌, nat_lt, List, [], ◌∷◌, ◌++◌, length, take}
+use Rattle.std.proofs.Common.{drop, map, Option, Some, None, Result, Ok, Err, slice_get, refl, sym, ap, ◌∙◌, arith, length-append, append_assoc, inl, inr}
+use Rattle.std.proofs.Common.{subst, nat_eq}
 use Rattle.std.specs.Prelude.{All, flat_map, slice_range}
 use Rattle.std.specs.Option.{option_map, option_and_then}
 use Rattle.std.proofs.lemmas.Bool.Decides.{nat_tests}
@@ -13,7 +15,8 @@ use Rattle.gimli_index.specs.Parts.{Index, index_at, parts_at, starts_offset, en
 use Rattle.gimli_index.specs.declared.place.NoPath.{NoPath}
 use Rattle.gimli_index.specs.declared.place.NoPath.TheVariants.{Reason}
 use Rattle.gimli_index.specs.Meaning.{AreAscending, Place, Start, path_in, entry_place, place_from, start_at, start_number, starts_of, path_of}
-use Rattle.gimli_index.specs.Contents.{Contents, Fits, FitsLine, FitsPlace, FitsSource, IsNear, entry_start, line_place, line_in, header_bytes, source_bytes, start_bytes, line_bytes, place_bytes, entry_bytes, index_bytes, le_bytes}
+use Rattle.gimli_index.specs.Contents.{Contents, Fits, FitsLine, FitsPlace, FitsSource, IsNear, entry_start, line_place, line_in, header_bytes, source_bytes}
+use Rattle.gimli_index.specs.Contents.{start_bytes, line_bytes, place_bytes, entry_bytes, index_bytes, le_bytes}
 use Rattle.gimli_index.specs.Made.{EntriesAscend, SaysWhat}
 use Rattle.gimli_index.specs.declared.contents.Entry.{Entry}
 use Rattle.gimli_index.specs.declared.contents.Source.{Source}
@@ -47,7 +50,8 @@ fields_by address start base starts sources paths identity =
     base_of start_size base >>= λ base.
     Ok (record { address_size = address_size; start_size = start_size; base = base; starts = starts; sources = sources; paths = paths; identity = identity })
 
-same_fields : (a a' b b' c c' d d' e e' g g' h h' : ℕ) → a ≡ a' → b ≡ b' → c ≡ c' → d ≡ d' → e ≡ e' → g ≡ g' → h ≡ h' → fields_by a b c d e g h ≡ fields_by a' b' c' d' e' g' h'
+same_fields : (a a' b b' c c' d d' e e' g g' h h' : ℕ) → a ≡ a' → b ≡ b' → c ≡ c' → d ≡ d' → e ≡ e' → g ≡ g' → h ≡ h'
+    → fields_by a b c d e g h ≡ fields_by a' b' c' d' e' g' h'
 same_fields a a' b b' c c' d d' e e' g g' h h' p q r s t u v =
     ap (λ x. fields_by x b c d e g h) p
     ∙ ap (λ x. fields_by a' x c d e g h) q
@@ -66,19 +70,25 @@ start_size_is : (size : StartSize) → start_size_of (size_of size) ≡ Ok size
 start_size_is Four = refl
 start_size_is Eight = refl
 
-fields_are : (c : Contents) → Fits c → fields_by c.address_size (size_of c.start_size) c.base (length c.entries) (length c.sources) (length c.paths) (length c.identity) ≡ Ok (header_of c)
+fields_are : (c : Contents) → Fits c
+    → fields_by c.address_size (size_of c.start_size) c.base (length c.entries) (length c.sources) (length c.paths) (length c.identity) ≡ Ok (header_of c)
 fields_are c fits =
     let starts = length c.entries in
     let sources = length c.sources in
     let paths = length c.paths in
     let identity = length c.identity in
-    let address : address_size_of c.address_size ≡ Ok c.address_size = ap (λ (b : Bool). if b then Ok c.address_size else Err (AddressSize c.address_size)) fits.address_size in
+    let address : address_size_of c.address_size
+    ≡ Ok c.address_size = ap (λ (b : Bool). if b then Ok c.address_size else Err (AddressSize c.address_size)) fits.address_size in
     ap (λ (r : Result ℕ IndexError). r >>= λ address_size. start_size_of (size_of c.start_size) >>= λ start_size. base_of start_size c.base >>= λ base.
-    Ok (record { address_size = address_size; start_size = start_size; base = base; starts = starts; sources = sources; paths = paths; identity = identity })) address
+    Ok (record { address_size = address_size; start_size = start_size; base = base; starts = starts; sources = sources; paths = paths; identity = identity }))
+    address
     ∙ ap (λ (r : Result StartSize IndexError). r >>= λ start_size. base_of start_size c.base >>= λ base.
-    Ok (record { address_size = c.address_size; start_size = start_size; base = base; starts = starts; sources = sources; paths = paths; identity = identity })) (start_size_is c.start_size)
+    Ok (record { address_size = c.address_size; start_size = start_size; base = base; starts = starts; sources = sources; paths = paths; identity = identity }))
+    (start_size_is c.start_size)
     ∙ ap (λ (r : Result ℕ IndexError). r >>= λ base.
-    Ok (record { address_size = c.address_size; start_size = c.start_size; base = base; starts = starts; sources = sources; paths = paths; identity = identity })) (base_fits c.start_size c.base fits.base)
+    Ok
+    (record { address_size = c.address_size; start_size = c.start_size; base = base; starts = starts; sources = sources; paths = paths; identity = identity }))
+    (base_fits c.start_size c.base fits.base)
 
 size_fits : (size : StartSize) → size_of size < 256 ^ 2
 size_fits Four = omega arith
@@ -165,7 +175,8 @@ index_of_parts c sources starts entries paths identity = record (index_of_conten
   identity = identity;
 }
 
-same_parts : (c : Contents) (a a' b b' d d' e e' g g' : List ℕ) → a ≡ a' → b ≡ b' → d ≡ d' → e ≡ e' → g ≡ g' → index_of_parts c a b d e g ≡ index_of_parts c a' b' d' e' g'
+same_parts : (c : Contents) (a a' b b' d d' e e' g g' : List ℕ) → a ≡ a' → b ≡ b' → d ≡ d' → e ≡ e' → g ≡ g'
+    → index_of_parts c a b d e g ≡ index_of_parts c a' b' d' e' g'
 same_parts c a a' b b' d d' e e' g g' p q r s t =
     ap (λ x. index_of_parts c x b d e g) p
     ∙ ap (λ x. index_of_parts c a' x d e g) q
@@ -180,14 +191,17 @@ tail_of c rest = sources_part c ++ (starts_part c ++ (entries_part c ++ (c.paths
 bytes_are : (c : Contents) (rest : List ℕ) → index_bytes c ++ rest ≡ header_bytes c ++ tail_of c rest
 bytes_are c rest = grouped (header_bytes c) (sources_part c) (starts_part c) (entries_part c) c.paths c.identity rest
 
-part_lengths : (c : Contents) → (length (sources_part c) ≡ 24 * length c.sources) × (length (starts_part c) ≡ size_of c.start_size * length c.entries) × (length (entries_part c) ≡ 12 * length c.entries)
+part_lengths : (c : Contents)
+    → (length (sources_part c) ≡ 24 * length c.sources) × (length (starts_part c) ≡ size_of c.start_size * length c.entries)
+    × (length (entries_part c) ≡ 12 * length c.entries)
 part_lengths c = (
   elements_length source_bytes 24 source_length c.sources,
   elements_length (start_bytes c.start_size c.base) (size_of c.start_size) (start_length c.start_size c.base) c.entries,
   elements_length entry_bytes 12 entry_length c.entries,
 )
 
-whole_length : (h s t e p i r : List ℕ) → length (h ++ (s ++ (t ++ (e ++ (p ++ (i ++ r)))))) ≡ length h + length s + length t + length e + length p + length i + length r
+whole_length : (h s t e p i r : List ℕ)
+    → length (h ++ (s ++ (t ++ (e ++ (p ++ (i ++ r)))))) ≡ length h + length s + length t + length e + length p + length i + length r
 whole_length h s t e p i r = omega (
   arith,
   length-append h (s ++ (t ++ (e ++ (p ++ (i ++ r))))),
@@ -208,10 +222,15 @@ parts_by c h s t e p i r in_header in_sources in_starts in_entries in_paths in_i
     let all = whole_length h s t e p i r in
     let enough : end_offset header ≤ length flat = omega (arith, all) in
     let whole : nat_lt (length flat) (end_offset header) ≡ false = grind (arith, nat_tests) in
-    ap (λ (b : Bool). if b then Err Cut else Ok (index_of_parts c (slice_range flat 40 (starts_offset header)) (slice_range flat (starts_offset header) (entries_offset header))
-    (slice_range flat (entries_offset header) (paths_offset header)) (slice_range flat (paths_offset header) (identity_offset header)) (slice_range flat (identity_offset header) (end_offset header)))) whole
-    ∙ ap (λ (index : Index). Ok index) (same_parts c (slice_range flat 40 (starts_offset header)) s (slice_range flat (starts_offset header) (entries_offset header)) t
-    (slice_range flat (entries_offset header) (paths_offset header)) e (slice_range flat (paths_offset header) (identity_offset header)) p (slice_range flat (identity_offset header) (end_offset header)) i
+    ap (λ (b : Bool).
+    if b then Err Cut else Ok (index_of_parts c (slice_range flat 40 (starts_offset header)) (slice_range flat (starts_offset header) (entries_offset header))
+    (slice_range flat (entries_offset header) (paths_offset header)) (slice_range flat (paths_offset header) (identity_offset header))
+    (slice_range flat (identity_offset header) (end_offset header))))
+    whole
+    ∙ ap (λ (index : Index). Ok index)
+    (same_parts c (slice_range flat 40 (starts_offset header)) s (slice_range flat (starts_offset header) (entries_offset header)) t
+    (slice_range flat (entries_offset header) (paths_offset header)) e (slice_range flat (paths_offset header) (identity_offset header)) p
+    (slice_range flat (identity_offset header) (end_offset header)) i
     (second_part h s (t ++ (e ++ (p ++ (i ++ r)))) 40 (starts_offset header) (omega arith) (omega arith))
     (third_part h s t (e ++ (p ++ (i ++ r))) (starts_offset header) (entries_offset header) (omega arith) (omega arith))
     (fourth_part h s t e (p ++ (i ++ r)) (entries_offset header) (paths_offset header) (omega arith) (omega arith))
@@ -221,7 +240,8 @@ parts_by c h s t e p i r in_header in_sources in_starts in_entries in_paths in_i
 parts_read : (c : Contents) (rest : List ℕ) → parts_at (header_bytes c ++ tail_of c rest) (header_of c) ≡ Ok (index_of_contents c)
 parts_read c rest =
     let lengths = part_lengths c in
-    parts_by c (header_bytes c) (sources_part c) (starts_part c) (entries_part c) c.paths c.identity rest (header_length c) lengths.0 lengths.1 lengths.2 refl refl
+    parts_by c (header_bytes c) (sources_part c) (starts_part c) (entries_part c) c.paths c.identity rest (header_length c) lengths.0 lengths.1 lengths.2 refl
+    refl
 
 -- ---- the starts
 
@@ -248,7 +268,14 @@ source_read paths l s rest more fits source_fits =
     let first : number_at 4 8 (source_bytes s ++ more) ≡ s.first = number_read 4 s.first (omega (arith, source_fits.1)) in
     let size : number_at 4 12 (source_bytes s ++ more) ≡ s.size = number_read 4 s.size (omega (arith, source_fits.2)) in
     let reason : number_at 4 16 (source_bytes s ++ more) ≡ s.reason = number_read 4 s.reason (omega (arith, source_fits.3)) in
-    ap (λ n. record { path = path_of paths (source_bytes s ++ more); line = n; column = number_at 4 8 (line_bytes l ++ rest); unit = number_at 8 0 (source_bytes s ++ more) }) line
+    ap
+    (λ n. record {
+      path = path_of paths (source_bytes s ++ more);
+      line = n;
+      column = number_at 4 8 (line_bytes l ++ rest);
+      unit = number_at 8 0 (source_bytes s ++ more);
+    })
+    line
     ∙ ap (λ n. record { path = path_of paths (source_bytes s ++ more); line = l.line; column = n; unit = number_at 8 0 (source_bytes s ++ more) }) column
     ∙ ap (λ n. record { path = path_of paths (source_bytes s ++ more); line = l.line; column = l.column; unit = n }) unit
     ∙ ap (λ path. record { path = path; line = l.line; column = l.column; unit = s.unit }) (
@@ -260,7 +287,8 @@ source_read paths l s rest more fits source_fits =
     by_numbers reason first size = if nat_eq reason 0 then path_in paths first size else Err (Reason reason)
 
 -- the place of a line, by the source that its number names
-place_read : (c : Contents) (l : SourceLine) (rest : List ℕ) → FitsLine l → All FitsSource c.sources → entry_place (index_of_contents c) (line_bytes l ++ rest) ≡ line_place c l
+place_read : (c : Contents) (l : SourceLine) (rest : List ℕ) → FitsLine l → All FitsSource c.sources
+    → entry_place (index_of_contents c) (line_bytes l ++ rest) ≡ line_place c l
 place_read c l rest fits sources =
     let named : number_at 4 0 (line_bytes l ++ rest) ≡ l.source = number_read 4 l.source (omega (arith, fits.0)) in
     ap (λ n. by_number n) named ∙ elim ((slice_get_cases c.sources l.source).1) [

@@ -1,5 +1,6 @@
 -- Parts of bytes that were put one after the other.
-use Rattle.std.proofs.Common.{◌≡◌, ℕ, zero, suc, ◌+◌, ◌-◌, ◌*◌, List, [], ◌∷◌, ◌++◌, length, take, drop, map, Some, slice_get, refl, sym, ap, ◌∙◌, arith, length-append}
+use Rattle.std.proofs.Common.{◌≡◌, ℕ, zero, suc, ◌+◌, ◌-◌, ◌*◌, List, [], ◌∷◌, ◌++◌, length, take, drop, map, Some, slice_get, refl, sym, ap, ◌∙◌, arith}
+use Rattle.std.proofs.Common.{length-append}
 use Rattle.std.proofs.Math.Seq.{drop-append-add, take-append_seam}
 use Rattle.std.specs.Prelude.{flat_map, slice_range}
 use Rattle.std.specs.List.{range_with_len}
@@ -51,7 +52,8 @@ pub second_part : (a b r : List ℕ) (from to : ℕ) → from ≡ length a → t
 second_part a b r from to first end =
     after_bytes a (b ++ r) from to 0 (length b) (omega arith) end ∙ first_bytes b r (length b) refl
 
-pub third_part : (a b c r : List ℕ) (from to : ℕ) → from ≡ length a + length b → to ≡ length a + length b + length c → slice_range (a ++ (b ++ (c ++ r))) from to ≡ c
+pub third_part : (a b c r : List ℕ) (from to : ℕ) → from ≡ length a + length b → to ≡ length a + length b + length c
+    → slice_range (a ++ (b ++ (c ++ r))) from to ≡ c
 third_part a b c r from to first end =
     after_bytes a (b ++ (c ++ r)) from to (length b) (length b + length c) first (omega arith) ∙ second_part b c r (length b) (length b + length c) refl refl
 
@@ -61,7 +63,8 @@ fourth_part a b c d r from to first end =
     after_bytes a (b ++ (c ++ (d ++ r))) from to (length b + length c) (length b + length c + length d) (omega arith) (omega arith)
     ∙ third_part b c d r (length b + length c) (length b + length c + length d) refl refl
 
-pub fifth_part : (a b c d e r : List ℕ) (from to : ℕ) → from ≡ length a + length b + length c + length d → to ≡ length a + length b + length c + length d + length e
+pub fifth_part : (a b c d e r : List ℕ) (from to : ℕ) → from ≡ length a + length b + length c + length d
+    → to ≡ length a + length b + length c + length d + length e
     → slice_range (a ++ (b ++ (c ++ (d ++ (e ++ r))))) from to ≡ e
 fifth_part a b c d e r from to first end =
     after_bytes a (b ++ (c ++ (d ++ (e ++ r)))) from to (length b + length c + length d) (length b + length c + length d + length e) (omega arith) (omega arith)
@@ -70,6 +73,7 @@ fifth_part a b c d e r from to first end =
 pub sixth_part : (a b c d e g r : List ℕ) (from to : ℕ) → from ≡ length a + length b + length c + length d + length e
     → to ≡ length a + length b + length c + length d + length e + length g → slice_range (a ++ (b ++ (c ++ (d ++ (e ++ (g ++ r)))))) from to ≡ g
 sixth_part a b c d e g r from to first end =
-    after_bytes a (b ++ (c ++ (d ++ (e ++ (g ++ r))))) from to (length b + length c + length d + length e) (length b + length c + length d + length e + length g)
+    after_bytes a (b ++ (c ++ (d ++ (e ++ (g ++ r))))) from to (length b + length c + length d + length e)
+    (length b + length c + length d + length e + length g)
     (omega arith) (omega arith)
     ∙ fifth_part b c d e g r (length b + length c + length d + length e) (length b + length c + length d + length e + length g) refl refl

@@ -1,5 +1,7 @@
 -- What an index is made of, and its bytes (docs/INDEX.md).
-use Rattle.std.specs.Prelude.{◌≡◌, ◌≤◌, ◌<◌, ℕ, ◌+◌, ◌-◌, ◌^◌, true, false, List, ◌++◌, length, flat_map, slice_get, nat_eq, if◌then◌else◌, Option, Some, None, Result, Err, All}
+use Rattle.std.specs.Prelude.{◌≡◌, ◌≤◌, ◌<◌, ℕ, ◌+◌, ◌-◌, ◌^◌, true, false, List, ◌++◌, length}
+use Rattle.std.specs.Prelude.{flat_map, slice_get, nat_eq, if◌then◌else◌, Option, Some, None}
+use Rattle.std.specs.Prelude.{Result, Err, All}
 use Rattle.std.specs.Option.{option_map, option_and_then}
 use Rattle.gimli_core.specs.Numbers.{is_address_size, number_bytes}
 use Rattle.gimli_index.specs.Header.{magic, size_of, highest_base}
@@ -23,10 +25,16 @@ pub record Contents : Type 0 where
 -- ---- what they mean
 
 abbrev pub source_path : List ℕ → Source → Result (List ℕ) NoPath
-source_path paths s = if nat_eq s.reason 0 then path_in paths s.first s.size else Err (Reason s.reason)
+source_path paths s =
+    if nat_eq s.reason 0 then path_in paths s.first s.size else Err (Reason s.reason)
 
 abbrev pub line_in : List ℕ → SourceLine → Source → Place
-line_in paths l s = record { path = source_path paths s; line = l.line; column = l.column; unit = s.unit }
+line_in paths l s = record {
+  path = source_path paths s;
+  line = l.line;
+  column = l.column;
+  unit = s.unit;
+}
 
 -- the place of a line, if there is a source of its number
 abbrev pub line_place : Contents → SourceLine → Option Place
@@ -54,7 +62,9 @@ header_bytes c =
     ++ le_bytes 4 (length c.identity)
 
 abbrev pub source_bytes : Source → List ℕ
-source_bytes s = le_bytes 8 s.unit ++ le_bytes 4 s.first ++ le_bytes 4 s.size ++ le_bytes 4 s.reason ++ le_bytes 4 0
+source_bytes s =
+    le_bytes 8 s.unit ++ le_bytes 4 s.first ++ le_bytes 4 s.size ++ le_bytes 4 s.reason
+    ++ le_bytes 4 0
 
 -- a start, as far as it is above the base
 abbrev pub start_bytes : StartSize → ℕ → Entry → List ℕ

@@ -1,11 +1,19 @@
 -- The header of an index: its first 40 bytes (docs/INDEX.md, "Header").
-use Rattle.std.specs.Prelude.{ℕ, List, [], ◌∷◌, length, nat_eq, nat_lt, not, if◌then◌else◌, Result, Ok, Err}
+use Rattle.std.specs.Prelude.{ℕ, List, [], ◌∷◌, length, nat_eq, nat_lt, not, if◌then◌else◌, Result}
+use Rattle.std.specs.Prelude.{Ok, Err}
 use Rattle.std.specs.List.{starts_with}
 use Rattle.gimli_core.specs.Numbers.{is_address_size}
 use Rattle.gimli_index.specs.Numbers.{number_at}
 use Rattle.gimli_index.specs.Steps.{◌>>=◌}
 use Rattle.gimli_index.specs.declared.error.IndexError.{IndexError}
-use Rattle.gimli_index.specs.declared.error.IndexError.TheVariants.{NotIndex, HeaderCut, Version, AddressSize, StartSize as UnknownStartSize, Base}
+use Rattle.gimli_index.specs.declared.error.IndexError.TheVariants.{
+  NotIndex,
+  HeaderCut,
+  Version,
+  AddressSize,
+  StartSize as UnknownStartSize,
+  Base,
+}
 use Rattle.gimli_index.specs.declared.header.Header.{Header}
 use Rattle.gimli_index.specs.declared.header.StartSize.{StartSize}
 use Rattle.gimli_index.specs.declared.header.StartSize.TheVariants.{Four, Eight}

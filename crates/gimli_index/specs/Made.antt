@@ -1,5 +1,6 @@
 -- The index of a list of entries, and what keeps it from being made.
-use Rattle.std.specs.Prelude.{◌≡◌, ◌≤◌, ◌<◌, ℕ, ◌-◌, ◌^◌, min, nat_lt, if◌then◌else◌, List, length, map, slice_get, unwrap_or, Some, Result, Ok}
+use Rattle.std.specs.Prelude.{◌≡◌, ◌≤◌, ◌<◌, ℕ, ◌-◌, ◌^◌, min, nat_lt, if◌then◌else◌, List, length}
+use Rattle.std.specs.Prelude.{map, slice_get, unwrap_or, Some, Result, Ok}
 use Rattle.std.specs.Option.{option_map}
 use Rattle.gimli_index.specs.Header.{highest_base}
 use Rattle.gimli_index.specs.Parts.{Index}
@@ -9,20 +10,25 @@ use Rattle.gimli_index.specs.declared.contents.Contents.{Contents as Made}
 use Rattle.gimli_index.specs.declared.contents.Entry.{Entry}
 use Rattle.gimli_index.specs.declared.error.IndexError.{IndexError}
 use Rattle.gimli_index.specs.declared.error.MakeError.{MakeError}
-use Rattle.gimli_index.specs.declared.error.MakeError.TheVariants.{NotAscending, TooManyEntries, TooManySources, PathsTooLarge, IdentityTooLarge, OutOfMemory}
+use Rattle.gimli_index.specs.declared.error.MakeError.TheVariants.{NotAscending, TooManyEntries}
+use Rattle.gimli_index.specs.declared.error.MakeError.TheVariants.{TooManySources, PathsTooLarge}
+use Rattle.gimli_index.specs.declared.error.MakeError.TheVariants.{IdentityTooLarge, OutOfMemory}
 use Rattle.gimli_index.specs.declared.header.StartSize.{StartSize}
 use Rattle.gimli_index.specs.declared.header.StartSize.TheVariants.{Four, Eight}
 
 -- each entry has a higher address than those before it
 abbrev pub EntriesAscend : List Entry → Type 0
-EntriesAscend entries = (i j : ℕ) (x y : Entry) → i < j → slice_get entries i ≡ Some x → slice_get entries j ≡ Some y → x.address < y.address
+EntriesAscend entries =
+    (i j : ℕ) (x y : Entry) → i < j → slice_get entries i ≡ Some x → slice_get entries j ≡ Some y
+    → x.address < y.address
 
 -- the first and the last address; 0 where there are no entries
 abbrev pub first_address : List Entry → ℕ
 first_address entries = unwrap_or (option_map (λ e. e.address) (slice_get entries 0)) 0
 
 abbrev pub last_address : List Entry → ℕ
-last_address entries = unwrap_or (option_map (λ e. e.address) (slice_get entries (length entries - 1))) 0
+last_address entries =
+    unwrap_or (option_map (λ e. e.address) (slice_get entries (length entries - 1))) 0
 
 -- four bytes where the addresses aren't further apart
 abbrev pub size_for : ℕ → ℕ → StartSize

@@ -1,5 +1,7 @@
 -- What an index says: from some addresses on a place holds, or nothing (docs/INDEX.md, "Starts").
-use Rattle.std.specs.Prelude.{◌≡◌, ℕ, ◌+◌, ◌*◌, ◌<◌, List, map, fold, length, drop, slice_get, slice_range, nat_eq, nat_le, nat_lt, if◌then◌else◌, Option, Some, None, Result, Ok, Err}
+use Rattle.std.specs.Prelude.{◌≡◌, ℕ, ◌+◌, ◌*◌, ◌<◌, List, map, fold, length, drop, slice_get}
+use Rattle.std.specs.Prelude.{slice_range, nat_eq, nat_le, nat_lt, if◌then◌else◌, Option, Some}
+use Rattle.std.specs.Prelude.{None, Result, Ok, Err}
 use Rattle.std.specs.List.{range_with_len}
 use Rattle.gimli_index.specs.Numbers.{number_at}
 use Rattle.gimli_index.specs.Header.{size_of}
@@ -31,19 +33,23 @@ place_at a starts = fold (λ current s. if nat_le s.address a then s.place else 
 
 -- each start has a higher address than those before it
 abbrev pub AreAscending : List Start → Type 0
-AreAscending starts = (i j : ℕ) (x y : Start) → i < j → slice_get starts i ≡ Some x → slice_get starts j ≡ Some y → x.address < y.address
+AreAscending starts =
+    (i j : ℕ) (x y : Start) → i < j → slice_get starts i ≡ Some x → slice_get starts j ≡ Some y
+    → x.address < y.address
 
 -- ---- the starts of an index
 
 -- the path in these bytes of the part of paths, where it has them
 abbrev pub path_in : List ℕ → ℕ → ℕ → Result (List ℕ) NoPath
 path_in paths first size =
-    if nat_lt (length paths) (first + size) then Err Outside else Ok (slice_range paths first (first + size))
+    if nat_lt (length paths) (first + size) then Err Outside
+    else Ok (slice_range paths first (first + size))
 
 -- the path of a source, unless it has the number of a reason
 abbrev pub path_of : List ℕ → List ℕ → Result (List ℕ) NoPath
 path_of paths source =
-    if nat_eq (number_at 4 16 source) 0 then path_in paths (number_at 4 8 source) (number_at 4 12 source)
+    if nat_eq (number_at 4 16 source) 0
+    then path_in paths (number_at 4 8 source) (number_at 4 12 source)
     else Err (Reason (number_at 4 16 source))
 
 -- the bytes from a source on
@@ -67,7 +73,8 @@ entry_place index entry =
 
 -- how far above the base a start is
 abbrev pub start_number : Index → ℕ → ℕ
-start_number index i = number_at (size_of index.start_size) (size_of index.start_size * i) index.start_bytes
+start_number index i =
+    number_at (size_of index.start_size) (size_of index.start_size * i) index.start_bytes
 
 abbrev pub start_at : Index → ℕ → Start
 start_at index i = record {

@@ -1,5 +1,6 @@
 -- The parts of an index after its header, one after the other (docs/INDEX.md, "Parts").
-use Rattle.std.specs.Prelude.{ℕ, ◌+◌, ◌*◌, List, length, nat_lt, slice_range, if◌then◌else◌, Result, Ok, Err}
+use Rattle.std.specs.Prelude.{ℕ, ◌+◌, ◌*◌, List, length, nat_lt, slice_range, if◌then◌else◌, Result}
+use Rattle.std.specs.Prelude.{Ok, Err}
 use Rattle.gimli_index.specs.Steps.{◌>>=◌}
 use Rattle.gimli_index.specs.Header.{header_at, size_of}
 use Rattle.gimli_index.specs.declared.error.IndexError.{IndexError}

@@ -8,7 +8,8 @@ use Rattle.gimli_index.specs.declared.place.NoPath.TheVariants.{Outside}
 
 -- the path of each source is one of the bytes of paths, or has a reason
 abbrev pub ArePathsInside : Index → Type 0
-ArePathsInside index = (k : ℕ) → k < index.sources → path_of index.path_bytes (source_at index k) ≡ Err Outside → ⊥
+ArePathsInside index =
+    (k : ℕ) → k < index.sources → path_of index.path_bytes (source_at index k) ≡ Err Outside → ⊥
 
 pub record IsSound (index : Index) : Type 0 where
   pub ascending : AreAscending (starts_of index)

@@ -23,6 +23,16 @@ const NO_SOURCE: u32 = 0xffff_ffff;
 const MOST: usize = 0xffff_ffff;
 
 /// A file of a unit, which entries name by its index.
+///
+/// <!-- part of crates/uses/src/index.rt -->
+/// ```rust
+/// let source = Source {
+///     unit: 0,
+///     first: 0,
+///     size: 6,
+///     reason: 0,
+/// };
+/// ```
 #[derive(Clone, Copy, Debug, PartialEq, Eq)]
 pub struct Source {
     /// The offset in `.debug_line` of the unit.
@@ -36,6 +46,15 @@ pub struct Source {
 }
 
 /// A line of a source.
+///
+/// <!-- part of crates/uses/src/index.rt -->
+/// ```rust
+/// let place = SourceLine {
+///     source: 0,
+///     line,
+///     column: 0,
+/// };
+/// ```
 #[derive(Clone, Copy, Debug, PartialEq, Eq)]
 pub struct SourceLine {
     /// The index of the source.
@@ -47,6 +66,14 @@ pub struct SourceLine {
 }
 
 /// What holds from an address on, up to that of the next entry.
+///
+/// <!-- part of crates/uses/src/index.rt -->
+/// ```rust
+/// Entry {
+///     address,
+///     place: Some(place),
+/// }
+/// ```
 #[derive(Clone, Copy, Debug, PartialEq, Eq)]
 pub struct Entry {
     /// The first address.
@@ -56,6 +83,18 @@ pub struct Entry {
 }
 
 /// What an index is made of.
+///
+/// <!-- part of crates/uses/src/index.rt -->
+/// ```rust
+///     address_size: 8,
+///     sources: &[source],
+///     entries: &entries,
+///     paths: PATH,
+///     identity: b"build 1",
+/// };
+/// let mut bytes = Vec::new(alloc);
+/// contents.write(&mut bytes)?;
+/// ```
 #[derive(Clone, Copy, Debug)]
 pub struct Contents<'a> {
     /// The bytes of an address.

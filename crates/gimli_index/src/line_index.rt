@@ -23,6 +23,14 @@ const ENTRY_SIZE: usize = 12;
 const SOURCE_SIZE: usize = 24;
 
 /// An index of the lines of a program, as it lies in its bytes. Any number of threads may ask one.
+///
+/// <!-- part of crates/uses/src/index.rt -->
+/// ```rust
+/// match index.find(address) {
+///     Some(place) => print_place(address, place, text)?,
+///     None => writeln!(text, "{address:#x} ??")?,
+/// }
+/// ```
 #[derive(Clone, Copy, Debug)]
 pub struct LineIndex<'a> {
     address_size: u16,

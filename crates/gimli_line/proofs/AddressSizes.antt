@@ -17,7 +17,8 @@ above_four n known large = at (nat_eq n 1) (nat_eq n 2) (nat_eq n 4) (nat_eq n 8
     at false false false false one two four eight k = absurd cc
 
 -- there each sum that doesn't wrap fits
-pub sum_fits : (address length size sum : ℕ) → IsTrue (is_address_size size) → 4 < size → length < 2 ^ 64 → sum ≡ (address + length) % 2 ^ 64 → address ≤ sum → address < 2 ^ 64 → Ok sum ≡ sized_sum address length size
+pub sum_fits : (address length size sum : ℕ) → IsTrue (is_address_size size) → 4 < size → length < 2 ^ 64 → sum ≡ (address + length) % 2 ^ 64 → address ≤ sum
+    → address < 2 ^ 64 → Ok sum ≡ sized_sum address length size
 sum_fits address length size sum known large short is not_wrapped below =
     let fits : address + length < 2 ^ 64 = omega (arith, is, not_wrapped, short, below) in
     let whole : sum ≡ address + length = omega (arith, is, fits) in

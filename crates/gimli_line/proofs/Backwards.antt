@@ -2,10 +2,14 @@
 use Rattle.std.proofs.Common.{◌≡◌, Bool, true, false, not, if◌then◌else◌, List, [], ◌∷◌, ◌++◌, refl, sym, ap, ◌∙◌}
 use Rattle.std.specs.List.{list_any}
 use Rattle.gimli_line.specs.declared.run.row.LineRow.{LineRow}
-use Rattle.gimli_line.specs.declared.run.instruction.LineInstruction.TheVariants.{Special, Copy, AdvancePc, AdvanceLine, SetFile, SetColumn, NegateStatement, SetBasicBlock, ConstAddPc, FixedAddPc, SetPrologueEnd, SetEpilogueBegin, SetIsa, UnknownStandard0, UnknownStandard1, UnknownStandardN, EndSequence, SetAddress, DefineFile, SetDiscriminator, UnknownExtended}
+use Rattle.gimli_line.specs.declared.run.instruction.LineInstruction.TheVariants.{Special, Copy, AdvancePc, AdvanceLine, SetFile, SetColumn, NegateStatement}
+use Rattle.gimli_line.specs.declared.run.instruction.LineInstruction.TheVariants.{SetBasicBlock, ConstAddPc, FixedAddPc, SetPrologueEnd, SetEpilogueBegin}
+use Rattle.gimli_line.specs.declared.run.instruction.LineInstruction.TheVariants.{SetIsa, UnknownStandard0, UnknownStandard1, UnknownStandardN, EndSequence}
+use Rattle.gimli_line.specs.declared.run.instruction.LineInstruction.TheVariants.{SetAddress, DefineFile, SetDiscriminator, UnknownExtended}
 use Rattle.gimli_line.specs.header.Parameters.{Parameters}
 use Rattle.gimli_line.specs.run.Instruction.{Ins, makes_row}
-use Rattle.gimli_line.specs.run.Registers.{sequence, nearest, is_odd, negates_statement, sets_basic_block, sets_prologue_end, sets_epilogue_begin, discriminator_operand, file_at, column_at, isa_at, is_stmt_at, line_after}
+use Rattle.gimli_line.specs.run.Registers.{sequence, nearest, is_odd, negates_statement, sets_basic_block, sets_prologue_end, sets_epilogue_begin}
+use Rattle.gimli_line.specs.run.Registers.{discriminator_operand, file_at, column_at, isa_at, is_stmt_at, line_after}
 use Rattle.gimli_line.specs.run.OperationPointer.{pointer_at, is_under_tombstone, overflows, since_last_row}
 use Rattle.gimli_line.specs.run.Events.{Event, row, row_at, events_after}
 use Rattle.gimli_line.specs.run.Machine.{initial, reset_row, step_of, run}
@@ -37,7 +41,8 @@ turned true false = refl
 turned false d = refl
 
 -- an instruction that gives no event
-pub goes_on : (h : Parameters) (past : List Ins) (i : Ins) → overflows h past i ≡ false → makes_row i ≡ false → step_of h i (registers h past) ≡ registers h (i ∷ past)
+pub goes_on : (h : Parameters) (past : List Ins) (i : Ins) → overflows h past i ≡ false → makes_row i ≡ false
+    → step_of h i (registers h past) ≡ registers h (i ∷ past)
 goes_on h past (Special o) fits quiet = absurd cc
 goes_on h past Copy fits quiet = absurd cc
 goes_on h past EndSequence fits quiet = absurd cc
@@ -45,7 +50,8 @@ goes_on h past (AdvancePc n) fits quiet = rw fits refl
 goes_on h past (AdvanceLine v) fits quiet = refl
 goes_on h past (SetFile n) fits quiet = refl
 goes_on h past (SetColumn n) fits quiet = refl
-goes_on h past NegateStatement fits quiet = ap (λ (b : Bool). record (registers h past) { is_stmt = b }) (turned (is_odd negates_statement (sequence past)) h.line_encoding.default_is_stmt)
+goes_on h past NegateStatement fits quiet =
+    ap (λ (b : Bool). record (registers h past) { is_stmt = b }) (turned (is_odd negates_statement (sequence past)) h.line_encoding.default_is_stmt)
 goes_on h past SetBasicBlock fits quiet = refl
 goes_on h past ConstAddPc fits quiet = rw fits refl
 goes_on h past (FixedAddPc n) fits quiet = rw fits refl
@@ -76,7 +82,8 @@ goes_past h past (FixedAddPc n) large = rw large refl
 goes_past h past i large = absurd cc
 
 -- the row that the machine makes where it isn't under a tombstone
-pub row_is : (h : Parameters) (past : List Ins) (i : Ins) → makes_row i ≡ true → is_under_tombstone h past ≡ false → step_of h i (registers h past) ≡ row_at h past i
+pub row_is : (h : Parameters) (past : List Ins) (i : Ins) → makes_row i ≡ true → is_under_tombstone h past ≡ false
+    → step_of h i (registers h past) ≡ row_at h past i
 row_is h past (Special o) loud seen = rw seen refl
 row_is h past Copy loud seen = rw seen refl
 row_is h past EndSequence loud seen = rw seen refl
@@ -90,7 +97,8 @@ made h past i es loud false e = rw (row_is h past i loud e) refl
 run_at : (h : Parameters) (past : List Ins) (i : Ins) (list : List Ins) → run h (registers h (i ∷ past)) list ≡ events_after h (i ∷ past) list
     → (o m : Bool) → overflows h past i ≡ o → makes_row i ≡ m → run h (registers h past) (i ∷ list) ≡ events_after h past (i ∷ list)
 run_at h past i list rest true m large loud = rw (large, goes_past h past i large, rest) refl
-run_at h past i list rest false true fits loud = rw (fits, loud, starts_anew h past i loud, rest) (made h past i (events_after h (i ∷ past) list) loud (is_under_tombstone h past) refl)
+run_at h past i list rest false true fits loud =
+    rw (fits, loud, starts_anew h past i loud, rest) (made h past i (events_after h (i ∷ past) list) loud (is_under_tombstone h past) refl)
 run_at h past i list rest false false fits quiet = rw (fits, quiet, goes_on h past i fits quiet, rest) refl
 
 -- a run from the registers of a point gives the events from there on

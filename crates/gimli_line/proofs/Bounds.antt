@@ -1,6 +1,7 @@
 -- A table of version 5 has no more entries than bytes stand after their count, and the tables of a header have no more
 -- than it has bytes.
-use Rattle.std.proofs.Common.{◌≡◌, ◌≢◌, ℕ, zero, suc, ◌+◌, ◌<◌, ◌≤◌, Bool, true, false, List, [], ◌∷◌, length, Option, Some, None, refl, sym, ap, subst, ◌∙◌, arith, inl, inr, IsTrue}
+use Rattle.std.proofs.Common.{◌≡◌, ◌≢◌, ℕ, zero, suc, ◌+◌, ◌<◌, ◌≤◌, Bool, true, false, List, [], ◌∷◌, length, Option, Some, None, refl, sym, ap, subst, ◌∙◌}
+use Rattle.std.proofs.Common.{arith, inl, inr, IsTrue}
 use Rattle.std.specs.List.{AllByRecursion}
 use Rattle.std.specs.Prelude.{nat_eq, nat_le, count_by}
 use Rattle.std.proofs.lemmas.Bool.Decides.{eqb_tells}
@@ -10,7 +11,8 @@ use Rattle.gimli_core.specs.Numbers.{Groups, word_size}
 use Rattle.gimli_core.specs.declared.error.Error.TheVariants.{UnknownForm}
 use Rattle.gimli_core.specs.Values.{Value}
 use Rattle.gimli_core.specs.Production.{Production, Each, times, refuse, choose}
-use Rattle.gimli_core.specs.Form.{Shape, fixed, three_bytes, word_offset, leb, signed_leb, leb_offset, block, counted, leb_counted, string, shape_among, shapes, shape_production, form_production}
+use Rattle.gimli_core.specs.Form.{Shape, fixed, three_bytes, word_offset, leb, signed_leb, leb_offset, block, counted, leb_counted, string, shape_among, shapes}
+use Rattle.gimli_core.specs.Form.{shape_production, form_production}
 use Rattle.gimli_core.specs.declared.attribute_value.AttributeValue.TheVariants.{String}
 use Rattle.gimli_core.specs.declared.common.Format.{Format}
 use Rattle.gimli_core.specs.declared.common.Format.TheVariants.{Dwarf32, Dwarf64}
@@ -18,7 +20,9 @@ use Rattle.gimli_core.specs.declared.common.Encoding.{Encoding}
 use Rattle.gimli_line.specs.header.File.{File}
 use Rattle.gimli_line.specs.header.Header.{Header, UnitEntry}
 use Rattle.gimli_line.specs.header.Productions.{name}
-use Rattle.gimli_line.specs.header.HeaderGrammar.{Entry, is_content, path_of, file_of_entry, paths_production, files_production, formats_production, entry_production, entries_production, table_production, directory_table, file_table, opening_production, fields_production, Opening, SpellsUnit, HoldsCount}
+use Rattle.gimli_line.specs.header.HeaderGrammar.{Entry, is_content, path_of, file_of_entry, paths_production, files_production, formats_production}
+use Rattle.gimli_line.specs.header.HeaderGrammar.{entry_production, entries_production, table_production, directory_table, file_table, opening_production}
+use Rattle.gimli_line.specs.header.HeaderGrammar.{fields_production, Opening, SpellsUnit, HoldsCount}
 use Rattle.gimli_line.specs.declared.header.file_entry.FileEntryFormat.{FileEntryFormat}
 
 -- ---- a value in a form has bytes
@@ -40,10 +44,34 @@ word_some Dwarf32 = omega arith
 word_some Dwarf64 = omega arith
 
 shapes_have : AllByRecursion (λ row. HasBytes row.1) shapes
-shapes_have =
-    (omega arith, (omega arith, (omega arith, (tt, (omega arith, (omega arith, (omega arith, (omega arith, (omega arith, (tt, (tt, (omega arith, (tt, (tt, (tt, (tt, (tt, (tt, (tt, (tt, (omega arith, (omega arith, (tt, (omega arith, tt))))))))))))))))))))))))
+shapes_have = (
+  omega arith,
+  (
+    omega arith,
+    (
+      omega arith,
+      (
+        tt,
+        (
+          omega arith,
+          (
+            omega arith,
+            (
+              omega arith,
+              (
+                omega arith,
+                (omega arith, (tt, (tt, (omega arith, (tt, (tt, (tt, (tt, (tt, (tt, (tt, (tt, (omega arith, (omega arith, (tt, (omega arith, tt)))))))))))))))),
+              ),
+            ),
+          ),
+        ),
+      ),
+    ),
+  ),
+)
 
-among_has : (form : ℕ) (shape : Shape) (rows : List (ℕ × Shape)) → AllByRecursion (λ row. HasBytes row.1) rows → shape_among form rows ≡ Some shape → HasBytes shape
+among_has : (form : ℕ) (shape : Shape) (rows : List (ℕ × Shape)) → AllByRecursion (λ row. HasBytes row.1) rows → shape_among form rows ≡ Some shape
+    → HasBytes shape
 among_has form shape [] all is = absurd cc
 among_has form shape (row ∷ rows) all is = elim (eqb_tells form row.0) [
   | inl p ↦ let found : Some row.1 ≡ Some shape = rw p.0 at is in let same : row.1 ≡ shape = cc in subst HasBytes same all.0
@@ -51,7 +79,8 @@ among_has form shape (row ∷ rows) all is = elim (eqb_tells form row.0) [
 ]
 
 -- so many values, each of which has bytes
-times_bounded : {A : Type 0} (n : ℕ) (l : Production A) → ((bytes : List ℕ) (x : A) → l.Spells bytes x → 0 < length bytes) → (bytes : List ℕ) (xs : List A) → (times n l).Spells bytes xs → length xs ≤ length bytes
+times_bounded : {A : Type 0} (n : ℕ) (l : Production A) → ((bytes : List ℕ) (x : A) → l.Spells bytes x → 0 < length bytes) → (bytes : List ℕ) (xs : List A)
+    → (times n l).Spells bytes xs → length xs ≤ length bytes
 times_bounded zero l some bytes xs s = rw s.1 (omega arith)
 times_bounded (suc n) l some bytes xs s =
     let r = s.5 in
@@ -67,7 +96,8 @@ times_counted (suc n) l bytes xs s =
     rw r.5.1 (ap suc (times_counted n l r.1 r.0 r.4))
 
 -- values one after the other, each of which has bytes
-each_bounded : {A : Type 0} (Spells : List ℕ → A → Type 0) → ((bytes : List ℕ) (x : A) → Spells bytes x → 0 < length bytes) → (bytes : List ℕ) (xs : List A) → Each Spells bytes xs → length xs ≤ length bytes
+each_bounded : {A : Type 0} (Spells : List ℕ → A → Type 0) → ((bytes : List ℕ) (x : A) → Spells bytes x → 0 < length bytes) → (bytes : List ℕ) (xs : List A)
+    → Each Spells bytes xs → length xs ≤ length bytes
 each_bounded Spells some bytes [] s = omega arith
 each_bounded Spells some bytes (x ∷ xs) s = omega (arith, length-append s.0 s.1, ap length s.2, some s.0 x s.3, each_bounded Spells some s.1 xs s.4)
 
@@ -85,43 +115,63 @@ formats_some bytes formats s none =
 module _ (notation : Notation) (format : Format) where
   shape_some : (shape : Shape) → HasBytes shape → (bytes : List ℕ) (v : Value) → (shape_production notation format shape).Spells bytes v → 0 < length bytes
   shape_some (fixed size make) some bytes v s = omega (arith, length-append s.1 s.2, ap length s.3, s.4.size_is)
-  shape_some (three_bytes make) some bytes v s = let n = s.4 in omega (arith, length-append s.1 s.2, ap length s.3, length-append n.1 n.2, ap length n.3, n.4.size_is)
+  shape_some (three_bytes make) some bytes v s =
+      let n = s.4 in omega (arith, length-append s.1 s.2, ap length s.3, length-append n.1 n.2, ap length n.3, n.4.size_is)
   shape_some (word_offset make) some bytes v s =
       let n = s.4 in
       omega (arith, length-append s.1 s.2, ap length s.3, length-append n.1 n.2, ap length n.3, n.4.size_is, word_some format)
   shape_some (leb make) some bytes v s = omega (arith, length-append s.1 s.2, ap length s.3, groups_some s.1 s.0 s.4.groups)
   shape_some (signed_leb make) some bytes v s = omega (arith, length-append s.1 s.2, ap length s.3, groups_some s.1 s.4.unsigned s.4.groups)
-  shape_some (leb_offset make) some bytes v s = let n = s.4 in omega (arith, length-append s.1 s.2, ap length s.3, length-append n.1 n.2, ap length n.3, groups_some n.1 n.0 n.4.groups)
+  shape_some (leb_offset make) some bytes v s =
+      let n = s.4 in omega (arith, length-append s.1 s.2, ap length s.3, length-append n.1 n.2, ap length n.3, groups_some n.1 n.0 n.4.groups)
   shape_some (block size) some bytes v s = omega (arith, length-append s.1 s.2, ap length s.3, s.4.0)
   shape_some (counted size) some bytes v s = omega (arith, length-append s.1 s.2, ap length s.3, s.4.size_is)
-  shape_some leb_counted some bytes v s = let n = s.4 in omega (arith, length-append s.1 s.2, ap length s.3, length-append n.1 n.2, ap length n.3, groups_some n.1 n.0 n.4.groups)
+  shape_some leb_counted some bytes v s =
+      let n = s.4 in omega (arith, length-append s.1 s.2, ap length s.3, length-append n.1 n.2, ap length n.3, groups_some n.1 n.0 n.4.groups)
   shape_some string some bytes v s = omega (arith, length-append s.1 s.2, ap length s.3, length-append s.0 (0 ∷ []), ap length s.4.1)
 
   form_some : (form : ℕ) (bytes : List ℕ) (v : Value) → (form_production notation format form).Spells bytes v → 0 < length bytes
   form_some form bytes v = at_shape (shape_among form shapes) refl
     where
-      at_shape : (found : Option Shape) → shape_among form shapes ≡ found → (let l : Production Value = elim found [ Some shape ↦ shape_production notation format shape | None ↦ refuse (UnknownForm (record { 0 = form })) ] in l.Spells bytes v) → 0 < length bytes
+      at_shape : (found : Option Shape) → shape_among form shapes ≡ found
+          → (let l : Production Value = elim found
+          [ Some shape ↦ shape_production notation format shape | None ↦ refuse (UnknownForm (record { 0 = form })) ] in
+          l.Spells bytes v)
+          → 0 < length bytes
       at_shape (Some shape) is s = shape_some shape (among_has form shape shapes shapes_have is) bytes v s
       at_shape None is s = absurd s
 
   -- ---- entries
 
-  entry_some : (formats : List FileEntryFormat) → formats ≢ [] → (bytes : List ℕ) (entry : Entry) → (entry_production notation format formats).Spells bytes entry → 0 < length bytes
+  entry_some : (formats : List FileEntryFormat) → formats ≢ [] → (bytes : List ℕ) (entry : Entry)
+      → (entry_production notation format formats).Spells bytes entry → 0 < length bytes
   entry_some [] some bytes entry s = absurd (some refl)
   entry_some (f ∷ formats) some bytes entry s = omega (arith, length-append s.1 s.2, ap length s.3, form_some f.form.0 s.1 s.0 s.4)
 
   -- a table's entries are as many as their count says, and no more than the bytes after it
-  pub entries_bounded : (formats : List FileEntryFormat) → formats ≢ [] → (bytes : List ℕ) (entries : List Entry) → (entries_production notation format formats).Spells bytes entries → HoldsCount bytes (length entries)
+  pub entries_bounded : (formats : List FileEntryFormat) → formats ≢ [] → (bytes : List ℕ) (entries : List Entry)
+      → (entries_production notation format formats).Spells bytes entries → HoldsCount bytes (length entries)
   entries_bounded formats some bytes entries s =
       let l = entry_production notation format formats in
       let counted = times_counted s.0 l s.2 entries s.5 in
       (s.1, s.2, s.3, rw (← counted) s.4, times_bounded s.0 l (entry_some formats some) s.2 entries s.5)
 
-  table_bounded : (bytes : List ℕ) (table : List FileEntryFormat × List Entry) → (table_production notation format).Spells bytes table → length table.1 ≤ length bytes
+  table_bounded : (bytes : List ℕ) (table : List FileEntryFormat × List Entry) → (table_production notation format).Spells bytes table
+      → length table.1 ≤ length bytes
   table_bounded bytes table s =
       let e = s.5 in
       let b = entries_bounded s.0 (formats_some s.1 s.0 s.4) e.1 e.0 e.4 in
-      omega (arith, length-append s.1 s.2, ap length s.3, length-append e.1 e.2, ap length e.3, length-append b.0 b.1, ap length b.2, b.4, ap (λ (t : List FileEntryFormat × List Entry). length t.1) e.5.1)
+      omega (
+        arith,
+        length-append s.1 s.2,
+        ap length s.3,
+        length-append e.1 e.2,
+        ap length e.3,
+        length-append b.0 b.1,
+        ap length b.2,
+        b.4,
+        ap (λ (t : List FileEntryFormat × List Entry). length t.1) e.5.1,
+      )
 
 -- ---- the tables of a header
 
@@ -133,38 +183,83 @@ paths_bounded bytes paths s = omega (arith, length-append s.0 (0 ∷ []), ap len
 
 files_bounded : (bytes : List ℕ) (files : List File) → files_production.Spells bytes files → length files ≤ length bytes
 files_bounded bytes files s =
-    omega (arith, length-append s.0 (0 ∷ []), ap length s.1, each_bounded _ (λ part file f. omega (arith, length-append f.1 f.2, ap length f.3, name_some f.1 f.0 f.4)) s.0 files s.2)
+    omega (
+      arith,
+      length-append s.0 (0 ∷ []),
+      ap length s.1,
+      each_bounded _ (λ part file f. omega (arith, length-append f.1 f.2, ap length f.3, name_some f.1 f.0 f.4)) s.0 files s.2,
+    )
 
 -- one production or the other
-chosen : {A : Type 0} {P : Type 0} (test : Bool) (l m : Production A) (bytes : List ℕ) (x : A) → (l.Spells bytes x → P) → (m.Spells bytes x → P) → (choose test l m).Spells bytes x → P
+chosen : {A : Type 0} {P : Type 0} (test : Bool) (l m : Production A) (bytes : List ℕ) (x : A) → (l.Spells bytes x → P) → (m.Spells bytes x → P)
+    → (choose test l m).Spells bytes x → P
 chosen true l m bytes x one other s = one s
 chosen false l m bytes x one other s = other s
 
 module _ (notation : Notation) (encoding : Encoding) where
-  directories_bounded : (bytes : List ℕ) (table : List FileEntryFormat × List Value) → (directory_table notation encoding).Spells bytes table → length table.1 ≤ length bytes
+  directories_bounded : (bytes : List ℕ) (table : List FileEntryFormat × List Value) → (directory_table notation encoding).Spells bytes table
+      → length table.1 ≤ length bytes
   directories_bounded bytes table =
       chosen (nat_le encoding.version 4) _ _ bytes table
-      (λ s. omega (arith, length-append s.1 s.2, ap length s.3, paths_bounded s.1 s.0 s.4, length-map {B = Value} s.0 String, ap (λ (t : List FileEntryFormat × List Value). length t.1) s.5.1))
-      (λ s. omega (arith, length-append s.1 s.2, ap length s.3, table_bounded notation encoding.format s.1 s.0 s.4, length-map s.0.1 path_of, ap (λ (t : List FileEntryFormat × List Value). length t.1) s.5.1))
+      (λ s. omega (
+        arith,
+        length-append s.1 s.2,
+        ap length s.3,
+        paths_bounded s.1 s.0 s.4,
+        length-map {B = Value} s.0 String,
+        ap (λ (t : List FileEntryFormat × List Value). length t.1) s.5.1,
+      ))
+      (λ s. omega (
+        arith,
+        length-append s.1 s.2,
+        ap length s.3,
+        table_bounded notation encoding.format s.1 s.0 s.4,
+        length-map s.0.1 path_of,
+        ap (λ (t : List FileEntryFormat × List Value). length t.1) s.5.1,
+      ))
 
-  all_files_bounded : (bytes : List ℕ) (table : List FileEntryFormat × List File) → (file_table notation encoding).Spells bytes table → length table.1 ≤ length bytes
+  all_files_bounded : (bytes : List ℕ) (table : List FileEntryFormat × List File) → (file_table notation encoding).Spells bytes table
+      → length table.1 ≤ length bytes
   all_files_bounded bytes table =
       chosen (nat_le encoding.version 4) _ _ bytes table
       (λ s. omega (arith, length-append s.1 s.2, ap length s.3, files_bounded s.1 s.0 s.4, ap (λ (t : List FileEntryFormat × List File). length t.1) s.5.1))
-      (λ s. omega (arith, length-append s.1 s.2, ap length s.3, table_bounded notation encoding.format s.1 s.0 s.4, length-map s.0.1 file_of_entry, ap (λ (t : List FileEntryFormat × List File). length t.1) s.5.1))
+      (λ s. omega (
+        arith,
+        length-append s.1 s.2,
+        ap length s.3,
+        table_bounded notation encoding.format s.1 s.0 s.4,
+        length-map s.0.1 file_of_entry,
+        ap (λ (t : List FileEntryFormat × List File). length t.1) s.5.1,
+      ))
 
 -- the bytes that the header length counts are that many, and stand in front of the program
-opening_counted : (notation : Notation) (handed : ℕ) (format : Format) (bytes : List ℕ) (o : Opening) → (opening_production notation handed format).Spells bytes o
+opening_counted : (notation : Notation) (handed : ℕ) (format : Format) (bytes : List ℕ) (o : Opening)
+    → (opening_production notation handed format).Spells bytes o
     → (length o.fields ≡ o.header_length) × (o.header_length ≤ length bytes)
 opening_counted notation handed format bytes o s =
     let a = s.5 in
     let l = a.5 in
     let f = l.5 in
     let same : length o.fields ≡ o.header_length = rw f.5.1 (ap length f.4.1 ∙ f.4.0) in
-    let long : o.header_length ≡ l.0 = ap (λ (o : Opening). o.header_length) f.5.1 in
-    (same, omega (arith, long, f.4.0, length-append s.1 s.2, ap length s.3, length-append a.1 a.2, ap length a.3, length-append l.1 l.2, ap length l.3, length-append f.1 f.2, ap length f.3))
+    let long : o.header_length ≡ l.0 = ap (λ (o : Opening). o.header_length) f.5.1 in (
+      same,
+      omega (
+        arith,
+        long,
+        f.4.0,
+        length-append s.1 s.2,
+        ap length s.3,
+        length-append a.1 a.2,
+        ap length a.3,
+        length-append l.1 l.2,
+        ap length l.3,
+        length-append f.1 f.2,
+        ap length f.3,
+      ),
+    )
 
-fields_bounded : (notation : Notation) (unit_entry : UnitEntry) (unit : ℕ) (o : Opening) (program bytes : List ℕ) (h : Header) → (fields_production notation unit_entry unit o program).Spells bytes h
+fields_bounded : (notation : Notation) (unit_entry : UnitEntry) (unit : ℕ) (o : Opening) (program bytes : List ℕ) (h : Header)
+    → (fields_production notation unit_entry unit o program).Spells bytes h
     → (length h.directories + length h.files ≤ length bytes) × (h.program ≡ program) × (h.header_length ≡ o.header_length) × (h.unit_length ≡ unit)
 fields_bounded notation unit_entry unit o program bytes h s =
     let c = s.5 in
@@ -175,7 +270,21 @@ fields_bounded notation unit_entry unit o program bytes h s =
     let files = all_files_bounded notation o.encoding f.1 f.0 f.4 in
     let directories_are = ap (λ (h : Header). length h.directories) is in
     let files_are = ap (λ (h : Header). length h.files) is in (
-      omega (arith, directories, files, directories_are, files_are, length-append s.1 s.2, ap length s.3, length-append c.1 c.2, ap length c.3, length-append d.1 d.2, ap length d.3, length-append f.1 f.2, ap length f.3),
+      omega (
+        arith,
+        directories,
+        files,
+        directories_are,
+        files_are,
+        length-append s.1 s.2,
+        ap length s.3,
+        length-append c.1 c.2,
+        ap length c.3,
+        length-append d.1 d.2,
+        ap length d.3,
+        length-append f.1 f.2,
+        ap length f.3,
+      ),
       ap (λ (h : Header). h.program) is,
       ap (λ (h : Header). h.header_length) is,
       ap (λ (h : Header). h.unit_length) is,

@@ -1,5 +1,6 @@
 -- Reading a table that a zero byte closes.
-use Rattle.std.proofs.Common.{◌≡◌, ◌≢◌, ℕ, zero, suc, ◌<◌, false, List, [], ◌∷◌, ◌++◌, length, Ok, Err, refl, sym, ap, subst, ◌∙◌, append_assoc, inl, inr, arith}
+use Rattle.std.proofs.Common.{◌≡◌, ◌≢◌, ℕ, zero, suc, ◌<◌, false, List, [], ◌∷◌, ◌++◌, length, Ok, Err, refl, sym, ap, subst, ◌∙◌, append_assoc, inl, inr}
+use Rattle.std.proofs.Common.{arith}
 use Rattle.std.proofs.lemmas.Bool.{ne_eqb}
 use Rattle.std.proofs.lemmas.Bool.Decides.{eqb_tells}
 use Rattle.std.proofs.lemmas.List.{length-append}
@@ -20,7 +21,8 @@ pub record Opens (bytes : List ℕ) : Type 0 where
 
 -- a function reads a production wherever no zero byte comes next; and no spelling of the production begins with one
 pub record ReadsOpen {A : Type 0} (l : Production A) (read : List ℕ → Read A) : Type 0 where
-  pub found : (bytes : List ℕ) (x : A) (rest : List ℕ) → IsOpen bytes → read bytes ≡ (Ok x, rest) → (front : List ℕ) × (bytes ≡ front ++ rest) × l.Spells front x
+  pub found : (bytes : List ℕ) (x : A) (rest : List ℕ) → IsOpen bytes → read bytes ≡ (Ok x, rest)
+      → (front : List ℕ) × (bytes ≡ front ++ rest) × l.Spells front x
   pub only : (front : List ℕ) (x : A) (rest : List ℕ) → l.Spells front x → read (front ++ rest) ≡ (Ok x, rest)
   pub opens : (front : List ℕ) (x : A) → l.Spells front x → Opens front
   pub fault : (bytes : List ℕ) (e : Error) → IsOpen bytes → (read bytes).0 ≡ Err e → l.Fault bytes e
@@ -49,7 +51,8 @@ reads_name = record {
 
 -- ---- a production, and after it the next
 
-module _ {A B : Type 0} (l : Production A) (next : A → Production B) (read : List ℕ → Read A) (after : A → List ℕ → Read B) (first : ReadsOpen l read) (second : (x : A) → Reads (next x) (after x)) where
+module _ {A B : Type 0} (l : Production A) (next : A → Production B) (read : List ℕ → Read A) (after : A → List ℕ → Read B) (first : ReadsOpen l read)
+    (second : (x : A) → Reads (next x) (after x)) where
   abbrev both : List ℕ → Read B
   both bytes = read bytes >>= after
 
@@ -119,7 +122,8 @@ module _ {A : Type 0} (l : Production A) (read : List ℕ → Read A) (r : Reads
   another more bytes is = rw is refl
 
   -- the parts of a table that was read
-  closed_found : (more : ℕ) (bytes : List ℕ) (xs : List A) (rest : List ℕ) → closed_below more read bytes ≡ (Ok xs, rest) → (front : List ℕ) × (bytes ≡ front ++ rest) × (list_to_zero l).Spells front xs
+  closed_found : (more : ℕ) (bytes : List ℕ) (xs : List A) (rest : List ℕ) → closed_below more read bytes ≡ (Ok xs, rest)
+      → (front : List ℕ) × (bytes ≡ front ++ rest) × (list_to_zero l).Spells front xs
   unfolding closed_below
   closed_found zero bytes xs rest e = let p = ap (λ (r : Read (List A)). r.0) e in absurd cc
   closed_found (suc more) bytes xs rest e = elim (next_of bytes) [
@@ -127,18 +131,22 @@ module _ {A : Type 0} (l : Production A) (read : List ℕ → Read A) (r : Reads
         let p = ok_parts [] xs left rest (rw is at e) in
         (0 ∷ [], is ∙ ap (λ (ys : List ℕ). 0 ∷ ys) p.1, ([], refl, subst (λ (ys : List A). Each l.Spells [] ys) p.0 refl))
     | other_byte clear is ↦
-        let a = bind_ok (read bytes) (λ x rest. closed_below more read rest >>= λ xs left. (let r : Read (List A) = (Ok (x ∷ xs), left) in r)) xs rest (rw is at e) in
+        let a =
+        bind_ok (read bytes) (λ x rest. closed_below more read rest >>= λ xs left. (let r : Read (List A) = (Ok (x ∷ xs), left) in r)) xs rest
+        (rw is at e) in
         let b = bind_ok (closed_below more read a.1) (λ ys left. (let r : Read (List A) = (Ok (a.0 ∷ ys), left) in r)) xs rest a.3 in
         let p = ok_parts (a.0 ∷ b.0) xs b.1 rest b.3 in
         let f = r.found bytes a.0 a.1 clear a.2 in
         let g = closed_found more a.1 b.0 b.1 b.2 in
-        let whole : bytes ≡ (f.0 ++ g.0) ++ rest = f.1 ∙ ap (λ (ys : List ℕ). f.0 ++ ys) (g.1 ∙ ap (λ (ys : List ℕ). g.0 ++ ys) p.1) ∙ sym (append_assoc f.0 g.0 rest) in
+        let whole : bytes ≡ (f.0 ++ g.0) ++ rest = f.1 ∙ ap (λ (ys : List ℕ). f.0 ++ ys) (g.1 ∙ ap (λ (ys : List ℕ). g.0 ++ ys) p.1)
+        ∙ sym (append_assoc f.0 g.0 rest) in
         let ends : f.0 ++ g.0 ≡ (f.0 ++ g.2.0) ++ 0 ∷ [] = ap (λ (ys : List ℕ). f.0 ++ ys) g.2.1 ∙ sym (append_assoc f.0 g.2.0 (0 ∷ [])) in
         let each : Each l.Spells (f.0 ++ g.2.0) (a.0 ∷ b.0) = (f.0, g.2.0, refl, f.2, g.2.2) in
         (f.0 ++ g.0, whole, (f.0 ++ g.2.0, ends, subst (λ (ys : List A). Each l.Spells (f.0 ++ g.2.0) ys) p.0 each))
   ]
 
-  closed_only : (xs : List A) (inner rest : List ℕ) (more : ℕ) → length (inner ++ 0 ∷ rest) < more → Each l.Spells inner xs → closed_below more read (inner ++ 0 ∷ rest) ≡ (Ok xs, rest)
+  closed_only : (xs : List A) (inner rest : List ℕ) (more : ℕ) → length (inner ++ 0 ∷ rest) < more → Each l.Spells inner xs
+      → closed_below more read (inner ++ 0 ∷ rest) ≡ (Ok xs, rest)
   unfolding closed_below
   closed_only xs inner rest zero lt s = absurd (omega arith)
   closed_only [] inner rest (suc more) lt s = rw s refl
@@ -158,7 +166,8 @@ module _ {A : Type 0} (l : Production A) (read : List ℕ → Read A) (r : Reads
   closed_fault (suc more) bytes e lt is = elim (next_of bytes) [
     | zero_byte left same ↦ let p = rw same at is in absurd cc
     | other_byte clear test ↦
-        elim (bind_fault (read bytes) (λ x rest. closed_below more read rest >>= λ xs left. (let r : Read (List A) = (Ok (x ∷ xs), left) in r)) e (rw test at is)) [
+        elim (bind_fault (read bytes) (λ x rest. closed_below more read rest >>= λ xs left. (let r : Read (List A) = (Ok (x ∷ xs), left) in r)) e
+        (rw test at is)) [
           | inl p ↦ ([], [], bytes, refl, refl, clear, r.fault bytes e clear p)
           | inr a ↦ elim (bind_fault (closed_below more read a.1) (λ ys left. (let r : Read (List A) = (Ok (a.0 ∷ ys), left) in r)) e a.3) [
             | inl p ↦
@@ -174,11 +183,13 @@ module _ {A : Type 0} (l : Production A) (read : List ℕ → Read A) (r : Reads
         ]
   ]
 
-  closed_refused : (xs : List A) (front rest : List ℕ) (e : Error) (more : ℕ) → length (front ++ rest) < more → Each l.Spells front xs → IsOpen rest → l.Fault rest e → (closed_below more read (front ++ rest)).0 ≡ Err e
+  closed_refused : (xs : List A) (front rest : List ℕ) (e : Error) (more : ℕ) → length (front ++ rest) < more → Each l.Spells front xs → IsOpen rest
+      → l.Fault rest e → (closed_below more read (front ++ rest)).0 ≡ Err e
   unfolding closed_below
   closed_refused xs front rest e zero lt s clear f = absurd (omega arith)
   closed_refused [] front rest e (suc more) lt s clear f =
-      rw (s, open_is rest clear) (bind_refused (read rest) (λ x left. closed_below more read left >>= λ xs end. (let r : Read (List A) = (Ok (x ∷ xs), end) in r)) e (r.refused rest e clear f))
+      rw (s, open_is rest clear) (bind_refused (read rest)
+      (λ x left. closed_below more read left >>= λ xs end. (let r : Read (List A) = (Ok (x ∷ xs), end) in r)) e (r.refused rest e clear f))
   closed_refused (x ∷ xs) front rest e (suc more) lt s clear f =
       let o = r.opens s.0 x s.3 in
       let regrouped : front ++ rest ≡ s.0 ++ (s.1 ++ rest) = ap (λ (ys : List ℕ). ys ++ rest) s.2 ∙ append_assoc s.0 s.1 rest in

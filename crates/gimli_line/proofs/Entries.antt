@@ -21,7 +21,9 @@ last_of : {A : Type 0} (wanted : ℕ) (pick : Value → Option A) (first : A) (c
     → last_value wanted pick first ((content, value) ∷ entry) ≡ last_value wanted pick (value_after wanted pick content value first) entry
 last_of {A} wanted pick first content value entry = at_pick (if nat_eq content wanted then pick value else None)
   where
-    at_pick : (picked : Option A) → elim picked [ Some x ↦ last_value wanted pick x entry | None ↦ last_value wanted pick first entry ] ≡ last_value wanted pick (elim picked [ Some x ↦ x | None ↦ first ]) entry
+    at_pick : (picked : Option A)
+        → elim picked [ Some x ↦ last_value wanted pick x entry | None ↦ last_value wanted pick first entry ]
+        ≡ last_value wanted pick (elim picked [ Some x ↦ x | None ↦ first ]) entry
     at_pick (Some x) = refl
     at_pick None = refl
 
@@ -52,16 +54,25 @@ file_folded first (v ∷ entry) =
     file_folded (file_with first v.0 v.1) entry ∙ sym (cc)
 
 module _ (notation : Notation) (format : Format) {A : Type 0} (step : A → ℕ → Value → A) where
-  folded_is : (first : A) (formats : List FileEntryFormat) (bytes : List ℕ) → folded_at notation format step first formats bytes ≡ read_map (fold_of step first) (entry_at notation format formats bytes)
+  folded_is : (first : A) (formats : List FileEntryFormat) (bytes : List ℕ)
+      → folded_at notation format step first formats bytes ≡ read_map (fold_of step first) (entry_at notation format formats bytes)
   folded_is first [] bytes = refl
-  folded_is first (f ∷ formats) bytes = at_value (form_at notation format f.form.0 bytes) (λ value rest. folded_is (step first f.content_type.0 value) formats rest)
+  folded_is first (f ∷ formats) bytes =
+      at_value (form_at notation format f.form.0 bytes) (λ value rest. folded_is (step first f.content_type.0 value) formats rest)
     where
-      after : (value : Value) (r : Read Entry) → read_map (fold_of step (step first f.content_type.0 value)) r ≡ read_map (fold_of step first) (r >>= λ values left. (Ok ((f.content_type.0, value) ∷ values), left))
+      after : (value : Value) (r : Read Entry)
+          → read_map (fold_of step (step first f.content_type.0 value)) r
+          ≡ read_map (fold_of step first) (r >>= λ values left. (Ok ((f.content_type.0, value) ∷ values), left))
       after value (Ok values, left) = refl
       after value (Err e, left) = refl
 
-      at_value : (r : Read Value) → ((value : Value) (rest : List ℕ) → folded_at notation format step (step first f.content_type.0 value) formats rest ≡ read_map (fold_of step (step first f.content_type.0 value)) (entry_at notation format formats rest))
-          → (r >>= λ value rest. folded_at notation format step (step first f.content_type.0 value) formats rest) ≡ read_map (fold_of step first) (r >>= λ value rest. entry_at notation format formats rest >>= λ values left. (Ok ((f.content_type.0, value) ∷ values), left))
+      at_value : (r : Read Value)
+          → ((value : Value) (rest : List ℕ)
+          → folded_at notation format step (step first f.content_type.0 value) formats rest
+          ≡ read_map (fold_of step (step first f.content_type.0 value)) (entry_at notation format formats rest))
+          → (r >>= λ value rest. folded_at notation format step (step first f.content_type.0 value) formats rest)
+          ≡ read_map (fold_of step first) (r >>= λ value rest. entry_at notation format formats rest >>= λ values left.
+          (Ok ((f.content_type.0, value) ∷ values), left))
       at_value (Ok value, rest) others = others value rest ∙ after value (entry_at notation format formats rest)
       at_value (Err e, rest) others = refl
 
@@ -71,22 +82,33 @@ viewed_by f g same (Err e, rest) = refl
 
 module _ (notation : Notation) (format : Format) where
   -- from an empty path the directory is that of the entry
-  pub directory_is : (formats : List FileEntryFormat) (bytes : List ℕ) → folded_at notation format path_with (String []) formats bytes ≡ read_map path_of (entry_at notation format formats bytes)
-  directory_is formats bytes = folded_is notation format path_with (String []) formats bytes ∙ viewed_by (fold_of path_with (String [])) path_of (path_folded (String [])) (entry_at notation format formats bytes)
+  pub directory_is : (formats : List FileEntryFormat) (bytes : List ℕ)
+      → folded_at notation format path_with (String []) formats bytes ≡ read_map path_of (entry_at notation format formats bytes)
+  directory_is formats bytes =
+      folded_is notation format path_with (String []) formats bytes
+      ∙ viewed_by (fold_of path_with (String [])) path_of (path_folded (String [])) (entry_at notation format formats bytes)
 
   -- from a file of an empty path the file is that of the entry
-  pub file_is : (formats : List FileEntryFormat) (bytes : List ℕ) → folded_at notation format file_with (plain_file [] 0 0 0) formats bytes ≡ read_map file_of_entry (entry_at notation format formats bytes)
-  file_is formats bytes = folded_is notation format file_with (plain_file [] 0 0 0) formats bytes ∙ viewed_by (fold_of file_with (plain_file [] 0 0 0)) file_of_entry (file_folded (plain_file [] 0 0 0)) (entry_at notation format formats bytes)
+  pub file_is : (formats : List FileEntryFormat) (bytes : List ℕ)
+      → folded_at notation format file_with (plain_file [] 0 0 0) formats bytes ≡ read_map file_of_entry (entry_at notation format formats bytes)
+  file_is formats bytes =
+      folded_is notation format file_with (plain_file [] 0 0 0) formats bytes
+      ∙ viewed_by (fold_of file_with (plain_file [] 0 0 0)) file_of_entry (file_folded (plain_file [] 0 0 0)) (entry_at notation format formats bytes)
 
 -- one more value of an entry that is taken from where its format stands, as a loop does
 module _ (format : Format) (now first : Bool) (limit : ℕ) where
-  pub file_goes_on : (formats : List FileEntryFormat) (i : ℕ) (d : FileEntryFormat) (file next : File) (value : Value) (bytes rest : List ℕ) (total : Read File) → i < length formats → now ≡ first
-      → (Ok value, rest) ≡ form_at (record { big = now; limit = limit }) format (get_or formats i d).form.0 bytes → next ≡ file_with file (get_or formats i d).content_type.0 value
-      → folded_at (record { big = first; limit = limit }) format file_with file (drop i formats) bytes ≡ total → folded_at (record { big = first; limit = limit }) format file_with next (drop (i + 1) formats) rest ≡ total
+  pub file_goes_on : (formats : List FileEntryFormat) (i : ℕ) (d : FileEntryFormat) (file next : File) (value : Value) (bytes rest : List ℕ) (total : Read File)
+      → i < length formats → now ≡ first
+      → (Ok value, rest) ≡ form_at (record { big = now; limit = limit }) format (get_or formats i d).form.0 bytes
+      → next ≡ file_with file (get_or formats i d).content_type.0 value
+      → folded_at (record { big = first; limit = limit }) format file_with file (drop i formats) bytes ≡ total
+      → folded_at (record { big = first; limit = limit }) format file_with next (drop (i + 1) formats) rest ≡ total
   file_goes_on formats i d file next value bytes rest total lt same read is so_far =
       let notation : Notation = record { big = first; limit = limit } in
       let f = get_or formats i d in
-      let again : (Ok value, rest) ≡ form_at notation format f.form.0 bytes = read ∙ ap (λ (b : Bool). form_at (record { big = b; limit = limit }) format f.form.0 bytes) same in
+      let again : (Ok value, rest) ≡ form_at notation format f.form.0 bytes = read
+      ∙ ap (λ (b : Bool). form_at (record { big = b; limit = limit }) format f.form.0 bytes) same in
       let here = ap (λ (fs : List FileEntryFormat). folded_at notation format file_with file fs bytes) (drop_more formats i d lt) in
-      let one : folded_at notation format file_with file (f ∷ drop (i + 1) formats) bytes ≡ folded_at notation format file_with next (drop (i + 1) formats) rest = rw (← again, is) refl in
+      let one : folded_at notation format file_with file (f ∷ drop (i + 1) formats) bytes
+      ≡ folded_at notation format file_with next (drop (i + 1) formats) rest = rw (← again, is) refl in
       sym one ∙ sym here ∙ so_far

@@ -13,7 +13,8 @@ use Rattle.gimli_line.specs.run.OperationPointer.{is_under_tombstone, overflows}
 use Rattle.gimli_line.specs.run.Events.{row, row_at, events_at, past_at_end}
 use Rattle.gimli_line.specs.run.Progress.{files_from}
 use Rattle.gimli_line.specs.run.Machine.{initial, reset_row, step_of, is_refused}
-use Rattle.gimli_line.specs.run.EventsWithFiles.{EventWithFiles, EventsWithFiles, FilesAtEnd, with_files, files_at, events_with_files_after, step_events, next_registers, registers_after, events_with_files_from}
+use Rattle.gimli_line.specs.run.EventsWithFiles.{EventWithFiles, EventsWithFiles, FilesAtEnd, with_files, files_at, events_with_files_after, step_events}
+use Rattle.gimli_line.specs.run.EventsWithFiles.{next_registers, registers_after, events_with_files_from}
 use Rattle.gimli_line.specs.run.InstructionGrammar.{Decodes}
 use Rattle.gimli_line.specs.run.InstructionReading.{decoded_at}
 use Rattle.gimli_line.specs.run.Made.{made_row, made_at, made_after, made_step, made_from, Makes}
@@ -37,10 +38,12 @@ gives h past i false true fits loud = rw (fits, loud) (given_row h past i loud (
 gives h past i false false fits quiet = rw (fits, quiet) refl
 
 -- and the registers after it
-goes_to : (h : Parameters) (i : Ins) (r : LineRow) (b : Bool) → (is_refused h i r || makes_row i) ≡ b → next_registers h i r ≡ (if b then reset_row h (step_of h i r) else step_of h i r)
+goes_to : (h : Parameters) (i : Ins) (r : LineRow) (b : Bool) → (is_refused h i r || makes_row i) ≡ b
+    → next_registers h i r ≡ (if b then reset_row h (step_of h i r) else step_of h i r)
 goes_to h i r b is = ap (λ (b : Bool). if b then reset_row h (step_of h i r) else step_of h i r) is
 
-pub goes : (h : Parameters) (past : List Ins) (i : Ins) (o m : Bool) → overflows h past i ≡ o → makes_row i ≡ m → next_registers h i (registers h past) ≡ registers h (i ∷ past)
+pub goes : (h : Parameters) (past : List Ins) (i : Ins) (o m : Bool) → overflows h past i ≡ o → makes_row i ≡ m
+    → next_registers h i (registers h past) ≡ registers h (i ∷ past)
 goes h past i true m large loud = goes_to h i (registers h past) true (rw large refl) ∙ goes_past h past i large
 goes h past i false true fits loud = goes_to h i (registers h past) true (rw (fits, loud) refl) ∙ starts_anew h past i loud
 goes h past i false false fits quiet = goes_to h i (registers h past) false (rw (fits, quiet) refl) ∙ goes_on h past i fits quiet
@@ -59,14 +62,21 @@ pub files_from_start : (a : Bool) (files : List File) (list : List Ins) → file
 files_from_start true files list = files_come true files [] list
 files_from_start false files list = files_come false files [] list
 
-pub events_with_files_are : (a : Bool) (h : Header) (past list : List Ins) (end : Option Error) → events_with_files_from a h.parameters (registers h.parameters past) (files_at a h.files past) list end ≡ events_with_files_after a h past list end
+pub events_with_files_are : (a : Bool) (h : Header) (past list : List Ins) (end : Option Error)
+    → events_with_files_from a h.parameters (registers h.parameters past) (files_at a h.files past) list end ≡ events_with_files_after a h past list end
 events_with_files_are a h past [] end = refl
 events_with_files_are a h past (i ∷ list) end =
-    rw (gives h.parameters past i (overflows h.parameters past i) (makes_row i) refl refl, goes h.parameters past i (overflows h.parameters past i) (makes_row i) refl refl, files_go a h.files past i)
-    (ap (λ (rest : List EventWithFiles). with_files (files_at a h.files past) (events_at h.parameters past i) ++ rest) (events_with_files_are a h (i ∷ past) list end))
+    rw (
+      gives h.parameters past i (overflows h.parameters past i) (makes_row i) refl refl,
+      goes h.parameters past i (overflows h.parameters past i) (makes_row i) refl refl,
+      files_go a h.files past i,
+    )
+    (ap (λ (rest : List EventWithFiles). with_files (files_at a h.files past) (events_at h.parameters past i) ++ rest)
+    (events_with_files_are a h (i ∷ past) list end))
 
 -- from the start
-pub events_with_files_start : (a : Bool) (h : Header) (list : List Ins) (end : Option Error) → events_with_files_from a h.parameters (reset_row h.parameters (initial h.parameters)) h.files list end ≡ events_with_files_after a h [] list end
+pub events_with_files_start : (a : Bool) (h : Header) (list : List Ins) (end : Option Error)
+    → events_with_files_from a h.parameters (reset_row h.parameters (initial h.parameters)) h.files list end ≡ events_with_files_after a h [] list end
 events_with_files_start true h list end = events_with_files_are true h [] list end
 events_with_files_start false h list end = events_with_files_are false h [] list end
 
@@ -84,13 +94,19 @@ makes h past i true m large loud = rw large refl
 makes h past i false true fits loud = rw (fits, loud) (ap (λ (r : LineRow). row r ∷ []) (made_row_is h past i loud))
 makes h past i false false fits quiet = rw (fits, quiet) refl
 
-made_are : (a : Bool) (h : Header) (past list : List Ins) (end : Option Error) → made_from a h.parameters (registers h.parameters past) (files_at a h.files past) list end ≡ made_after a h past list end
+made_are : (a : Bool) (h : Header) (past list : List Ins) (end : Option Error)
+    → made_from a h.parameters (registers h.parameters past) (files_at a h.files past) list end ≡ made_after a h past list end
 made_are a h past [] end = refl
 made_are a h past (i ∷ list) end =
-    rw (makes h.parameters past i (overflows h.parameters past i) (makes_row i) refl refl, goes h.parameters past i (overflows h.parameters past i) (makes_row i) refl refl, files_go a h.files past i)
+    rw (
+      makes h.parameters past i (overflows h.parameters past i) (makes_row i) refl refl,
+      goes h.parameters past i (overflows h.parameters past i) (makes_row i) refl refl,
+      files_go a h.files past i,
+    )
     (ap (λ (rest : List EventWithFiles). with_files (files_at a h.files past) (made_at h.parameters past i) ++ rest) (made_are a h (i ∷ past) list end))
 
-made_start : (a : Bool) (h : Header) (list : List Ins) (end : Option Error) → made_from a h.parameters (reset_row h.parameters (initial h.parameters)) h.files list end ≡ made_after a h [] list end
+made_start : (a : Bool) (h : Header) (list : List Ins) (end : Option Error)
+    → made_from a h.parameters (reset_row h.parameters (initial h.parameters)) h.files list end ≡ made_after a h [] list end
 made_start true h list end = made_are true h [] list end
 made_start false h list end = made_are false h [] list end
 
@@ -124,5 +140,6 @@ refused_after h past i = ap (is_refused h i) (looked_back h past)
 pub tombstone_after : (h : Parameters) (past : List Ins) → (registers_after h past).tombstone ≡ is_under_tombstone h past
 tombstone_after h past = ap (λ (r : LineRow). r.tombstone) (looked_back h past)
 
-pub row_after : (h : Parameters) (past : List Ins) (i : Ins) → makes_row i ≡ true → is_under_tombstone h past ≡ false → step_of h i (registers_after h past) ≡ row_at h past i
+pub row_after : (h : Parameters) (past : List Ins) (i : Ins) → makes_row i ≡ true → is_under_tombstone h past ≡ false
+    → step_of h i (registers_after h past) ≡ row_at h past i
 row_after h past i loud seen = ap (step_of h i) (looked_back h past) ∙ row_is h past i loud seen

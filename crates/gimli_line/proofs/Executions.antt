@@ -6,9 +6,12 @@ use Rattle.std.specs.Prelude.{nat_le}
 use Rattle.gimli_core.specs.Notation.{Notation}
 use Rattle.gimli_core.specs.Reading.{byte_at, unsigned_at, signed_at}
 use Rattle.gimli_core.specs.declared.error.Error.TheVariants.{AddressOverflow}
+use Rattle.gimli_line.specs.declared.run.from_bytes.Executed.{Executed}
+use Rattle.gimli_line.specs.declared.run.from_bytes.Executed.TheVariants.{No, Quiet, Address, Row}
 use Rattle.gimli_line.specs.declared.run.row.LineRow.{LineRow}
 use Rattle.gimli_line.specs.declared.run.rows.Step.TheVariants.{Made, More}
-use Rattle.gimli_line.specs.declared.run.instruction.LineInstruction.TheVariants.{Special, Copy, AdvanceLine, SetFile, SetColumn, NegateStatement, DefineFile}
+use Rattle.gimli_line.specs.declared.run.instruction.LineInstruction.TheVariants.{Special, Copy, AdvanceLine, SetFile, SetColumn, NegateStatement, EndSequence}
+use Rattle.gimli_line.specs.declared.run.instruction.LineInstruction.TheVariants.{SetAddress, DefineFile}
 use Rattle.gimli_line.specs.header.Orders.{HeaderOrders}
 use Rattle.gimli_line.specs.header.Header.{Header}
 use Rattle.gimli_line.specs.header.Parameters.{Parameters}
@@ -16,7 +19,7 @@ use Rattle.gimli_line.specs.run.Instruction.{Ins, makes_row, defines_file, files
 use Rattle.gimli_line.specs.run.InstructionReading.{standard_at, ins_at}
 use Rattle.gimli_line.specs.run.Machine.{step_of, is_refused}
 use Rattle.gimli_line.specs.run.Registers.{advanced_line}
-use Rattle.gimli_line.specs.inside.run.Execution.{Executed, ExecutedWell}
+use Rattle.gimli_line.specs.run.Execution.{told_of, is_executed, IsExecuted, IsExecutedAs, ExecutesNext, RefusesNext}
 use Rattle.gimli_line.specs.run.AnyRows.{AnyFaultIs}
 use Rattle.gimli_line.specs.inside.run.Rows.{StepIs}
 use Rattle.gimli_line.specs.run.Unread.{Unread}
@@ -26,29 +29,31 @@ use Rattle.gimli_line.proofs.Runs.{state, after_quiet, after_made, after_overflo
 -- ---- the standard opcodes that are executed so, from the bytes after them
 
 module _ (notation : Notation) (h : Header) (bytes : List ℕ) (r : LineRow) (opcode : ℕ) where
-  pub copies : opcode ≡ 1 → ExecutedWell h.parameters (standard_at notation h opcode bytes) bytes r r true
+  pub copies : opcode ≡ 1 → IsExecutedAs h.parameters (standard_at notation h opcode bytes) bytes r r Row
   unfolding standard_at
   copies is = rw is (record { instruction = Copy; reading = refl; defines = refl; refusal = refl; registers = refl }, refl)
 
-  pub negates : opcode ≡ 6 → ExecutedWell h.parameters (standard_at notation h opcode bytes) bytes r (record r { is_stmt = not r.is_stmt }) false
+  pub negates : opcode ≡ 6 → IsExecutedAs h.parameters (standard_at notation h opcode bytes) bytes r (record r { is_stmt = not r.is_stmt }) Quiet
   unfolding standard_at
   negates is = rw is (record { instruction = NegateStatement; reading = refl; defines = refl; refusal = refl; registers = refl }, refl)
 
 module _ (notation : Notation) (h : Header) (bytes rest : List ℕ) (r : LineRow) (opcode : ℕ) where
   pub advances_line : opcode ≡ 3 → (advance : ℤ) → (Ok advance, rest) ≡ signed_at bytes
-      → ExecutedWell h.parameters (standard_at notation h opcode bytes) rest r (record r { line = advanced_line advance r.line }) false
+      → IsExecutedAs h.parameters (standard_at notation h opcode bytes) rest r (record r { line = advanced_line advance r.line }) Quiet
   unfolding standard_at
-  advances_line is advance read = rw is (record { instruction = AdvanceLine advance; reading = rw (← read) refl; defines = refl; refusal = refl; registers = refl }, refl)
+  advances_line is advance read =
+      rw is (record { instruction = AdvanceLine advance; reading = rw (← read) refl; defines = refl; refusal = refl; registers = refl }, refl)
 
   pub sets_file : opcode ≡ 4 → (file : ℕ) → (Ok file, rest) ≡ unsigned_at bytes
-      → ExecutedWell h.parameters (standard_at notation h opcode bytes) rest r (record r { file = file }) false
+      → IsExecutedAs h.parameters (standard_at notation h opcode bytes) rest r (record r { file = file }) Quiet
   unfolding standard_at
   sets_file is file read = rw is (record { instruction = SetFile file; reading = rw (← read) refl; defines = refl; refusal = refl; registers = refl }, refl)
 
   pub sets_column : opcode ≡ 5 → (column : ℕ) → (Ok column, rest) ≡ unsigned_at bytes
-      → ExecutedWell h.parameters (standard_at notation h opcode bytes) rest r (record r { column = column }) false
+      → IsExecutedAs h.parameters (standard_at notation h opcode bytes) rest r (record r { column = column }) Quiet
   unfolding standard_at
-  sets_column is column read = rw is (record { instruction = SetColumn column; reading = rw (← read) refl; defines = refl; refusal = refl; registers = refl }, refl)
+  sets_column is column read =
+      rw is (record { instruction = SetColumn column; reading = rw (← read) refl; defines = refl; refusal = refl; registers = refl }, refl)
 
 -- ---- a program whose first byte was taken
 
@@ -65,9 +70,10 @@ module _ (notation : Notation) (h : Header) (bytes rest : List ℕ) where
   standard_first zero some standard read = absurd (omega (arith, some))
   standard_first (suc o) some standard read = rw (← read, eqb-suc-zero o, standard) refl
 
-  abbrev pub special_executed : (opcode base : ℕ) (k : Parameters) → k ≡ h.parameters → base ≡ h.parameters.opcode_base → 0 < opcode → base ≤ opcode → (Ok opcode, rest) ≡ byte_at bytes
+  abbrev pub special_executed : (opcode base : ℕ) (k : Parameters) → k ≡ h.parameters → base ≡ h.parameters.opcode_base → 0 < opcode → base ≤ opcode
+      → (Ok opcode, rest) ≡ byte_at bytes
       → (old new : LineRow) (refused : Bool) → new ≡ step_of k (Special opcode) old → is_refused k (Special opcode) old ≡ refused
-      → Executed h.parameters (ins_at notation h bytes) rest old new refused
+      → IsExecuted h.parameters (ins_at notation h bytes) rest old new refused
   special_executed opcode base k same is some le read old new refused step refusal =
       let above : h.parameters.opcode_base ≤ opcode = omega (arith, le, is) in
       record {
@@ -79,46 +85,50 @@ module _ (notation : Notation) (h : Header) (bytes rest : List ℕ) where
       }
 
   pub standard_executed : (opcode base : ℕ) → base ≡ h.parameters.opcode_base → 0 < opcode → opcode < base → (Ok opcode, rest) ≡ byte_at bytes
-      → (after : List ℕ) (old new : LineRow) (made : Bool) → ExecutedWell h.parameters (standard_at notation h opcode rest) after old new made
-      → ExecutedWell h.parameters (ins_at notation h bytes) after old new made
-  standard_executed opcode base is some lt read after old new made x =
+      → (after : List ℕ) (old new : LineRow) (told : Executed) → IsExecutedAs h.parameters (standard_at notation h opcode rest) after old new told
+      → IsExecutedAs h.parameters (ins_at notation h bytes) after old new told
+  standard_executed opcode base is some lt read after old new told x =
       let below : nat_le h.parameters.opcode_base opcode ≡ false = lt-leb h.parameters.opcode_base opcode (omega (arith, lt, is)) in
       rw (standard_first opcode some below read) x
 
--- ---- a step of an iterator
+-- ---- what is told
 
--- nothing is added to the files
-files_kept : (a : Bool) (h : Header) (i : Ins) → defines_file i ≡ false → h ≡ record h { files = files_after a i h.files }
-files_kept a h (DefineFile f) none = absurd cc
-files_kept a h i none = refl
+module _ (h : Header) (old new : Unread) (row after : LineRow) where
+  pub executes_it : (told : Executed) → is_executed told ≡ true → IsExecutedAs h.parameters (ins_at old.notation h old.bytes) new.bytes row after told
+      → ExecutesNext h old new row after told
+  executes_it No is x = absurd cc
+  executes_it Quiet is x = x
+  executes_it (Address a) is x = x
+  executes_it Row is x = x
 
--- k is the header that was lent, s2 what was left of the instructions
-module _ (a : Bool) (h k : Header) (same : k ≡ h) (o : Notation) (n : ℕ) (w : HeaderOrders) (r r2 : LineRow) (s s2 : Unread) (notation : s2.notation ≡ s.notation) where
-  module _ (x : Executed k.parameters (ins_at s.notation k s.bytes) s2.bytes r r2 false) where
-    pub executed_quiet : false ≡ makes_row x.instruction → StepIs (state a h o n w r s) (state a h o n w r2 s2) More
-    executed_quiet made =
-        let f = (reads_instruction s.notation k).found s.bytes x.instruction s2.bytes x.reading in
-        let kept = files_kept a h x.instruction x.defines in
-        let fits = subst (λ (j : Header). is_refused j.parameters x.instruction r ≡ false) same x.refusal in
-        let step = subst (λ (j : Header). r2 ≡ step_of j.parameters x.instruction r) same x.registers in (
-          after_quiet a h k same o o n n w w r s s2 notation x.instruction f.0 f.1 f.2 h r2 kept fits (sym made) step,
-          is_shorter a h k same o o n n w w r s s2 notation x.instruction f.0 f.1 f.2,
-          passes_quiet a h k same o o n n w w r s s2 notation x.instruction f.0 f.1 f.2 h r2 kept fits (sym made) step,
-        )
+  pub executes_none : (told : Executed) → is_executed told ≡ false → (told ≡ No → (new ≡ old) × (after ≡ row)) → ExecutesNext h old new row after told
+  executes_none No is same = same refl
+  executes_none Quiet is same = absurd cc
+  executes_none (Address a) is same = absurd cc
+  executes_none Row is same = absurd cc
 
-    pub executed_made : true ≡ makes_row x.instruction → StepIs (state a h o n w r s) (state a h o n w r2 s2) Made
-    executed_made made =
-        let f = (reads_instruction s.notation k).found s.bytes x.instruction s2.bytes x.reading in
-        let kept = files_kept a h x.instruction x.defines in
-        let fits = subst (λ (j : Header). is_refused j.parameters x.instruction r ≡ false) same x.refusal in
-        let step = subst (λ (j : Header). r2 ≡ step_of j.parameters x.instruction r) same x.registers in (
-          after_made a h k same o o n n w w r s s2 notation x.instruction f.0 f.1 f.2 h r2 kept fits (sym made) step,
-          passes_made a h k same o o n n w w r s s2 notation x.instruction f.0 f.1 f.2 h r2 kept fits (sym made) step,
-        )
+pub told_row : (i : Ins) → Row ≡ told_of i → makes_row i ≡ true
+told_row (Special o) told = refl
+told_row Copy told = refl
+told_row EndSequence told = refl
+told_row (SetAddress a) told = absurd cc
+told_row i told = absurd cc
 
-  pub executed_overflow : Executed k.parameters (ins_at s.notation k s.bytes) s2.bytes r r2 true → AnyFaultIs (state a h o n w r s) (state a h o n w r2 s2) AddressOverflow
-  executed_overflow x =
-      let f = (reads_instruction s.notation k).found s.bytes x.instruction s2.bytes x.reading in
-      let over = subst (λ (j : Header). is_refused j.parameters x.instruction r ≡ true) same x.refusal in
-      let step = subst (λ (j : Header). r2 ≡ step_of j.parameters x.instruction r) same x.registers in
-      inr (after_overflow a h k same o o n n w w r s s2 notation x.instruction f.0 f.1 f.2 h r2 refl over step)
+pub told_quiet : (i : Ins) → Quiet ≡ told_of i → makes_row i ≡ false
+told_quiet (Special o) told = absurd cc
+told_quiet Copy told = absurd cc
+told_quiet EndSequence told = absurd cc
+told_quiet (SetAddress a) told = absurd cc
+told_quiet i told = refl
+
+operand_told : Executed → ℕ
+operand_told (Address a) = a
+operand_told told = 0
+
+pub told_address : (i : Ins) (a : ℕ) → Address a ≡ told_of i → i ≡ SetAddress a
+unfolding operand_told
+told_address (Special o) a told = absurd cc
+told_address Copy a told = absurd cc
+told_address EndSequence a told = absurd cc
+told_address (SetAddress b) a told = ap SetAddress (sym (ap operand_told told))
+told_address i a told = absurd cc

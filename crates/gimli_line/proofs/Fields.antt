@@ -21,11 +21,13 @@ module _ (big : Bool) (limit : ℕ) (entry : UnitEntry) (unit : ℕ) (opening : 
   abbrev notation : Notation
   notation = record { big = big; limit = limit }
 
-  pub parameters_end : (e : Error) (rest : List ℕ) → (Err e, rest) ≡ parameters_at opening.encoding bytes → (fields_at notation entry unit opening program bytes).0 ≡ Err e
+  pub parameters_end : (e : Error) (rest : List ℕ) → (Err e, rest) ≡ parameters_at opening.encoding bytes
+      → (fields_at notation entry unit opening program bytes).0 ≡ Err e
   unfolding fields_at
   parameters_end e rest is = rw (← is) refl
 
-  module _ (parameters : Parameters) (mid : List ℕ) (count : ℕ) (first : (Ok parameters, mid) ≡ parameters_at opening.encoding bytes) (counted : count ≡ parameters.opcode_base - 1) where
+  module _ (parameters : Parameters) (mid : List ℕ) (count : ℕ) (first : (Ok parameters, mid) ≡ parameters_at opening.encoding bytes)
+      (counted : count ≡ parameters.opcode_base - 1) where
     pub counts_end : (e : Error) (rest : List ℕ) → (Err e, rest) ≡ split_at count mid → (fields_at notation entry unit opening program bytes).0 ≡ Err e
     unfolding fields_at
     counts_end e rest is =
@@ -33,7 +35,8 @@ module _ (big : Bool) (limit : ℕ) (entry : UnitEntry) (unit : ℕ) (opening : 
         rw (← first, ← again) refl
 
     module _ (counts left : List ℕ) (now : Bool) (second : (Ok counts, left) ≡ split_at count mid) (kept : now ≡ big) where
-      pub directories_end : (e : Error) → (directories_at (record { big = now; limit = limit }) opening.encoding left).0 ≡ Err e → (fields_at notation entry unit opening program bytes).0 ≡ Err e
+      pub directories_end : (e : Error) → (directories_at (record { big = now; limit = limit }) opening.encoding left).0 ≡ Err e
+          → (fields_at notation entry unit opening program bytes).0 ≡ Err e
       unfolding fields_at
       directories_end e is =
           let again : (Ok counts, left) ≡ split_at (parameters.opcode_base - 1) mid = rw counted at second in
@@ -41,8 +44,10 @@ module _ (big : Bool) (limit : ℕ) (entry : UnitEntry) (unit : ℕ) (opening : 
           rw (← first, ← again, refused (directories_at notation opening.encoding left) e here) refl
 
       module _ (directory_formats : List FileEntryFormat) (directories : List Value) (next : List ℕ) (later : Bool)
-          (third : directories_at (record { big = now; limit = limit }) opening.encoding left ≡ (Ok (directory_formats, directories), next)) (also : later ≡ big) where
-        pub files_end : (e : Error) → (file_names_at (record { big = later; limit = limit }) opening.encoding next).0 ≡ Err e → (fields_at notation entry unit opening program bytes).0 ≡ Err e
+          (third : directories_at (record { big = now; limit = limit }) opening.encoding left ≡ (Ok (directory_formats, directories), next))
+          (also : later ≡ big) where
+        pub files_end : (e : Error) → (file_names_at (record { big = later; limit = limit }) opening.encoding next).0 ≡ Err e
+            → (fields_at notation entry unit opening program bytes).0 ≡ Err e
         unfolding fields_at
         files_end e is =
             let again : (Ok counts, left) ≡ split_at (parameters.opcode_base - 1) mid = rw counted at second in
@@ -52,7 +57,8 @@ module _ (big : Bool) (limit : ℕ) (entry : UnitEntry) (unit : ℕ) (opening : 
 
         pub fields_done : (file_formats : List FileEntryFormat) (files : List File) (end : List ℕ) (comp_dir : Option (List ℕ)) (comp_file : Option File)
             → file_names_at (record { big = later; limit = limit }) opening.encoding next ≡ (Ok (file_formats, files), end)
-            → comp_dir ≡ handed_value opening.encoding entry.directory → comp_file ≡ handed_value opening.encoding (option_map (λ path. plain_file path 0 0 0) entry.name)
+            → comp_dir ≡ handed_value opening.encoding entry.directory
+            → comp_file ≡ handed_value opening.encoding (option_map (λ path. plain_file path 0 0 0) entry.name)
             → (fields_at notation entry unit opening program bytes).0 ≡ Ok (record {
               parameters = parameters;
               unit_length = unit;

@@ -1,5 +1,6 @@
 -- What a program gives are the faults and the rows that aren't under a tombstone, of what it makes.
-use Rattle.std.proofs.Common.{◌≡◌, ◌<◌, ℕ, Bool, true, false, not, if◌then◌else◌, List, [], ◌∷◌, ◌++◌, length, Option, Some, None, refl, sym, ap, subst, ◌∙◌, arith, inl, inr}
+use Rattle.std.proofs.Common.{◌≡◌, ◌<◌, ℕ, Bool, true, false, not, if◌then◌else◌, List, [], ◌∷◌, ◌++◌, length, Option, Some, None, refl, sym, ap, subst, ◌∙◌}
+use Rattle.std.proofs.Common.{arith, inl, inr}
 use Rattle.std.specs.List.{filter, All}
 use Rattle.std.proofs.lemmas.List.Elements.{filter-append}
 use Rattle.gimli_core.specs.declared.error.Error.{Error}
@@ -31,7 +32,8 @@ given_at h files i r false true fits loud =
     let x : EventWithFiles = record { event = row (step_of h i r); files = files } in
     rw (fits, loud) (one r.tombstone ∙ ap (λ (b : Bool). if not b then x ∷ [] else []) (sym (keeps_tombstone h i r loud)))
   where
-    one : (b : Bool) → with_files files (if not b then row (step_of h i r) ∷ [] else []) ≡ (if not b then record { event = row (step_of h i r); files = files } ∷ [] else [])
+    one : (b : Bool)
+        → with_files files (if not b then row (step_of h i r) ∷ [] else []) ≡ (if not b then record { event = row (step_of h i r); files = files } ∷ [] else [])
     one true = refl
     one false = refl
 
@@ -43,7 +45,8 @@ given_from a h r files (i ∷ list) end =
     let next = next_registers h i r in
     let after = files_after a i files in
     ap (λ (es : List EventWithFiles). es ++ events_with_files_from a h next after list end) (given_at h files i r (is_refused h i r) (makes_row i) refl refl)
-    ∙ ap (λ (es : List EventWithFiles). filter (λ (t : EventWithFiles). is_given t.event) (with_files files (made_step h i r)) ++ es) (given_from a h next after list end)
+    ∙ ap (λ (es : List EventWithFiles). filter (λ (t : EventWithFiles). is_given t.event) (with_files files (made_step h i r)) ++ es)
+    (given_from a h next after list end)
     ∙ sym (filter-append (λ (t : EventWithFiles). is_given t.event) (with_files files (made_step h i r)) (made_from a h next after list end))
 
 -- what is still to come, among what is still to be made
@@ -69,7 +72,10 @@ module _ (old new : RunState) (r : LineRow) (files : List File) (next : AnyRowIs
   first_given b is =
       let x : EventWithFiles = record { event = row r; files = files } in
       left_given old ∙ ap (λ (es : List EventWithFiles). filter (λ (t : EventWithFiles). is_given t.event) es) next.0
-      ∙ ap (λ (b : Bool). if not b then x ∷ filter (λ (t : EventWithFiles). is_given t.event) (made_left new) else filter (λ (t : EventWithFiles). is_given t.event) (made_left new)) is
+      ∙ ap
+      (λ (b : Bool). if not b then x ∷ filter (λ (t : EventWithFiles). is_given t.event) (made_left new)
+      else filter (λ (t : EventWithFiles). is_given t.event) (made_left new))
+      is
       ∙ ap (λ (es : List EventWithFiles). if not b then x ∷ es else es) (sym (left_given new))
 
   -- nothing is given where it is under a tombstone

@@ -5,13 +5,17 @@ use Rattle.gimli_core.specs.Notation.{Notation}
 use Rattle.gimli_core.specs.Numbers.{is_address_size}
 use Rattle.gimli_core.specs.Reading.{Read, ◌>>=◌, byte_at, address_size_at}
 use Rattle.gimli_core.specs.inside.Reading.{check_at}
-use Rattle.gimli_core.specs.Production.{Production, ◌>>=◌ as ◌>>>◌, done, refuse, check, choose, times, byte, number, some_bytes, text, unsigned, unsigned_16, signed, below_limit, offset_word, unit_length, within, Reads}
-use Rattle.gimli_core.specs.Form.{Shape, fixed, three_bytes, word_offset, leb, signed_leb, leb_offset, block, counted, leb_counted, string, shape_among, shapes, block_production, shape_production, form_production}
+use Rattle.gimli_core.specs.Production.{Production, ◌>>=◌ as ◌>>>◌, done, refuse, check, choose, times, byte, number, some_bytes, text, unsigned, unsigned_16}
+use Rattle.gimli_core.specs.Production.{signed, below_limit, offset_word, unit_length, within, Reads}
+use Rattle.gimli_core.specs.Form.{Shape, fixed, three_bytes, word_offset, leb, signed_leb, leb_offset, block, counted, leb_counted, string, shape_among, shapes}
+use Rattle.gimli_core.specs.Form.{block_production, shape_production, form_production}
 use Rattle.gimli_core.specs.declared.common.Encoding.{Encoding}
 use Rattle.gimli_core.specs.declared.common.Format.{Format}
 use Rattle.gimli_core.specs.declared.attribute_value.AttributeValue.TheVariants.{Block, String}
 use Rattle.gimli_core.specs.declared.error.Error.{Error}
-use Rattle.gimli_core.specs.declared.error.Error.TheVariants.{UnknownForm, UnknownVersion, UnsupportedAddressSize, UnsupportedSegmentSize, MinimumInstructionLengthZero, MaximumOperationsPerInstructionZero, LineRangeZero, OpcodeBaseZero, MissingFileEntryFormatPath}
+use Rattle.gimli_core.specs.declared.error.Error.TheVariants.{UnknownForm, UnknownVersion, UnsupportedAddressSize, UnsupportedSegmentSize}
+use Rattle.gimli_core.specs.declared.error.Error.TheVariants.{MinimumInstructionLengthZero, MaximumOperationsPerInstructionZero, LineRangeZero, OpcodeBaseZero}
+use Rattle.gimli_core.specs.declared.error.Error.TheVariants.{MissingFileEntryFormatPath}
 use Rattle.gimli_core.proofs.Productions.{reads_both, reads_done, reads_refuse, reads_check, reads_if, reads_times, reads_within, reads_same}
 use Rattle.gimli_core.proofs.ProductionLaws.{reads_byte, reads_some_bytes, reads_number, reads_text, reads_below_limit, reads_offset_word, reads_unit_length}
 use Rattle.gimli_core.proofs.UnsignedLeb.{reads_unsigned, reads_unsigned_16}
@@ -20,15 +24,21 @@ use Rattle.gimli_line.specs.header.File.{File}
 use Rattle.gimli_line.specs.header.Header.{Header, UnitEntry, plain_file}
 use Rattle.gimli_line.specs.header.Productions.{name, positive}
 use Rattle.gimli_line.specs.inside.header.FormReading.{block_at, shape_at, form_at}
-use Rattle.gimli_line.specs.header.HeaderGrammar.{is_content, Opening, paths_production, file_production, files_production, format_production, formats_production, entry_production, entries_production, table_production, version_production, address_size_production, opening_production, line_encoding_production, parameters_production, directory_table, file_table, fields_production, header_production, SpellsUnit, HasHeaderFault}
+use Rattle.gimli_line.specs.header.HeaderGrammar.{is_content, Opening, paths_production, file_production, files_production, format_production}
+use Rattle.gimli_line.specs.header.HeaderGrammar.{formats_production, entry_production, entries_production, table_production, version_production}
+use Rattle.gimli_line.specs.header.HeaderGrammar.{address_size_production, opening_production, line_encoding_production, parameters_production, directory_table}
+use Rattle.gimli_line.specs.header.HeaderGrammar.{file_table, fields_production, header_production, SpellsUnit, HasHeaderFault}
 use Rattle.gimli_line.specs.header.HeaderReading.{plain_file_at}
-use Rattle.gimli_line.specs.inside.header.HeaderReading.{positive_at, paths_at, named_file_at, files_at, format_at, formats_at, entry_at, entries_at, table_at, version_at, own_address_size_at, size_at, opening_at, operations_at, line_encoding_at, parameters_at, directories_at, file_names_at, fields_at, header_at}
+use Rattle.gimli_line.specs.inside.header.HeaderReading.{positive_at, paths_at, named_file_at, files_at, format_at, formats_at, entry_at, entries_at, table_at}
+use Rattle.gimli_line.specs.inside.header.HeaderReading.{version_at, own_address_size_at, size_at, opening_at, operations_at, line_encoding_at, parameters_at}
+use Rattle.gimli_line.specs.inside.header.HeaderReading.{directories_at, file_names_at, fields_at, header_at}
 use Rattle.gimli_line.specs.declared.header.file_entry.FileEntryFormat.{FileEntryFormat}
 use Rattle.gimli_line.proofs.Closed.{ReadsOpen, reads_name, reads_open_both, reads_closed}
 
 -- ---- a test, and after it a production
 
-pub reads_guard : {A : Type 0} (b : Bool) (d : Error) (m : Production A) (after : List ℕ → Read A) → Reads m after → Reads (check b d >>> λ ok. m) (λ bytes. if b then after bytes else (Err d, bytes))
+pub reads_guard : {A : Type 0} (b : Bool) (d : Error) (m : Production A) (after : List ℕ → Read A) → Reads m after
+    → Reads (check b d >>> λ ok. m) (λ bytes. if b then after bytes else (Err d, bytes))
 reads_guard true d m after r = reads_both (check true d) (λ ok. m) (check_at true d) (λ ok. after) (reads_check true d) (λ ok. r)
 reads_guard false d m after r = reads_both (check false d) (λ ok. m) (check_at false d) (λ ok. after) (reads_check false d) (λ ok. r)
 
@@ -44,11 +54,14 @@ reads_block n = reads_both (some_bytes n) _ _ _ (reads_some_bytes n) (λ xs. rea
 module _ (notation : Notation) (format : Format) where
   reads_shape : (shape : Shape) → Reads (shape_production notation format shape) (shape_at notation format shape)
   reads_shape (fixed size make) = reads_both (number notation.big size) _ _ _ (reads_number notation.big size) (λ n. reads_done (make n))
-  reads_shape (three_bytes make) = reads_both (below_limit notation (number notation.big 3)) _ _ _ (reads_below_limit notation (number notation.big 3) _ (reads_number notation.big 3)) (λ n. reads_done (make n))
+  reads_shape (three_bytes make) =
+      reads_both (below_limit notation (number notation.big 3)) _ _ _ (reads_below_limit notation (number notation.big 3) _ (reads_number notation.big 3)) (λ n.
+      reads_done (make n))
   reads_shape (word_offset make) = reads_both (offset_word notation format) _ _ _ (reads_offset_word notation format) (λ n. reads_done (make n))
   reads_shape (leb make) = reads_both unsigned _ _ _ reads_unsigned (λ n. reads_done (make n))
   reads_shape (signed_leb make) = reads_both signed _ _ _ reads_signed (λ z. reads_done (make z))
-  reads_shape (leb_offset make) = reads_both (below_limit notation unsigned) _ _ _ (reads_below_limit notation unsigned _ reads_unsigned) (λ n. reads_done (make n))
+  reads_shape (leb_offset make) =
+      reads_both (below_limit notation unsigned) _ _ _ (reads_below_limit notation unsigned _ reads_unsigned) (λ n. reads_done (make n))
   reads_shape (block size) = reads_block size
   reads_shape (counted size) = reads_both (number notation.big size) _ _ _ (reads_number notation.big size) reads_block
   reads_shape leb_counted = reads_both (below_limit notation unsigned) _ _ _ (reads_below_limit notation unsigned _ reads_unsigned) reads_block
@@ -58,7 +71,9 @@ module _ (notation : Notation) (format : Format) where
   unfolding form_at
   reads_form form = at_shape (shape_among form shapes)
     where
-      at_shape : (found : Option Shape) → Reads (elim found [ Some shape ↦ shape_production notation format shape | None ↦ refuse (UnknownForm (record { 0 = form })) ]) (λ bytes. elim found [ Some shape ↦ shape_at notation format shape bytes | None ↦ (Err (UnknownForm (record { 0 = form })), bytes) ])
+      at_shape : (found : Option Shape)
+          → Reads (elim found [ Some shape ↦ shape_production notation format shape | None ↦ refuse (UnknownForm (record { 0 = form })) ]) (λ bytes.
+          elim found [ Some shape ↦ shape_at notation format shape bytes | None ↦ (Err (UnknownForm (record { 0 = form })), bytes) ])
       at_shape (Some shape) = reads_shape shape
       at_shape None = reads_refuse (UnknownForm (record { 0 = form }))
 
@@ -70,7 +85,8 @@ reads_paths = reads_closed name _ reads_name
 pub reads_file : (path : List ℕ) → Reads (file_production path) (plain_file_at path)
 unfolding plain_file_at
 reads_file path =
-    reads_both unsigned _ _ _ reads_unsigned (λ directory. reads_both unsigned _ _ _ reads_unsigned (λ time. reads_both unsigned _ _ _ reads_unsigned (λ size. reads_done (plain_file path directory time size))))
+    reads_both unsigned _ _ _ reads_unsigned (λ directory.
+    reads_both unsigned _ _ _ reads_unsigned (λ time. reads_both unsigned _ _ _ reads_unsigned (λ size. reads_done (plain_file path directory time size))))
 
 -- a path that isn't empty, and what stands after it
 abbrev pub named_file : Production File
@@ -103,25 +119,33 @@ module _ (notation : Notation) (format : Format) where
 
   pub reads_entries : (formats : List FileEntryFormat) → Reads (entries_production notation format formats) (entries_at notation format formats)
   unfolding entries_at
-  reads_entries formats = reads_both unsigned _ _ _ reads_unsigned (λ count. reads_times count (entry_production notation format formats) _ (reads_entry formats))
+  reads_entries formats =
+      reads_both unsigned _ _ _ reads_unsigned (λ count. reads_times count (entry_production notation format formats) _ (reads_entry formats))
 
   pub reads_table : Reads (table_production notation format) (table_at notation format)
   unfolding table_at
-  reads_table = reads_both formats_production _ _ _ reads_formats (λ formats. reads_both (entries_production notation format formats) _ _ _ (reads_entries formats) (λ entries. reads_done (formats, entries)))
+  reads_table =
+      reads_both formats_production _ _ _ reads_formats (λ formats.
+      reads_both (entries_production notation format formats) _ _ _ (reads_entries formats) (λ entries. reads_done (formats, entries)))
 
 -- ---- the parts of a header
 
 pub reads_version : (big : Bool) → Reads (version_production big) (version_at big)
 unfolding version_at
-reads_version big = reads_both (number big 2) _ _ _ (reads_number big 2) (λ version. reads_guard (nat_le 2 version && nat_le version 5) (UnknownVersion version) (done version) _ (reads_done version))
+reads_version big =
+    reads_both (number big 2) _ _ _ (reads_number big 2) (λ version.
+    reads_guard (nat_le 2 version && nat_le version 5) (UnknownVersion version) (done version) _ (reads_done version))
 
 -- an address size, which the core reads with its test
-tested_size : (k : ℕ → List ℕ → Read ℕ) (bytes : List ℕ) → (byte_at bytes >>= λ n rest. if is_address_size n then k n rest else (Err (UnsupportedAddressSize n), rest)) ≡ (address_size_at bytes >>= k)
+tested_size : (k : ℕ → List ℕ → Read ℕ) (bytes : List ℕ)
+    → (byte_at bytes >>= λ n rest. if is_address_size n then k n rest else (Err (UnsupportedAddressSize n), rest)) ≡ (address_size_at bytes >>= k)
 unfolding address_size_at
 tested_size k [] = refl
 tested_size k (b ∷ bytes) = at_test (is_address_size b)
   where
-    at_test : (test : Bool) → (if test then k b bytes else (let r : Read ℕ = (Err (UnsupportedAddressSize b), bytes) in r)) ≡ ((let r : Read ℕ = (if test then Ok b else Err (UnsupportedAddressSize b), bytes) in r) >>= k)
+    at_test : (test : Bool)
+        → (if test then k b bytes else (let r : Read ℕ = (Err (UnsupportedAddressSize b), bytes) in r))
+        ≡ ((let r : Read ℕ = (if test then Ok b else Err (UnsupportedAddressSize b), bytes) in r) >>= k)
     at_test true = refl
     at_test false = refl
 
@@ -146,7 +170,8 @@ pub reads_line_encoding : (version : ℕ) → Reads (line_encoding_production ve
 unfolding line_encoding_at
 reads_line_encoding version =
     reads_both (positive MinimumInstructionLengthZero) _ _ _ (reads_positive MinimumInstructionLengthZero)
-    (λ minimum. reads_both (choose (nat_le version 3) (done 1) (positive MaximumOperationsPerInstructionZero)) _ (operations_at version) _ (reads_if (nat_le version 3) (done 1) _ _ _ (reads_done 1) (reads_positive MaximumOperationsPerInstructionZero))
+    (λ minimum. reads_both (choose (nat_le version 3) (done 1) (positive MaximumOperationsPerInstructionZero)) _ (operations_at version) _
+    (reads_if (nat_le version 3) (done 1) _ _ _ (reads_done 1) (reads_positive MaximumOperationsPerInstructionZero))
     (λ maximum. reads_both byte _ _ _ reads_byte (λ statement. reads_both byte _ _ _ reads_byte
     (λ base. reads_both (positive LineRangeZero) _ _ _ (reads_positive LineRangeZero) (λ range. reads_done _)))))
 
@@ -170,7 +195,8 @@ reads_file_names notation encoding =
     (reads_both files_production _ _ _ reads_files (λ files. reads_done _))
     (reads_both (table_production notation encoding.format) _ _ _ (reads_table notation encoding.format) (λ table. reads_done _))
 
-pub reads_fields : (notation : Notation) (unit_entry : UnitEntry) (unit : ℕ) (opening : Opening) (program : List ℕ) → Reads (fields_production notation unit_entry unit opening program) (fields_at notation unit_entry unit opening program)
+pub reads_fields : (notation : Notation) (unit_entry : UnitEntry) (unit : ℕ) (opening : Opening) (program : List ℕ)
+    → Reads (fields_production notation unit_entry unit opening program) (fields_at notation unit_entry unit opening program)
 unfolding fields_at
 reads_fields notation unit_entry unit opening program =
     reads_both (parameters_production opening.encoding) _ _ _ (reads_parameters opening.encoding)
@@ -186,8 +212,10 @@ unfolding header_at
 reads_header notation unit_entry =
     reads_both (unit_length notation) _ _ _ (reads_unit_length notation)
     (λ unit. reads_both (some_bytes unit.0) _ _ _ (reads_some_bytes unit.0)
-    (λ inside. reads_both (within inside (opening_production notation unit_entry.address_size unit.1)) _ _ _ (reads_within inside (opening_production notation unit_entry.address_size unit.1) _ (reads_opening notation unit_entry.address_size unit.1))
-    (λ opened. reads_both (within opened.0.fields (fields_production notation unit_entry unit.0 opened.0 opened.1)) _ _ _ (reads_within opened.0.fields (fields_production notation unit_entry unit.0 opened.0 opened.1) _ (reads_fields notation unit_entry unit.0 opened.0 opened.1))
+    (λ inside. reads_both (within inside (opening_production notation unit_entry.address_size unit.1)) _ _ _
+    (reads_within inside (opening_production notation unit_entry.address_size unit.1) _ (reads_opening notation unit_entry.address_size unit.1))
+    (λ opened. reads_both (within opened.0.fields (fields_production notation unit_entry unit.0 opened.0 opened.1)) _ _ _ (reads_within opened.0.fields
+    (fields_production notation unit_entry unit.0 opened.0 opened.1) _ (reads_fields notation unit_entry unit.0 opened.0 opened.1))
     (λ fields. reads_done _))))
 
 -- ---- a unit, or a refusal
@@ -211,12 +239,14 @@ module _ (notation : Notation) (unit_entry : UnitEntry) where
   unit_answered bytes h is = at_rest (header_at notation unit_entry bytes) refl is
     where
       at_rest : (r : Read Header) → header_at notation unit_entry bytes ≡ r → r.0 ≡ Ok h → SpellsUnit notation unit_entry bytes h
-      at_rest (Ok k, rest) same is = let whole : k ≡ h = cc in unit_found bytes h rest (same ∙ ap (λ (x : Header). let r : Read Header = (Ok x, rest) in r) whole)
+      at_rest (Ok k, rest) same is =
+          let whole : k ≡ h = cc in unit_found bytes h rest (same ∙ ap (λ (x : Header). let r : Read Header = (Ok x, rest) in r) whole)
       at_rest (Err e, rest) same is = absurd cc
 
   -- the header of a unit in front is read
   pub unit_read : (bytes : List ℕ) (h : Header) → SpellsUnit notation unit_entry bytes h → (header_at notation unit_entry bytes).0 ≡ Ok h
-  unit_read bytes h s = ap (λ (xs : List ℕ). (header_at notation unit_entry xs).0) s.2 ∙ ap (λ (r : Read Header). r.0) ((reads_header notation unit_entry).only s.0 h s.1 s.3)
+  unit_read bytes h s =
+      ap (λ (xs : List ℕ). (header_at notation unit_entry xs).0) s.2 ∙ ap (λ (r : Read Header). r.0) ((reads_header notation unit_entry).only s.0 h s.1 s.3)
 
   -- a unit has one header
   pub one_header : (bytes : List ℕ) (h k : Header) → SpellsUnit notation unit_entry bytes h → SpellsUnit notation unit_entry bytes k → h ≡ k

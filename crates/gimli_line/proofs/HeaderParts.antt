@@ -21,13 +21,82 @@ joined_offset x y p = let same : record { 0 = x.0 } ≡ record { 0 = y.0 } = rw 
 module _ {R Offset Directory File : Type 0} where
   -- a header's parts, of these
   abbrev rebuilt : HeaderParts R Offset Directory File → HeaderParts R Offset Directory File
-  rebuilt h = record { parameters = h.parameters; offset = h.offset; unit_length = h.unit_length; header_length = h.header_length; operand_counts = h.operand_counts; directory_formats = h.directory_formats; directories = h.directories; file_formats = h.file_formats; files = h.files; program = h.program; comp_dir = h.comp_dir; comp_file = h.comp_file }
+  rebuilt h = record {
+    parameters = h.parameters;
+    offset = h.offset;
+    unit_length = h.unit_length;
+    header_length = h.header_length;
+    operand_counts = h.operand_counts;
+    directory_formats = h.directory_formats;
+    directories = h.directories;
+    file_formats = h.file_formats;
+    files = h.files;
+    program = h.program;
+    comp_dir = h.comp_dir;
+    comp_file = h.comp_file;
+  }
 
   abbrev pub SameParts : (x y : HeaderParts R Offset Directory File) → Type 0
-  SameParts x y = (x.parameters ≡ y.parameters) × ((x.offset ≡ y.offset) × ((x.unit_length ≡ y.unit_length) × ((x.header_length ≡ y.header_length) × ((x.operand_counts ≡ y.operand_counts) × ((x.directory_formats ≡ y.directory_formats) × ((x.directories ≡ y.directories) × ((x.file_formats ≡ y.file_formats) × ((x.files ≡ y.files) × ((x.program ≡ y.program) × ((x.comp_dir ≡ y.comp_dir) × (x.comp_file ≡ y.comp_file)))))))))))
+  SameParts x y =
+      (x.parameters ≡ y.parameters)
+      × ((x.offset ≡ y.offset)
+      × ((x.unit_length ≡ y.unit_length)
+      × ((x.header_length ≡ y.header_length)
+      × ((x.operand_counts ≡ y.operand_counts)
+      × ((x.directory_formats ≡ y.directory_formats)
+      × ((x.directories ≡ y.directories)
+      × ((x.file_formats ≡ y.file_formats)
+      × ((x.files ≡ y.files) × ((x.program ≡ y.program) × ((x.comp_dir ≡ y.comp_dir) × (x.comp_file ≡ y.comp_file)))))))))))
 
   pub joined : (x y : HeaderParts R Offset Directory File) → SameParts x y → x ≡ y
-  joined x y p = let same : rebuilt x ≡ rebuilt y = rw (p.0, p.1.0, p.1.1.0, p.1.1.1.0, p.1.1.1.1.0, p.1.1.1.1.1.0, p.1.1.1.1.1.1.0, p.1.1.1.1.1.1.1.0, p.1.1.1.1.1.1.1.1.0, p.1.1.1.1.1.1.1.1.1.0, p.1.1.1.1.1.1.1.1.1.1.0, p.1.1.1.1.1.1.1.1.1.1.1) refl in same
+  joined x y p =
+      let same : rebuilt x
+      ≡ rebuilt y = rw (
+        p.0,
+        p.1.0,
+        p.1.1.0,
+        p.1.1.1.0,
+        p.1.1.1.1.0,
+        p.1.1.1.1.1.0,
+        p.1.1.1.1.1.1.0,
+        p.1.1.1.1.1.1.1.0,
+        p.1.1.1.1.1.1.1.1.0,
+        p.1.1.1.1.1.1.1.1.1.0,
+        p.1.1.1.1.1.1.1.1.1.1.0,
+        p.1.1.1.1.1.1.1.1.1.1.1,
+      )
+      refl in
+      same
 
   pub parted : (x y : HeaderParts R Offset Directory File) → x ≡ y → SameParts x y
-  parted x y e = (ap (λ (h : HeaderParts R Offset Directory File). h.parameters) e, (ap (λ (h : HeaderParts R Offset Directory File). h.offset) e, (ap (λ (h : HeaderParts R Offset Directory File). h.unit_length) e, (ap (λ (h : HeaderParts R Offset Directory File). h.header_length) e, (ap (λ (h : HeaderParts R Offset Directory File). h.operand_counts) e, (ap (λ (h : HeaderParts R Offset Directory File). h.directory_formats) e, (ap (λ (h : HeaderParts R Offset Directory File). h.directories) e, (ap (λ (h : HeaderParts R Offset Directory File). h.file_formats) e, (ap (λ (h : HeaderParts R Offset Directory File). h.files) e, (ap (λ (h : HeaderParts R Offset Directory File). h.program) e, (ap (λ (h : HeaderParts R Offset Directory File). h.comp_dir) e, ap (λ (h : HeaderParts R Offset Directory File). h.comp_file) e)))))))))))
+  parted x y e = (
+    ap (λ (h : HeaderParts R Offset Directory File). h.parameters) e,
+    (
+      ap (λ (h : HeaderParts R Offset Directory File). h.offset) e,
+      (
+        ap (λ (h : HeaderParts R Offset Directory File). h.unit_length) e,
+        (
+          ap (λ (h : HeaderParts R Offset Directory File). h.header_length) e,
+          (
+            ap (λ (h : HeaderParts R Offset Directory File). h.operand_counts) e,
+            (
+              ap (λ (h : HeaderParts R Offset Directory File). h.directory_formats) e,
+              (
+                ap (λ (h : HeaderParts R Offset Directory File). h.directories) e,
+                (
+                  ap (λ (h : HeaderParts R Offset Directory File). h.file_formats) e,
+                  (
+                    ap (λ (h : HeaderParts R Offset Directory File). h.files) e,
+                    (
+                      ap (λ (h : HeaderParts R Offset Directory File). h.program) e,
+                      (ap (λ (h : HeaderParts R Offset Directory File). h.comp_dir) e, ap (λ (h : HeaderParts R Offset Directory File). h.comp_file) e),
+                    ),
+                  ),
+                ),
+              ),
+            ),
+          ),
+        ),
+      ),
+    ),
+  )

@@ -7,7 +7,9 @@ use Rattle.gimli_core.specs.declared.common.Format.{Format}
 use Rattle.gimli_core.specs.declared.common.Format.TheVariants.{Dwarf32, Dwarf64}
 use Rattle.gimli_core.specs.declared.attribute_value.AttributeValue.TheVariants.{String}
 use Rattle.gimli_core.specs.declared.error.Error.{Error}
-use Rattle.gimli_core.specs.declared.error.Error.TheVariants.{UnexpectedEof, BadUnsignedLeb128, UnknownReservedLength, UnknownVersion, UnsupportedAddressSize, UnsupportedSegmentSize, MinimumInstructionLengthZero, MaximumOperationsPerInstructionZero, LineRangeZero, OpcodeBaseZero, MissingFileEntryFormatPath, UnknownForm}
+use Rattle.gimli_core.specs.declared.error.Error.TheVariants.{UnexpectedEof, BadUnsignedLeb128, UnknownReservedLength, UnknownVersion, UnsupportedAddressSize}
+use Rattle.gimli_core.specs.declared.error.Error.TheVariants.{UnsupportedSegmentSize, MinimumInstructionLengthZero, MaximumOperationsPerInstructionZero}
+use Rattle.gimli_core.specs.declared.error.Error.TheVariants.{LineRangeZero, OpcodeBaseZero, MissingFileEntryFormatPath, UnknownForm}
 use Rattle.gimli_line.specs.declared.header.file_entry.FileEntryFormat.{FileEntryFormat}
 use Rattle.gimli_line.specs.header.Parameters.{Parameters}
 use Rattle.gimli_line.specs.header.File.{File}
@@ -16,7 +18,8 @@ use Rattle.gimli_line.specs.header.HeaderGrammar.{SpellsUnit, HasHeaderFault}
 use Rattle.gimli_line.specs.inside.header.TableReading.{closed_below}
 use Rattle.gimli_line.specs.inside.header.FormReading.{form_at}
 use Rattle.gimli_line.specs.header.HeaderReading.{plain_file_at}
-use Rattle.gimli_line.specs.inside.header.HeaderReading.{positive_at, format_at, formats_at, entries_at, table_at, version_at, own_address_size_at, opening_at, line_encoding_at, parameters_at, directories_at, file_names_at, fields_at, header_at}
+use Rattle.gimli_line.specs.inside.header.HeaderReading.{positive_at, format_at, formats_at, entries_at, table_at, version_at, own_address_size_at, opening_at}
+use Rattle.gimli_line.specs.inside.header.HeaderReading.{line_encoding_at, parameters_at, directories_at, file_names_at, fields_at, header_at}
 use Rattle.gimli_line.proofs.HeaderLaws.{reads_header, unit_found}
 
 abbrev little : Notation
@@ -34,7 +37,13 @@ handed_names = record { address_size = 4; directory = Some (codes "/comp_dir"); 
 abbrev parameters : ℕ → ℕ → Format → ℤ → ℕ → ℕ → Parameters
 parameters version address_size form base range opcode_base = record {
   encoding = record { address_size = address_size; format = form; version = version };
-  line_encoding = record { minimum_instruction_length = 1; maximum_operations_per_instruction = 1; default_is_stmt = true; line_base = base; line_range = range };
+  line_encoding = record {
+    minimum_instruction_length = 1;
+    maximum_operations_per_instruction = 1;
+    default_is_stmt = true;
+    line_base = base;
+    line_range = range;
+  };
   opcode_base = opcode_base;
 }
 
@@ -92,8 +101,15 @@ header_of_digests form unit_length = record {
   directories = String (codes "dir1") ∷ String (codes "dir2") ∷ [];
   file_formats = format 0x0001 0x08 ∷ format 0x0002 0x0b ∷ format 0x0005 0x1e ∷ format 0x2001 0x08 ∷ [];
   files =
-      record (plain_file (codes "file1") 0 0 0) { md5 = 1 ∷ 2 ∷ 3 ∷ 4 ∷ 5 ∷ 6 ∷ 7 ∷ 8 ∷ 9 ∷ 10 ∷ 11 ∷ 12 ∷ 13 ∷ 14 ∷ 15 ∷ 16 ∷ []; source = Some (String (codes "foobar")) }
-      ∷ record (plain_file (codes "file2") 1 0 0) { md5 = 11 ∷ 12 ∷ 13 ∷ 14 ∷ 15 ∷ 16 ∷ 17 ∷ 18 ∷ 19 ∷ 20 ∷ 21 ∷ 22 ∷ 23 ∷ 24 ∷ 25 ∷ 26 ∷ []; source = Some (String (codes "quux")) } ∷ [];
+      record (plain_file (codes "file1") 0 0 0) {
+        md5 = 1 ∷ 2 ∷ 3 ∷ 4 ∷ 5 ∷ 6 ∷ 7 ∷ 8 ∷ 9 ∷ 10 ∷ 11 ∷ 12 ∷ 13 ∷ 14 ∷ 15 ∷ 16 ∷ [];
+        source = Some (String (codes "foobar"));
+      }
+      ∷ record (plain_file (codes "file2") 1 0 0) {
+        md5 = 11 ∷ 12 ∷ 13 ∷ 14 ∷ 15 ∷ 16 ∷ 17 ∷ 18 ∷ 19 ∷ 20 ∷ 21 ∷ 22 ∷ 23 ∷ 24 ∷ 25 ∷ 26 ∷ [];
+        source = Some (String (codes "quux"));
+      }
+      ∷ [];
   program = 0 ∷ 1 ∷ 2 ∷ 3 ∷ 4 ∷ [];
   comp_dir = None;
   comp_file = None;
@@ -346,7 +362,8 @@ units : IsUnit version_4_tables
     × IsUnit big_endian_64_bits
     × IsUnit later_format_wins
     × IsUnit digest_of_other_length
-unfolding uleb_at sleb_at word_at initial_length_at address_size_at closed_below positive_at plain_file_at form_at format_at formats_at entries_at table_at version_at own_address_size_at opening_at line_encoding_at parameters_at directories_at file_names_at fields_at header_at
+unfolding uleb_at sleb_at word_at initial_length_at address_size_at closed_below positive_at plain_file_at form_at format_at formats_at entries_at table_at
+    version_at own_address_size_at opening_at line_encoding_at parameters_at directories_at file_names_at fields_at header_at
 units = (
   is_unit version_4_tables refl,
   is_unit slack refl,
@@ -553,7 +570,8 @@ refusals : IsRefused reserved_length
     × IsRefused too_many_directories
     × IsRefused as_many_as_numbers_go
     × IsRefused count_too_large
-unfolding uleb_at sleb_at word_at initial_length_at address_size_at closed_below positive_at plain_file_at form_at format_at formats_at entries_at table_at version_at own_address_size_at opening_at line_encoding_at parameters_at directories_at file_names_at fields_at header_at
+unfolding uleb_at sleb_at word_at initial_length_at address_size_at closed_below positive_at plain_file_at form_at format_at formats_at entries_at table_at
+    version_at own_address_size_at opening_at line_encoding_at parameters_at directories_at file_names_at fields_at header_at
 refusals = (
   is_refused reserved_length refl,
   is_refused twelve_ones refl,

@@ -1,5 +1,6 @@
 -- Reading instructions, and decoding a program into them.
-use Rattle.std.proofs.Common.{◌≡◌, ◌≢◌, ℕ, zero, suc, ◌-◌, ◌<◌, ◌≤◌, List, [], ◌∷◌, ◌++◌, length, take, Option, Some, None, Ok, Err, refl, sym, ap, subst, ◌∙◌, append_assoc, arith, inl, inr}
+use Rattle.std.proofs.Common.{◌≡◌, ◌≢◌, ℕ, zero, suc, ◌-◌, ◌<◌, ◌≤◌, List, [], ◌∷◌, ◌++◌, length, take, Option, Some, None, Ok, Err, refl, sym, ap, subst, ◌∙◌}
+use Rattle.std.proofs.Common.{append_assoc, arith, inl, inr}
 use Rattle.std.specs.Prelude.{nat_eq, nat_le, slice_index}
 use Rattle.std.proofs.lemmas.List.{length-append, take_at}
 use Rattle.gimli_core.specs.Notation.{Notation}
@@ -10,13 +11,17 @@ use Rattle.gimli_core.proofs.Productions.{reads_both, reads_done, reads_if, read
 use Rattle.gimli_core.proofs.ProductionLaws.{reads_byte, reads_some_bytes, reads_number, reads_text, reads_below_limit}
 use Rattle.gimli_core.proofs.UnsignedLeb.{reads_unsigned}
 use Rattle.gimli_core.proofs.SignedLaws.{reads_signed}
-use Rattle.gimli_line.specs.declared.run.instruction.LineInstruction.TheVariants.{Special, UnknownStandard0, UnknownStandard1, UnknownStandardN, UnknownExtended}
+use Rattle.gimli_line.specs.declared.run.instruction.LineInstruction.TheVariants.{Special, UnknownStandard0, UnknownStandard1, UnknownStandardN}
+use Rattle.gimli_line.specs.declared.run.instruction.LineInstruction.TheVariants.{UnknownExtended}
 use Rattle.gimli_line.specs.run.Instruction.{Ins}
 use Rattle.gimli_line.specs.header.Header.{Header}
 use Rattle.gimli_line.specs.header.Productions.{bytes_of, among}
 use Rattle.gimli_line.specs.header.HeaderGrammar.{file_production}
-use Rattle.gimli_line.specs.run.InstructionGrammar.{Operand, none, uleb, sleb, half, address, file, standard_opcodes, extended_opcodes, operand_production, unknown_production, standard_production, extended_operands, extended_production, instruction_production, SpellsInstruction, Decodes}
-use Rattle.gimli_line.specs.run.InstructionReading.{bytes_at, operand_at, unknown_at, standard_at, extended_operands_at, extended_at, ins_at, decoded_after, decoded_upto, decoded_at}
+use Rattle.gimli_line.specs.run.InstructionGrammar.{Operand, none, uleb, sleb, half, address, file, standard_opcodes, extended_opcodes, operand_production}
+use Rattle.gimli_line.specs.run.InstructionGrammar.{unknown_production, standard_production, extended_operands, extended_production, instruction_production}
+use Rattle.gimli_line.specs.run.InstructionGrammar.{SpellsInstruction, Decodes}
+use Rattle.gimli_line.specs.run.InstructionReading.{bytes_at, operand_at, unknown_at, standard_at, extended_operands_at, extended_at, ins_at, decoded_after}
+use Rattle.gimli_line.specs.run.InstructionReading.{decoded_upto, decoded_at}
 use Rattle.gimli_line.proofs.HeaderLaws.{reads_file, given_ok, given_err, answer_of}
 
 -- ---- the bytes of a production
@@ -60,7 +65,9 @@ module _ (notation : Notation) (h : Header) where
   reads_operand (uleb make) = reads_both unsigned _ _ _ reads_unsigned (λ n. reads_done (make n))
   reads_operand (sleb make) = reads_both signed _ _ _ reads_signed (λ z. reads_done (make z))
   reads_operand (half make) = reads_both (number notation.big 2) _ _ _ (reads_number notation.big 2) (λ n. reads_done (make n))
-  reads_operand (address make) = reads_both (number notation.big h.parameters.encoding.address_size) _ _ _ (reads_number notation.big h.parameters.encoding.address_size) (λ a. reads_done (make a))
+  reads_operand (address make) =
+      reads_both (number notation.big h.parameters.encoding.address_size) _ _ _ (reads_number notation.big h.parameters.encoding.address_size) (λ a.
+      reads_done (make a))
   reads_operand (file make) = reads_both text _ _ _ reads_text (λ path. reads_both (file_production path) _ _ _ (reads_file path) (λ f. reads_done (make f)))
 
   reads_unknown : (opcode count : ℕ) → Reads (unknown_production notation h opcode count) (unknown_at notation h opcode count)
@@ -68,7 +75,8 @@ module _ (notation : Notation) (h : Header) where
   reads_unknown opcode zero = reads_done (UnknownStandard0 (record { 0 = opcode }))
   reads_unknown opcode (suc zero) = reads_both unsigned _ _ _ reads_unsigned (λ n. reads_done (UnknownStandard1 (record { 0 = opcode }) n))
   reads_unknown opcode (suc (suc more)) =
-      reads_both (bytes_of (times (suc (suc more)) unsigned)) _ _ _ (reads_bytes_of (times (suc (suc more)) unsigned) _ (reads_times (suc (suc more)) unsigned _ reads_unsigned))
+      reads_both (bytes_of (times (suc (suc more)) unsigned)) _ _ _
+      (reads_bytes_of (times (suc (suc more)) unsigned) _ (reads_times (suc (suc more)) unsigned _ reads_unsigned))
       (λ operands. reads_done (UnknownStandardN (record { 0 = opcode }) operands))
 
   pub reads_standard : (opcode : ℕ) → Reads (standard_production notation h opcode) (standard_at notation h opcode)
@@ -76,19 +84,32 @@ module _ (notation : Notation) (h : Header) where
   reads_standard opcode = at_operand (among opcode standard_opcodes)
     where
       at_operand : (found : Option Operand) → Reads {A = Ins}
-          (elim found [ Some operand ↦ operand_production notation h operand | None ↦ unknown_production notation h opcode (slice_index h.operand_counts (opcode - 1)) ])
-          (λ bytes. elim found [ Some operand ↦ operand_at notation h operand bytes | None ↦ unknown_at notation h opcode (slice_index h.operand_counts (opcode - 1)) bytes ])
+          (elim found [
+            | Some operand ↦ operand_production notation h operand
+            | None ↦ unknown_production notation h opcode (slice_index h.operand_counts (opcode - 1))
+          ])
+          (λ bytes. elim found
+          [ Some operand ↦ operand_at notation h operand bytes | None ↦ unknown_at notation h opcode (slice_index h.operand_counts (opcode - 1)) bytes ])
       at_operand (Some operand) = reads_operand operand
       at_operand None = reads_unknown opcode (slice_index h.operand_counts (opcode - 1))
 
-  reads_extended_operands : (opcode : ℕ) (operands : List ℕ) → Reads (extended_operands notation h opcode operands) (extended_operands_at notation h opcode operands)
+  reads_extended_operands : (opcode : ℕ) (operands : List ℕ)
+      → Reads (extended_operands notation h opcode operands) (extended_operands_at notation h opcode operands)
   unfolding extended_operands_at
   reads_extended_operands opcode operands = at_operand (among opcode (extended_opcodes h.parameters.encoding.version))
     where
       at_operand : (found : Option Operand) → Reads {A = Ins}
-          (elim found [ Some operand ↦ within operands (operand_production notation h operand) >>> (λ read. done read.0) | None ↦ done (UnknownExtended (record { 0 = opcode }) operands) ])
-          (λ bytes. elim found [ Some operand ↦ within_at operands (operand_at notation h operand) bytes >>= (λ read rest. (Ok read.0, rest)) | None ↦ (Ok (UnknownExtended (record { 0 = opcode }) operands), bytes) ])
-      at_operand (Some operand) = reads_both (within operands (operand_production notation h operand)) _ _ _ (reads_within operands (operand_production notation h operand) _ (reads_operand operand)) (λ read. reads_done read.0)
+          (elim found [
+            | Some operand ↦ within operands (operand_production notation h operand) >>> (λ read. done read.0)
+            | None ↦ done (UnknownExtended (record { 0 = opcode }) operands)
+          ])
+          (λ bytes. elim found [
+            | Some operand ↦ within_at operands (operand_at notation h operand) bytes >>= (λ read rest. (Ok read.0, rest))
+            | None ↦ (Ok (UnknownExtended (record { 0 = opcode }) operands), bytes)
+          ])
+      at_operand (Some operand) =
+          reads_both (within operands (operand_production notation h operand)) _ _ _
+          (reads_within operands (operand_production notation h operand) _ (reads_operand operand)) (λ read. reads_done read.0)
       at_operand None = reads_done (UnknownExtended (record { 0 = opcode }) operands)
 
   reads_extended : Reads (extended_production notation h) (extended_at notation h)
@@ -114,7 +135,8 @@ module _ (notation : Notation) (h : Header) where
       let some : length s.1 ≡ 1 = ap length s.4 in
       omega (arith, length-append s.1 s.2, ap length s.3)
 
-  decoding_is : (more : ℕ) (bytes : List ℕ) → length bytes ≤ more → Decodes notation h bytes (decoded_upto notation h more bytes).0 (decoded_upto notation h more bytes).1
+  decoding_is : (more : ℕ) (bytes : List ℕ) → length bytes ≤ more
+      → Decodes notation h bytes (decoded_upto notation h more bytes).0 (decoded_upto notation h more bytes).1
   unfolding decoded_upto
   decoding_is zero [] le = record { front = []; rest = []; parts = refl; spelled = refl; ended = refl }
   decoding_is zero (b ∷ bytes) le = absurd (omega arith)
@@ -134,7 +156,9 @@ module _ (notation : Notation) (h : Header) where
     | given_err e is ↦ at_fault e (ins_at notation h (b ∷ bytes)) refl is
   ]
     where
-      at_fault : (e : Error) (r : Read Ins) → r ≡ ins_at notation h (b ∷ bytes) → r.0 ≡ Err e → Decodes notation h (b ∷ bytes) (decoded_after notation h (decoded_upto notation h more) r).0 (decoded_after notation h (decoded_upto notation h more) r).1
+      at_fault : (e : Error) (r : Read Ins) → r ≡ ins_at notation h (b ∷ bytes) → r.0 ≡ Err e
+          → Decodes notation h (b ∷ bytes) (decoded_after notation h (decoded_upto notation h more) r).0
+          (decoded_after notation h (decoded_upto notation h more) r).1
       at_fault e (Ok i, rest) same is = absurd cc
       at_fault e (Err d, rest) same is = record {
         front = [];
@@ -144,7 +168,8 @@ module _ (notation : Notation) (h : Header) where
         ended = (λ none. absurd cc, reads_instruction.fault (b ∷ bytes) d (rw (← same) refl));
       }
 
-  only_decoding : (list : List Ins) (end : Option Error) (more : ℕ) (bytes : List ℕ) → length bytes ≤ more → Decodes notation h bytes list end → (list, end) ≡ decoded_upto notation h more bytes
+  only_decoding : (list : List Ins) (end : Option Error) (more : ℕ) (bytes : List ℕ) → length bytes ≤ more → Decodes notation h bytes list end
+      → (list, end) ≡ decoded_upto notation h more bytes
   unfolding decoded_upto
   only_decoding [] None more bytes le c = at_end more bytes (c.parts ∙ rw (c.spelled, c.ended) refl)
     where
@@ -154,13 +179,15 @@ module _ (notation : Notation) (h : Header) where
       at_end (suc more) (b ∷ bytes) is = absurd cc
   only_decoding [] (Some e) more bytes le c =
       let whole : bytes ≡ c.rest = c.parts ∙ rw c.spelled refl in
-      at_fault more bytes le (λ none. c.ended.0 (sym whole ∙ none)) (subst (λ (xs : List ℕ). (instruction_production notation h).Fault xs e) (sym whole) c.ended.1)
+      at_fault more bytes le (λ none. c.ended.0 (sym whole ∙ none))
+      (subst (λ (xs : List ℕ). (instruction_production notation h).Fault xs e) (sym whole) c.ended.1)
     where
       after : (b : ℕ) (bytes : List ℕ) (more : ℕ) (r : Read Ins) → r.0 ≡ Err e → ([], Some e) ≡ decoded_after notation h (decoded_upto notation h more) r
       after b bytes more (Ok i, rest) is = absurd cc
       after b bytes more (Err d, rest) is = let same : d ≡ e = cc in rw same refl
 
-      at_fault : (more : ℕ) (bytes : List ℕ) → length bytes ≤ more → bytes ≢ [] → (instruction_production notation h).Fault bytes e → ([], Some e) ≡ decoded_upto notation h more bytes
+      at_fault : (more : ℕ) (bytes : List ℕ) → length bytes ≤ more → bytes ≢ [] → (instruction_production notation h).Fault bytes e
+          → ([], Some e) ≡ decoded_upto notation h more bytes
       at_fault zero [] le some f = absurd (some refl)
       at_fault zero (b ∷ bytes) le some f = absurd (omega arith)
       at_fault (suc more) [] le some f = absurd (some refl)
@@ -195,7 +222,8 @@ module _ (notation : Notation) (h : Header) where
   decoded_bounded (suc more) [] = omega arith
   decoded_bounded (suc more) (b ∷ bytes) = after (λ rest. decoded_bounded more rest) (ins_at notation h (b ∷ bytes))
     where
-      after : ((rest : List ℕ) → length (decoded_upto notation h more rest).0 ≤ more) → (r : Read Ins) → length (decoded_after notation h (decoded_upto notation h more) r).0 ≤ suc more
+      after : ((rest : List ℕ) → length (decoded_upto notation h more rest).0 ≤ more) → (r : Read Ins)
+          → length (decoded_after notation h (decoded_upto notation h more) r).0 ≤ suc more
       after bound (Ok i, rest) = omega (arith, bound rest)
       after bound (Err e, rest) = omega arith
 

@@ -4,15 +4,19 @@ use Rattle.std.proofs.lemmas.Bool.{ltb-false}
 use Rattle.std.specs.Prelude.{nat_eq, nat_le, nat_lt, slice_index}
 use Rattle.gimli_core.specs.Notation.{Notation}
 use Rattle.gimli_core.specs.Numbers.{SpellsUleb128}
-use Rattle.gimli_core.specs.Production.{Production, ◌>>=◌, done, check, choose, times, within, byte, number, some_bytes, text, unsigned, signed, below_limit, IsWanting}
+use Rattle.gimli_core.specs.Production.{Production, ◌>>=◌, done, check, choose, times, within, byte, number, some_bytes, text, unsigned, signed, below_limit}
+use Rattle.gimli_core.specs.Production.{IsWanting}
 use Rattle.gimli_core.specs.declared.error.Error.{Error}
 use Rattle.gimli_core.specs.declared.error.Error.TheVariants.{UnsupportedOffset}
-use Rattle.gimli_line.specs.declared.run.instruction.LineInstruction.TheVariants.{Special, UnknownStandard0, UnknownStandard1, UnknownStandardN, UnknownExtended}
+use Rattle.gimli_line.specs.declared.run.instruction.LineInstruction.TheVariants.{Special, UnknownStandard0, UnknownStandard1, UnknownStandardN}
+use Rattle.gimli_line.specs.declared.run.instruction.LineInstruction.TheVariants.{UnknownExtended}
 use Rattle.gimli_line.specs.header.Header.{Header, plain_file}
 use Rattle.gimli_line.specs.header.HeaderGrammar.{file_production}
 use Rattle.gimli_line.specs.header.Productions.{among, bytes_of}
 use Rattle.gimli_line.specs.run.Instruction.{Ins}
-use Rattle.gimli_line.specs.run.InstructionGrammar.{Operand, none, uleb, sleb, half, address, file, standard_opcodes, extended_opcodes, operand_production, unknown_production, standard_production, extended_operands, extended_production, instruction_production, IsInstructionRefusal}
+use Rattle.gimli_line.specs.run.InstructionGrammar.{Operand, none, uleb, sleb, half, address, file, standard_opcodes, extended_opcodes, operand_production}
+use Rattle.gimli_line.specs.run.InstructionGrammar.{unknown_production, standard_production, extended_operands, extended_production, instruction_production}
+use Rattle.gimli_line.specs.run.InstructionGrammar.{IsInstructionRefusal}
 
 -- a production that is refused as an instruction may be
 record IsKnown {A : Type 0} (notation : Notation) (l : Production A) : Type 0 where
@@ -55,7 +59,8 @@ module _ (notation : Notation) where
 
   -- ---- put together
 
-  then_known : {A B : Type 0} (l : Production A) (next : A → Production B) → IsKnown notation l → ((x : A) → IsKnown notation (next x)) → IsKnown notation (l >>= next)
+  then_known : {A B : Type 0} (l : Production A) (next : A → Production B) → IsKnown notation l → ((x : A) → IsKnown notation (next x))
+      → IsKnown notation (l >>= next)
   then_known l next first after = record { known = at_fault }
     where
       at_fault : (bytes : List ℕ) (e : Error) → (l >>= next).Fault bytes e → IsInstructionRefusal notation e
@@ -104,7 +109,8 @@ module _ (notation : Notation) where
     operand_known (sleb make) = then_known signed _ signed_known (λ z. done_known (make z))
     operand_known (half make) = then_known (number notation.big 2) _ (number_known notation.big 2) (λ n. done_known (make n))
     operand_known (address make) =
-        then_known (number notation.big h.parameters.encoding.address_size) _ (number_known notation.big h.parameters.encoding.address_size) (λ a. done_known (make a))
+        then_known (number notation.big h.parameters.encoding.address_size) _ (number_known notation.big h.parameters.encoding.address_size) (λ a.
+        done_known (make a))
     operand_known (file make) = then_known text _ text_known (λ path. then_known (file_production path) _ (file_known path) (λ f. done_known (make f)))
 
     unknown_known : (opcode count : ℕ) → IsKnown notation (unknown_production notation h opcode count)
@@ -112,13 +118,17 @@ module _ (notation : Notation) where
     unknown_known opcode (suc zero) = then_known unsigned _ unsigned_known (λ n. done_known (UnknownStandard1 (record { 0 = opcode }) n))
     unknown_known opcode (suc (suc more)) =
         let all = times (suc (suc more)) unsigned in
-        then_known (bytes_of all) _ (bytes_of_known all (times_known (suc (suc more)) unsigned unsigned_known)) (λ operands. done_known (UnknownStandardN (record { 0 = opcode }) operands))
+        then_known (bytes_of all) _ (bytes_of_known all (times_known (suc (suc more)) unsigned unsigned_known)) (λ operands.
+        done_known (UnknownStandardN (record { 0 = opcode }) operands))
 
     standard_known : (opcode : ℕ) → IsKnown notation (standard_production notation h opcode)
     standard_known opcode = at_operand (among opcode standard_opcodes)
       where
         at_operand : (found : Option Operand) → IsKnown {A = Ins} notation
-            (elim found [ Some operand ↦ operand_production notation h operand | None ↦ unknown_production notation h opcode (slice_index h.operand_counts (opcode - 1)) ])
+            (elim found [
+              | Some operand ↦ operand_production notation h operand
+              | None ↦ unknown_production notation h opcode (slice_index h.operand_counts (opcode - 1))
+            ])
         at_operand (Some operand) = operand_known operand
         at_operand None = unknown_known opcode (slice_index h.operand_counts (opcode - 1))
 
@@ -126,9 +136,13 @@ module _ (notation : Notation) where
     operands_known opcode operands = at_operand (among opcode (extended_opcodes h.parameters.encoding.version))
       where
         at_operand : (found : Option Operand) → IsKnown {A = Ins} notation
-            (elim found [ Some operand ↦ within operands (operand_production notation h operand) >>= (λ read. done read.0) | None ↦ done (UnknownExtended (record { 0 = opcode }) operands) ])
+            (elim found [
+              | Some operand ↦ within operands (operand_production notation h operand) >>= (λ read. done read.0)
+              | None ↦ done (UnknownExtended (record { 0 = opcode }) operands)
+            ])
         at_operand (Some operand) =
-            then_known (within operands (operand_production notation h operand)) _ (within_known operands (operand_production notation h operand) (operand_known operand)) (λ read. done_known read.0)
+            then_known (within operands (operand_production notation h operand)) _
+            (within_known operands (operand_production notation h operand) (operand_known operand)) (λ read. done_known read.0)
         at_operand None = done_known (UnknownExtended (record { 0 = opcode }) operands)
 
     extended_known : IsKnown notation (extended_production notation h)

@@ -22,7 +22,7 @@ pub mod Operands
 pub mod Runs
 pub mod GivenRows
 pub mod Executions
-pub mod RarerExecutions
+pub mod OtherExecutions
 pub mod EventsWithFilesLaws
 pub mod SequenceLaws
 pub mod ResumedRuns

@@ -12,7 +12,8 @@ above : {A : Type 0} (first : Option A) (entries : List A) (i : ℕ) → 0 < i �
 above first entries zero lt = absurd (omega arith)
 above first entries (suc i) lt = let less : i ≡ suc i - 1 = omega arith in ap (slice_get entries) less
 
-pub entry_above : {A : Type 0} (version : ℕ) (handed : Option A) (entries : List A) (i : ℕ) → version ≤ 4 → 0 < i → entry_of version handed entries i ≡ slice_get entries (i - 1)
+pub entry_above : {A : Type 0} (version : ℕ) (handed : Option A) (entries : List A) (i : ℕ) → version ≤ 4 → 0 < i
+    → entry_of version handed entries i ≡ slice_get entries (i - 1)
 entry_above version handed entries i old lt = rw (le-leb version 4 old) (above handed entries i lt)
 
 pub directory_above : (h : Header) (i : ℕ) → h.parameters.encoding.version ≤ 4 → 0 < i → directory_of h i ≡ slice_get h.directories (i - 1)
@@ -22,7 +23,8 @@ pub file_above : (h : Header) (i : ℕ) → h.parameters.encoding.version ≤ 4 
 file_above h i old lt = entry_above h.parameters.encoding.version _ h.files i old lt
 
 -- from version 5 on, every index; and index 0 up to version 4
-pub entry_new : {A : Type 0} (version : ℕ) (handed : Option A) (entries : List A) (i : ℕ) → 4 < version → entry_of version handed entries i ≡ slice_get entries i
+pub entry_new : {A : Type 0} (version : ℕ) (handed : Option A) (entries : List A) (i : ℕ) → 4 < version
+    → entry_of version handed entries i ≡ slice_get entries i
 entry_new version handed entries i new = rw (lt-leb version 4 new) refl
 
 pub entry_first : {A : Type 0} (version : ℕ) (handed : Option A) (entries : List A) (i : ℕ) → version ≤ 4 → i ≤ 0 → entry_of version handed entries i ≡ handed
@@ -56,10 +58,12 @@ module _ {A B : Type 0} (see : A → B) where
   copied_seen (Some b) = refl
   copied_seen None = refl
 
-  pub lent_entry : (items : List A) (found : Option (Bor A)) (i : ℕ) → option_map (λ b. b.now) found ≡ slice_get items i → option_map (λ b. see b.now) found ≡ slice_get (map see items) i
+  pub lent_entry : (items : List A) (found : Option (Bor A)) (i : ℕ) → option_map (λ b. b.now) found ≡ slice_get items i
+      → option_map (λ b. see b.now) found ≡ slice_get (map see items) i
   lent_entry items found i is = now_seen found ∙ ap (option_map see) is ∙ sym (slice_get-map see items i)
 
-  pub copied_entry : (items : List A) (found : Option (Bor A)) (i : ℕ) → option_map (λ b. b.now) found ≡ slice_get items i → option_map see (option_copied found) ≡ slice_get (map see items) i
+  pub copied_entry : (items : List A) (found : Option (Bor A)) (i : ℕ) → option_map (λ b. b.now) found ≡ slice_get items i
+      → option_map see (option_copied found) ≡ slice_get (map see items) i
   copied_entry items found i is = copied_seen found ∙ ap (option_map see) is ∙ sym (slice_get-map see items i)
 
   pub lent_whole : (found : Option (Bor A)) (whole : Option A) → option_copied found ≡ whole → option_map (λ b. see b.now) found ≡ option_map see whole

@@ -1,5 +1,6 @@
 -- Reading the items of a table one after the other, as loops do.
-use Rattle.std.proofs.Common.{◌≡◌, ◌≢◌, ℕ, zero, suc, ◌+◌, ◌-◌, ◌<◌, ◌≤◌, Bool, true, false, List, [], ◌∷◌, ◌++◌, length, map, Ok, Err, refl, sym, ap, ◌∙◌, append_assoc, arith}
+use Rattle.std.proofs.Common.{◌≡◌, ◌≢◌, ℕ, zero, suc, ◌+◌, ◌-◌, ◌<◌, ◌≤◌, Bool, true, false, List, [], ◌∷◌, ◌++◌, length, map, Ok, Err, refl, sym, ap, ◌∙◌}
+use Rattle.std.proofs.Common.{append_assoc, arith}
 use Rattle.std.specs.Prelude.{nat_eq, IsTrue, ◌↔◌}
 use Rattle.std.proofs.lemmas.Bool.{ne_eqb, le-leb, lt-leb}
 use Rattle.std.specs.List.{AllByRecursion}
@@ -43,7 +44,8 @@ viewed_same (Err e, rest) = refl
 module _ {A B : Type 0} (f : A → B) where
   regroup : (xs : List B) (x : A) (v : B) → f x ≡ v → (r : Read (List A)) → collected xs f (r >>= λ ys rest. (Ok (x ∷ ys), rest)) ≡ collected (xs ++ v ∷ []) f r
   regroup xs x v is (Ok ys, rest) =
-      ap (λ (zs : List B). let r : Read (List B) = (Ok zs, rest) in r) (sym (append_assoc xs (f x ∷ []) (map f ys)) ∙ ap (λ (w : B). (xs ++ w ∷ []) ++ map f ys) is)
+      ap (λ (zs : List B). let r : Read (List B) = (Ok zs, rest) in r)
+      (sym (append_assoc xs (f x ∷ []) (map f ys)) ∙ ap (λ (w : B). (xs ++ w ∷ []) ++ map f ys) is)
   regroup xs x v is (Err e, rest) = refl
 
   -- what was read, where it is seen
@@ -63,7 +65,8 @@ module _ {A B : Type 0} (f : A → B) where
   -- ---- so many of an item
 
   module _ (read : List ℕ → Read A) where
-    pub times_goes_on : (xs : List B) (count i : ℕ) (bytes : List ℕ) (v : B) (left : List ℕ) (total : Read (List B)) → i < count → (Ok v, left) ≡ read_map f (read bytes)
+    pub times_goes_on : (xs : List B) (count i : ℕ) (bytes : List ℕ) (v : B) (left : List ℕ) (total : Read (List B)) → i < count
+        → (Ok v, left) ≡ read_map f (read bytes)
         → collected xs f (times_at (count - i) read bytes) ≡ total → collected (xs ++ v ∷ []) f (times_at (count - (i + 1)) read left) ≡ total
     times_goes_on xs count i bytes v left total lt e so_far =
         let a = seen_item (read bytes) v left e in
@@ -72,16 +75,22 @@ module _ {A B : Type 0} (f : A → B) where
         rw (k, a.1) (regroup xs a.0 v a.2 (times_at (count - (i + 1)) read left)) in
         sym one ∙ so_far
 
-    pub times_ends : (xs : List B) (count i : ℕ) (bytes : List ℕ) (e : Error) (left : List ℕ) (total : Read (List B)) → i < count → (Err e, left) ≡ read_map f (read bytes)
+    pub times_ends : (xs : List B) (count i : ℕ) (bytes : List ℕ) (e : Error) (left : List ℕ) (total : Read (List B)) → i < count
+        → (Err e, left) ≡ read_map f (read bytes)
         → collected xs f (times_at (count - i) read bytes) ≡ total → total.0 ≡ Err e
     times_ends xs count i bytes e left total lt is so_far =
         let k : count - i ≡ suc (count - (i + 1)) = omega arith in
         let refused = seen_fault (read bytes) e left is in
-        let inner = bind_refused (read bytes) (λ x rest. times_at (count - (i + 1)) read rest >>= λ ys end. (let s : Read (List A) = (Ok (x ∷ ys), end) in s)) e refused in
-        let one : (collected xs f (times_at (count - i) read bytes)).0 ≡ Err e = rw k (bind_refused (times_at (suc (count - (i + 1))) read bytes) (λ ys rest. (let s : Read (List B) = (Ok (xs ++ map f ys), rest) in s)) e inner) in
+        let inner =
+        bind_refused (read bytes) (λ x rest. times_at (count - (i + 1)) read rest >>= λ ys end. (let s : Read (List A) = (Ok (x ∷ ys), end) in s)) e
+        refused in
+        let one : (collected xs f (times_at (count - i) read bytes)).0
+        ≡ Err e = rw k
+        (bind_refused (times_at (suc (count - (i + 1))) read bytes) (λ ys rest. (let s : Read (List B) = (Ok (xs ++ map f ys), rest) in s)) e inner) in
         ap (λ (r : Read (List B)). r.0) (sym so_far) ∙ one
 
-    pub times_done : (xs : List B) (count i : ℕ) (bytes : List ℕ) (total : Read (List B)) → count ≤ i → collected xs f (times_at (count - i) read bytes) ≡ total → total ≡ (Ok xs, bytes)
+    pub times_done : (xs : List B) (count i : ℕ) (bytes : List ℕ) (total : Read (List B)) → count ≤ i → collected xs f (times_at (count - i) read bytes) ≡ total
+        → total ≡ (Ok xs, bytes)
     times_done xs count i bytes total le so_far =
         let k : count - i ≡ 0 = omega arith in
         let one : collected xs f (times_at (count - i) read bytes) ≡ (Ok xs, bytes) = rw k (none_left xs bytes) in
@@ -108,7 +117,8 @@ module _ {A B : Type 0} (f : A → B) where
     bound_free (suc n) zero bytes lt also = absurd (omega arith)
     bound_free (suc n) (suc m) bytes lt also = at_test (is_closed bytes) refl (read bytes) refl (λ rest fewer more. bound_free n m rest fewer more)
       where
-        at_test : (test : Bool) → is_closed bytes ≡ test → (one : Read A) → read bytes ≡ one → ((rest : List ℕ) → length rest < n → length rest < m → closed_below n read rest ≡ closed_below m read rest)
+        at_test : (test : Bool) → is_closed bytes ≡ test → (one : Read A) → read bytes ≡ one
+            → ((rest : List ℕ) → length rest < n → length rest < m → closed_below n read rest ≡ closed_below m read rest)
             → closed_below (suc n) read bytes ≡ closed_below (suc m) read bytes
         at_test true is one same others = rw is refl
         at_test false is (Ok x, rest) same others =
@@ -117,14 +127,17 @@ module _ {A B : Type 0} (f : A → B) where
         at_test false is (Err e, rest) same others = rw (is, same) refl
 
     -- an item, and the further ones
-    step : (bytes : List ℕ) (x : A) (left : List ℕ) → is_closed bytes ≡ false → read bytes ≡ (Ok x, left) → list_to_zero_at read bytes ≡ (list_to_zero_at read left >>= λ ys rest. (Ok (x ∷ ys), rest))
+    step : (bytes : List ℕ) (x : A) (left : List ℕ) → is_closed bytes ≡ false → read bytes ≡ (Ok x, left)
+        → list_to_zero_at read bytes ≡ (list_to_zero_at read left >>= λ ys rest. (Ok (x ∷ ys), rest))
     unfolding closed_below
     step bytes x left is same =
         let fewer = shrinks bytes x left (is_open bytes is) same in
-        let further : closed_below (length bytes) read left ≡ list_to_zero_at read left = bound_free (length bytes) (suc (length left)) left fewer (omega arith) in
+        let further : closed_below (length bytes) read left
+        ≡ list_to_zero_at read left = bound_free (length bytes) (suc (length left)) left fewer (omega arith) in
         rw (is, same) (ap (λ (s : Read (List A)). s >>= λ ys rest. (let t : Read (List A) = (Ok (x ∷ ys), rest) in t)) further)
 
-    pub closed_goes_on : (xs : List B) (bytes : List ℕ) (v : B) (left : List ℕ) (total : Read (List B)) → is_closed bytes ≡ false → (Ok v, left) ≡ read_map f (read bytes)
+    pub closed_goes_on : (xs : List B) (bytes : List ℕ) (v : B) (left : List ℕ) (total : Read (List B)) → is_closed bytes ≡ false
+        → (Ok v, left) ≡ read_map f (read bytes)
         → collected xs f (list_to_zero_at read bytes) ≡ total → collected (xs ++ v ∷ []) f (list_to_zero_at read left) ≡ total
     closed_goes_on xs bytes v left total is e so_far =
         let a = seen_item (read bytes) v left e in
@@ -132,19 +145,24 @@ module _ {A B : Type 0} (f : A → B) where
         ap (collected xs f) (step bytes a.0 left is a.1) ∙ regroup xs a.0 v a.2 (list_to_zero_at read left) in
         sym one ∙ so_far
 
-    pub closed_smaller : (bytes : List ℕ) (v : B) (left : List ℕ) → is_closed bytes ≡ false → (Ok v, left) ≡ read_map f (read bytes) → length left < length bytes
+    pub closed_smaller : (bytes : List ℕ) (v : B) (left : List ℕ) → is_closed bytes ≡ false → (Ok v, left) ≡ read_map f (read bytes)
+        → length left < length bytes
     closed_smaller bytes v left is e = let a = seen_item (read bytes) v left e in shrinks bytes a.0 left (is_open bytes is) a.1
 
-    pub closed_ends : (xs : List B) (bytes : List ℕ) (e : Error) (left : List ℕ) (total : Read (List B)) → is_closed bytes ≡ false → (Err e, left) ≡ read_map f (read bytes)
+    pub closed_ends : (xs : List B) (bytes : List ℕ) (e : Error) (left : List ℕ) (total : Read (List B)) → is_closed bytes ≡ false
+        → (Err e, left) ≡ read_map f (read bytes)
         → collected xs f (list_to_zero_at read bytes) ≡ total → total.0 ≡ Err e
     unfolding closed_below
     closed_ends xs bytes e left total is same so_far =
         let refused = seen_fault (read bytes) e left same in
-        let inner : (list_to_zero_at read bytes).0 ≡ Err e = rw is (bind_refused (read bytes) (λ x rest. closed_below (length bytes) read rest >>= λ ys end. (let s : Read (List A) = (Ok (x ∷ ys), end) in s)) e refused) in
+        let inner : (list_to_zero_at read bytes).0
+        ≡ Err e = rw is (bind_refused (read bytes)
+        (λ x rest. closed_below (length bytes) read rest >>= λ ys end. (let s : Read (List A) = (Ok (x ∷ ys), end) in s)) e refused) in
         let one = bind_refused (list_to_zero_at read bytes) (λ ys rest. (let s : Read (List B) = (Ok (xs ++ map f ys), rest) in s)) e inner in
         ap (λ (r : Read (List B)). r.0) (sym so_far) ∙ one
 
-    pub closed_done : (xs : List B) (bytes left : List ℕ) (total : Read (List B)) → bytes ≡ 0 ∷ left → collected xs f (list_to_zero_at read bytes) ≡ total → total ≡ (Ok xs, left)
+    pub closed_done : (xs : List B) (bytes left : List ℕ) (total : Read (List B)) → bytes ≡ 0 ∷ left → collected xs f (list_to_zero_at read bytes) ≡ total
+        → total ≡ (Ok xs, left)
     unfolding closed_below
     closed_done xs bytes left total is so_far =
         let one : collected xs f (list_to_zero_at read bytes) ≡ (Ok xs, left) = rw is (none_left xs left) in
@@ -165,7 +183,8 @@ text_free bytes text rest empty e =
     let a = reads_text.found bytes text rest (sym e) in
     first bytes a.0 text a.1 some a.2.0 a.2.1
   where
-    first : (bytes front text : List ℕ) → bytes ≡ front ++ rest → text ≢ [] → AllByRecursion (λ b. b ≢ 0) text → front ≡ text ++ 0 ∷ [] → is_closed bytes ≡ false
+    first : (bytes front text : List ℕ) → bytes ≡ front ++ rest → text ≢ [] → AllByRecursion (λ b. b ≢ 0) text → front ≡ text ++ 0 ∷ []
+        → is_closed bytes ≡ false
     first bytes front [] parts some all is = absurd (some refl)
     first bytes front (b ∷ text) parts some all is = rw (parts, is) (ne_eqb b 0 all.0)
 
@@ -178,7 +197,8 @@ text_refused bytes rest e is = all_free bytes (reads_text.fault bytes e (ap (λ 
 
 -- ---- a file, whose path is read first
 
-pub named_is : (bytes path mid : List ℕ) (answer : Read File) → (Ok path, mid) ≡ text_at bytes → answer ≡ plain_file_at path mid → answer ≡ read_map (λ x. x) (named_file_at bytes)
+pub named_is : (bytes path mid : List ℕ) (answer : Read File) → (Ok path, mid) ≡ text_at bytes → answer ≡ plain_file_at path mid
+    → answer ≡ read_map (λ x. x) (named_file_at bytes)
 named_is bytes path mid answer e is = is ∙ ap (λ (r : Read (List ℕ)). r >>= plain_file_at) e ∙ sym (viewed_same (named_file_at bytes))
 
 pub named_fault : (bytes mid : List ℕ) (e : Error) → (Err e, mid) ≡ text_at bytes → (Err e, mid) ≡ read_map (λ x. x) (named_file_at bytes)
@@ -195,20 +215,28 @@ module _ (notation : Notation) (format : Format) {B : Type 0} (f : Entry → B) 
       rw all (ap (λ (r : Read ℕ). read_map (map f) (r >>= λ n rest. times_at n (entry_at notation format formats) rest)) is)
 
 -- the order of bytes, which a loop keeps
-pub entry_kept : (format : Format) {B : Type 0} (f : Entry → B) (formats : List FileEntryFormat) (now first : Bool) (limit : ℕ) (bytes : List ℕ) (answer : Read B) → now ≡ first
-    → answer ≡ read_map f (entry_at (record { big = now; limit = limit }) format formats bytes) → answer ≡ read_map f (entry_at (record { big = first; limit = limit }) format formats bytes)
-entry_kept format f formats now first limit bytes answer same is = is ∙ ap (λ (b : Bool). read_map f (entry_at (record { big = b; limit = limit }) format formats bytes)) same
+pub entry_kept : (format : Format) {B : Type 0} (f : Entry → B) (formats : List FileEntryFormat) (now first : Bool) (limit : ℕ) (bytes : List ℕ)
+    (answer : Read B)
+    → now ≡ first
+    → answer ≡ read_map f (entry_at (record { big = now; limit = limit }) format formats bytes)
+    → answer ≡ read_map f (entry_at (record { big = first; limit = limit }) format formats bytes)
+entry_kept format f formats now first limit bytes answer same is =
+    is ∙ ap (λ (b : Bool). read_map f (entry_at (record { big = b; limit = limit }) format formats bytes)) same
 
 -- ---- the files of a version
 
-pub files_up_to_4 : (notation : Notation) (encoding : Encoding) (bytes : List ℕ) (files : List File) (left : List ℕ) (none : List FileEntryFormat) → encoding.version ≤ 4 → none ≡ []
+pub files_up_to_4 : (notation : Notation) (encoding : Encoding) (bytes : List ℕ) (files : List File) (left : List ℕ) (none : List FileEntryFormat)
+    → encoding.version ≤ 4 → none ≡ []
     → files_at bytes ≡ (Ok files, left) → file_names_at notation encoding bytes ≡ (Ok (none, files), left)
 unfolding file_names_at
 files_up_to_4 notation encoding bytes files left none old empty is = rw (le-leb encoding.version 4 old, is, empty) refl
 
-pub files_from_5 : (now first : Bool) (limit : ℕ) (encoding : Encoding) (bytes mid : List ℕ) (formats lent : List FileEntryFormat) (files : List File) (left : List ℕ) → 4 < encoding.version
+pub files_from_5 : (now first : Bool) (limit : ℕ) (encoding : Encoding) (bytes mid : List ℕ) (formats lent : List FileEntryFormat) (files : List File)
+    (left : List ℕ)
+    → 4 < encoding.version
     → formats_at bytes ≡ (Ok formats, mid) → now ≡ first → lent ≡ formats
-    → read_map (map file_of_entry) (entries_at (record { big = now; limit = limit }) encoding.format lent mid) ≡ (Ok files, left) → file_names_at (record { big = first; limit = limit }) encoding bytes ≡ (Ok (formats, files), left)
+    → read_map (map file_of_entry) (entries_at (record { big = now; limit = limit }) encoding.format lent mid) ≡ (Ok files, left)
+    → file_names_at (record { big = first; limit = limit }) encoding bytes ≡ (Ok (formats, files), left)
 unfolding file_names_at table_at
 files_from_5 now first limit encoding bytes mid formats lent files left new head kept same tail =
     let notation : Notation = record { big = first; limit = limit } in

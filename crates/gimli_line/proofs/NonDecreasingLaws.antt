@@ -6,7 +6,8 @@ use Rattle.gimli_core.specs.declared.error.Error.TheVariants.{AddressOverflow}
 use Rattle.gimli_line.specs.declared.run.instruction.LineInstruction.TheVariants.{Special, AdvancePc, ConstAddPc, FixedAddPc, EndSequence, SetAddress}
 use Rattle.gimli_line.specs.header.Parameters.{Parameters}
 use Rattle.gimli_line.specs.run.Instruction.{Ins, is_end}
-use Rattle.gimli_line.specs.run.OperationPointer.{OperationPointer, advanced_by, is_too_large, pointer_at_overflow, next_pointer, pointer_at, is_under_tombstone, overflows}
+use Rattle.gimli_line.specs.run.OperationPointer.{OperationPointer, advanced_by, is_too_large, pointer_at_overflow, next_pointer, pointer_at}
+use Rattle.gimli_line.specs.run.OperationPointer.{is_under_tombstone, overflows}
 use Rattle.gimli_line.specs.run.Events.{Event, row, fault, row_at, events_after}
 use Rattle.gimli_line.specs.run.NonDecreasing.{NeverBelow, AreOneSequence}
 
@@ -15,16 +16,21 @@ use Rattle.gimli_line.specs.run.NonDecreasing.{NeverBelow, AreOneSequence}
 operations_rise : (parameters : Parameters) (n : ℕ) (p : OperationPointer) → p.address ≤ (advanced_by parameters n p).address
 operations_rise parameters n p = at_test (nat_eq parameters.line_encoding.maximum_operations_per_instruction 1)
   where
-    at_test : (b : Bool) → p.address ≤ (if b then (let q : OperationPointer = record { address = p.address + parameters.line_encoding.minimum_instruction_length * n % 2 ^ 64; op_index = 0 } in q)
+    at_test : (b : Bool)
+        → p.address
+        ≤ (if b
+        then (let q : OperationPointer = record { address = p.address + parameters.line_encoding.minimum_instruction_length * n % 2 ^ 64; op_index = 0 } in q)
         else (let s = (p.op_index + n) % 2 ^ 64 in
         record {
-          address = p.address + parameters.line_encoding.minimum_instruction_length * (s / parameters.line_encoding.maximum_operations_per_instruction) % 2 ^ 64;
+          address =
+              p.address + parameters.line_encoding.minimum_instruction_length * (s / parameters.line_encoding.maximum_operations_per_instruction) % 2 ^ 64;
           op_index = s % parameters.line_encoding.maximum_operations_per_instruction;
         })).address
     at_test true = omega arith
     at_test false = omega arith
 
-advance_rises : (parameters : Parameters) (tombstone : Bool) (i : Ins) (p to : OperationPointer) → (pointer_at_overflow i p to).address ≡ p.address → p.address ≤ to.address
+advance_rises : (parameters : Parameters) (tombstone : Bool) (i : Ins) (p to : OperationPointer) → (pointer_at_overflow i p to).address ≡ p.address
+    → p.address ≤ to.address
     → p.address ≤ (if tombstone then p else (if is_too_large parameters to then pointer_at_overflow i p to else to)).address
 advance_rises parameters true i p to stays rises = omega arith
 advance_rises parameters false i p to stays rises = at_test (is_too_large parameters to)
@@ -36,18 +42,24 @@ advance_rises parameters false i p to stays rises = at_test (is_too_large parame
 set_rises : (parameters : Parameters) (a : ℕ) (p : OperationPointer) → p.address ≤ (next_pointer parameters false (SetAddress a) p).address
 set_rises parameters a p = at_test (nat_lt a p.address) refl (nat_le _ a)
   where
-    at_test : (b : Bool) → nat_lt a p.address ≡ b → (c : Bool) → p.address ≤ (if b || c then p else (let q : OperationPointer = record { address = a; op_index = 0 } in q)).address
+    at_test : (b : Bool) → nat_lt a p.address ≡ b → (c : Bool)
+        → p.address ≤ (if b || c then p else (let q : OperationPointer = record { address = a; op_index = 0 } in q)).address
     at_test true e c = omega arith
     at_test false e true = omega arith
     at_test false e false = ltb-false a p.address e
 
-pub rises : (parameters : Parameters) (tombstone : Bool) (i : Ins) (p : OperationPointer) → is_end i ≡ false → p.address ≤ (next_pointer parameters tombstone i p).address
+pub rises : (parameters : Parameters) (tombstone : Bool) (i : Ins) (p : OperationPointer) → is_end i ≡ false
+    → p.address ≤ (next_pointer parameters tombstone i p).address
 rises parameters tombstone EndSequence p inner = absurd cc
 rises parameters tombstone (SetAddress a) p inner = set_rises parameters a p
-rises parameters tombstone (Special o) p inner = advance_rises parameters tombstone (Special o) p (advanced_by parameters _ p) refl (operations_rise parameters _ p)
-rises parameters tombstone (AdvancePc n) p inner = advance_rises parameters tombstone (AdvancePc n) p (advanced_by parameters n p) refl (operations_rise parameters n p)
-rises parameters tombstone ConstAddPc p inner = advance_rises parameters tombstone ConstAddPc p (advanced_by parameters _ p) refl (operations_rise parameters _ p)
-rises parameters tombstone (FixedAddPc n) p inner = advance_rises parameters tombstone (FixedAddPc n) p (record { address = p.address + n; op_index = 0 }) refl (omega arith)
+rises parameters tombstone (Special o) p inner =
+    advance_rises parameters tombstone (Special o) p (advanced_by parameters _ p) refl (operations_rise parameters _ p)
+rises parameters tombstone (AdvancePc n) p inner =
+    advance_rises parameters tombstone (AdvancePc n) p (advanced_by parameters n p) refl (operations_rise parameters n p)
+rises parameters tombstone ConstAddPc p inner =
+    advance_rises parameters tombstone ConstAddPc p (advanced_by parameters _ p) refl (operations_rise parameters _ p)
+rises parameters tombstone (FixedAddPc n) p inner =
+    advance_rises parameters tombstone (FixedAddPc n) p (record { address = p.address + n; op_index = 0 }) refl (omega arith)
 rises parameters tombstone i p inner = omega arith
 
 -- ---- rows
@@ -70,14 +82,18 @@ module _ (parameters : Parameters) where
       here : (row_at parameters past i).address ≡ (pointer_at parameters (i ∷ past)).address
       here = rw inner refl
 
-      at_test : (o m : Bool) → NeverBelow (pointer_at parameters past).address ((if o then fault AddressOverflow ∷ [] else (if m then row (row_at parameters past i) ∷ [] else [])) ++ rest)
+      at_test : (o m : Bool)
+          → NeverBelow (pointer_at parameters past).address
+          ((if o then fault AddressOverflow ∷ [] else (if m then row (row_at parameters past i) ∷ [] else [])) ++ rest)
       at_test true m = weaker (pointer_at parameters past).address (pointer_at parameters (i ∷ past)).address up rest n
-      at_test false true = (omega (arith, up, here), weaker (row_at parameters past i).address (pointer_at parameters (i ∷ past)).address (omega (arith, here)) rest n)
+      at_test false true =
+          (omega (arith, up, here), weaker (row_at parameters past i).address (pointer_at parameters (i ∷ past)).address (omega (arith, here)) rest n)
       at_test false false = weaker (pointer_at parameters past).address (pointer_at parameters (i ∷ past)).address up rest n
 
   -- the last point, which may be an end
   last_point : (past : List Ins) (i : Ins) → (e o m : Bool) → is_end i ≡ e
-      → NeverBelow (pointer_at parameters past).address ((if o then fault AddressOverflow ∷ [] else (if m then row (row_at parameters past i) ∷ [] else [])) ++ [])
+      → NeverBelow (pointer_at parameters past).address
+      ((if o then fault AddressOverflow ∷ [] else (if m then row (row_at parameters past i) ∷ [] else [])) ++ [])
   last_point past i false o m inner = after_point past i [] inner tt o m
   last_point past i true true m closes = tt
   last_point past i true false true closes =
@@ -88,7 +104,8 @@ module _ (parameters : Parameters) where
   pub non_decreasing : (past list : List Ins) → AreOneSequence list → NeverBelow (pointer_at parameters past).address (events_after parameters past list)
   non_decreasing past [] one = tt
   non_decreasing past (i ∷ []) one = last_point past i (is_end i) (overflows parameters past i) _ refl
-  non_decreasing past (i ∷ j ∷ list) one = after_point past i (events_after parameters (i ∷ past) (j ∷ list)) one.0 (non_decreasing (i ∷ past) (j ∷ list) one.1) (overflows parameters past i) _
+  non_decreasing past (i ∷ j ∷ list) one =
+      after_point past i (events_after parameters (i ∷ past) (j ∷ list)) one.0 (non_decreasing (i ∷ past) (j ∷ list) one.1) (overflows parameters past i) _
 
   pub never_down : (past list : List Ins) → AreOneSequence list → NeverBelow 0 (events_after parameters past list)
   never_down past list one = weaker 0 (pointer_at parameters past).address (omega arith) (events_after parameters past list) (non_decreasing past list one)

@@ -28,7 +28,8 @@ module _ {A : Type 0} (read : List ℕ → Read A) where
       sym one ∙ so_far
 
 -- what was passed over stood in front of what is left
-pub passed_front : (count : ℕ) (bytes left : List ℕ) (u : Unit {0}) → (Ok u, left) ≡ without_value (times_at count unsigned_at bytes) → (front : List ℕ) × (bytes ≡ front ++ left)
+pub passed_front : (count : ℕ) (bytes left : List ℕ) (u : Unit {0}) → (Ok u, left) ≡ without_value (times_at count unsigned_at bytes)
+    → (front : List ℕ) × (bytes ≡ front ++ left)
 passed_front count bytes left u is =
     let a = bind_ok (times_at count unsigned_at bytes) (λ xs rest. (let s : Read (Unit {0}) = (Ok tt, rest) in s)) u left (sym is) in
     let f = (reads_times count unsigned unsigned_at reads_unsigned).found bytes a.0 a.1 a.2 in

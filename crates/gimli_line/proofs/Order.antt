@@ -13,11 +13,13 @@ use Rattle.gimli_line.specs.header.Orders.{HeaderOrders, IsOrder, AreFileOrders,
 use Rattle.gimli_line.specs.declared.header.file_entry.FileEntry.{FileEntry}
 
 -- a list that was made longer, all of whose items have the order that the new one has
-pushed : {X : Type 0} (Has : Bool → X → Type 0) (first now : Bool) (xs longer : List X) (x : X) → longer ≡ xs ++ x ∷ [] → now ≡ first → All (Has first) xs → Has now x → All (Has first) longer
+pushed : {X : Type 0} (Has : Bool → X → Type 0) (first now : Bool) (xs longer : List X) (x : X) → longer ≡ xs ++ x ∷ [] → now ≡ first → All (Has first) xs
+    → Has now x → All (Has first) longer
 pushed Has first now xs longer x is same all one = subst (All (Has first)) (sym is) (All-push (Has first) xs x all (subst (λ order. Has order x) same one))
 
 module _ {R Offset Endian : Type 0} (big : R → Bool) where
-  pub values_pushed : (first now : Bool) (xs longer : List (AttributeValue R Offset Endian)) (x : AttributeValue R Offset Endian) → longer ≡ xs ++ x ∷ [] → now ≡ first
+  pub values_pushed : (first now : Bool) (xs longer : List (AttributeValue R Offset Endian)) (x : AttributeValue R Offset Endian) → longer ≡ xs ++ x ∷ []
+      → now ≡ first
       → All (ValueHasOrder big first) xs → ValueHasOrder big now x → All (ValueHasOrder big first) longer
   values_pushed = pushed (ValueHasOrder big)
 
@@ -31,7 +33,8 @@ module _ {R Offset Endian : Type 0} (big : R → Bool) where
   pub file_kept : (first now : Bool) (x : FileEntry R Offset Endian) → now ≡ first → FileHasOrder big now x → FileHasOrder big first x
   file_kept first now x same = subst (λ order. FileHasOrder big order x) same
 
-  pub values_kept : (first now : Bool) (xs : List (AttributeValue R Offset Endian)) → now ≡ first → All (ValueHasOrder big now) xs → All (ValueHasOrder big first) xs
+  pub values_kept : (first now : Bool) (xs : List (AttributeValue R Offset Endian)) → now ≡ first → All (ValueHasOrder big now) xs
+      → All (ValueHasOrder big first) xs
   values_kept first now xs same = subst (λ order. All (ValueHasOrder big order) xs) same
 
   pub files_kept : (first now : Bool) (xs : List (FileEntry R Offset Endian)) → now ≡ first → All (FileHasOrder big now) xs → All (FileHasOrder big first) xs
@@ -72,19 +75,24 @@ module _ {R Offset Endian : Type 0} (big : R → Bool) (order : Bool) where
   is_file f so = (is_value f.path_name so.0, is_source f.source so.1)
 
   -- after a file is added, or memory is missing for it
-  pub files_after : {A E : Type 0} (result : Result A E) (xs longer : List (FileEntry R Offset Endian)) (f : FileEntry R Offset Endian) → OnOk result (longer ≡ xs ++ f ∷ []) → OnErr result (longer ≡ xs)
+  pub files_after : {A E : Type 0} (result : Result A E) (xs longer : List (FileEntry R Offset Endian)) (f : FileEntry R Offset Endian)
+      → OnOk result (longer ≡ xs ++ f ∷ []) → OnErr result (longer ≡ xs)
       → FileHasOrder big order f → All (AreFileOrders order) (map (file_orders big) xs) → All (AreFileOrders order) (map (file_orders big) longer)
   files_after (Ok _) xs longer f is kept one all =
       subst (λ ys. All (AreFileOrders order) (map (file_orders big) ys)) (sym is)
-      (subst (All (AreFileOrders order)) (sym (map-append (file_orders big) xs (f ∷ []))) (All-push (AreFileOrders order) (map (file_orders big) xs) (file_orders big f) all (file_is f one)))
+      (subst (All (AreFileOrders order)) (sym (map-append (file_orders big) xs (f ∷ [])))
+      (All-push (AreFileOrders order) (map (file_orders big) xs) (file_orders big f) all (file_is f one)))
   files_after (Err _) xs longer f is kept one all = subst (λ ys. All (AreFileOrders order) (map (file_orders big) ys)) (sym kept) all
 
 module _ {R Offset Endian : Type 0} (big : R → Bool) (h : SeenHeader R Offset Endian) where
   pub are_one_order : HasOneOrder big h → AreOneOrder h.notation.big (header_orders big h)
   are_one_order has = record {
     operand_counts = has.operand_counts;
-    directories = all_mapped (ValueHasOrder big h.notation.big) (IsOrder h.notation.big) (value_order big) (value_is big h.notation.big) h.include_directories.items has.directories;
-    files = all_mapped (FileHasOrder big h.notation.big) (AreFileOrders h.notation.big) (file_orders big) (file_is big h.notation.big) h.file_names.items has.files;
+    directories =
+        all_mapped (ValueHasOrder big h.notation.big) (IsOrder h.notation.big) (value_order big) (value_is big h.notation.big) h.include_directories.items
+        has.directories;
+    files =
+        all_mapped (FileHasOrder big h.notation.big) (AreFileOrders h.notation.big) (file_orders big) (file_is big h.notation.big) h.file_names.items has.files;
   }
 
   pub has_one_order : (order : Bool) (o : HeaderOrders) → header_orders big h ≡ o → h.notation.big ≡ order → AreOneOrder order o → HasOneOrder big h
@@ -92,6 +100,10 @@ module _ {R Offset Endian : Type 0} (big : R → Bool) (h : SeenHeader R Offset 
       let are : AreOneOrder h.notation.big (header_orders big h) = rw (same, is) are in
       record {
         operand_counts = are.operand_counts;
-        directories = mapped_all (ValueHasOrder big h.notation.big) (IsOrder h.notation.big) (value_order big) (is_value big h.notation.big) h.include_directories.items are.directories;
-        files = mapped_all (FileHasOrder big h.notation.big) (AreFileOrders h.notation.big) (file_orders big) (is_file big h.notation.big) h.file_names.items are.files;
+        directories =
+            mapped_all (ValueHasOrder big h.notation.big) (IsOrder h.notation.big) (value_order big) (is_value big h.notation.big) h.include_directories.items
+            are.directories;
+        files =
+            mapped_all (FileHasOrder big h.notation.big) (AreFileOrders h.notation.big) (file_orders big) (is_file big h.notation.big) h.file_names.items
+            are.files;
       }

@@ -7,7 +7,8 @@ use Rattle.gimli_core.specs.declared.common.Format.TheVariants.{Dwarf32}
 use Rattle.gimli_core.specs.declared.attribute_value.AttributeValue.TheVariants.{String}
 use Rattle.gimli_core.specs.declared.error.Error.{Error}
 use Rattle.gimli_core.specs.declared.error.Error.TheVariants.{AddressOverflow, UnexpectedEof}
-use Rattle.gimli_line.specs.declared.run.instruction.LineInstruction.TheVariants.{Special, Copy, AdvancePc, AdvanceLine, SetFile, EndSequence, SetAddress, DefineFile, FixedAddPc}
+use Rattle.gimli_line.specs.declared.run.instruction.LineInstruction.TheVariants.{Special, Copy, AdvancePc, AdvanceLine, SetFile, EndSequence, SetAddress}
+use Rattle.gimli_line.specs.declared.run.instruction.LineInstruction.TheVariants.{DefineFile, FixedAddPc}
 use Rattle.gimli_line.specs.declared.run.row.LineRow.{LineRow}
 use Rattle.gimli_line.specs.run.Instruction.{Ins}
 use Rattle.gimli_line.specs.header.File.{File}
@@ -16,7 +17,8 @@ use Rattle.gimli_line.specs.header.HeaderGrammar.{SpellsUnit}
 use Rattle.gimli_line.specs.run.InstructionGrammar.{Decodes}
 use Rattle.gimli_line.specs.inside.header.TableReading.{closed_below}
 use Rattle.gimli_line.specs.header.HeaderReading.{plain_file_at}
-use Rattle.gimli_line.specs.inside.header.HeaderReading.{positive_at, version_at, opening_at, line_encoding_at, parameters_at, directories_at, file_names_at, fields_at, header_at}
+use Rattle.gimli_line.specs.inside.header.HeaderReading.{positive_at, version_at, opening_at, line_encoding_at, parameters_at, directories_at, file_names_at}
+use Rattle.gimli_line.specs.inside.header.HeaderReading.{fields_at, header_at}
 use Rattle.gimli_line.specs.run.InstructionReading.{standard_at, extended_operands_at, extended_at, ins_at, decoded_upto, decoded_at}
 use Rattle.gimli_line.specs.run.Events.{Event, row, fault, Events, program_events}
 use Rattle.gimli_line.proofs.HeaderLaws.{unit_found}
@@ -42,7 +44,13 @@ abbrev header_13 : ℕ → ℕ → ℕ → List ℕ → Header
 header_13 unit_length address_size operations program = record {
   parameters = record {
     encoding = record { address_size = address_size; format = Dwarf32; version = 4 };
-    line_encoding = record { minimum_instruction_length = 1; maximum_operations_per_instruction = operations; default_is_stmt = true; line_base = negsuc 4; line_range = 14 };
+    line_encoding = record {
+      minimum_instruction_length = 1;
+      maximum_operations_per_instruction = operations;
+      default_is_stmt = true;
+      line_base = negsuc 4;
+      line_range = 14;
+    };
     opcode_base = 13;
   };
   unit_length = unit_length;
@@ -68,7 +76,13 @@ abbrev header_3 : ℕ → List ℕ → Header
 header_3 unit_length program = record {
   parameters = record {
     encoding = record { address_size = 4; format = Dwarf32; version = 4 };
-    line_encoding = record { minimum_instruction_length = 1; maximum_operations_per_instruction = 1; default_is_stmt = true; line_base = pos 0; line_range = 1 };
+    line_encoding = record {
+      minimum_instruction_length = 1;
+      maximum_operations_per_instruction = 1;
+      default_is_stmt = true;
+      line_base = pos 0;
+      line_range = 1;
+    };
     opcode_base = 3;
   };
   unit_length = unit_length;
@@ -99,9 +113,12 @@ record Meets (p : Program) : Type 0 where
   decoding : Decodes little p.header p.header.program p.list p.end
   run : Events little p.header p.header.program p.events
 
-meets : (p : Program) → header_at little p.given p.bytes ≡ (Ok p.header, []) → decoded_at little p.header p.header.program ≡ (p.list, p.end) → p.events ≡ program_events p.header.parameters p.list p.end → Meets p
+meets : (p : Program) → header_at little p.given p.bytes ≡ (Ok p.header, []) → decoded_at little p.header p.header.program ≡ (p.list, p.end)
+    → p.events ≡ program_events p.header.parameters p.list p.end → Meets p
 meets p read decoding events =
-    let is : Decodes little p.header p.header.program p.list p.end = let c = is_decoded little p.header p.header.program in let l = ap (λ (x : List Ins × Option Error). x.0) decoding in let e = ap (λ (x : List Ins × Option Error). x.1) decoding in rw (← l, ← e) c in
+    let is : Decodes little p.header p.header.program p.list p.end =
+    let c = is_decoded little p.header p.header.program in let l = ap (λ (x : List Ins × Option Error). x.0) decoding in
+    let e = ap (λ (x : List Ins × Option Error). x.1) decoding in rw (← l, ← e) c in
     record {
       unit = unit_found little p.given p.bytes p.header [] read;
       decoding = is;
@@ -310,7 +327,8 @@ programs : Meets demo_unit
     × Meets set_address_that_goes_back
     × Meets empty_extended_instruction
     × Meets file_defined_midway
-unfolding uleb_at sleb_at word_at initial_length_at closed_below positive_at plain_file_at version_at opening_at line_encoding_at parameters_at directories_at file_names_at fields_at header_at standard_at extended_operands_at extended_at ins_at decoded_upto
+unfolding uleb_at sleb_at word_at initial_length_at closed_below positive_at plain_file_at version_at opening_at line_encoding_at parameters_at directories_at
+    file_names_at fields_at header_at standard_at extended_operands_at extended_at ins_at decoded_upto
 programs = (
   meets demo_unit refl refl refl,
   meets tombstone_in_a_sequence refl refl refl,

@@ -27,7 +27,8 @@ module _ (n : Notation) (h : Header) (bytes : List ℕ) where
   same_decoding : (list other : List Ins) (end finish : Option Error) → Decodes n h bytes list end → Decodes n h bytes other finish
       → program_events h.parameters list end ≡ program_events h.parameters other finish
   same_decoding list other end finish a b =
-      ap (λ (p : List Ins × Option Error). program_events h.parameters p.0 p.1) (one_decoding n h bytes list end a ∙ sym (one_decoding n h bytes other finish b))
+      ap (λ (p : List Ins × Option Error). program_events h.parameters p.0 p.1)
+      (one_decoding n h bytes list end a ∙ sym (one_decoding n h bytes other finish b))
 
   pub one_run : (run other : List Event) → Events n h bytes run → Events n h bytes other → run ≡ other
   one_run run other a b = a.given ∙ same_decoding a.list b.list a.end b.end a.decoding b.decoding ∙ sym b.given
@@ -80,7 +81,9 @@ module _ (h : Header) (o : Notation) (offset : ℕ) (w : HeaderOrders) (s : Unre
 to_rows : (h : Header) (s : Part) (run : List Event) → HasRun h s run → ResumesToRows h s
 to_rows h s run has = record {
   rows = has.is.rows ++ has.is.last ∷ [];
-  given = subst (λ (events : List Event). Events s.unread.notation h s.unread.bytes events) (has.is.given ∙ sym (map-append row has.is.rows (has.is.last ∷ []))) has.given;
+  given =
+      subst (λ (events : List Event). Events s.unread.notation h s.unread.bytes events) (has.is.given ∙ sym (map-append row has.is.rows (has.is.last ∷ [])))
+      has.given;
 }
 
 pub resume_to_rows : (h : Header) (parts : List Part) (runs : List (List Event)) → HaveRuns h parts runs → All (ResumesToRows h) parts

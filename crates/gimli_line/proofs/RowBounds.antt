@@ -15,7 +15,8 @@ use Rattle.gimli_line.specs.run.InstructionReading.{ins_at, decoded_at, decoded_
 use Rattle.gimli_line.specs.run.OperationPointer.{is_under_tombstone, overflows}
 use Rattle.gimli_line.specs.run.Machine.{is_refused, step_of}
 use Rattle.gimli_line.specs.run.Events.{Event, Events, row, fault, row_at, events_at, events_after, end_events}
-use Rattle.gimli_line.specs.run.EventsWithFiles.{EventWithFiles, EventsWithFiles, with_files, files_at, events_with_files_after, step_events, next_registers, events_with_files_from}
+use Rattle.gimli_line.specs.run.EventsWithFiles.{EventWithFiles, EventsWithFiles, with_files, files_at, events_with_files_after, step_events, next_registers}
+use Rattle.gimli_line.specs.run.EventsWithFiles.{events_with_files_from}
 use Rattle.gimli_line.specs.run.Progress.{with_reset_row}
 use Rattle.gimli_line.specs.run.RunState.{RunState}
 use Rattle.gimli_line.specs.run.Rows.{events_left}
@@ -78,15 +79,19 @@ module _ (notation : Notation) (h : Header) where
   upto_bounded (suc more) [] = omega arith
   upto_bounded (suc more) (b ∷ bytes) = after (λ rest. upto_bounded more rest) (ins_at notation h (b ∷ bytes))
     where
-      after : ((rest : List ℕ) → length (decoded_upto notation h more rest).0 + length (end_events (decoded_upto notation h more rest).1) ≤ more) → (r : Read Ins)
-          → length (decoded_after notation h (decoded_upto notation h more) r).0 + length (end_events (decoded_after notation h (decoded_upto notation h more) r).1) ≤ suc more
+      after : ((rest : List ℕ) → length (decoded_upto notation h more rest).0 + length (end_events (decoded_upto notation h more rest).1) ≤ more)
+          → (r : Read Ins)
+          → length (decoded_after notation h (decoded_upto notation h more) r).0
+          + length (end_events (decoded_after notation h (decoded_upto notation h more) r).1)
+          ≤ suc more
       after bound (Ok i, rest) = omega (arith, bound rest)
       after bound (Err e, rest) = omega arith
 
   taken_bounded : (bytes : List ℕ) → length (decoded_at notation h bytes).0 + length (end_events (decoded_at notation h bytes).1) ≤ length bytes
   taken_bounded bytes = upto_bounded (length bytes) bytes
 
-  decoded_bounded : (bytes : List ℕ) (list : List Ins) (end : Option Error) → Decodes notation h bytes list end → length list + length (end_events end) ≤ length bytes
+  decoded_bounded : (bytes : List ℕ) (list : List Ins) (end : Option Error) → Decodes notation h bytes list end
+      → length list + length (end_events end) ≤ length bytes
   decoded_bounded bytes list end c =
       let same : length list + length (end_events end) ≡ length (decoded_at notation h bytes).0 + length (end_events (decoded_at notation h bytes).1) =
       ap (λ (p : List Ins × Option Error). length p.0 + length (end_events p.1)) (one_decoding notation h bytes list end c) in
@@ -104,7 +109,8 @@ module _ (notation : Notation) (h : Header) where
         decoded_bounded bytes given.list given.end given.decoding,
       )
 
-  pub with_files_bounded : (appends : Bool) (bytes : List ℕ) (events : List EventWithFiles) → EventsWithFiles notation appends h bytes events → length events ≤ length bytes
+  pub with_files_bounded : (appends : Bool) (bytes : List ℕ) (events : List EventWithFiles) → EventsWithFiles notation appends h bytes events
+      → length events ≤ length bytes
   with_files_bounded appends bytes events given =
       omega (arith, ap length given.given, few_with_files appends h [] given.list given.end, decoded_bounded bytes given.list given.end given.decoding)
 

@@ -14,7 +14,8 @@ use Rattle.gimli_line.specs.run.Rows.{events_left, FaultIs, GivesRowsAlone, IsRo
 no_row : (e : Error) (r : LineRow) → fault e ≡ row r → ⊥
 no_row e r same = absurd cc
 
-pub rest_alone : (old new : RunState) (e : EventWithFiles) → new.appends ≡ old.appends → events_left old ≡ e ∷ events_left new → GivesRowsAlone old → GivesRowsAlone new
+pub rest_alone : (old new : RunState) (e : EventWithFiles) → new.appends ≡ old.appends → events_left old ≡ e ∷ events_left new → GivesRowsAlone old
+    → GivesRowsAlone new
 rest_alone old new e appends first alone = record {
   complete = appends ∙ alone.complete;
   rows = All-tail IsRow e (events_left new) (subst (All IsRow) first alone.rows);

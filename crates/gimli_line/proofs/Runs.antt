@@ -1,5 +1,6 @@
 -- What one instruction does to the events that are still to come.
-use Rattle.std.proofs.Common.{not, if◌then◌else◌, ◌≡◌, ◌≢◌, ℕ, ◌<◌, Bool, true, false, List, [], ◌∷◌, ◌++◌, length, Option, Some, None, refl, sym, ap, ◌∙◌, append_assoc, arith, ◌⊎◌, inl, inr}
+use Rattle.std.proofs.Common.{not, if◌then◌else◌, ◌≡◌, ◌≢◌, ℕ, ◌<◌, Bool, true, false, List, [], ◌∷◌, ◌++◌, length, Option, Some, None, refl, sym, ap, ◌∙◌}
+use Rattle.std.proofs.Common.{append_assoc, arith, ◌⊎◌, inl, inr}
 use Rattle.std.proofs.lemmas.List.{length-append, append-nil}
 use Rattle.gimli_core.specs.Notation.{Notation}
 use Rattle.gimli_core.specs.Production.{Each}
@@ -34,7 +35,8 @@ module _ (notation : Notation) (h : Header) (bytes : List ℕ) where
   decoded_none e = rw e refl
 
   pub decoded_fault : (e : Error) → bytes ≢ [] → (instruction_production notation h).Fault bytes e → decoded_at notation h bytes ≡ ([], Some e)
-  decoded_fault e some f = sym (one_decoding notation h bytes [] (Some e) (record { front = []; rest = bytes; parts = refl; spelled = refl; ended = (some, f) }))
+  decoded_fault e some f =
+      sym (one_decoding notation h bytes [] (Some e) (record { front = []; rest = bytes; parts = refl; spelled = refl; ended = (some, f) }))
 
   pub decoded_some : (i : Ins) (front rest : List ℕ) → bytes ≡ front ++ rest → SpellsInstruction notation h front i
       → decoded_at notation h bytes ≡ (i ∷ (decoded_at notation h rest).0, (decoded_at notation h rest).1)
@@ -48,16 +50,25 @@ module _ (notation : Notation) (h : Header) (bytes : List ℕ) where
         ended = c.ended;
       }))
 
-pub decodes_on : (n : Notation) (h : Header) (bytes : List ℕ) (list : List Ins) (front rest : List ℕ) → bytes ≡ front ++ rest → Each (SpellsInstruction n h) front list
+pub decodes_on : (n : Notation) (h : Header) (bytes : List ℕ) (list : List Ins) (front rest : List ℕ) → bytes ≡ front ++ rest
+    → Each (SpellsInstruction n h) front list
     → decoded_at n h bytes ≡ (list ++ (decoded_at n h rest).0, (decoded_at n h rest).1)
 decodes_on n h bytes [] front rest parts s = ap (decoded_at n h) (parts ∙ ap (λ (xs : List ℕ). xs ++ rest) s)
 decodes_on n h bytes (i ∷ list) front rest parts s =
     let whole : bytes ≡ s.0 ++ (s.1 ++ rest) = parts ∙ ap (λ (xs : List ℕ). xs ++ rest) s.2 ∙ append_assoc s.0 s.1 rest in
-    decoded_some n h bytes i s.0 (s.1 ++ rest) whole s.3 ∙ ap (λ (c : List Ins × Option Error). (i ∷ c.0, c.1)) (decodes_on n h (s.1 ++ rest) list s.1 rest refl s.4)
+    decoded_some n h bytes i s.0 (s.1 ++ rest) whole s.3
+    ∙ ap (λ (c : List Ins × Option Error). (i ∷ c.0, c.1)) (decodes_on n h (s.1 ++ rest) list s.1 rest refl s.4)
 
 -- the files of a header mean nothing to its program
-pub bare_decoding : (notation : Notation) (h : Header) (bytes : List ℕ) (list : List Ins) (end : Option Error) → Decodes notation (without_files h) bytes list end → Decodes notation h bytes list end
-bare_decoding notation h bytes list end c = record { front = c.front; rest = c.rest; parts = c.parts; spelled = each c.front list c.spelled; ended = end_is end c.ended }
+pub bare_decoding : (notation : Notation) (h : Header) (bytes : List ℕ) (list : List Ins) (end : Option Error)
+    → Decodes notation (without_files h) bytes list end → Decodes notation h bytes list end
+bare_decoding notation h bytes list end c = record {
+  front = c.front;
+  rest = c.rest;
+  parts = c.parts;
+  spelled = each c.front list c.spelled;
+  ended = end_is end c.ended;
+}
   where
     each : (front : List ℕ) (list : List Ins) → Each (SpellsInstruction notation (without_files h)) front list → Each (SpellsInstruction notation h) front list
     each front [] s = s
@@ -97,12 +108,18 @@ abbrev pub events : Event → Header → EventWithFiles
 events e h = record { event = e; files = h.files }
 
 pub source_same : (s t : Unread) → s.bytes ≡ t.bytes → s.notation ≡ t.notation → s ≡ t
-source_same s t b n = ap (λ (xs : List ℕ). let u : Unread = record { bytes = xs; notation = s.notation } in u) b ∙ ap (λ (m : Notation). let u : Unread = record { bytes = t.bytes; notation = m } in u) n
+source_same s t b n =
+    ap (λ (xs : List ℕ). let u : Unread = record { bytes = xs; notation = s.notation } in u) b
+    ∙ ap (λ (m : Notation). let u : Unread = record { bytes = t.bytes; notation = m } in u) n
 
 -- the readers keep their order, where those that are added have it
-pub keeps_order : (old new : RunState) → new.notation ≡ old.notation → new.appends ≡ old.appends → new.unread.notation ≡ old.unread.notation → (IsOfOneOrder old → AreOneOrder old.notation.big new.orders)
+pub keeps_order : (old new : RunState) → new.notation ≡ old.notation → new.appends ≡ old.appends → new.unread.notation ≡ old.unread.notation
+    → (IsOfOneOrder old → AreOneOrder old.notation.big new.orders)
     → IsOfOneOrder old → IsOfOneOrder new
-keeps_order old new notation appends unread added so = record { readers = rw notation (added so); unread = λ adds. rw (unread, notation) (so.unread (sym appends ∙ adds)) }
+keeps_order old new notation appends unread added so = record {
+  readers = rw notation (added so);
+  unread = λ adds. rw (unread, notation) (so.unread (sym appends ∙ adds));
+}
 
 -- where no bytes are left
 pub none_left : (a : RunState) → a.unread.bytes ≡ [] → live_events a ≡ []
@@ -128,15 +145,18 @@ module _ (a : Bool) (h k : Header) (same : k ≡ h) (o o2 : Notation) (n n2 : �
       let last = decoded_fault s.notation (without_files h) s.bytes e some (rw same at f) in
       (rw (last, none_to_make (state a h o2 n2 w2 r2 s2) empty) refl, rw (last, end_here (state a h o2 n2 w2 r2 s2) empty) refl, λ _. empty)
 
-  module _ (notation : s2.notation ≡ s.notation) (i : Ins) (front : List ℕ) (parts : s.bytes ≡ front ++ s2.bytes) (spelled : SpellsInstruction s.notation k front i) where
-    first_decoded : decoded_at s.notation (without_files h) s.bytes ≡ (i ∷ (decoded_at s.notation (without_files h) s2.bytes).0, (decoded_at s.notation (without_files h) s2.bytes).1)
+  module _ (notation : s2.notation ≡ s.notation) (i : Ins) (front : List ℕ) (parts : s.bytes ≡ front ++ s2.bytes)
+      (spelled : SpellsInstruction s.notation k front i) where
+    first_decoded : decoded_at s.notation (without_files h) s.bytes
+        ≡ (i ∷ (decoded_at s.notation (without_files h) s2.bytes).0, (decoded_at s.notation (without_files h) s2.bytes).1)
     first_decoded = decoded_some s.notation (without_files h) s.bytes i front s2.bytes parts (rw same at spelled)
 
     pub is_shorter : length s2.bytes < length s.bytes
     is_shorter = omega (arith, takes_bytes s.notation k front i spelled, length-append front s2.bytes, ap length parts)
 
     -- one instruction is passed over
-    pub passes_one : (h2 : Header) (r2 : LineRow) (events : List Event) → h2 ≡ record h { files = files_after a i h.files } → step_events h.parameters i r ≡ events
+    pub passes_one : (h2 : Header) (r2 : LineRow) (events : List Event) → h2 ≡ record h { files = files_after a i h.files }
+        → step_events h.parameters i r ≡ events
         → r2 ≡ next_registers h.parameters i r → Progress (state a h o n w r s) (state a h2 o2 n2 w2 r2 s2) events
     passes_one h2 r2 events after given next = record {
       list = i ∷ [];
@@ -165,11 +185,13 @@ module _ (a : Bool) (h k : Header) (same : k ≡ h) (o o2 : Notation) (n n2 : �
           passes_one h2 (reset_row h2.parameters r2) (given_of r2) after given (rw (fits, made, parameters, row_is) refl)
 
     module _ (h2 : Header) (r2 : LineRow) where
-      pub after_quiet : h2 ≡ record h { files = files_after a i h.files } → is_refused h.parameters i r ≡ false → makes_row i ≡ false → r2 ≡ step_of h.parameters i r
+      pub after_quiet : h2 ≡ record h { files = files_after a i h.files } → is_refused h.parameters i r ≡ false → makes_row i ≡ false
+          → r2 ≡ step_of h.parameters i r
           → live_made (state a h o n w r s) ≡ live_made (state a h2 o2 n2 w2 r2 s2)
       after_quiet after fits made row_is = rw (first_decoded, after, row_is, notation, fits, made) refl
 
-      pub after_made : h2 ≡ record h { files = files_after a i h.files } → is_refused h.parameters i r ≡ false → makes_row i ≡ true → r2 ≡ step_of h.parameters i r
+      pub after_made : h2 ≡ record h { files = files_after a i h.files } → is_refused h.parameters i r ≡ false → makes_row i ≡ true
+          → r2 ≡ step_of h.parameters i r
           → live_made (state a h o n w r s) ≡ events (row r2) h2 ∷ made_left (state a h2 o2 n2 w2 r2 s2)
       after_made after fits made row_is =
           let files : files_after a i h.files ≡ h.files = no_file_at_row a i h.files made in
@@ -225,13 +247,15 @@ passes_still a b unread fixed appends registers files = record {
   files = files;
 }
 
-each_joined : (n : Notation) (h : Header) (front after : List ℕ) (list more : List Ins) → Each (SpellsInstruction n h) front list → Each (SpellsInstruction n h) after more
+each_joined : (n : Notation) (h : Header) (front after : List ℕ) (list more : List Ins) → Each (SpellsInstruction n h) front list
+    → Each (SpellsInstruction n h) after more
     → Each (SpellsInstruction n h) (front ++ after) (list ++ more)
 each_joined n h front after [] more s t = rw s t
 each_joined n h front after (i ∷ list) more s t =
     (s.0, s.1 ++ after, ap (λ (xs : List ℕ). xs ++ after) s.2 ∙ append_assoc s.0 s.1 after, s.3, each_joined n h s.1 after list more s.4 t)
 
-pub events_joined : (h : Parameters) (r : LineRow) (list more : List Ins) → events_from h r (list ++ more) ≡ events_from h r list ++ events_from h (registers_from h r list) more
+pub events_joined : (h : Parameters) (r : LineRow) (list more : List Ins)
+    → events_from h r (list ++ more) ≡ events_from h r list ++ events_from h (registers_from h r list) more
 events_joined h r [] more = refl
 events_joined h r (i ∷ list) more =
     ap (λ (es : List Event). step_events h i r ++ es) (events_joined h (next_registers h i r) list more)
@@ -268,12 +292,14 @@ same_end a b es p =
     let after = (decoded_at a.unread.notation a.fixed b.unread.bytes).0 in
     let there : files_at_end b ≡ files_from a.appends (files_from a.appends a.files p.list) after = rw (p.notation, p.fixed, p.appends, p.files) refl in
     there ∙ sym (files_joined a.appends a.files p.list after)
-    ∙ ap (λ (c : List Ins × Option Error). files_from a.appends a.files c.0) (sym (decodes_on a.unread.notation a.fixed a.unread.bytes p.list p.front b.unread.bytes p.parts p.spelled))
+    ∙ ap (λ (c : List Ins × Option Error). files_from a.appends a.files c.0)
+    (sym (decodes_on a.unread.notation a.fixed a.unread.bytes p.list p.front b.unread.bytes p.parts p.spelled))
 
 -- ---- refusals
 
 -- memory is missing for the file that an instruction defines
-pub wants : (a : Bool) (h k : Header) → k ≡ h → (o o2 : Notation) (n n2 : ℕ) (w w2 : HeaderOrders) (r : LineRow) (s : Unread) (i : Ins) (front rest : List ℕ) → s.bytes ≡ front ++ rest
+pub wants : (a : Bool) (h k : Header) → k ≡ h → (o o2 : Notation) (n n2 : ℕ) (w w2 : HeaderOrders) (r : LineRow) (s : Unread) (i : Ins) (front rest : List ℕ)
+    → s.bytes ≡ front ++ rest
     → SpellsInstruction s.notation k front i → defines_file i ≡ true → (h2 : Header) (r2 : LineRow) (s2 : Unread) → s2.bytes ≡ [] → h2 ≡ h → a ≡ true
     → WantsMemory (state a h o n w r s) (state a h2 o2 n2 w2 r2 s2)
 wants a h k same o o2 n n2 w w2 r s i front rest parts spelled defines h2 r2 s2 empty kept appends = record {

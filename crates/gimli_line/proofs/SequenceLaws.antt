@@ -1,5 +1,6 @@
 -- Splitting a program into sequences gives its rows through the last end.
-use Rattle.std.proofs.Common.{◌<◌, ◌≡◌, ℕ, ◌-◌, Bool, true, false, if◌then◌else◌, ◌||◌, List, [], ◌∷◌, ◌++◌, length, take, map, Option, Some, None, refl, sym, ap, ◌∙◌, subst, append_assoc, arith}
+use Rattle.std.proofs.Common.{◌<◌, ◌≡◌, ℕ, ◌-◌, Bool, true, false, if◌then◌else◌, ◌||◌, List, [], ◌∷◌, ◌++◌, length, take, map, Option, Some, None, refl, sym}
+use Rattle.std.proofs.Common.{ap, ◌∙◌, subst, append_assoc, arith}
 use Rattle.std.specs.List.{AllByRecursion, list_any, flat_map}
 use Rattle.std.specs.Option.{unwrap_or}
 use Rattle.std.proofs.lemmas.List.{length-append, append-nil, map-append, take_at}
@@ -17,7 +18,8 @@ use Rattle.gimli_line.specs.header.File.{File}
 use Rattle.gimli_line.specs.run.InstructionGrammar.{SpellsInstruction}
 use Rattle.gimli_line.specs.run.InstructionReading.{decoded_at}
 use Rattle.gimli_line.specs.run.OperationPointer.{overflows}
-use Rattle.gimli_line.specs.run.Events.{Event, row, fault, events_at, events_after, end_events, program_events, defined_files, past_at_end, ends_sequence, through_last_end}
+use Rattle.gimli_line.specs.run.Events.{Event, row, fault, events_at, events_after, end_events, program_events, defined_files, past_at_end, ends_sequence}
+use Rattle.gimli_line.specs.run.Events.{through_last_end}
 use Rattle.gimli_line.specs.run.Machine.{initial, reset_row}
 use Rattle.gimli_line.specs.run.EventsWithFiles.{EventWithFiles, with_files, events_with_files_from, step_events, next_registers}
 use Rattle.gimli_line.specs.run.Unread.{Unread}
@@ -42,8 +44,10 @@ pub events_without_files : (a : Bool) (h : Parameters) (r : LineRow) (files : Li
     → events_of (events_with_files_from a h r files list end) ≡ events_from h r list ++ end_events end
 events_without_files a h r files [] end = events_of_at files (end_events end)
 events_without_files a h r files (i ∷ list) end =
-    map-append (λ (t : EventWithFiles). t.event) (with_files files (step_events h i r)) (events_with_files_from a h (next_registers h i r) (files_after a i files) list end)
-    ∙ ap (λ (xs : List Event). xs ++ events_of (events_with_files_from a h (next_registers h i r) (files_after a i files) list end)) (events_of_at files (step_events h i r))
+    map-append (λ (t : EventWithFiles). t.event) (with_files files (step_events h i r))
+    (events_with_files_from a h (next_registers h i r) (files_after a i files) list end)
+    ∙ ap (λ (xs : List Event). xs ++ events_of (events_with_files_from a h (next_registers h i r) (files_after a i files) list end))
+    (events_of_at files (step_events h i r))
     ∙ ap (λ (xs : List Event). step_events h i r ++ xs) (events_without_files a h (next_registers h i r) (files_after a i files) list end)
     ∙ sym (append_assoc (step_events h i r) (events_from h (next_registers h i r) list) (end_events end))
 
@@ -101,7 +105,8 @@ joined_push : (runs : List (List Event)) (run : List Event) → joined_runs (run
 joined_push [] run = append-nil run
 joined_push (r ∷ runs) run = ap (λ (xs : List Event). r ++ xs) (joined_push runs run) ∙ sym (append_assoc r (joined_runs runs) run)
 
-through_events : (events : List Event) (start end : ℕ) → IsSequence events start end → (later : List Event) → through_last_end (events ++ later) ≡ events ++ through_last_end later
+through_events : (events : List Event) (start end : ℕ) → IsSequence events start end → (later : List Event)
+    → through_last_end (events ++ later) ≡ events ++ through_last_end later
 through_events events start end is later = rw is.given (through_one is.rows is.last later is.ended)
 
 through_runs : (h : Header) (parts : List Part) (runs : List (List Event)) → HaveRuns h parts runs → (later : List Event)
@@ -133,11 +138,13 @@ runs_over c [] (run ∷ runs) all = absurd all
 runs_over c (s ∷ parts) [] all = absurd all
 runs_over c (s ∷ parts) (run ∷ runs) all = (run_over c s run all.0, runs_over c parts runs all.1)
 
-complete_runs : (h c : Header) (parts : List Part) (runs : List (List Event)) → without_files c ≡ without_files h → HaveRuns (without_files h) parts runs → HaveRuns c parts runs
+complete_runs : (h c : Header) (parts : List Part) (runs : List (List Event)) → without_files c ≡ without_files h → HaveRuns (without_files h) parts runs
+    → HaveRuns c parts runs
 complete_runs h c parts runs same all = runs_over c parts runs (subst (λ (b : Header). HaveRuns b parts runs) (sym same) all)
 
 -- over the complete header too
-pub runs_are_kept : (n : Notation) (h c : Header) (parts : List Part) (runs : List (List Event)) → AreSequences n h c parts → HaveRuns (without_files h) parts runs
+pub runs_are_kept : (n : Notation) (h c : Header) (parts : List Part) (runs : List (List Event)) → AreSequences n h c parts
+    → HaveRuns (without_files h) parts runs
     → HaveRuns c parts runs
 runs_are_kept n h c parts runs are all = complete_runs h c parts runs (ap (λ (k : Header). without_files k) are.files) all
 
@@ -148,7 +155,16 @@ first_of [] = None
 first_of (r ∷ rows) = Some r.address
 
 abbrev began : Header → Notation → ℕ → List File → Unread → RunState
-began h o n files unread = record { fixed = without_files h; files = files; appends = true; notation = o; offset = n; orders = no_orders; row = initial h.parameters; unread = unread }
+began h o n files unread = record {
+  fixed = without_files h;
+  files = files;
+  appends = true;
+  notation = o;
+  offset = n;
+  orders = no_orders;
+  row = initial h.parameters;
+  unread = unread;
+}
 
 pub record Splitting (h : Header) (k : SequenceSplit) (done : List LineRow) (point : RunState) : Type 0 where
   runs : List (List Event)
@@ -162,7 +178,8 @@ pub record Splitting (h : Header) (k : SequenceSplit) (done : List LineRow) (poi
   start_is : k.start ≡ first_of rows
   passes : Progress (began h order offset files k.unread) point (map row rows)
 
-pub starts_splitting : (h : Header) (o : Notation) (n : ℕ) (w : HeaderOrders) (unread : Unread) → Splitting h (record { parts = []; unread = unread; start = None }) [] (with_reset_row (start_of_run true h o n w unread))
+pub starts_splitting : (h : Header) (o : Notation) (n : ℕ) (w : HeaderOrders) (unread : Unread)
+    → Splitting h (record { parts = []; unread = unread; start = None }) [] (with_reset_row (start_of_run true h o n w unread))
 starts_splitting h o n w unread = record {
   order = o;
   offset = n;
@@ -183,7 +200,8 @@ pub record Keeping (h : Header) (k : SequenceSplit) (kept : RowSplit) (done : Li
   pub closed : splitting.runs ≡ map (map row) kept.closed
 
 pub starts_keeping : (h : Header) (o : Notation) (n : ℕ) (w : HeaderOrders) (unread : Unread)
-    → Keeping h (record { parts = []; unread = unread; start = None }) (record { closed = []; unended = [] }) [] (with_reset_row (start_of_run true h o n w unread))
+    → Keeping h (record { parts = []; unread = unread; start = None }) (record { closed = []; unended = [] }) []
+    (with_reset_row (start_of_run true h o n w unread))
 unfolding starts_splitting
 starts_keeping h o n w unread = record { splitting = starts_splitting h o n w unread; unended = refl; closed = refl }
 
@@ -210,7 +228,8 @@ anew_at_end parameters r e = rw e refl
 front_at : (bytes front rest : List ℕ) → bytes ≡ front ++ rest → take (length bytes - length rest) bytes ≡ front
 front_at bytes front rest parts = rw parts (take_at front rest (length (front ++ rest) - length rest) (omega (arith, length-append front rest)))
 
-module _ (h : Header) (k : SequenceSplit) (done : List LineRow) (point next : RunState) (c : Splitting h k done point) (p : Progress point (with_reset_row next) (row next.row ∷ [])) where
+module _ (h : Header) (k : SequenceSplit) (done : List LineRow) (point next : RunState) (c : Splitting h k done point)
+    (p : Progress point (with_reset_row next) (row next.row ∷ [])) where
   whole : Progress (began h c.order c.offset c.files k.unread) (with_reset_row next) (map row c.rows ++ row next.row ∷ [])
   whole = passes_both (began h c.order c.offset c.files k.unread) point (with_reset_row next) (map row c.rows) (row next.row ∷ []) c.passes p
 
@@ -219,9 +238,11 @@ module _ (h : Header) (k : SequenceSplit) (done : List LineRow) (point next : Ru
 
   more_done : map row (done ++ next.row ∷ []) ≡ joined_runs c.runs ++ last_run
   more_done =
-      map-append row done (next.row ∷ []) ∙ ap (λ (xs : List Event). xs ++ row next.row ∷ []) c.done_is ∙ append_assoc (joined_runs c.runs) (map row c.rows) (row next.row ∷ [])
+      map-append row done (next.row ∷ []) ∙ ap (λ (xs : List Event). xs ++ row next.row ∷ []) c.done_is
+      ∙ append_assoc (joined_runs c.runs) (map row c.rows) (row next.row ∷ [])
 
-  goes_open : next.row.end_sequence ≡ false → Splitting h (record k { start = Some (unwrap_or k.start next.row.address) }) (done ++ next.row ∷ []) (with_reset_row next)
+  goes_open : next.row.end_sequence ≡ false
+      → Splitting h (record k { start = Some (unwrap_or k.start next.row.address) }) (done ++ next.row ∷ []) (with_reset_row next)
   goes_open e = record {
     runs = c.runs;
     rows = c.rows ++ next.row ∷ [];
@@ -232,7 +253,9 @@ module _ (h : Header) (k : SequenceSplit) (done : List LineRow) (point next : Ru
     closed = c.closed;
     unended = open_push c.rows next.row c.unended e;
     start_is = first_push c.rows next.row k.start c.start_is;
-    passes = subst (λ (es : List Event). Progress (began h c.order c.offset c.files k.unread) (with_reset_row next) es) (sym (map-append row c.rows (next.row ∷ []))) whole;
+    passes =
+        subst (λ (es : List Event). Progress (began h c.order c.offset c.files k.unread) (with_reset_row next) es) (sym (map-append row c.rows (next.row ∷ [])))
+        whole;
   }
 
   abbrev ended : Part
@@ -260,7 +283,8 @@ module _ (h : Header) (k : SequenceSplit) (done : List LineRow) (point next : Ru
     };
   }
 
-  goes_closed : next.row.end_sequence ≡ true → Splitting h (record { parts = k.parts ++ ended ∷ []; unread = next.unread; start = None }) (done ++ next.row ∷ []) (with_reset_row next)
+  goes_closed : next.row.end_sequence ≡ true
+      → Splitting h (record { parts = k.parts ++ ended ∷ []; unread = next.unread; start = None }) (done ++ next.row ∷ []) (with_reset_row next)
   goes_closed e = record {
     runs = c.runs ++ last_run ∷ [];
     rows = [];
@@ -271,7 +295,9 @@ module _ (h : Header) (k : SequenceSplit) (done : List LineRow) (point next : Ru
     closed = runs_push (without_files h) k.parts c.runs ended last_run c.closed (closes e);
     unended = tt;
     start_is = refl;
-    passes = passes_still (began h next.notation next.offset next.files next.unread) (with_reset_row next) refl whole.fixed whole.appends (anew_at_end next.fixed.parameters next.row e ∙ ap (λ (x : Header). initial x.parameters) whole.fixed) refl;
+    passes =
+        passes_still (began h next.notation next.offset next.files next.unread) (with_reset_row next) refl whole.fixed whole.appends
+        (anew_at_end next.fixed.parameters next.row e ∙ ap (λ (x : Header). initial x.parameters) whole.fixed) refl;
   }
 
   pub goes_splitting : Splitting h (with_row next.row next.unread k) (done ++ next.row ∷ []) (with_reset_row next)
@@ -294,8 +320,10 @@ module _ (h : Header) (k : SequenceSplit) (done : List LineRow) (point next : Ru
       whole_same = sym (map-append row c.rows (next.row ∷ [])) ∙ ap (λ (xs : List LineRow). map row (xs ++ next.row ∷ [])) same
 
       at_test : (b : Bool) → next.row.end_sequence ≡ b
-          → Keeping h (if b then record { parts = k.parts ++ ended ∷ []; unread = next.unread; start = None } else record k { start = Some (unwrap_or k.start next.row.address) })
-          (if b then record { closed = kept.closed ++ whole_rows ∷ []; unended = [] } else record kept { unended = whole_rows }) (done ++ next.row ∷ []) (with_reset_row next)
+          → Keeping h (if b then record { parts = k.parts ++ ended ∷ []; unread = next.unread; start = None }
+          else record k { start = Some (unwrap_or k.start next.row.address) })
+          (if b then record { closed = kept.closed ++ whole_rows ∷ []; unended = [] } else record kept { unended = whole_rows }) (done ++ next.row ∷ [])
+          (with_reset_row next)
       at_test true e = record {
         splitting = goes_closed e;
         unended = refl;
@@ -322,7 +350,8 @@ row_takes a b e es p = at_list p.list p.front p.parts p.spelled p.given
         → events_from a.fixed.parameters a.row list ≡ e ∷ es → length b.unread.bytes < length a.unread.bytes
     at_list [] front parts s given = absurd cc
     at_list (i ∷ list) front parts s given =
-        omega (arith, takes_bytes a.unread.notation a.fixed s.0 i s.3, length-append s.0 s.1, ap length s.2, length-append front b.unread.bytes, ap length parts)
+        omega
+        (arith, takes_bytes a.unread.notation a.fixed s.0 i s.3, length-append s.0 s.1, ap length s.2, length-append front b.unread.bytes, ap length parts)
 
 -- ---- the end of a run without a fault
 
@@ -330,11 +359,14 @@ module _ (n : Notation) (offset : ℕ) (h c : Header) (k : SequenceSplit) (done 
   abbrev whole_program : Unread
   whole_program = record { bytes = h.program; notation = n }
 
-  pub are_sequences : Splitting h k done point → Progress (with_reset_row (start_of_run true h n offset no_orders whole_program)) last (map row done) → last.unread.bytes ≡ [] → without_files c ≡ last.fixed → c.files ≡ last.files
+  pub are_sequences : Splitting h k done point → Progress (with_reset_row (start_of_run true h n offset no_orders whole_program)) last (map row done)
+      → last.unread.bytes ≡ [] → without_files c ≡ last.fixed → c.files ≡ last.files
       → AreSequences n h c k.parts
   are_sequences splitting p empty fixed files = record {
     list = p.list;
-    decoding = bare_decoding n h h.program p.list None (record { front = p.front; rest = []; parts = p.parts ∙ ap (λ (xs : List ℕ). p.front ++ xs) empty; spelled = p.spelled; ended = refl });
+    decoding =
+        bare_decoding n h h.program p.list None
+        (record { front = p.front; rest = []; parts = p.parts ∙ ap (λ (xs : List ℕ). p.front ++ xs) empty; spelled = p.spelled; ended = refl });
     rows = done;
     given = given;
     files = c_is;
@@ -342,7 +374,8 @@ module _ (n : Notation) (offset : ℕ) (h c : Header) (k : SequenceSplit) (done 
     each = complete_runs h c k.parts splitting.runs (fixed ∙ p.fixed) splitting.closed;
     joined =
         sym (ap through_last_end (given ∙ splitting.done_is) ∙ through_runs (without_files h) k.parts splitting.runs splitting.closed (map row splitting.rows)
-        ∙ ap (λ (xs : List Event). joined_runs splitting.runs ++ xs) (through_none (map row splitting.rows) (none_ends splitting.rows splitting.unended)) ∙ append-nil (joined_runs splitting.runs));
+        ∙ ap (λ (xs : List Event). joined_runs splitting.runs ++ xs) (through_none (map row splitting.rows) (none_ends splitting.rows splitting.unended))
+        ∙ append-nil (joined_runs splitting.runs));
   }
     where
       given : program_events h.parameters p.list None ≡ map row done
@@ -356,7 +389,8 @@ module _ (n : Notation) (offset : ℕ) (h c : Header) (k : SequenceSplit) (done 
 -- ---- a fault
 
 events_live : (a : RunState) → events_of (live_events a)
-    ≡ events_from a.fixed.parameters a.row (decoded_at a.unread.notation a.fixed a.unread.bytes).0 ++ end_events (decoded_at a.unread.notation a.fixed a.unread.bytes).1
+    ≡ events_from a.fixed.parameters a.row (decoded_at a.unread.notation a.fixed a.unread.bytes).0
+    ++ end_events (decoded_at a.unread.notation a.fixed a.unread.bytes).1
 events_live a = let c = decoded_at a.unread.notation a.fixed a.unread.bytes in events_without_files a.appends a.fixed.parameters a.row a.files c.0 c.1
 
 pub passes_left : (a b : RunState) (es : List Event) → Progress a b es → events_of (live_events a) ≡ es ++ events_of (live_events b)
@@ -365,13 +399,16 @@ passes_left a b es p =
     let there : events_of (live_events b) ≡ events_from a.fixed.parameters (registers_from a.fixed.parameters a.row p.list) c.0 ++ end_events c.1 =
     events_live b ∙ rw (p.notation, p.fixed, p.registers) refl in
     events_live a
-    ∙ ap (λ (d : List Ins × Option Error). events_from a.fixed.parameters a.row d.0 ++ end_events d.1) (decodes_on a.unread.notation a.fixed a.unread.bytes p.list p.front b.unread.bytes p.parts p.spelled)
+    ∙ ap (λ (d : List Ins × Option Error). events_from a.fixed.parameters a.row d.0 ++ end_events d.1)
+    (decodes_on a.unread.notation a.fixed a.unread.bytes p.list p.front b.unread.bytes p.parts p.spelled)
     ∙ ap (λ (xs : List Event). xs ++ end_events c.1) (events_joined a.fixed.parameters a.row p.list c.0)
-    ∙ append_assoc (events_from a.fixed.parameters a.row p.list) (events_from a.fixed.parameters (registers_from a.fixed.parameters a.row p.list) c.0) (end_events c.1)
+    ∙ append_assoc (events_from a.fixed.parameters a.row p.list) (events_from a.fixed.parameters (registers_from a.fixed.parameters a.row p.list) c.0)
+    (end_events c.1)
     ∙ ap (λ (xs : List Event). xs ++ (events_from a.fixed.parameters (registers_from a.fixed.parameters a.row p.list) c.0 ++ end_events c.1)) p.given
     ∙ ap (λ (xs : List Event). es ++ xs) (sym there)
 
-pub has_first_fault : (n : Notation) (offset : ℕ) (h : Header) (done : List LineRow) (old new : RunState) (e : Error) → Progress (with_reset_row (start_of_run true h n offset no_orders (record { bytes = h.program; notation = n }))) (with_reset_row old) (map row done)
+pub has_first_fault : (n : Notation) (offset : ℕ) (h : Header) (done : List LineRow) (old new : RunState) (e : Error)
+    → Progress (with_reset_row (start_of_run true h n offset no_orders (record { bytes = h.program; notation = n }))) (with_reset_row old) (map row done)
     → events_left old ≡ event_of (fault e) new ∷ events_left new → HasFirstFault n h e
 has_first_fault n offset h done old new e p is =
     let c = decoded_at n (without_files h) h.program in
@@ -384,6 +421,7 @@ has_first_fault n offset h done old new e p is =
       given =
           ap (λ (xs : List Event). xs ++ end_events c.1) (sym (from_start h.parameters c.0))
           ∙ sym (events_live (with_reset_row (start_of_run true h n offset no_orders (record { bytes = h.program; notation = n }))))
-          ∙ passes_left (with_reset_row (start_of_run true h n offset no_orders (record { bytes = h.program; notation = n }))) (with_reset_row old) (map row done) p
+          ∙ passes_left (with_reset_row (start_of_run true h n offset no_orders (record { bytes = h.program; notation = n }))) (with_reset_row old)
+          (map row done) p
           ∙ ap (λ (t : List EventWithFiles). map row done ++ events_of t) is;
     }

@@ -19,14 +19,16 @@ one_signed z b bytes rest lt is e = rw (byte_ok b rest bytes e, lt-ltb b 128 lt,
     at b false lt = omega (arith, ints, lt)
 
 number : (a b : ℕ) (negative : Bool) → 128 ≤ a → a < 256 → b < 128
-    → to_z w64 (of_z w64 (to_z w64 (of_z w64 (to_z w64 (of_z w64 (pos a)) -ℤ pos 128)) +ℤ to_z w64 (of_z w64 (pos 128 *ℤ to_z w64 (of_z w64 (pos b -ℤ pos (if negative then 128 else 0)))))))
+    → to_z w64 (of_z w64 (to_z w64 (of_z w64 (to_z w64 (of_z w64 (pos a)) -ℤ pos 128))
+    +ℤ to_z w64 (of_z w64 (pos 128 *ℤ to_z w64 (of_z w64 (pos b -ℤ pos (if negative then 128 else 0)))))))
     ≡ pos (a % 128 + 128 * b) -ℤ pos (128 * (if negative then 128 else 0))
 number a b true le below lt = omega (arith, ints)
 number a b false le below lt = omega (arith, ints)
 
 pub two_signed : (f z : ℤ) (a b : ℕ) (bytes middle rest : List ℕ) → 128 ≤ a → a < 256 → b < 128 → f ≡ pos a → z ≡ pos b -ℤ pos (sign b)
     → (Ok a, middle) ≡ byte_at bytes → (Ok b, rest) ≡ byte_at middle
-    → (Ok (to_z w64 (of_z w64 (to_z w64 (of_z w64 (to_z w64 (of_z w64 f) -ℤ pos 128)) +ℤ to_z w64 (of_z w64 (pos 128 *ℤ to_z w64 (of_z w64 z)))))), rest) ≡ signed_at bytes
+    → (Ok (to_z w64 (of_z w64 (to_z w64 (of_z w64 (to_z w64 (of_z w64 f) -ℤ pos 128)) +ℤ to_z w64 (of_z w64 (pos 128 *ℤ to_z w64 (of_z w64 z)))))), rest)
+    ≡ signed_at bytes
 unfolding sleb_at
 two_signed f z a b bytes middle rest le below lt first is e d =
     rw (byte_ok a middle bytes e, byte_ok b rest middle d, le-ltb a 128 le, lt-ltb b 128 lt, first, is, number a b (nat_le 64 b) le below lt) refl

@@ -1,31 +1,250 @@
--- A step after instructions that give nothing is a step from where these begin.
-use Rattle.std.proofs.Common.{◌≡◌, ◌∙◌, ap, arith, length, [], Result, Ok, Err}
+-- A step of a run: what an instruction does to its state, and steps after one another.
+use Rattle.std.proofs.Common.{◌≡◌, ◌≢◌, ◌∙◌, Bool, true, false, List, ℕ, [], ◌++◌, ap, arith, inl, inr, length, refl, sym, subst, Result, Some, Ok, Err}
 use Rattle.std.specs.Prelude.{IfOk, IfErr}
 use Rattle.std.proofs.lemmas.List.{length-append}
+use Rattle.gimli_core.specs.Notation.{Notation}
 use Rattle.gimli_core.specs.declared.error.Error.{Error}
+use Rattle.gimli_core.specs.declared.error.Error.TheVariants.{AddressOverflow, OutOfMemory}
+use Rattle.gimli_line.specs.declared.run.from_bytes.Executed.{Executed}
+use Rattle.gimli_line.specs.declared.run.from_bytes.Executed.TheVariants.{No, Quiet, Address, Row}
+use Rattle.gimli_line.specs.declared.run.instruction.LineInstruction.TheVariants.{DefineFile}
+use Rattle.gimli_line.specs.declared.run.row.LineRow.{LineRow}
 use Rattle.gimli_line.specs.declared.run.rows.Step.{Step}
 use Rattle.gimli_line.specs.declared.run.rows.Step.TheVariants.{Done, Made, More}
+use Rattle.gimli_line.specs.header.Header.{Header, without_files}
+use Rattle.gimli_line.specs.header.Orders.{HeaderOrders, AreOneOrder}
+use Rattle.gimli_line.specs.inside.run.Rows.{KeepsRun, ReadsOn, StepIs, StepsTo}
+use Rattle.gimli_line.specs.run.AnyRows.{live_made, AnyFaultComes}
+use Rattle.gimli_line.specs.run.Execution.{ExecutesNext, IsExecuted, RefusesNext, told_of}
+use Rattle.gimli_line.specs.run.Instruction.{Ins, makes_row, defines_file, files_after, header_after}
+use Rattle.gimli_line.specs.run.InstructionReading.{ins_at}
+use Rattle.gimli_line.specs.run.Machine.{step_of, is_refused}
 use Rattle.gimli_line.specs.run.Made.{given_of}
+use Rattle.gimli_line.specs.run.NextInstruction.{TakesNext, EndsByFault}
 use Rattle.gimli_line.specs.run.Progress.{Progress, with_reset_row}
 use Rattle.gimli_line.specs.run.RunState.{RunState}
-use Rattle.gimli_line.specs.run.AnyRows.{live_made, AnyFaultIs}
-use Rattle.gimli_line.specs.inside.run.Rows.{StepIs}
-use Rattle.gimli_line.proofs.Runs.{passes_both, any_refused_after}
+use Rattle.gimli_line.specs.run.Rows.{IsOfOneOrder, WantsMemory}
+use Rattle.gimli_line.specs.run.Unread.{Unread}
+use Rattle.gimli_line.proofs.Executions.{told_row, told_quiet, told_address}
+use Rattle.gimli_line.proofs.InstructionLaws.{reads_instruction}
+use Rattle.gimli_line.proofs.Runs.{state, keeps_order, none_made, after_fault, after_quiet, after_made, after_overflow, is_shorter, only_overflow, passes_none}
+use Rattle.gimli_line.proofs.Runs.{passes_both, passes_quiet, passes_made, source_same, wants, any_refused_after}
 
-module _ (a b c : RunState) (made : live_made a ≡ live_made b) (passed : Progress a b []) where
-  pub step_after : (s : Step) → StepIs b c s → StepIs a c s
-  step_after Done d = (made ∙ d.0, d.1, passes_both a b c [] [] passed d.2)
-  step_after Made m = (made ∙ m.0, passes_both a b (with_reset_row c) [] (given_of c.row) passed m.1)
-  step_after More m = (
-    made ∙ m.0,
-    omega (arith, m.1, length-append passed.front b.unread.bytes, ap length passed.parts),
-    passes_both a b c [] [] passed m.2,
-  )
+-- ---- the state of a run whose program has a header
 
-  pub answer_after : (r : Result Step Error) → IfOk r (StepIs b c) → IfOk r (StepIs a c)
-  answer_after (Ok s) x = step_after s x
-  answer_after (Err e) x = tt
+-- the program of a run has this header, and adds files or doesn't
+abbrev pub Has : Bool → Header → RunState → Type 0
+Has a h s = (s.appends ≡ a) × (s.fixed ≡ without_files h) × (s.files ≡ h.files)
 
-  pub refusal_after : (r : Result Step Error) → IfErr r (AnyFaultIs b c) → IfErr r (AnyFaultIs a c)
-  refusal_after (Ok s) x = tt
-  refusal_after (Err e) x = any_refused_after a b c e made passed x
+is_state : (a : Bool) (h : Header) (s : RunState) → Has a h s → s ≡ state a h s.notation s.offset s.orders s.row s.unread
+is_state a h s has = rw (← has.0, ← has.1, ← has.2) refl
+
+-- what holds of two runs by their headers holds of them
+by_headers : (a : Bool) (h h2 : Header) (old new : RunState) → Has a h old → Has a h2 new → (P : RunState → RunState → Type 0)
+    → P (state a h old.notation old.offset old.orders old.row old.unread) (state a h2 new.notation new.offset new.orders new.row new.unread) → P old new
+by_headers a h h2 old new from to P p =
+    subst (λ (q : RunState). P q new) (sym (is_state a h old from))
+    (subst (λ (q : RunState). P (state a h old.notation old.offset old.orders old.row old.unread) q) (sym (is_state a h2 new to)) p)
+
+-- ---- what is kept
+
+-- the header is still that of the run, but for its files; what is added fits the order of the instructions to come
+pub keeps_run : (a : Bool) (h h2 : Header) (old new : RunState) → Has a h old → Has a h2 new → without_files h2 ≡ without_files h → new.notation ≡ old.notation
+    → new.offset ≡ old.offset
+    → new.orders.handed ≡ old.orders.handed → new.unread.notation ≡ old.unread.notation → (Fits : Bool → Type 0)
+    → ((order : Bool) → (a ≡ true → Fits order) → AreOneOrder order old.orders → AreOneOrder order new.orders) → Fits old.unread.notation.big → KeepsRun old new
+keeps_run a h h2 old new from to fixed notation offset handed unread Fits order fits = record {
+  fixed = to.1 ∙ fixed ∙ sym from.1;
+  appends = to.0 ∙ sym from.0;
+  notation = notation;
+  offset = offset;
+  order = keeps_order old new notation (to.0 ∙ sym from.0) unread
+      (λ so. order old.notation.big (λ adds. subst Fits (so.unread (from.0 ∙ adds)) fits) so.readers);
+  handed = handed;
+}
+
+pub keeps_both : (x y z : RunState) → KeepsRun x y → KeepsRun y z → KeepsRun x z
+keeps_both x y z p q = record {
+  fixed = q.fixed ∙ p.fixed;
+  appends = q.appends ∙ p.appends;
+  notation = q.notation ∙ p.notation;
+  offset = q.offset ∙ p.offset;
+  order = λ so. q.order (p.order so);
+  handed = q.handed ∙ p.handed;
+}
+
+pub keeps_same : (x y : RunState) → x ≡ y → KeepsRun x y
+keeps_same x y same = record {
+  fixed = ap (λ (q : RunState). q.fixed) (sym same);
+  appends = ap (λ (q : RunState). q.appends) (sym same);
+  notation = ap (λ (q : RunState). q.notation) (sym same);
+  offset = ap (λ (q : RunState). q.offset) (sym same);
+  order = λ so. subst IsOfOneOrder same so;
+  handed = ap (λ (q : RunState). q.orders.handed) (sym same);
+}
+
+-- ---- steps after one another
+
+module _ (x y : RunState) where
+  pub reads_none : x ≡ y → ReadsOn x y
+  reads_none same = record { made = ap live_made same; passed = passes_none x y (sym same); keeps = keeps_same x y same }
+
+  pub reads_more : StepsTo x y (Ok More) → ReadsOn x y
+  reads_more s = record { made = s.ok.0; passed = s.ok.2; keeps = s.keeps }
+
+  module _ (z : RunState) (r : ReadsOn x y) where
+    pub reads_both : ReadsOn y z → ReadsOn x z
+    reads_both q = record { made = r.made ∙ q.made; passed = passes_both x y z [] [] r.passed q.passed; keeps = keeps_both x y z r.keeps q.keeps }
+
+    pub step_after : (s : Step) → StepIs y z s → StepIs x z s
+    step_after Done d = (r.made ∙ d.0, d.1, passes_both x y z [] [] r.passed d.2)
+    step_after Made m = (r.made ∙ m.0, passes_both x y (with_reset_row z) [] (given_of z.row) r.passed m.1)
+    step_after More m = (
+      r.made ∙ m.0,
+      omega (arith, m.1, length-append r.passed.front y.unread.bytes, ap length r.passed.parts),
+      passes_both x y z [] [] r.passed m.2,
+    )
+
+    pub steps_after : (answer : Result Step Error) → StepsTo y z answer → StepsTo x z answer
+    steps_after (Ok s) q = record { ok = step_after s q.ok; err = tt; keeps = keeps_both x y z r.keeps q.keeps }
+    steps_after (Err e) q = record { ok = tt; err = any_refused_after x y z e r.made r.passed q.err; keeps = keeps_both x y z r.keeps q.keeps }
+
+-- ---- where no instruction was taken
+
+pub step_done : (x y : RunState) → y ≡ x → x.unread.bytes ≡ [] → StepsTo x y (Ok Done)
+step_done x y same empty = record {
+  ok = (none_made x empty, ap (λ (q : RunState). q.unread.bytes) same ∙ empty, passes_none x y same);
+  err = tt;
+  keeps = keeps_same x y (sym same);
+}
+
+-- ---- one instruction
+
+-- nothing is added to the files
+files_kept : (a : Bool) (h : Header) (i : Ins) → defines_file i ≡ false → h ≡ header_after a i h
+files_kept a h (DefineFile f) none = absurd cc
+files_kept a h i none = refl
+
+-- h is the header of the run, k the one that was lent
+module _ (a : Bool) (h k : Header) (same : k ≡ h) (old new : RunState) (from : Has a h old) where
+  pub step_faults : (e : Error) → Has a h new → EndsByFault k old.unread new.unread e → KeepsRun old new → StepsTo old new (Err e)
+  step_faults e to fault keeps = record {
+    ok = tt;
+    err =
+        inr (by_headers a h h old new from to (λ x y. AnyFaultComes x y e)
+        (after_fault a h k same old.notation new.notation old.offset new.offset old.orders new.orders old.row old.unread new.unread e fault.0 fault.1 fault.2
+        new.row));
+    keeps = keeps;
+  }
+
+  -- memory is missing for the file that it defines
+  pub step_wants : (i : Ins) (rest : Unread) → TakesNext k old.unread rest (Some i) → defines_file i ≡ true → (h2 : Header) → h2 ≡ h → a ≡ true
+      → new.unread.bytes ≡ []
+      → Has a h2 new → KeepsRun old new → StepsTo old new (Err OutOfMemory)
+  step_wants i rest taken defines h2 kept appends empty to keeps = record {
+    ok = tt;
+    err =
+        inl (
+          refl,
+          by_headers a h h2 old new from to WantsMemory
+              (wants a h k same old.notation new.notation old.offset new.offset old.orders new.orders old.row old.unread i taken.0 rest.bytes taken.1 taken.2
+              defines h2 new.row new.unread empty kept appends),
+        );
+    keeps = keeps;
+  }
+
+  -- h2 is the header after it
+  module _ (i : Ins) (taken : TakesNext k old.unread new.unread (Some i)) (notation : new.unread.notation ≡ old.unread.notation) (h2 : Header) where
+    pub step_quiet : h2 ≡ header_after a i h → is_refused h.parameters i old.row ≡ false → makes_row i ≡ false → new.row ≡ step_of h.parameters i old.row
+        → Has a h2 new → KeepsRun old new → StepsTo old new (Ok More)
+    step_quiet after fits made row to keeps = record {
+      ok = by_headers a h h2 old new from to (λ x y. StepIs x y More) (
+        after_quiet a h k same old.notation new.notation old.offset new.offset old.orders new.orders old.row old.unread new.unread notation i taken.0 taken.1
+            taken.2 h2 new.row after fits made row,
+        is_shorter a h k same old.notation new.notation old.offset new.offset old.orders new.orders old.row old.unread new.unread notation i taken.0 taken.1
+            taken.2,
+        passes_quiet a h k same old.notation new.notation old.offset new.offset old.orders new.orders old.row old.unread new.unread notation i taken.0 taken.1
+            taken.2 h2 new.row after fits made row,
+      );
+      err = tt;
+      keeps = keeps;
+    }
+
+    pub step_made : h2 ≡ header_after a i h → is_refused h.parameters i old.row ≡ false → makes_row i ≡ true → new.row ≡ step_of h.parameters i old.row
+        → Has a h2 new → KeepsRun old new → StepsTo old new (Ok Made)
+    step_made after fits made row to keeps = record {
+      ok = by_headers a h h2 old new from to (λ x y. StepIs x y Made) (
+        after_made a h k same old.notation new.notation old.offset new.offset old.orders new.orders old.row old.unread new.unread notation i taken.0 taken.1
+            taken.2 h2 new.row after fits made row,
+        passes_made a h k same old.notation new.notation old.offset new.offset old.orders new.orders old.row old.unread new.unread notation i taken.0 taken.1
+            taken.2 h2 new.row after fits made row,
+      );
+      err = tt;
+      keeps = keeps;
+    }
+
+    pub step_overflows : h2 ≡ h → is_refused h.parameters i old.row ≡ true → new.row ≡ step_of h.parameters i old.row → Has a h2 new → KeepsRun old new
+        → StepsTo old new (Err AddressOverflow)
+    step_overflows kept over row to keeps = record {
+      ok = tt;
+      err =
+          inr (by_headers a h h2 old new from to (λ x y. AnyFaultComes x y AddressOverflow)
+          (after_overflow a h k same old.notation new.notation old.offset new.offset old.orders new.orders old.row old.unread new.unread notation i taken.0
+          taken.1 taken.2 h2 new.row kept over row));
+      keeps = keeps;
+    }
+
+-- ---- one that was executed from its bytes
+
+abbrev pub with_rest : RunState → LineRow → Unread → RunState
+with_rest old row unread = record old { row = row; unread = unread }
+
+pub keeps_rest : (old : RunState) (row : LineRow) (unread : Unread) → unread.notation ≡ old.unread.notation → KeepsRun old (with_rest old row unread)
+keeps_rest old row unread notation = record {
+  fixed = refl;
+  appends = refl;
+  notation = refl;
+  offset = refl;
+  order = keeps_order old (with_rest old row unread) refl refl notation (λ so. so.readers);
+  handed = refl;
+}
+
+-- none was
+pub none_executed : (k : Header) (old : RunState) (row : LineRow) (unread : Unread) → ExecutesNext k old.unread unread old.row row No
+    → ReadsOn old (with_rest old row unread)
+none_executed k old row unread same = reads_none old (with_rest old row unread) (rw (same.0, same.1) refl)
+
+module _ (a : Bool) (h k : Header) (same : k ≡ h) (old : RunState) (row : LineRow) (unread : Unread) (from : Has a h old)
+    (notation : unread.notation ≡ old.unread.notation) where
+  executed_quiet : (x : IsExecuted k.parameters (ins_at old.unread.notation k old.unread.bytes) unread.bytes old.row row false)
+      → makes_row x.instruction ≡ false
+      → StepsTo old (with_rest old row unread) (Ok More)
+  executed_quiet x quiet =
+      step_quiet a h k same old (with_rest old row unread) from x.instruction
+      ((reads_instruction old.unread.notation k).found old.unread.bytes x.instruction unread.bytes x.reading) notation h
+      (files_kept a h x.instruction x.defines) (subst (λ (j : Header). is_refused j.parameters x.instruction old.row ≡ false) same x.refusal) quiet
+      (subst (λ (j : Header). row ≡ step_of j.parameters x.instruction old.row) same x.registers) from (keeps_rest old row unread notation)
+
+  pub executed_more : (told : Executed) → ExecutesNext k old.unread unread old.row row told → told ≢ No → told ≢ Row
+      → StepsTo old (with_rest old row unread) (Ok More)
+  executed_more No x some quiet = absurd (some refl)
+  executed_more Row x some quiet = absurd (quiet refl)
+  executed_more Quiet x some quiet = executed_quiet x.0 (told_quiet x.0.instruction x.1)
+  executed_more (Address b) x some quiet = executed_quiet x.0 (ap makes_row (told_address x.0.instruction b x.1))
+
+  pub executed_row : ExecutesNext k old.unread unread old.row row Row → StepsTo old (with_rest old row unread) (Ok Made)
+  executed_row executed =
+      let x = executed.0 in
+      step_made a h k same old (with_rest old row unread) from x.instruction
+      ((reads_instruction old.unread.notation k).found old.unread.bytes x.instruction unread.bytes x.reading) notation h
+      (files_kept a h x.instruction x.defines) (subst (λ (j : Header). is_refused j.parameters x.instruction old.row ≡ false) same x.refusal)
+      (told_row x.instruction executed.1)
+      (subst (λ (j : Header). row ≡ step_of j.parameters x.instruction old.row) same x.registers) from (keeps_rest old row unread notation)
+
+  pub executed_refused : (e : Error) → RefusesNext k old.unread unread old.row row e → StepsTo old (with_rest old row unread) (Err e)
+  executed_refused e refused =
+      let x = refused.1 in
+      rw refused.0 (step_overflows a h k same old (with_rest old row unread) from x.instruction
+      ((reads_instruction old.unread.notation k).found old.unread.bytes x.instruction unread.bytes x.reading) notation h
+      refl (subst (λ (j : Header). is_refused j.parameters x.instruction old.row ≡ true) same x.refusal)
+      (subst (λ (j : Header). row ≡ step_of j.parameters x.instruction old.row) same x.registers) from (keeps_rest old row unread notation))

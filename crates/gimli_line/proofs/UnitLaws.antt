@@ -1,5 +1,6 @@
 -- The units of a section: each is read, they have one list of offsets, and a walk gives it.
-use Rattle.std.proofs.Common.{◌≡◌, ◌≢◌, ℕ, zero, suc, ◌+◌, ◌-◌, ◌<◌, ◌≤◌, Bool, List, [], ◌∷◌, ◌++◌, length, take, drop, Ok, Err, refl, sym, ap, subst, ◌∙◌, arith, append_assoc, inl, inr, ◌⊎◌}
+use Rattle.std.proofs.Common.{◌≡◌, ◌≢◌, ℕ, zero, suc, ◌+◌, ◌-◌, ◌<◌, ◌≤◌, Bool, List, [], ◌∷◌, ◌++◌, length, take, drop, Ok, Err, refl, sym, ap, subst, ◌∙◌}
+use Rattle.std.proofs.Common.{arith, append_assoc, inl, inr, ◌⊎◌}
 use Rattle.std.proofs.lemmas.Bool.{cases_lt}
 use Rattle.std.proofs.lemmas.List.{append-nil, drop_all, drop_at, take-append-drop, length-append, length-drop}
 use Rattle.gimli_core.specs.Notation.{Notation}
@@ -34,7 +35,17 @@ module _ (notation : Notation) where
   length_exact : (bytes : List ℕ) (unit : ℕ × Format) → (unit_length notation).Spells bytes unit → length bytes ≡ initial_length_size unit.1
   length_exact bytes unit s =
       let same : unit.1 ≡ s.0.1 = ap (λ (u : ℕ × Format). u.1) s.5.5.1 in
-      ap length s.3 ∙ omega (arith, length_size notation.big s.1 s.0.1 s.0.0 s.4, length-append s.1 s.2, ap length s.5.3, length-append s.5.1 s.5.2, ap length s.5.4.0, ap length s.5.5.0) ∙ sym (ap initial_length_size same)
+      ap length s.3
+      ∙ omega (
+        arith,
+        length_size notation.big s.1 s.0.1 s.0.0 s.4,
+        length-append s.1 s.2,
+        ap length s.5.3,
+        length-append s.5.1 s.5.2,
+        ap length s.5.4.0,
+        ap length s.5.5.0,
+      )
+      ∙ sym (ap initial_length_size same)
 
   -- a unit has bytes
   unit_some : (unit content : List ℕ) → (any_unit notation).Spells unit content → 0 < length unit
@@ -62,13 +73,15 @@ module _ (notation : Notation) where
     upto_none zero = refl
     upto_none (suc more) = refl
 
-    upto_some : (more : ℕ) (bytes : List ℕ) → bytes ≢ [] → offsets_upto notation end (suc more) bytes ≡ (end - length bytes) ∷ offsets_upto notation end more (after_unit (any_unit_at notation bytes))
+    upto_some : (more : ℕ) (bytes : List ℕ) → bytes ≢ []
+        → offsets_upto notation end (suc more) bytes ≡ (end - length bytes) ∷ offsets_upto notation end more (after_unit (any_unit_at notation bytes))
     unfolding offsets_upto
     upto_some more [] some = absurd (some refl)
     upto_some more (b ∷ bytes) some = refl
 
     -- a greater bound changes nothing
-    enough : (more less : ℕ) (bytes : List ℕ) → length bytes ≤ more → length bytes ≤ less → offsets_upto notation end more bytes ≡ offsets_upto notation end less bytes
+    enough : (more less : ℕ) (bytes : List ℕ) → length bytes ≤ more → length bytes ≤ less
+        → offsets_upto notation end more bytes ≡ offsets_upto notation end less bytes
     enough more less [] le lower = upto_none more ∙ sym (upto_none less)
     enough zero less (b ∷ bytes) le lower = absurd (omega arith)
     enough (suc more) zero (b ∷ bytes) le lower = absurd (omega arith)
@@ -82,7 +95,8 @@ module _ (notation : Notation) where
     pub offsets_none : (bytes : List ℕ) → bytes ≡ [] → offsets_at notation end bytes ≡ []
     offsets_none bytes none = rw none (upto_none 0)
 
-    offsets_some : (bytes : List ℕ) → bytes ≢ [] → offsets_at notation end bytes ≡ (end - length bytes) ∷ offsets_at notation end (after_unit (any_unit_at notation bytes))
+    offsets_some : (bytes : List ℕ) → bytes ≢ []
+        → offsets_at notation end bytes ≡ (end - length bytes) ∷ offsets_at notation end (after_unit (any_unit_at notation bytes))
     offsets_some [] some = absurd (some refl)
     offsets_some (b ∷ bytes) some =
         let after = after_unit (any_unit_at notation (b ∷ bytes)) in
@@ -91,7 +105,8 @@ module _ (notation : Notation) where
         ∙ ap (λ (os : List ℕ). (end - length (b ∷ bytes)) ∷ os) (enough (length bytes) (length after) after (omega arith) (omega arith))
 
   -- the offsets that are found are those of the units
-  upto_units : (end more offset : ℕ) (bytes : List ℕ) → length bytes ≤ more → offset + length bytes ≡ end → AreUnits notation offset bytes (offsets_upto notation end more bytes)
+  upto_units : (end more offset : ℕ) (bytes : List ℕ) → length bytes ≤ more → offset + length bytes ≡ end
+      → AreUnits notation offset bytes (offsets_upto notation end more bytes)
   upto_units end more offset [] le ends = subst (λ (os : List ℕ). AreUnits notation offset [] os) (sym (upto_none end more)) refl
   upto_units end zero offset (b ∷ bytes) le ends = absurd (omega arith)
   upto_units end (suc more) offset (b ∷ bytes) le ends =
@@ -99,7 +114,8 @@ module _ (notation : Notation) where
       subst (λ (os : List ℕ). AreUnits notation offset (b ∷ bytes) os) (sym (upto_some end more (b ∷ bytes) some))
       (omega arith, at_answer some (λ next rest. upto_units end more next rest) (any_unit_at notation (b ∷ bytes)) refl)
     where
-      at_answer : b ∷ bytes ≢ [] → ((next : ℕ) (rest : List ℕ) → length rest ≤ more → next + length rest ≡ end → AreUnits notation next rest (offsets_upto notation end more rest))
+      at_answer : b ∷ bytes ≢ []
+          → ((next : ℕ) (rest : List ℕ) → length rest ≤ more → next + length rest ≡ end → AreUnits notation next rest (offsets_upto notation end more rest))
           → (r : Read (List ℕ)) → any_unit_at notation (b ∷ bytes) ≡ r
           → BeginsWithUnit notation (b ∷ bytes) (λ size rest. AreUnits notation (offset + size) rest (offsets_upto notation end more (after_unit r)))
           ⊎ (IsRest notation (b ∷ bytes) × (offsets_upto notation end more (after_unit r) ≡ []))
@@ -112,12 +128,15 @@ module _ (notation : Notation) where
             rest = rest;
             parts = f.1;
             spelled = f.2;
-            follow = others (offset + length f.0) rest (omega (arith, length-append f.0 rest, ap length f.1)) (omega (arith, length-append f.0 rest, ap length f.1));
+            follow =
+                others (offset + length f.0) rest (omega (arith, length-append f.0 rest, ap length f.1)) (omega (arith, length-append f.0 rest, ap length f.1));
           })
-      at_answer some others (Err e, rest) is = inr (record { some = some; error = e; fault = reads_any_unit.fault (b ∷ bytes) e (rw is refl) }, upto_none end more)
+      at_answer some others (Err e, rest) is =
+          inr (record { some = some; error = e; fault = reads_any_unit.fault (b ∷ bytes) e (rw is refl) }, upto_none end more)
 
   -- and there are no others
-  only_units : (offsets : List ℕ) (end more offset : ℕ) (bytes : List ℕ) → length bytes ≤ more → offset + length bytes ≡ end → AreUnits notation offset bytes offsets → offsets ≡ offsets_upto notation end more bytes
+  only_units : (offsets : List ℕ) (end more offset : ℕ) (bytes : List ℕ) → length bytes ≤ more → offset + length bytes ≡ end
+      → AreUnits notation offset bytes offsets → offsets ≡ offsets_upto notation end more bytes
   only_units [] end more offset bytes le ends s = sym (rw s (upto_none end more))
   only_units (o ∷ offsets) end more offset [] le ends s = elim s.1 [
     | inl u ↦ absurd (omega (arith, unit_some u.unit u.content u.spelled, length-append u.unit u.rest, ap length u.parts))
@@ -130,8 +149,10 @@ module _ (notation : Notation) where
       let others : offsets ≡ offsets_upto notation end more (after_unit (any_unit_at notation (b ∷ bytes))) = elim s.1 [
         | inl u ↦
             let long = unit_some u.unit u.content u.spelled in
-            let read : any_unit_at notation (b ∷ bytes) ≡ (Ok u.content, u.rest) = ap (any_unit_at notation) u.parts ∙ reads_any_unit.only u.unit u.content u.rest u.spelled in
-            rw read (only_units offsets end more (offset + length u.unit) u.rest (omega (arith, length-append u.unit u.rest, ap length u.parts)) (omega (arith, length-append u.unit u.rest, ap length u.parts)) u.follow)
+            let read : any_unit_at notation (b ∷ bytes) ≡ (Ok u.content, u.rest) = ap (any_unit_at notation) u.parts
+            ∙ reads_any_unit.only u.unit u.content u.rest u.spelled in
+            rw read (only_units offsets end more (offset + length u.unit) u.rest (omega (arith, length-append u.unit u.rest, ap length u.parts))
+            (omega (arith, length-append u.unit u.rest, ap length u.parts)) u.follow)
         | inr r ↦ rw (after_fault r.0.error (any_unit_at notation (b ∷ bytes)) (reads_any_unit.refused (b ∷ bytes) r.0.error r.0.fault), upto_none end more) r.1
       ] in
       ap (λ (n : ℕ). n ∷ offsets) first ∙ ap (λ (os : List ℕ). (end - length (b ∷ bytes)) ∷ os) others ∙ sym (upto_some end more (b ∷ bytes) some)
@@ -140,7 +161,8 @@ module _ (notation : Notation) where
   are_units section = upto_units (length section) (length section) 0 section (omega arith) (omega arith)
 
   -- bytes have one list of offsets of units
-  pub one_list : (offset : ℕ) (bytes offsets others : List ℕ) → AreUnits notation offset bytes offsets → AreUnits notation offset bytes others → offsets ≡ others
+  pub one_list : (offset : ℕ) (bytes offsets others : List ℕ) → AreUnits notation offset bytes offsets → AreUnits notation offset bytes others
+      → offsets ≡ others
   one_list offset bytes offsets others s t =
       let end = offset + length bytes in
       only_units offsets end (length bytes) offset bytes (omega arith) refl s ∙ sym (only_units others end (length bytes) offset bytes (omega arith) refl t)
@@ -151,10 +173,12 @@ module _ (notation : Notation) where
 
   -- ---- a unit with a header
 
-  opening_format : (handed : ℕ) (format : Format) (bytes : List ℕ) (o : Opening) → (opening_production notation handed format).Spells bytes o → o.encoding.format ≡ format
+  opening_format : (handed : ℕ) (format : Format) (bytes : List ℕ) (o : Opening) → (opening_production notation handed format).Spells bytes o
+      → o.encoding.format ≡ format
   opening_format handed format bytes o s = ap (λ (o : Opening). o.encoding.format) s.5.5.5.5.1
 
-  fields_are : (unit_entry : UnitEntry) (unit : ℕ) (o : Opening) (program bytes : List ℕ) (h : Header) → (fields_production notation unit_entry unit o program).Spells bytes h
+  fields_are : (unit_entry : UnitEntry) (unit : ℕ) (o : Opening) (program bytes : List ℕ) (h : Header)
+      → (fields_production notation unit_entry unit o program).Spells bytes h
       → (h.parameters.encoding.format ≡ o.encoding.format) × (h.unit_length ≡ unit)
   fields_are unit_entry unit o program bytes h s =
       let is = s.5.5.5.5.1 in
@@ -174,10 +198,14 @@ module _ (notation : Notation) where
       let after : i.2 ≡ [] = o.3 ∙ ap (λ (xs : List ℕ). xs ++ o.2) o.4.0 ∙ f.3 ∙ ap (λ (xs : List ℕ). xs ++ f.2) f.4.0 ∙ f.5.0 in
       let inside : s.2 ≡ i.1 = i.3 ∙ ap (λ (xs : List ℕ). i.1 ++ xs) after ∙ append-nil i.1 in
       let whole : unit ≡ s.1 ++ i.1 = s.3 ∙ ap (λ (xs : List ℕ). s.1 ++ xs) inside in
-      let size : length unit ≡ initial_length_size s.0.1 + s.0.0 = omega (arith, length_exact s.1 s.0 s.4, i.4.0, ap length whole, length-append s.1 i.1) in
-      (i.1, (s.0, s.1, i.1, whole, s.4, (i.4.0, refl)), size ∙ sym (ap (λ (n : ℕ). n + h.unit_length) (ap initial_length_size format) ∙ ap (λ (n : ℕ). initial_length_size s.0.1 + n) unit_length_is))
+      let size : length unit ≡ initial_length_size s.0.1 + s.0.0 = omega (arith, length_exact s.1 s.0 s.4, i.4.0, ap length whole, length-append s.1 i.1) in (
+        i.1,
+        (s.0, s.1, i.1, whole, s.4, (i.4.0, refl)),
+        size ∙ sym (ap (λ (n : ℕ). n + h.unit_length) (ap initial_length_size format) ∙ ap (λ (n : ℕ). initial_length_size s.0.1 + n) unit_length_is),
+      )
 
-  pub unit_ends : (unit_entry : UnitEntry) (offset : ℕ) (bytes : List ℕ) (h : Header) → SpellsUnit notation unit_entry bytes h → offset_after offset h ≤ offset + length bytes
+  pub unit_ends : (unit_entry : UnitEntry) (offset : ℕ) (bytes : List ℕ) (h : Header) → SpellsUnit notation unit_entry bytes h
+      → offset_after offset h ≤ offset + length bytes
   unit_ends unit_entry offset bytes h u =
       let p = unit_size unit_entry u.0 h u.3 in
       omega (arith, p.2, length-append u.0 u.1, ap length u.2)
@@ -188,7 +216,8 @@ module _ (notation : Notation) where
     | inl b ↦
         let p = unit_size unit_entry u.0 h u.3 in
         let read : any_unit_at notation bytes ≡ (Ok p.0, u.1) = ap (any_unit_at notation) u.2 ∙ reads_any_unit.only u.0 p.0 u.1 p.1 in
-        let again : any_unit_at notation bytes ≡ (Ok b.content, b.rest) = ap (any_unit_at notation) b.parts ∙ reads_any_unit.only b.unit b.content b.rest b.spelled in
+        let again : any_unit_at notation bytes ≡ (Ok b.content, b.rest) = ap (any_unit_at notation) b.parts
+        ∙ reads_any_unit.only b.unit b.content b.rest b.spelled in
         let same : u.1 ≡ b.rest = ap (λ (r : Read (List ℕ)). r.1) (sym read ∙ again) in
         omega (arith, b.follow.0, p.2, ap length same, ap length u.2, ap length b.parts, length-append u.0 u.1, length-append b.unit b.rest)
     | inr r ↦ absurd cc
@@ -197,13 +226,18 @@ module _ (notation : Notation) where
   -- ---- a walk through the units of a section
 
   -- what is left after a unit is an end of the section
-  pub rest_is_end : (section : List ℕ) (offset : ℕ) (after : List ℕ) → after ≡ after_unit (any_unit_at notation (drop offset section)) → (front : List ℕ) × (section ≡ front ++ after)
+  pub rest_is_end : (section : List ℕ) (offset : ℕ) (after : List ℕ) → after ≡ after_unit (any_unit_at notation (drop offset section))
+      → (front : List ℕ) × (section ≡ front ++ after)
   rest_is_end section offset after is =
-      let a = after_end (drop offset section) (any_unit_at notation (drop offset section)) refl in
-      (take offset section ++ a.0, sym (take-append-drop offset section) ∙ ap (λ (xs : List ℕ). take offset section ++ xs) (rw is a.1) ∙ sym (append_assoc (take offset section) a.0 after))
+      let a = after_end (drop offset section) (any_unit_at notation (drop offset section)) refl in (
+        take offset section ++ a.0,
+        sym (take-append-drop offset section) ∙ ap (λ (xs : List ℕ). take offset section ++ xs) (rw is a.1)
+            ∙ sym (append_assoc (take offset section) a.0 after),
+      )
 
   -- the first offset is that of the unit in front; the others are those from the offset after it on
-  pub offsets_step : (section : List ℕ) (offset next : ℕ) (after : List ℕ) → drop offset section ≢ [] → after ≡ after_unit (any_unit_at notation (drop offset section)) → next + length after ≡ length section
+  pub offsets_step : (section : List ℕ) (offset next : ℕ) (after : List ℕ) → drop offset section ≢ []
+      → after ≡ after_unit (any_unit_at notation (drop offset section)) → next + length after ≡ length section
       → offsets_at notation (length section) (drop offset section) ≡ offset ∷ offsets_at notation (length section) (drop next section)
   offsets_step section offset next after some is ends =
       let e = rest_is_end section offset after is in

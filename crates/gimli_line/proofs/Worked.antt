@@ -3,7 +3,9 @@ use Rattle.std.proofs.Common.{◌≡◌, ℕ, Bool, true, false, List, [], ◌�
 use Rattle.std.specs.Prelude.{pos, negsuc}
 use Rattle.gimli_core.specs.declared.common.Format.TheVariants.{Dwarf32}
 use Rattle.gimli_core.specs.declared.error.Error.TheVariants.{AddressOverflow}
-use Rattle.gimli_line.specs.declared.run.instruction.LineInstruction.TheVariants.{Special, Copy, AdvancePc, AdvanceLine, SetFile, SetColumn, NegateStatement, SetBasicBlock, EndSequence, SetAddress, DefineFile, SetDiscriminator, FixedAddPc, ConstAddPc, SetPrologueEnd, SetEpilogueBegin}
+use Rattle.gimli_line.specs.declared.run.instruction.LineInstruction.TheVariants.{Special, Copy, AdvancePc, AdvanceLine, SetFile, SetColumn, NegateStatement}
+use Rattle.gimli_line.specs.declared.run.instruction.LineInstruction.TheVariants.{SetBasicBlock, EndSequence, SetAddress, DefineFile, SetDiscriminator}
+use Rattle.gimli_line.specs.declared.run.instruction.LineInstruction.TheVariants.{FixedAddPc, ConstAddPc, SetPrologueEnd, SetEpilogueBegin}
 use Rattle.gimli_line.specs.header.Parameters.{Parameters}
 use Rattle.gimli_line.specs.declared.run.row.LineRow.{LineRow}
 use Rattle.gimli_line.specs.run.Instruction.{Ins}
@@ -15,7 +17,13 @@ use Rattle.gimli_line.specs.run.Events.{Event, row, fault, program_events, throu
 abbrev rules_13 : ℕ → ℕ → Parameters
 rules_13 address_size operations = record {
   encoding = record { address_size = address_size; format = Dwarf32; version = 4 };
-  line_encoding = record { minimum_instruction_length = 1; maximum_operations_per_instruction = operations; default_is_stmt = true; line_base = negsuc 4; line_range = 14 };
+  line_encoding = record {
+    minimum_instruction_length = 1;
+    maximum_operations_per_instruction = operations;
+    default_is_stmt = true;
+    line_base = negsuc 4;
+    line_range = 14;
+  };
   opcode_base = 13;
 }
 
@@ -85,7 +93,8 @@ pub fixed_advance_of_several_operations : program_events (rules_13 4 3) (Advance
     ≡ at 6 0 1 false ∷ at 6 0 1 true ∷ []
 fixed_advance_of_several_operations = refl
 
-pub set_address_that_goes_back : program_events (rules_13 4 1) (SetAddress 0x10 ∷ Copy ∷ SetAddress 8 ∷ AdvanceLine (pos 2) ∷ Copy ∷ AdvancePc 9 ∷ SetAddress 0x20 ∷ Copy ∷ EndSequence ∷ []) None
+pub set_address_that_goes_back : program_events (rules_13 4 1)
+    (SetAddress 0x10 ∷ Copy ∷ SetAddress 8 ∷ AdvanceLine (pos 2) ∷ Copy ∷ AdvancePc 9 ∷ SetAddress 0x20 ∷ Copy ∷ EndSequence ∷ []) None
     ≡ at 0x10 0 1 false ∷ at 0x20 0 3 false ∷ at 0x20 0 3 true ∷ []
 set_address_that_goes_back = refl
 
@@ -103,7 +112,8 @@ pub least_tombstone : program_events (rules_13 4 1) (SetAddress 0xffff_fffe ∷ 
 least_tombstone = refl
 
 -- a part under a tombstone stands still: its advances move nothing, so the set address after it doesn't go back
-pub part_under_tombstone_stands_still : program_events (rules_13 4 1) (SetAddress 0x10 ∷ Copy ∷ SetAddress 8 ∷ AdvancePc 0x30 ∷ SetAddress 0x20 ∷ Copy ∷ EndSequence ∷ []) None
+pub part_under_tombstone_stands_still : program_events (rules_13 4 1)
+    (SetAddress 0x10 ∷ Copy ∷ SetAddress 8 ∷ AdvancePc 0x30 ∷ SetAddress 0x20 ∷ Copy ∷ EndSequence ∷ []) None
     ≡ at 0x10 0 1 false ∷ at 0x20 0 1 false ∷ at 0x20 0 1 true ∷ []
 part_under_tombstone_stands_still = refl
 
@@ -118,7 +128,8 @@ pub part_under_tombstone_overflows_not : program_events (rules_13 1 1) (AdvanceP
 part_under_tombstone_overflows_not = refl
 
 -- a row under a tombstone takes its marks with it
-pub marks_of_a_row_under_tombstone : program_events (rules_13 4 1) (SetAddress 0xffff_ffff ∷ SetDiscriminator 5 ∷ SetBasicBlock ∷ Copy ∷ SetAddress 0x10 ∷ Copy ∷ []) None
+pub marks_of_a_row_under_tombstone : program_events (rules_13 4 1)
+    (SetAddress 0xffff_ffff ∷ SetDiscriminator 5 ∷ SetBasicBlock ∷ Copy ∷ SetAddress 0x10 ∷ Copy ∷ []) None
     ≡ at 0x10 0 1 false ∷ []
 marks_of_a_row_under_tombstone = refl
 
@@ -152,7 +163,8 @@ pub same_address : program_events (rules_13 4 1) (SetAddress 0x10 ∷ Copy ∷ S
 same_address = refl
 
 -- the registers of a sequence start anew after its end, and marks after each row
-pub registers_start_anew : program_events (rules_13 4 1) (SetDiscriminator 5 ∷ SetBasicBlock ∷ SetColumn 7 ∷ SetFile 2 ∷ NegateStatement ∷ AdvanceLine (pos 3) ∷ Copy ∷ EndSequence ∷ Copy ∷ []) None
+pub registers_start_anew : program_events (rules_13 4 1)
+    (SetDiscriminator 5 ∷ SetBasicBlock ∷ SetColumn 7 ∷ SetFile 2 ∷ NegateStatement ∷ AdvanceLine (pos 3) ∷ Copy ∷ EndSequence ∷ Copy ∷ []) None
     ≡ row (record (blank 0 0 4) { file = 2; column = 7; is_stmt = false; basic_block = true; discriminator = 5 })
     ∷ row (record (blank 0 0 4) { file = 2; column = 7; is_stmt = false; end_sequence = true })
     ∷ row (blank 0 0 1) ∷ []

@@ -7,13 +7,18 @@ use Rattle.gimli_line.specs.header.HeaderGrammar.{SpellsUnit, HasHeaderFault}
 use Rattle.gimli_line.specs.run.Unread.{Unread}
 
 -- from the offset on the section begins with a unit, and this is its header
-abbrev pub HasUnitAt : {R Offset Endian : Type 0} → Unread → ℕ → UnitEntry → SeenHeader R Offset Endian → Type 0
-HasUnitAt section offset unit_entry header = SpellsUnit section.notation unit_entry (drop offset section.bytes) header.meaning
+abbrev pub HasUnitAt : {R Offset Endian : Type 0} → Unread → ℕ → UnitEntry
+    → SeenHeader R Offset Endian → Type 0
+HasUnitAt section offset unit_entry header =
+    SpellsUnit section.notation unit_entry (drop offset section.bytes) header.meaning
 
--- from the offset on the section begins with no unit, and this is the refusal of the first part of the header that isn't met
+-- from the offset on the section begins with no unit, and this is the refusal of the first part of
+-- the header that isn't met
 abbrev pub HasUnitFaultAt : Unread → ℕ → UnitEntry → Error → Type 0
-HasUnitFaultAt section offset unit_entry e = HasHeaderFault section.notation unit_entry (drop offset section.bytes) e
+HasUnitFaultAt section offset unit_entry e =
+    HasHeaderFault section.notation unit_entry (drop offset section.bytes) e
 
 -- the same, unless memory was missing
 abbrev pub IsUnitRefusal : Unread → ℕ → UnitEntry → Error → Type 0
-IsUnitRefusal section offset unit_entry e = e ≢ OutOfMemory → HasUnitFaultAt section offset unit_entry e
+IsUnitRefusal section offset unit_entry e =
+    e ≢ OutOfMemory → HasUnitFaultAt section offset unit_entry e

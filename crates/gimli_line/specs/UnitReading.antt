@@ -5,7 +5,8 @@ use Rattle.gimli_core.specs.Reading.{Read, ◌>>=◌, split_at, initial_length_a
 
 -- a length, and as many bytes as it says
 unfoldable pub any_unit_at : Notation → List ℕ → Read (List ℕ)
-any_unit_at notation bytes = initial_length_at notation.big notation.limit bytes >>= λ unit rest. split_at unit.0 rest
+any_unit_at notation bytes =
+    initial_length_at notation.big notation.limit bytes >>= λ unit rest. split_at unit.0 rest
 
 -- the bytes after a unit; none where there is no unit
 abbrev pub after_unit : Read (List ℕ) → List ℕ
@@ -17,7 +18,8 @@ unfoldable pub offsets_upto : Notation → ℕ → ℕ → List ℕ → List ℕ
 offsets_upto notation end zero bytes = []
 offsets_upto notation end (suc more) [] = []
 offsets_upto notation end (suc more) (b ∷ bytes) =
-    (end - length (b ∷ bytes)) ∷ offsets_upto notation end more (after_unit (any_unit_at notation (b ∷ bytes)))
+    (end - length (b ∷ bytes))
+    ∷ offsets_upto notation end more (after_unit (any_unit_at notation (b ∷ bytes)))
 
 -- the offsets of all units; they aren't more than the bytes
 abbrev pub offsets_at : Notation → ℕ → List ℕ → List ℕ

@@ -7,14 +7,16 @@ use Rattle.gimli_core.specs.declared.error.Error.{Error}
 use Rattle.gimli_line.specs.header.Header.{Header, UnitEntry}
 use Rattle.gimli_line.specs.run.Unread.{Unread}
 
--- a unit, whatever its content is: a length that an offset of the reader holds, and as many bytes as it says
+-- a unit, whatever its content is: a length that an offset of the reader holds, and as many bytes
+-- as it says
 abbrev pub any_unit : Notation → Production (List ℕ)
 any_unit notation = do
   unit ← unit_length notation
   some_bytes unit.0
 
 -- the bytes begin with a unit, and units at these offsets follow it
-pub record BeginsWithUnit (notation : Notation) (bytes : List ℕ) (Follow : ℕ → List ℕ → Type 0) : Type 0 where
+pub record BeginsWithUnit (notation : Notation) (bytes : List ℕ) (Follow : ℕ → List ℕ → Type 0)
+    : Type 0 where
   pub unit : List ℕ
   pub content : List ℕ
   pub rest : List ℕ
@@ -28,16 +30,20 @@ pub record IsRest (notation : Notation) (bytes : List ℕ) : Type 0 where
   pub error : Error
   pub fault : (any_unit notation).Fault bytes error
 
--- the bytes from an offset on are units, one after the other, and these are their offsets. Where a rest is left at the end
--- that begins with no unit, the last offset is that of the rest
+-- the bytes from an offset on are units, one after the other, and these are their offsets. Where a
+-- rest is left at the end that begins with no unit, the last offset is that of the rest
 abbrev pub AreUnits : Notation → ℕ → List ℕ → List ℕ → Type 0
 AreUnits notation offset bytes [] = bytes ≡ []
 AreUnits notation offset bytes (o ∷ offsets) =
-    (o ≡ offset) × (BeginsWithUnit notation bytes (λ size rest. AreUnits notation (offset + size) rest offsets) ⊎ (IsRest notation bytes × (offsets ≡ [])))
+    (o ≡ offset)
+    × (BeginsWithUnit notation bytes (λ size rest. AreUnits notation (offset + size) rest offsets)
+    ⊎ (IsRest notation bytes × (offsets ≡ [])))
 
 -- the bytes have one such list of offsets at most
 abbrev pub AreUnitsOnce : Notation → ℕ → List ℕ → Type 0
-AreUnitsOnce notation offset bytes = (offsets others : List ℕ) → AreUnits notation offset bytes offsets → AreUnits notation offset bytes others → offsets ≡ others
+AreUnitsOnce notation offset bytes =
+    (offsets others : List ℕ) → AreUnits notation offset bytes offsets
+    → AreUnits notation offset bytes others → offsets ≡ others
 
 -- the offset after a unit: its own, the size of its length, and as many bytes as that says
 abbrev pub offset_after : ℕ → Header → ℕ

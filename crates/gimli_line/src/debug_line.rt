@@ -18,6 +18,13 @@ use std::alloc::Global;
 use std::marker::Model;
 
 /// The section `.debug_line`, which holds the line programs of units.
+///
+/// <!-- part of crates/uses/src/lookup.rt -->
+/// ```rust
+/// let program = section.program(alloc, offset, 8, None, None)?;
+/// let lookup = Lookup::new(program)?;
+/// Ok(row_at(&lookup, address))
+/// ```
 #[derive(Clone, Copy, Debug, Default)]
 pub struct DebugLine<R> {
     debug_line_section: R,
@@ -42,10 +49,10 @@ impl<'i, E: Endianity> DebugLine<EndianSlice<'i, E>> {
 }
 
 impl<R: Reader> DebugLine<R> {
-    /// The line program whose header stands at an offset. In version 5 the address size, the directory and the
-    /// name that are handed in mean nothing. An offset past the end leaves no bytes. Refused as the first part of
-    /// the header that isn't met says, or by `OutOfMemory`. Requires an address size of 1, 2, 4 or 8, whatever the
-    /// version is.
+    /// The line program whose header stands at an offset. In version 5 the address size, the
+    /// directory and the name that are handed in mean nothing. An offset past the end leaves no
+    /// bytes. Refused as the first part of the header that isn't met says, or by `OutOfMemory`.
+    /// Requires an address size of 1, 2, 4 or 8, whatever the version is.
     pub fn program(
         &self,
         alloc: Global,
@@ -57,7 +64,8 @@ impl<R: Reader> DebugLine<R> {
         requires { IsTrue (is_address_size address_size) }
         ensures unit { IfOk result (HasUnitAt (unread_of R.bytes R.big R.Offset.limit self.now)
             (R.Offset.number offset.0) (unit_entry R.bytes address_size comp_dir comp_name)) }
-        ensures refusal { IfErr result (IsUnitRefusal (unread_of R.bytes R.big R.Offset.limit self.now)
+        ensures refusal { IfErr result
+            (IsUnitRefusal (unread_of R.bytes R.big R.Offset.limit self.now)
             (R.Offset.number offset.0) (unit_entry R.bytes address_size comp_dir comp_name)) }
         ensures notation { IfOk result
             (λ program. program.notation ≡ notation_of (R.big self.now) R.Offset.limit) }
@@ -94,8 +102,8 @@ impl<R: Reader> DebugLine<R> {
 }
 
 impl<T> DebugLine<T> {
-    /// The section over what `borrow` makes of the contents of this one. Requires that `borrow` may be called on
-    /// any contents.
+    /// The section over what `borrow` makes of the contents of this one. Requires that `borrow` may
+    /// be called on any contents.
     pub fn borrow<'a, F, R>(&'a self, mut borrow: F) -> DebugLine<R>
     where
         F: FnMut(&'a T) -> R + Drop,
@@ -109,7 +117,9 @@ impl<T> DebugLine<T> {
 
 impl<R> Section<R> for DebugLine<R> {
     ghost use Rattle.std.specs.Prelude.{refl};
-    ghost use Rattle.gimli_core.specs.declared.common.SectionId.TheVariants.{DebugLine as debug_line};
+    ghost use Rattle.gimli_core.specs.declared.common.SectionId.TheVariants.{
+      DebugLine as debug_line,
+    };
 
     ghost section = { debug_line };
 

@@ -1,10 +1,11 @@
-//! Laws of the two grammars: a unit has one header or one refusal, a program is decoded in one way. And laws of what
-//! a run gives.
+//! Laws of the two grammars: a unit has one header or one refusal, a program is decoded in one way.
+//! And laws of what a run gives.
 
 ghost use Rattle.std.specs.Prelude.{◌≡◌, ◌≢◌, ◌≤◌, ◌⊎◌, ◌+◌, ℕ, Bool, List, [], ◌∷◌, Option, Some};
 ghost use Rattle.std.specs.Prelude.{filter, length, nat_eq, option_map};
 ghost use Rattle.std.specs.Ordering.{nat_cmp};
-ghost use Rattle.gimli_core.specs.Equality.{AreAlwaysCloned, ClonesGiveSame, ComparesBy, IsExact, IsSameClone, both};
+ghost use Rattle.gimli_core.specs.Equality.{AreAlwaysCloned, ClonesGiveSame, ComparesBy, IsExact};
+ghost use Rattle.gimli_core.specs.Equality.{IsSameClone, both};
 ghost use Rattle.gimli_core.specs.Notation.{Notation};
 ghost use Rattle.gimli_core.specs.Values.{value_by};
 ghost use Rattle.gimli_core.specs.declared.common.Format.{Format};
@@ -12,14 +13,28 @@ ghost use Rattle.gimli_core.specs.declared.error.Error.{Error};
 ghost use Rattle.gimli_line.specs.header.File.{file_by};
 ghost use Rattle.gimli_line.specs.header.Header.{Header, UnitEntry};
 ghost use Rattle.gimli_line.specs.header.Orders.{HeaderOrders};
-ghost use Rattle.gimli_line.specs.header.HeaderParts.{ComparesParts, ComparesSeen, entry_count, parts_of};
-ghost use Rattle.gimli_line.specs.header.HeaderGrammar.{SpellsUnit, HasHeaderFault, HasUnit, HasNoUnit, HaveCountedEntries};
+ghost use Rattle.gimli_line.specs.header.HeaderParts.{ComparesParts, ComparesSeen, entry_count};
+ghost use Rattle.gimli_line.specs.header.HeaderParts.{parts_of};
+ghost use Rattle.gimli_line.specs.header.HeaderGrammar.{SpellsUnit, HasHeaderFault, HasUnit};
+ghost use Rattle.gimli_line.specs.header.HeaderGrammar.{HasNoUnit, HaveCountedEntries};
 ghost use Rattle.gimli_line.specs.run.Events.{Event, Events, events_after, row_at, GivesRow};
 ghost use Rattle.gimli_line.specs.run.Instruction.{Ins, ins_by};
-ghost use Rattle.gimli_line.specs.run.EventsWithFiles.{EventsWithFiles, events_with_files_after, machine_events, registers_after, registers_at};
-ghost use Rattle.gimli_line.specs.run.InstructionGrammar.{Decodes, AreDecodedOnce, instruction_production, IsInstructionRefusal};
+ghost use Rattle.gimli_line.specs.run.EventsWithFiles.{
+  EventsWithFiles,
+  events_with_files_after,
+  machine_events,
+  registers_after,
+  registers_at,
+};
+ghost use Rattle.gimli_line.specs.run.InstructionGrammar.{
+  Decodes,
+  AreDecodedOnce,
+  instruction_production,
+  IsInstructionRefusal,
+};
 ghost use Rattle.gimli_line.specs.run.InstructionReading.{decoded_at};
-ghost use Rattle.gimli_line.specs.run.OperationPointer.{OperationPointer, IsPointerList, pointers, is_under_tombstone, overflows};
+ghost use Rattle.gimli_line.specs.run.OperationPointer.{OperationPointer, IsPointerList, pointers};
+ghost use Rattle.gimli_line.specs.run.OperationPointer.{is_under_tombstone, overflows};
 ghost use Rattle.gimli_line.specs.run.RunState.{RunState};
 ghost use Rattle.gimli_line.specs.run.Rows.{events_left, start_of_run};
 ghost use Rattle.gimli_line.specs.run.Made.{is_given};
@@ -70,9 +85,11 @@ pub fn one_list_of_units()
 
 /// A unit with a header ends within its section, at the offset of the unit that follows it.
 pub fn units_follow_headers()
-    ensures end { (notation : Notation) (entry : UnitEntry) (offset : ℕ) (bytes : List ℕ) (h : Header)
+    ensures end { (notation : Notation) (entry : UnitEntry) (offset : ℕ) (bytes : List ℕ)
+        (h : Header)
         → SpellsUnit notation entry bytes h → offset_after offset h ≤ offset + length bytes }
-    ensures next { (notation : Notation) (entry : UnitEntry) (offset next : ℕ) (bytes offsets : List ℕ)
+    ensures next { (notation : Notation) (entry : UnitEntry) (offset next : ℕ)
+        (bytes offsets : List ℕ)
         (h : Header) → SpellsUnit notation entry bytes h
         → AreUnits notation offset bytes (offset ∷ next ∷ offsets) → next ≡ offset_after offset h }
 {}
@@ -91,15 +108,17 @@ pub fn instructions_are_bounded()
         (end : Option Error) → Decodes notation h bytes list end → length list ≤ length bytes }
 {}
 
-/// The entries of a table of version 5 begin with their count, which says how many they are, and no fewer bytes than
-/// that stand after it: each entry has a byte at least, since some format is there.
+/// The entries of a table of version 5 begin with their count, which says how many they are, and no
+/// fewer bytes than that stand after it: each entry has a byte at least, since some format is
+/// there.
 pub fn entries_are_bounded()
     ensures { (notation : Notation) (format : Format) (formats : List FileEntryFormat) →
         formats ≢ [] → HaveCountedEntries notation format formats }
 {}
 
-/// Both tables of a header together have no more entries than its length counts bytes, whatever they give as their
-/// counts. What that length counts and the program stand within the unit, and the unit within the input.
+/// Both tables of a header together have no more entries than its length counts bytes, whatever
+/// they give as their counts. What that length counts and the program stand within the unit, and
+/// the unit within the input.
 pub fn tables_are_bounded()
     ensures entries { (notation : Notation) (entry : UnitEntry) (bytes : List ℕ) (h : Header) →
         SpellsUnit notation entry bytes h → entry_count h ≤ h.header_length }
@@ -109,8 +128,9 @@ pub fn tables_are_bounded()
         SpellsUnit notation entry bytes h → h.unit_length ≤ length bytes }
 {}
 
-/// The machine, run from the registers at the start of a sequence, gives the rows and faults that looking back says,
-/// with the files of the header at each. So do rows at the start of a sequence, by the bytes that are to come.
+/// The machine, run from the registers at the start of a sequence, gives the rows and faults that
+/// looking back says, with the files of the header at each. So do rows at the start of a sequence,
+/// by the bytes that are to come.
 pub fn machine_gives_events()
     ensures without_files { (parameters : Parameters) (list : List Ins) →
         run parameters (initial parameters) list ≡ events_after parameters [] list }
@@ -130,8 +150,8 @@ pub fn given_rows_are_made()
     ensures { (a : RunState) → events_left a ≡ filter (λ t. is_given t.event) (made_left a) }
 {}
 
-/// Between two ends of sequences, whether their rows are under a tombstone or not, and from the start to the first,
-/// the addresses of rows never go down.
+/// Between two ends of sequences, whether their rows are under a tombstone or not, and from the
+/// start to the first, the addresses of rows never go down.
 pub fn addresses_never_go_down()
     ensures { (parameters : Parameters) (past list : List Ins) → AreOneSequence list
         → NeverBelow 0 (events_after parameters past list) }
@@ -147,8 +167,8 @@ pub fn columns_are_ordered()
         ≡ Some (nat_cmp (column_number a) (column_number b)) }
 {}
 
-/// A refused instruction is `UnexpectedEof`, `BadUnsignedLeb128` or `BadSignedLeb128`, or it is `UnsupportedOffset`, for
-/// offsets of less than 64 bits.
+/// A refused instruction is `UnexpectedEof`, `BadUnsignedLeb128` or `BadSignedLeb128`, or it is
+/// `UnsupportedOffset`, for offsets of less than 64 bits.
 pub fn instruction_refusals()
     ensures { (notation : Notation) (h : Header) (bytes : List ℕ) (e : Error) →
         (instruction_production notation h).Fault bytes e → IsInstructionRefusal notation e }
@@ -168,8 +188,9 @@ pub fn equal_parts_are_same()
     ensures rows { IsExact ⟦<LineRow as PartialEq>⟧.eq }
 {}
 
-/// `==` of files holds exactly where all their parts agree, if this is so of readers and of offsets. It isn't so of
-/// readers over slices, since a slice is a place too: of files over these `equal_files_look_same` speaks.
+/// `==` of files holds exactly where all their parts agree, if this is so of readers and of
+/// offsets. It isn't so of readers over slices, since a slice is a place too: of files over these
+/// `equal_files_look_same` speaks.
 pub fn equal_files_are_same<R: Reader + PartialEq>()
     ensures { IsExact R.eq → IsExact R.Offset.eq → IsExact ⟦<FileEntry<R> as PartialEq>⟧.eq }
 {
@@ -180,7 +201,8 @@ pub fn equal_files_are_same<R: Reader + PartialEq>()
 
 /// The same of the source texts of files.
 fn equal_sources_are_same<R: Reader + PartialEq>()
-    ensures { IsExact R.eq → IsExact R.Offset.eq → IsExact ⟦<Option<AttributeValue<R>> as PartialEq>⟧.eq }
+    ensures { IsExact R.eq → IsExact R.Offset.eq
+        → IsExact ⟦<Option<AttributeValue<R>> as PartialEq>⟧.eq }
 {
     equal_values_are_same::<R>();
 }
@@ -190,9 +212,9 @@ fn equal_digests_are_same()
     ensures { IsExact ⟦<[u8; 16] as PartialEq>⟧.eq }
 {}
 
-/// `==` of files holds exactly where all their parts agree, readers in their bytes and order and offsets in their
-/// numbers, if this is so of readers and of offsets. It is so of readers over slices (gimli_core's
-/// `equal_slices_are_same`).
+/// `==` of files holds exactly where all their parts agree, readers in their bytes and order and
+/// offsets in their numbers, if this is so of readers and of offsets. It is so of readers over
+/// slices (gimli_core's `equal_slices_are_same`).
 pub fn equal_files_look_same<R: Reader + PartialEq>()
     ensures { ComparesBy (both R.bytes R.big) R.eq → ComparesBy R.Offset.number R.Offset.eq →
         ComparesBy (file_by R.bytes R.big R.Offset.number) ⟦<FileEntry<R> as PartialEq>⟧.eq }
@@ -211,16 +233,18 @@ fn equal_sources_look_same<R: Reader + PartialEq>()
     equal_values_look_same::<R>();
 }
 
-/// `==` of instructions holds exactly where they are of one kind and agree in their operands, if this is so of readers
-/// and of offsets. Of instructions over slices `equal_instructions_look_same` speaks.
+/// `==` of instructions holds exactly where they are of one kind and agree in their operands, if
+/// this is so of readers and of offsets. Of instructions over slices `equal_instructions_look_same`
+/// speaks.
 pub fn equal_instructions_are_same<R: Reader + PartialEq>()
     ensures { IsExact R.eq → IsExact R.Offset.eq → IsExact ⟦<LineInstruction<R> as PartialEq>⟧.eq }
 {
     equal_files_are_same::<R>();
 }
 
-/// `==` of instructions holds exactly where they are of one kind and agree in their operands, readers in their bytes
-/// and order and offsets in their numbers, if this is so of readers and of offsets, as it is of readers over slices.
+/// `==` of instructions holds exactly where they are of one kind and agree in their operands,
+/// readers in their bytes and order and offsets in their numbers, if this is so of readers and of
+/// offsets, as it is of readers over slices.
 pub fn equal_instructions_look_same<R: Reader + PartialEq>()
     ensures { ComparesBy (both R.bytes R.big) R.eq → ComparesBy R.Offset.number R.Offset.eq →
         ComparesBy (ins_by R.bytes R.big R.Offset.number) ⟦<LineInstruction<R> as PartialEq>⟧.eq }
@@ -228,8 +252,8 @@ pub fn equal_instructions_look_same<R: Reader + PartialEq>()
     equal_files_look_same::<R>();
 }
 
-/// `==` of headers holds exactly where all their parts agree, if this is so of readers and of offsets. Of headers over
-/// slices `equal_headers_look_same` speaks.
+/// `==` of headers holds exactly where all their parts agree, if this is so of readers and of
+/// offsets. Of headers over slices `equal_headers_look_same` speaks.
 pub fn equal_headers_are_same<R: Reader + PartialEq>()
     ensures { IsExact R.eq → IsExact R.Offset.eq
         → ComparesParts ⟦<LineProgramHeader<R> as PartialEq>⟧.eq }
@@ -240,8 +264,9 @@ pub fn equal_headers_are_same<R: Reader + PartialEq>()
     equal_parts_are_same();
 }
 
-/// `==` of headers holds exactly where all their parts agree, readers in their bytes and order and offsets in their
-/// numbers, if this is so of readers and of offsets, as it is of readers over slices.
+/// `==` of headers holds exactly where all their parts agree, readers in their bytes and order and
+/// offsets in their numbers, if this is so of readers and of offsets, as it is of readers over
+/// slices.
 pub fn equal_headers_look_same<R: Reader + PartialEq>()
     ensures { ComparesBy (both R.bytes R.big) R.eq → ComparesBy R.Offset.number R.Offset.eq →
         ComparesSeen R.bytes R.big R.Offset.number ⟦<LineProgramHeader<R> as PartialEq>⟧.eq }
@@ -262,8 +287,8 @@ pub fn same_parts_say_same<R: Reader>(x: &LineProgramHeader<R>, y: &LineProgramH
     let _second = y.parameters;
 }
 
-/// `==` of programs holds exactly where their headers agree in all parts, if this is so of readers and of offsets. Of
-/// programs over slices `equal_programs_look_same` speaks.
+/// `==` of programs holds exactly where their headers agree in all parts, if this is so of readers
+/// and of offsets. Of programs over slices `equal_programs_look_same` speaks.
 pub fn equal_programs_are_same<R: Reader + PartialEq>()
     ensures incomplete { IsExact R.eq → IsExact R.Offset.eq
         → ComparesParts ⟦<IncompleteLineProgram<R> as PartialEq>⟧.eq }
@@ -273,8 +298,9 @@ pub fn equal_programs_are_same<R: Reader + PartialEq>()
     equal_headers_are_same::<R>();
 }
 
-/// `==` of programs holds exactly where all parts of their headers agree, readers in their bytes and order and offsets
-/// in their numbers, if this is so of readers and of offsets, as it is of readers over slices.
+/// `==` of programs holds exactly where all parts of their headers agree, readers in their bytes
+/// and order and offsets in their numbers, if this is so of readers and of offsets, as it is of
+/// readers over slices.
 pub fn equal_programs_look_same<R: Reader + PartialEq>()
     ensures parsed { ComparesBy (both R.bytes R.big) R.eq → ComparesBy R.Offset.number R.Offset.eq →
         ComparesSeen R.bytes R.big R.Offset.number ⟦<IncompleteLineProgram<R> as PartialEq>⟧.eq }
@@ -316,8 +342,8 @@ pub fn clones_of_rows_are_same()
     ensures formats { ClonesGiveSame ⟦<FileEntryFormat as Clone>⟧ }
 {}
 
-/// A run gives no more rows and refusals together than its program has bytes. Rows on their way give no more than
-/// there are bytes left.
+/// A run gives no more rows and refusals together than its program has bytes. Rows on their way
+/// give no more than there are bytes left.
 pub fn rows_are_bounded()
     ensures events { (notation : Notation) (h : Header) (bytes : List ℕ) (events : List Event)
         → Events notation h bytes events → length events ≤ length bytes }
@@ -332,14 +358,15 @@ pub fn default_sections_are_default<R: Default>()
         → R.is_default section }
 {}
 
-/// The instructions and the end that are taken of a program one by one are those that it is decoded into.
+/// The instructions and the end that are taken of a program one by one are those that it is decoded
+/// into.
 pub fn instructions_are_taken()
     ensures { (notation : Notation) (h : Header) (bytes : List ℕ) →
         Decodes notation h bytes (decoded_at notation h bytes).0 (decoded_at notation h bytes).1 }
 {}
 
-/// The registers that the machine has after a past are what looking back says: which instruction is refused, what is
-/// under a tombstone, and which row a place makes that isn't under a tombstone.
+/// The registers that the machine has after a past are what looking back says: which instruction is
+/// refused, what is under a tombstone, and which row a place makes that isn't under a tombstone.
 pub fn registers_look_back()
     ensures refused { (parameters : Parameters) (past : List Ins) (i : Ins) →
         is_refused parameters i (registers_after parameters past) ≡ overflows parameters past i }

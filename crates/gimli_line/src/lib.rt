@@ -1,7 +1,8 @@
 //! Line number programs of DWARF, versions 2 to 5, as they are read.
 //!
-//! In two layers: `header` reads the header of a unit, with its tables; above it, `run` takes the instructions of the
-//! program one by one, and gives its rows and its sequences. [`DebugLine`] is where both begin.
+//! In two layers: `header` reads the header of a unit, with its tables; above it, `run` takes the
+//! instructions of the program one by one, and gives its rows and its sequences. [`DebugLine`] is
+//! where both begin.
 #![tactic(auto)]
 
 mod debug_line;
@@ -13,6 +14,7 @@ mod units;
 pub use debug_line::DebugLine;
 pub use header::file_entry::{FileEntry, FileEntryFormat};
 pub use header::program_header::LineProgramHeader;
+pub use run::from_bytes::Executed;
 pub use run::instruction::{LineInstruction, LineInstructions};
 pub use run::program::{CompleteLineProgram, IncompleteLineProgram, LineProgram};
 pub use run::row::{ColumnType, LineRow};

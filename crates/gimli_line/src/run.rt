@@ -1,10 +1,9 @@
 //! Runs of line programs: instructions, registers, rows and sequences.
 
-mod common;
+pub(crate) mod from_bytes;
 pub(crate) mod instruction;
 pub(crate) mod leb128;
 pub(crate) mod program;
-mod rarer;
 pub(crate) mod row;
 pub(crate) mod row_list;
 pub(crate) mod rows;

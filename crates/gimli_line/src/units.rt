@@ -24,7 +24,8 @@ fn split_unit<R: Reader>(input: &mut R) -> Result<R>
 /// Lets the unit in front go; all bytes where they begin with no unit.
 fn skip_unit<R: Reader>(input: &mut R)
     ensures { R.bytes input.new
-        ≡ after_unit (any_unit_at (notation_of (R.big input.old) R.Offset.limit) (R.bytes input.old)) }
+        ≡ after_unit
+        (any_unit_at (notation_of (R.big input.old) R.Offset.limit) (R.bytes input.old)) }
 {
     if split_unit(input).is_err() {
         input.empty();
@@ -45,6 +46,18 @@ fn is_out_of_memory<T>(outcome: &Result<T>) -> bool
 }
 
 /// A unit of a section `.debug_line`.
+///
+/// <!-- part of crates/uses/src/ends.rt -->
+/// ```rust
+/// match unit.program {
+///     Ok(program) => {
+///         let version = program.header().version();
+///         writeln!(text, "unit {offset}, version {version}")?;
+///         print_sequences(program, text)
+///     }
+///     Err(refusal) => writeln!(text, "unit {offset}: {refusal}"),
+/// }
+/// ```
 #[derive(Drop)]
 #[derive_where(Debug; R, R::Offset)]
 pub struct LineUnit<R: Reader> {
@@ -55,6 +68,14 @@ pub struct LineUnit<R: Reader> {
 }
 
 /// The units of a section that are still to come, in order.
+///
+/// <!-- part of crates/uses/src/ends.rt -->
+/// ```rust
+/// let mut units = units;
+/// 'units: while let Some(unit) = units.next()? {
+///     print_unit(unit, text)?;
+/// }
+/// ```
 #[derive(Drop)]
 #[derive_where(Debug; R, R::Offset)]
 pub struct LineUnits<R: Reader> {
@@ -79,7 +100,8 @@ impl<R: Reader> Model for LineUnits<R> {
     ghost view = { λ a. record {
       section = unread_of R.bytes R.big R.Offset.limit a.section;
       entry = unit_entry R.bytes a.address_size None None;
-      offsets = offsets_at (notation_of (R.big a.section) R.Offset.limit) (length (R.bytes a.section))
+      offsets =
+          offsets_at (notation_of (R.big a.section) R.Offset.limit) (length (R.bytes a.section))
           (drop (R.Offset.number a.offset.0) (R.bytes a.section));
     } };
 
@@ -94,13 +116,15 @@ impl<R: Reader> DebugLine<R> {
     ghost use Rattle.gimli_line.specs.run.Unread.{unread_of};
     ghost use Rattle.gimli_line.specs.Units.{AreUnits};
 
-    /// The units of the section, from its start on. Each is read as `program` reads the one at its offset, with the
-    /// handed address size and no directory or name. Requires an address size of 1, 2, 4 or 8.
+    /// The units of the section, from its start on. Each is read as `program` reads the one at its
+    /// offset, with the handed address size and no directory or name. Requires an address size of
+    /// 1, 2, 4 or 8.
     pub fn units(&self, alloc: Global, address_size: u8) -> LineUnits<R>
         requires { IsTrue (is_address_size address_size) }
         ensures section { result.section ≡ unread_of R.bytes R.big R.Offset.limit self.now }
         ensures entry { result.entry ≡ unit_entry R.bytes address_size None None }
-        ensures offsets { AreUnits (notation_of (R.big self.now) R.Offset.limit) 0 (R.bytes self.now) result.offsets }
+        ensures offsets { AreUnits (notation_of (R.big self.now) R.Offset.limit) 0
+            (R.bytes self.now) result.offsets }
     {
         LineUnits {
             section: DebugLine::from(*self.reader()),
@@ -116,9 +140,10 @@ impl<R: Reader> LineUnits<R> {
     ghost use Rattle.gimli_line.specs.UnitAt.{HasUnitAt, HasUnitFaultAt};
     ghost use Rattle.gimli_line.specs.header.Header.{HasOneOrder};
 
-    /// The next unit of the section; None where no bytes are left. A unit that `program` refuses is given with its
-    /// refusal, and the next one begins after it; where its length can't be read or says more bytes than there are, it
-    /// is the last one. Fails only with `OutOfMemory`; nothing is changed then, so that the call can be made again.
+    /// The next unit of the section; None where no bytes are left. A unit that `program` refuses is
+    /// given with its refusal, and the next one begins after it; where its length can't be read or
+    /// says more bytes than there are, it is the last one. Fails only with `OutOfMemory`; nothing
+    /// is changed then, so that the call can be made again.
     pub fn next(&mut self) -> Result<Option<LineUnit<R>>>
         ensures next { IfOk result (λ next. MatchOption next
             ((self.old.offsets ≡ []) × (self.new.offsets ≡ []))

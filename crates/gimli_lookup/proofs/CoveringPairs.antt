@@ -1,5 +1,6 @@
 -- Sequences that cover an address: they have a pair of rows round it.
-use Rattle.std.proofs.Common.{◌≡◌, ℕ, zero, suc, ◌+◌, ◌-◌, ◌<◌, ◌≤◌, Bool, true, false, leb, ltb, cond, List, [], ◌∷◌, ◌++◌, length, Option, None, Some, MatchOption, refl, sym, ap, ◌∙◌, inl, inr, arith}
+use Rattle.std.proofs.Common.{◌≡◌, ℕ, zero, suc, ◌+◌, ◌-◌, ◌<◌, ◌≤◌, Bool, true, false, leb, ltb, cond, List, [], ◌∷◌, ◌++◌, length, Option, None, Some}
+use Rattle.std.proofs.Common.{MatchOption, refl, sym, ap, ◌∙◌, inl, inr, arith}
 use Rattle.std.specs.Prelude.{All, slice_get, slice_index_or}
 use Rattle.std.specs.Option.{option_or}
 use Rattle.std.proofs.lemmas.Bool.{and_parts, and_from, cond-true, cond-false, cases_lt, ltb-true, leb-true, lt-ltb, le-leb, true≢false}
@@ -119,7 +120,8 @@ cases_covering a first (rows ∷ later) = by_cover (covers a rows) refl (coverin
               ∙ h.probes d ∙ ap (λ (k : ℕ). binary_digits (length (slice_index_or (rows ∷ later) k d))) (sym after);
         }
       where
-        earlier : index - first ≡ suc (index - (first + 1)) → (k : ℕ) (d : List LineRow) → k < index - first → covers a (slice_index_or (rows ∷ later) k d) ≡ false
+        earlier : index - first ≡ suc (index - (first + 1)) → (k : ℕ) (d : List LineRow) → k < index - first
+            → covers a (slice_index_or (rows ∷ later) k d) ≡ false
         earlier after zero d lt = isnt
         earlier after (suc k) d lt = h.none_earlier k d (omega arith)
 

@@ -71,7 +71,8 @@ module _ (a : ℕ) (rows : List LineRow) (row : LineRow) (before after : PairSea
     known = goes passed.sequences passed.cut.unended passed.known;
   }
 
-  pub passes_end : (after_end : PairSearch) → ((a : ℕ) (ended : List (List LineRow)) (unended : List LineRow) → Knows a ended unended after → Knows a (ended ++ unended ∷ []) [] after_end)
+  pub passes_end : (after_end : PairSearch)
+      → ((a : ℕ) (ended : List (List LineRow)) (unended : List LineRow) → Knows a ended unended after → Knows a (ended ++ unended ∷ []) [] after_end)
       → row.end_sequence ≡ true → HasPassed a (rows ++ row ∷ []) after_end
   passes_end after_end closes ends = record {
     sequences = passed.sequences ++ (passed.cut.unended ++ row ∷ []) ∷ [];

@@ -36,7 +36,8 @@ one_grows : (i : Ins) (files : List File) → defines_file i ≡ true → length
 one_grows (DefineFile f) files defines = omega (arith, length-append files (f ∷ []))
 one_grows i files defines = absurd cc
 
-all_grow : (files : List File) (before : List Ins) (i : Ins) (rest : List Ins) → defines_file i ≡ true → length files < length (files_from true files (before ++ i ∷ rest))
+all_grow : (files : List File) (before : List Ins) (i : Ins) (rest : List Ins) → defines_file i ≡ true
+    → length files < length (files_from true files (before ++ i ∷ rest))
 all_grow files [] i rest defines = omega (arith, one_grows i files defines, all_keep true (files_after true i files) rest)
 all_grow files (j ∷ before) i rest defines = omega (arith, one_keeps true j files, all_grow (files_after true j files) before i rest defines)
 
@@ -44,20 +45,23 @@ heads : (x y : EventWithFiles) (xs ys : List EventWithFiles) → x ∷ xs ≡ y 
 heads x y xs ys is = cc
 
 -- an event has no fewer files than stood before it
-at_events : (files : List File) (here : List Event) (later : List EventWithFiles) (e : EventWithFiles) (rest : List EventWithFiles) → with_files files here ++ later ≡ e ∷ rest
+at_events : (files : List File) (here : List Event) (later : List EventWithFiles) (e : EventWithFiles) (rest : List EventWithFiles)
+    → with_files files here ++ later ≡ e ∷ rest
     → (later ≡ e ∷ rest → length files ≤ length e.files) → length files ≤ length e.files
 at_events files [] later e rest is otherwise = otherwise is
 at_events files (x ∷ here) later e rest is otherwise =
     let first = heads (record { event = x; files = files }) e (with_files files here ++ later) rest is in
     omega (arith, ap (λ (t : EventWithFiles). length t.files) first)
 
-at_end : (files : List File) (end : Option Error) (e : EventWithFiles) (rest : List EventWithFiles) → with_files files (end_events end) ≡ e ∷ rest → length files ≤ length e.files
+at_end : (files : List File) (end : Option Error) (e : EventWithFiles) (rest : List EventWithFiles) → with_files files (end_events end) ≡ e ∷ rest
+    → length files ≤ length e.files
 at_end files None e rest is = absurd cc
 at_end files (Some d) e rest is =
     let first = heads (record { event = fault d; files = files }) e [] rest is in
     omega (arith, ap (λ (t : EventWithFiles). length t.files) first)
 
-at_first : (a : Bool) (h : Parameters) (r : LineRow) (files : List File) (list : List Ins) (end : Option Error) (e : EventWithFiles) (rest : List EventWithFiles)
+at_first : (a : Bool) (h : Parameters) (r : LineRow) (files : List File) (list : List Ins) (end : Option Error) (e : EventWithFiles)
+    (rest : List EventWithFiles)
     → events_with_files_from a h r files list end ≡ e ∷ rest → length files ≤ length e.files
 at_first a h r files [] end e rest is = at_end files end e rest is
 at_first a h r files (i ∷ list) end e rest is =
@@ -100,14 +104,18 @@ no_files a files (i ∷ list) none =
     ap (λ (fs : List File). files_from a fs list) (no_file a files i both.0) ∙ no_files a files list both.1
 
 pub defines : (notation : Notation) (h : Header) (offset : ℕ) (orders : HeaderOrders) (first old new : RunState) → first ≡ whole_run h notation offset orders
-    → files_at_end old ≡ files_at_end first → length first.files ≤ length old.files → new.appends ≡ old.appends → WantsMemory (with_reset_row old) new → DefinesFile notation h
-defines notation h offset orders first old new start same few appends w = at_test (list_any defines_file (decoded_at notation (without_files h) h.program).0) refl
+    → files_at_end old ≡ files_at_end first → length first.files ≤ length old.files → new.appends ≡ old.appends → WantsMemory (with_reset_row old) new
+    → DefinesFile notation h
+defines notation h offset orders first old new start same few appends w =
+    at_test (list_any defines_file (decoded_at notation (without_files h) h.program).0) refl
   where
     at_test : (b : Bool) → list_any defines_file (decoded_at notation (without_files h) h.program).0 ≡ b → DefinesFile notation h
     at_test true some = record {
       list = (decoded_at notation (without_files h) h.program).0;
       end = (decoded_at notation (without_files h) h.program).1;
-      decoding = bare_decoding notation h h.program (decoded_at notation (without_files h) h.program).0 (decoded_at notation (without_files h) h.program).1 (is_decoded notation (without_files h) h.program);
+      decoding =
+          bare_decoding notation h h.program (decoded_at notation (without_files h) h.program).0 (decoded_at notation (without_files h) h.program).1
+          (is_decoded notation (without_files h) h.program);
       defines = some;
     }
     at_test false none =

@@ -26,3 +26,5 @@ pub mod Indexed
 pub mod Files
 pub mod SequenceCuts
 pub mod SectionAddressSteps
+pub mod StillFound
+pub mod NearerEnds

@@ -44,13 +44,15 @@ walk_start left right = record {
   right_ahead = λ k d le lt. omega arith;
 }
 
-module _ (left right merged : List Step) (next_left next_right : ℕ) (by_left by_right : Option ℕ) (from : ℕ) (walked : Walked left right next_left next_right by_left by_right from merged) where
+module _ (left right merged : List Step) (next_left next_right : ℕ) (by_left by_right : Option ℕ) (from : ℕ)
+    (walked : Walked left right next_left next_right by_left by_right from merged) where
   lower : (s : Step) → from ≤ s.from → All (λ (t : Step). t.from ≤ s.from) merged
   lower s le = All-weaker (λ (t : Step). t.from ≤ from) (λ (t : Step). t.from ≤ s.from) (λ t below. omega arith) merged walked.below
 
   pub walk_left : (s : Step) → AreInOrder left → AreInOrder right → next_left < length left → slice_index_or left next_left s ≡ s
       → (next_right < length right → (d : Step) → s.from ≤ (slice_index_or right next_right d).from)
-      → Walked left right (next_left + 1) next_right s.sequence by_right s.from (merged ++ record { from = s.from; sequence = option_or s.sequence by_right } ∷ [])
+      → Walked left right (next_left + 1) next_right s.sequence by_right s.from
+      (merged ++ record { from = s.from; sequence = option_or s.sequence by_right } ∷ [])
   walk_left s left_order right_order lt item first =
       let pushed : Step = record { from = s.from; sequence = option_or s.sequence by_right } in
       let address = ap (λ (t : Step). t.from) item in
@@ -75,13 +77,16 @@ module _ (left right merged : List Step) (next_left next_right : ℕ) (by_left b
         last = fold_push (λ (o : Option ℕ) (t : Step). t.sequence) None merged pushed;
         in_order = in_order_push merged pushed walked.in_order (lower s ahead);
         below = All-push (λ (t : Step). t.from ≤ s.from) merged pushed (lower s ahead) (omega arith);
-        left_ahead = λ k d le within. omega (arith, ap (λ (t : Step). t.from) (get_or_default left next_left d s lt ∙ item), left_order next_left k d (omega arith) within);
+        left_ahead =
+            λ k d le within.
+            omega (arith, ap (λ (t : Step). t.from) (get_or_default left next_left d s lt ∙ item), left_order next_left k d (omega arith) within);
         right_ahead = λ k d le within. omega (arith, first (omega arith) d, right_order next_right k d le within);
       }
 
   pub walk_right : (s : Step) → AreInOrder left → AreInOrder right → next_right < length right → slice_index_or right next_right s ≡ s
       → (next_left < length left → (d : Step) → s.from ≤ (slice_index_or left next_left d).from)
-      → Walked left right next_left (next_right + 1) by_left s.sequence s.from (merged ++ record { from = s.from; sequence = option_or by_left s.sequence } ∷ [])
+      → Walked left right next_left (next_right + 1) by_left s.sequence s.from
+      (merged ++ record { from = s.from; sequence = option_or by_left s.sequence } ∷ [])
   walk_right s left_order right_order lt item first =
       let pushed : Step = record { from = s.from; sequence = option_or by_left s.sequence } in
       let address = ap (λ (t : Step). t.from) item in
@@ -107,7 +112,9 @@ module _ (left right merged : List Step) (next_left next_right : ℕ) (by_left b
         in_order = in_order_push merged pushed walked.in_order (lower s ahead);
         below = All-push (λ (t : Step). t.from ≤ s.from) merged pushed (lower s ahead) (omega arith);
         left_ahead = λ k d le within. omega (arith, first (omega arith) d, left_order next_left k d le within);
-        right_ahead = λ k d le within. omega (arith, ap (λ (t : Step). t.from) (get_or_default right next_right d s lt ∙ item), right_order next_right k d (omega arith) within);
+        right_ahead =
+            λ k d le within.
+            omega (arith, ap (λ (t : Step). t.from) (get_or_default right next_right d s lt ∙ item), right_order next_right k d (omega arith) within);
       }
 
   pub walk_end : length left + length right ≤ next_left + next_right → last_step left ≡ None → last_step right ≡ None → AreJoined left right merged

@@ -29,7 +29,8 @@ same_rows (x ∷ a) (y ∷ b) is =
     let both : a ≡ b = same_rows a b rest in
     cc
 
-same_events : AreAlwaysDecodedOnce → (notation : Notation) (h : Header) (a b : List Event) → Events notation h h.program a → Events notation h h.program b → a ≡ b
+same_events : AreAlwaysDecodedOnce → (notation : Notation) (h : Header) (a b : List Event) → Events notation h h.program a → Events notation h h.program b
+    → a ≡ b
 same_events once notation h a b x y =
     let same = once notation h h.program x.list y.list x.end y.end x.decoding y.decoding in
     x.given
@@ -40,7 +41,8 @@ same_events once notation h a b x y =
 -- ---- one cut
 
 -- rows before an end, and the end, are those that a list of rows begins with
-same_parts : (front other : List LineRow) (last end : LineRow) (rest more : List LineRow) → HaveNoEnd front → HaveNoEnd other → last.end_sequence ≡ true → end.end_sequence ≡ true
+same_parts : (front other : List LineRow) (last end : LineRow) (rest more : List LineRow) → HaveNoEnd front → HaveNoEnd other → last.end_sequence ≡ true
+    → end.end_sequence ≡ true
     → front ++ last ∷ rest ≡ other ++ end ∷ more → (front ++ last ∷ [] ≡ other ++ end ∷ []) × (rest ≡ more)
 same_parts [] [] last end rest more none no_other ends other_ends is = (let k : last ≡ end = cc in ap (λ (r : LineRow). r ∷ []) k, cc)
 same_parts [] (y ∷ other) last end rest more none no_other ends other_ends is =
@@ -88,7 +90,8 @@ same_cut (x ∷ s) (y ∷ t) u v each other none no_other is =
     let later : s ≡ t = same_cut s t u v each.1 other.1 none no_other p.1 in
     cc
 
-pub same_sequences : AreAlwaysDecodedOnce → (notation : Notation) (h : Header) (s t : List (List LineRow)) → AreRowsOfSequences notation h s → AreRowsOfSequences notation h t → s ≡ t
+pub same_sequences : AreAlwaysDecodedOnce → (notation : Notation) (h : Header) (s t : List (List LineRow)) → AreRowsOfSequences notation h s
+    → AreRowsOfSequences notation h t → s ≡ t
 same_sequences once notation h s t x y =
     let rows : x.rows ≡ y.rows = same_rows x.rows y.rows (same_events once notation h (map row x.rows) (map row y.rows) x.given y.given) in
     same_cut s t x.cut.unended y.cut.unended x.cut.each y.cut.each x.cut.no_end y.cut.no_end (sym x.cut.joined ∙ rows ∙ y.cut.joined)
@@ -112,4 +115,5 @@ same_found a s (Some p) (Some q) f g =
 pub same_answer : AreAlwaysDecodedOnce → (notation : Notation) (h : Header) (a : ℕ) (rows : List (List LineRow)) (x y : Option (LineRow × LineRow))
     → AreRowsOfSequences notation h rows → IsFirstFound a rows x → IsFoundInRun notation h a y → x ≡ y
 same_answer once notation h a rows x y are first found =
-    same_found a rows x y first (subst (λ (s : List (List LineRow)). IsFirstFound a s y) (same_sequences once notation h found.sequences rows found.are are) found.first)
+    same_found a rows x y first
+    (subst (λ (s : List (List LineRow)). IsFirstFound a s y) (same_sequences once notation h found.sequences rows found.are are) found.first)

@@ -9,11 +9,13 @@ use Rattle.gimli_line.specs.declared.run.row.LineRow.{LineRow}
 use Rattle.gimli_lookup.specs.FirstPair.{HasNoPair, IsFirstPairOf, IsFirstPair}
 
 -- the sequence of a first pair stands where those before it end
-pub stands_there : (a : ℕ) (s : List (List LineRow)) (x y : LineRow) (f : IsFirstPair a s x y) (d : List LineRow) → slice_index_or s (length f.earlier) d ≡ f.rows
+pub stands_there : (a : ℕ) (s : List (List LineRow)) (x y : LineRow) (f : IsFirstPair a s x y) (d : List LineRow)
+    → slice_index_or s (length f.earlier) d ≡ f.rows
 stands_there a s x y f d =
     ap (λ (t : List (List LineRow)). slice_index_or t (length f.earlier) d) f.parts ∙ get_or-append_seam f.earlier f.rows f.later d
 
-not_earlier : (a : ℕ) (s : List (List LineRow)) (x y z w : LineRow) (f : IsFirstPair a s x y) (g : IsFirstPair a s z w) → length f.earlier < length g.earlier → ⊥
+not_earlier : (a : ℕ) (s : List (List LineRow)) (x y z w : LineRow) (f : IsFirstPair a s x y) (g : IsFirstPair a s z w) → length f.earlier < length g.earlier
+    → ⊥
 not_earlier a s x y z w f g lt =
     let d = f.rows in
     let there : slice_index_or g.earlier (length f.earlier) d ≡ f.rows =
@@ -22,7 +24,8 @@ not_earlier a s x y z w f g lt =
     ∙ stands_there a s x y f d in
     subst (HasNoPair a) there (g.none_earlier (length f.earlier) d lt) f.is_first.index x y f.is_first.is_pair
 
-same_rows : (a : ℕ) (s : List (List LineRow)) (x y z w : LineRow) (f : IsFirstPair a s x y) (g : IsFirstPair a s z w) → length f.earlier ≡ length g.earlier → f.rows ≡ g.rows
+same_rows : (a : ℕ) (s : List (List LineRow)) (x y z w : LineRow) (f : IsFirstPair a s x y) (g : IsFirstPair a s z w) → length f.earlier ≡ length g.earlier
+    → f.rows ≡ g.rows
 same_rows a s x y z w f g same =
     sym (stands_there a s x y f f.rows) ∙ ap (λ (k : ℕ). slice_index_or s k f.rows) same ∙ stands_there a s z w g f.rows
 

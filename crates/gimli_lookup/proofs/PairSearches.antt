@@ -1,5 +1,6 @@
 -- Pairs of rows that are taken in one by one.
-use Rattle.std.proofs.Common.{◌≡◌, ℕ, zero, suc, ◌+◌, ◌<◌, ◌≤◌, List, [], ◌∷◌, ◌++◌, length, Some, refl, sym, ap, subst, ◌∙◌, inl, inr, append_assoc, length-append, arith}
+use Rattle.std.proofs.Common.{◌≡◌, ℕ, zero, suc, ◌+◌, ◌<◌, ◌≤◌, List, [], ◌∷◌, ◌++◌, length, Some, refl, sym, ap, subst, ◌∙◌, inl, inr, append_assoc}
+use Rattle.std.proofs.Common.{length-append, arith}
 use Rattle.std.specs.Prelude.{slice_get, All}
 use Rattle.std.proofs.lemmas.Bool.{cases_lt}
 use Rattle.std.proofs.lemmas.List.Elements.{All-push}
@@ -94,12 +95,15 @@ module _ (a : ℕ) (front : List LineRow) (last row : LineRow) (none : HasNoPair
   ]
 
 -- the same, of rows that are known to have a last one
-pub pair_comes_after : (a : ℕ) (rows front : List LineRow) (last row : LineRow) → HasNoPair a rows → rows ≡ front ++ last ∷ [] → last.address ≤ a → a < row.address
+pub pair_comes_after : (a : ℕ) (rows front : List LineRow) (last row : LineRow) → HasNoPair a rows → rows ≡ front ++ last ∷ [] → last.address ≤ a
+    → a < row.address
     → IsFirstPairOf a (rows ++ row ∷ []) last row
 pair_comes_after a rows front last row none parts from before =
-    subst (λ (rs : List LineRow). IsFirstPairOf a (rs ++ row ∷ []) last row) (sym parts) (pair_comes a front last row (subst (HasNoPair a) parts none) from before)
+    subst (λ (rs : List LineRow). IsFirstPairOf a (rs ++ row ∷ []) last row) (sym parts)
+    (pair_comes a front last row (subst (HasNoPair a) parts none) from before)
 
-pub none_comes_after : (a : ℕ) (rows front : List LineRow) (last row : LineRow) → HasNoPair a rows → rows ≡ front ++ last ∷ [] → (last.address ≤ a → a < row.address → ⊥)
+pub none_comes_after : (a : ℕ) (rows front : List LineRow) (last row : LineRow) → HasNoPair a rows → rows ≡ front ++ last ∷ []
+    → (last.address ≤ a → a < row.address → ⊥)
     → HasNoPair a (rows ++ row ∷ [])
 none_comes_after a rows front last row none parts apart =
     subst (λ (rs : List LineRow). HasNoPair a (rs ++ row ∷ [])) (sym parts) (none_comes a front last row (subst (HasNoPair a) parts none) apart)
@@ -117,7 +121,8 @@ first_ends a ended rows x y none first = record {
   is_first = first;
 }
 
-pub first_is_kept : (a : ℕ) (ended : List (List LineRow)) (rows : List LineRow) (x y : LineRow) → IsFirstPair a ended x y → IsFirstPair a (ended ++ rows ∷ []) x y
+pub first_is_kept : (a : ℕ) (ended : List (List LineRow)) (rows : List LineRow) (x y : LineRow) → IsFirstPair a ended x y
+    → IsFirstPair a (ended ++ rows ∷ []) x y
 first_is_kept a ended rows x y f = record {
   earlier = f.earlier;
   rows = f.rows;
@@ -127,5 +132,6 @@ first_is_kept a ended rows x y f = record {
   is_first = f.is_first;
 }
 
-pub none_ends : (a : ℕ) (ended : List (List LineRow)) (rows : List LineRow) → All (HasNoPair a) ended → HasNoPair a rows → All (HasNoPair a) (ended ++ rows ∷ [])
+pub none_ends : (a : ℕ) (ended : List (List LineRow)) (rows : List LineRow) → All (HasNoPair a) ended → HasNoPair a rows
+    → All (HasNoPair a) (ended ++ rows ∷ [])
 none_ends a ended rows none one = All-push (HasNoPair a) ended rows none one

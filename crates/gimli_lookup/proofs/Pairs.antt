@@ -1,5 +1,6 @@
 -- Pairs of rows that cover an address.
-use Rattle.std.proofs.Common.{◌≡◌, ◌⊎◌, ℕ, zero, suc, ◌+◌, ◌-◌, ◌<◌, ◌≤◌, true, not, List, [], ◌∷◌, ◌++◌, length, take, drop, Some, sym, ap, subst, ◌∙◌, inl, inr, arith}
+use Rattle.std.proofs.Common.{◌≡◌, ◌⊎◌, ℕ, zero, suc, ◌+◌, ◌-◌, ◌<◌, ◌≤◌, true, not, List, [], ◌∷◌, ◌++◌, length, take, drop, Some, sym, ap, subst, ◌∙◌, inl}
+use Rattle.std.proofs.Common.{inr, arith}
 use Rattle.std.specs.Prelude.{slice_get, slice_index_or, nat_lt, ◌&&◌, All}
 use Rattle.std.proofs.lemmas.Bool.{and_parts, not-true, ltb-false, cases_order}
 use Rattle.std.proofs.lemmas.List.{take-append-drop, drop_more}
@@ -67,7 +68,8 @@ module _ (a : ℕ) (rows : List LineRow) (index : ℕ) (before : (k : ℕ) (d : 
   none_at_edge (inl zero_is) k x y p = absurd (omega (arith, only_there k x y p))
   none_at_edge (inr all) k x y p = absurd (omega (arith, only_there k x y p, slice_get_within rows (k + 1) y p.second))
 
-  pub first_there : (x y : LineRow) → 0 < index → index < length rows → slice_get rows (index - 1) ≡ Some x → slice_get rows index ≡ Some y → IsFirstPairOf a rows x y
+  pub first_there : (x y : LineRow) → 0 < index → index < length rows → slice_get rows (index - 1) ≡ Some x → slice_get rows index ≡ Some y
+      → IsFirstPairOf a rows x y
   first_there x y some within first second =
       let same : index - 1 + 1 ≡ index = omega arith in
       record {
@@ -109,7 +111,8 @@ none_more a rows index none apart k x y lt p = elim (cases_order (k + 1) index) 
   | inr (inr more) ↦ absurd (omega arith)
 ]
   where
-    at_index : k + 1 ≡ index → ((k : ℕ) (d : LineRow) → k + 1 ≡ index → a < (slice_index_or rows k d).address) ⊎ ((d : LineRow) → (slice_index_or rows index d).address ≤ a) → ⊥
+    at_index : k + 1 ≡ index
+        → ((k : ℕ) (d : LineRow) → k + 1 ≡ index → a < (slice_index_or rows k d).address) ⊎ ((d : LineRow) → (slice_index_or rows index d).address ≤ a) → ⊥
     at_index same (inl above) =
         let first : (slice_index_or rows k x).address ≡ x.address = ap (λ (r : LineRow). r.address) (get_or_from_slice_get rows k x x p.first) in
         absurd (omega (arith, above k x same, first, p.from))
@@ -137,7 +140,8 @@ pub has_rows : (a : ℕ) (rows : List LineRow) (x y : LineRow) → IsFirstPairOf
 has_rows a rows x y first = omega (arith, slice_get_within rows first.index x first.is_pair.first)
 
 -- the sequence of a first pair is one of those
-pub first_pair_of_index : (a : ℕ) (sequences : List (List LineRow)) (index : ℕ) (x y : LineRow) → IsFirstPairIn a sequences index x y → IsFirstPair a sequences x y
+pub first_pair_of_index : (a : ℕ) (sequences : List (List LineRow)) (index : ℕ) (x y : LineRow) → IsFirstPairIn a sequences index x y
+    → IsFirstPair a sequences x y
 first_pair_of_index a sequences index x y first =
     first_found a sequences index first.rows x y (slice_get_within sequences index first.rows first.there)
     (sym (get_or_from_slice_get sequences index first.rows first.rows first.there)) first.none_earlier first.is_first

@@ -1,5 +1,6 @@
 -- The indices of the files that pass a test, one after the other.
-use Rattle.std.proofs.Common.{◌≡◌, ◌≢◌, ℕ, zero, suc, ◌+◌, ◌<◌, ◌≤◌, Bool, true, false, nat_eq, nat_lt, nat_le, if◌then◌else◌, ◌&&◌, ◌||◌, List, [], ◌∷◌, ◌++◌, length, Option, Some, None, Result, refl, sym, ap, subst, ◌∙◌, inl, inr, arith}
+use Rattle.std.proofs.Common.{◌≡◌, ◌≢◌, ℕ, zero, suc, ◌+◌, ◌<◌, ◌≤◌, Bool, true, false, nat_eq, nat_lt, nat_le, if◌then◌else◌, ◌&&◌, ◌||◌, List, [], ◌∷◌, ◌++◌}
+use Rattle.std.proofs.Common.{length, Option, Some, None, Result, refl, sym, ap, subst, ◌∙◌, inl, inr, arith}
 use Rattle.std.specs.Prelude.{slice_get}
 use Rattle.std.specs.Option.{option_map_or}
 use Rattle.std.proofs.lemmas.Bool.{cases_Bool, cases_lt, cases_eq, lt-ltb, le-ltb, eq-eqb, ne_eqb}
@@ -57,7 +58,8 @@ more_below test n indices below = elim (cases_Bool (test n)) [
       (subst (AreBelow test (n + 1)) (sym (append-nil indices)) (same_more test n indices below fails))
 ]
 
-pub all_below : (test : ℕ → Bool) (n : ℕ) (indices : List ℕ) → AreBelow test n indices → ((i : ℕ) → n ≤ i → test i ≡ false) → (i : ℕ) → is_among indices i ≡ test i
+pub all_below : (test : ℕ → Bool) (n : ℕ) (indices : List ℕ) → AreBelow test n indices → ((i : ℕ) → n ≤ i → test i ≡ false) → (i : ℕ)
+    → is_among indices i ≡ test i
 all_below test n indices below none i = elim (cases_lt i n) [
   | inl lt ↦ below i ∙ ap (λ b. b && test i) (lt-ltb i n lt)
   | inr ge ↦ below i ∙ ap (λ b. b && test i) (le-ltb i n ge) ∙ sym (none i ge)

@@ -59,7 +59,8 @@ one_more first old new from to r files t keeps next =
     record {
       rows = t.rows ++ r ∷ [];
       front = t.front ++ event ∷ [];
-      rows_are = map-append (λ (e : EventWithFiles). e.event) t.front (event ∷ []) ∙ ap (λ es. es ++ row r ∷ []) t.rows_are ∙ sym (map-append row t.rows (r ∷ []));
+      rows_are =
+          map-append (λ (e : EventWithFiles). e.event) t.front (event ∷ []) ∙ ap (λ es. es ++ row r ∷ []) t.rows_are ∙ sym (map-append row t.rows (r ∷ []));
       to_come = t.to_come ∙ ap (λ es. t.front ++ es) next.0 ∙ sym (append_assoc t.front (event ∷ []) (made_left new));
       files = next.2 ∙ t.files;
       taken = ap (with_row r) t.taken ∙ sym (with_more t.rows r from);
@@ -93,8 +94,10 @@ pub fewer : (old new : RunState) (r : LineRow) (files : List File) → AnyRowIs 
 fewer old new r files next = omega (arith, ap length next.0)
 
 -- a refusal that isn't for memory is the first fault
-pub fault_taken : (first old new : RunState) (from to : SequenceCut) (e : Error) (answer : Result (Option Error) Error) → TakesIn first old from to → KeepsHeader old new
-    → AnyFaultIs (with_reset_row old) new e → IfOk answer (λ found. (found ≡ Some e) × (e ≢ OutOfMemory)) → IfOk answer (λ found. AreTaken first new found from to)
+pub fault_taken : (first old new : RunState) (from to : SequenceCut) (e : Error) (answer : Result (Option Error) Error) → TakesIn first old from to
+    → KeepsHeader old new
+    → AnyFaultIs (with_reset_row old) new e → IfOk answer (λ found. (found ≡ Some e) × (e ≢ OutOfMemory))
+    → IfOk answer (λ found. AreTaken first new found from to)
 fault_taken first old new from to e (Ok found) t keeps is as_is =
     subst (λ (o : Option Error). AreTaken first new o from to) (sym as_is.0) (to_fault first old new from to e t keeps as_is.1 is)
 fault_taken first old new from to e (Err d) t keeps is as_is = tt

@@ -55,7 +55,8 @@ module _ (notation : Notation) (h : Header) (events left : List EventWithFiles) 
       ∙ ap (λ (xs : List Event). xs ++ events_of rest) (sym (map-append row rows (r ∷ [])))
 
   -- a fault comes: it is the first one
-  pub first_fault : (files : List File) (rest : List EventWithFiles) (e : Error) → left ≡ record { event = fault e; files = files } ∷ rest → HasFirstFault notation h e
+  pub first_fault : (files : List File) (rest : List EventWithFiles) (e : Error) → left ≡ record { event = fault e; files = files } ∷ rest
+      → HasFirstFault notation h e
   first_fault files rest e next = record {
     list = given.list;
     end = given.end;

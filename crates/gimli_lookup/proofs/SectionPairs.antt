@@ -31,7 +31,8 @@ first_in_part a s index first end x y from before within f =
     let inside : i < length part = omega (arith, short, from, before, within, length-take (end - first) (drop first s), length-drop first s) in
     let back : first + i ≡ index = omega (arith, from) in
     let item : slice_index_or part i f.rows ≡ f.rows =
-    get_or-take (end - first) (drop first s) i f.rows short ∙ get_or-drop first s i f.rows ∙ ap (λ (n : ℕ). slice_index_or s n f.rows) back ∙ get_or_from_slice_get s index f.rows f.rows f.there in
+    get_or-take (end - first) (drop first s) i f.rows short ∙ get_or-drop first s i f.rows ∙ ap (λ (n : ℕ). slice_index_or s n f.rows) back
+    ∙ get_or_from_slice_get s index f.rows f.rows f.there in
     first_found a part i f.rows x y inside (sym item) (none i part short inside back) f.is_first
   where
     none : (i : ℕ) (part : List (List LineRow)) → i < end - first → i < length (take (end - first) (drop first s)) → first + i ≡ index
@@ -43,7 +44,8 @@ first_in_part a s index first end x y from before within f =
         let there : first + j < length (take index s) = omega (arith, below, back, length-take-le index s all) in
         let is : slice_index_or (take i part) j d ≡ slice_index_or s (first + j) d =
         get_or-take i part j d below ∙ get_or-take (end - first) (drop first s) j d (omega (arith, below, short)) ∙ get_or-drop first s j d in
-        let same : slice_index_or (take index s) (first + j) d ≡ slice_index_or s (first + j) d = get_or-take index s (first + j) d (omega (arith, below, back)) in
+        let same : slice_index_or (take index s) (first + j) d
+        ≡ slice_index_or s (first + j) d = get_or-take index s (first + j) d (omega (arith, below, back)) in
         subst (HasNoPair a) (same ∙ sym is) (f.none_earlier (first + j) d there)
 
 pub first_of_unit : (a : ℕ) (s : List (List LineRow)) (units : List ListedUnit) (k index : ℕ) (d : ListedUnit) (x y : LineRow) → AreAdjacent 0 units (length s)
@@ -64,14 +66,16 @@ first_of_unit a s units k index d x y are lt from before f =
         let kept = map (with_sequences s) units in
         let below : j < k = omega (arith, short, length-take k kept) in
         let v = slice_index_or units j d in
-        let is : slice_index_or (take k kept) j e ≡ with_sequences s v = get_or-take k kept j e below ∙ get_or-map (with_sequences s) units j d e (omega (arith, below, lt)) in
+        let is : slice_index_or (take k kept) j e ≡ with_sequences s v = get_or-take k kept j e below
+        ∙ get_or-map (with_sequences s) units j d e (omega (arith, below, lt)) in
         let ends : v.end ≤ index = omega (arith, earlier_ends 0 units (length s) j k d d are below lt, from) in
         let within : index ≤ length s = omega (arith, slice_get_within s index f.rows f.there) in
         subst (λ (w : KeptUnit). All (HasNoPair a) w.sequences) (sym is) (none_in_part a s index v.first v.end within ends f.none_earlier)
 
 -- ---- what an index finds, and the unit of its index
 
-pub index_within : (a : ℕ) (sequences s : List (List LineRow)) (units us : List ListedUnit) (index : ℕ) (x y : LineRow) → AreAdjacent 0 units (length sequences) → s ≡ sequences → us ≡ units
+pub index_within : (a : ℕ) (sequences s : List (List LineRow)) (units us : List ListedUnit) (index : ℕ) (x y : LineRow) → AreAdjacent 0 units (length sequences)
+    → s ≡ sequences → us ≡ units
     → IsFirstPairIn a s index x y → (end : ℕ) × AreAdjacent 0 us end × (index < end)
 index_within a sequences s units us index x y are same_s same_us f = (
   length sequences,
@@ -79,7 +83,8 @@ index_within a sequences s units us index x y are same_s same_us f = (
   omega (arith, slice_get_within s index f.rows f.there, ap (λ (z : List (List LineRow)). length z) same_s),
 )
 
-pub unit_found : (a : ℕ) (sequences s : List (List LineRow)) (units us : List ListedUnit) (kept : List KeptUnit) (k index : ℕ) (x y : LineRow) → AreAdjacent 0 units (length sequences)
+pub unit_found : (a : ℕ) (sequences s : List (List LineRow)) (units us : List ListedUnit) (kept : List KeptUnit) (k index : ℕ) (x y : LineRow)
+    → AreAdjacent 0 units (length sequences)
     → map (with_sequences sequences) units ≡ kept → s ≡ sequences → us ≡ units → k < length us → ((d : ListedUnit) → (slice_index_or us k d).first ≤ index)
     → ((d : ListedUnit) → index < (slice_index_or us k d).end) → IsFirstPairIn a s index x y → IsFirstPairOfUnit a kept k x y
 unit_found a sequences s units us kept k index x y are is same_s same_us lt from before f =

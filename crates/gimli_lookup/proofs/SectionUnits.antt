@@ -17,7 +17,8 @@ use Rattle.gimli_lookup.specs.SectionUnits.{IsUnitOf}
 use Rattle.gimli_lookup.specs.UnitRun.{IsKept}
 use Rattle.gimli_lookup.proofs.Sections.{up_to_end}
 
-adjacent_more : (from : ℕ) (units : List ListedUnit) (end : ℕ) (u : ListedUnit) (new : ℕ) → AreAdjacent from units end → u.first ≡ end → u.first ≤ u.end → u.end ≡ new
+adjacent_more : (from : ℕ) (units : List ListedUnit) (end : ℕ) (u : ListedUnit) (new : ℕ) → AreAdjacent from units end → u.first ≡ end → u.first ≤ u.end
+    → u.end ≡ new
     → AreAdjacent from (units ++ u ∷ []) new
 adjacent_more from [] end u new are first order ends = (first ∙ sym are, order, ends)
 adjacent_more from (v ∷ units) end u new are first order ends = (are.0, are.1, adjacent_more v.end units end u new are.2 first order ends)
@@ -44,7 +45,8 @@ last_part sequences more u first end =
     ∙ ap (take (u.end - u.first)) (drop-append_seam sequences more)
     ∙ take_all (u.end - u.first) more size
 
-added_unit : (sequences more new : List (List LineRow)) (units : List ListedUnit) (u : ListedUnit) → AreAdjacent 0 units (length sequences) → new ≡ sequences ++ more
+added_unit : (sequences more new : List (List LineRow)) (units : List ListedUnit) (u : ListedUnit) → AreAdjacent 0 units (length sequences)
+    → new ≡ sequences ++ more
     → u.first ≡ length sequences → u.end ≡ length new
     → map (with_sequences new) (units ++ u ∷ []) ≡ map (with_sequences sequences) units ++ record { unit = u; sequences = more } ∷ []
 added_unit sequences more new units u are is first end =
@@ -54,7 +56,8 @@ added_unit sequences more new units u are is first end =
     ∙ ap (λ (part : List (List LineRow)). map (with_sequences sequences) units ++ (let k : KeptUnit = record { unit = u; sequences = part } in k) ∷ [])
     (last_part sequences more u first (end ∙ ap (λ (s : List (List LineRow)). length s) is))
 
-is_unit_of : {R Offset Endian : Type 0} (section : Unread) (entry : UnitEntry) (lowest : ℕ) (program : Result (SeenHeader R Offset Endian) Error) (u : ListedUnit) (o : ℕ)
+is_unit_of : {R Offset Endian : Type 0} (section : Unread) (entry : UnitEntry) (lowest : ℕ) (program : Result (SeenHeader R Offset Endian) Error)
+    (u : ListedUnit) (o : ℕ)
     (sequences : List (List LineRow)) → u.offset ≡ o → IfOk program (HasUnitAt section o entry) → IfErr program (HasUnitFaultAt section o entry)
     → IfOk program (λ p. p.notation ≡ section.notation) → IsOutcome lowest program u sequences
     → IsUnitOf section entry lowest (record { unit = u; sequences = sequences })
@@ -77,7 +80,8 @@ is_unit_of section entry lowest (Ok program) u o sequences offset unit fault not
 -- ---- the walk
 
 -- the units so far are kept, and those that are still to come follow them
-pub record AreKept (section : Unread) (entry : UnitEntry) (lowest : ℕ) (offsets : List ℕ) (units : List ListedUnit) (sequences : List (List LineRow)) (walk : UnitWalk) : Type 0 where
+pub record AreKept (section : Unread) (entry : UnitEntry) (lowest : ℕ) (offsets : List ℕ) (units : List ListedUnit) (sequences : List (List LineRow))
+    (walk : UnitWalk) : Type 0 where
   pub adjacent : AreAdjacent 0 units (length sequences)
   pub each : All (IsUnitOf section entry lowest) (map (with_sequences sequences) units)
   pub to_come : offsets ≡ map (λ (u : ListedUnit). u.offset) units ++ walk.offsets
@@ -85,7 +89,13 @@ pub record AreKept (section : Unread) (entry : UnitEntry) (lowest : ℕ) (offset
   pub same_entry : walk.entry ≡ entry
 
 pub none_kept : (lowest : ℕ) (walk : UnitWalk) → AreKept walk.section walk.entry lowest walk.offsets [] [] walk
-none_kept lowest walk = record { adjacent = refl; each = All-nil (IsUnitOf walk.section walk.entry lowest); to_come = refl; same_section = refl; same_entry = refl }
+none_kept lowest walk = record {
+  adjacent = refl;
+  each = All-nil (IsUnitOf walk.section walk.entry lowest);
+  to_come = refl;
+  same_section = refl;
+  same_entry = refl;
+}
 
 -- what a walk says of the unit that it gives
 pub record IsGiven {R Offset Endian : Type 0} (old new : UnitWalk) (o : ℕ) (program : Result (SeenHeader R Offset Endian) Error) : Type 0 where
@@ -96,11 +106,14 @@ pub record IsGiven {R Offset Endian : Type 0} (old new : UnitWalk) (o : ℕ) (pr
   pub refusal : IfErr program (HasUnitFaultAt old.section o old.entry)
   pub notation : IfOk program (λ p. p.notation ≡ old.section.notation)
 
-pub one_kept : {R Offset Endian : Type 0} (section : Unread) (entry : UnitEntry) (lowest : ℕ) (offsets : List ℕ) (units : List ListedUnit) (sequences new : List (List LineRow)) (walk after : UnitWalk)
-    (o : ℕ) (program : Result (SeenHeader R Offset Endian) Error) (u : ListedUnit) → AreKept section entry lowest offsets units sequences walk → IsGiven walk after o program → u.offset ≡ o
+pub one_kept : {R Offset Endian : Type 0} (section : Unread) (entry : UnitEntry) (lowest : ℕ) (offsets : List ℕ) (units : List ListedUnit)
+    (sequences new : List (List LineRow)) (walk after : UnitWalk)
+    (o : ℕ) (program : Result (SeenHeader R Offset Endian) Error) (u : ListedUnit) → AreKept section entry lowest offsets units sequences walk
+    → IsGiven walk after o program → u.offset ≡ o
     → IsAdded lowest program u sequences new → AreKept section entry lowest offsets (units ++ u ∷ []) new after
 one_kept section entry lowest offsets units sequences new walk after o program u kept given offset added =
-    let order : u.first ≤ u.end = omega (arith, added.first, added.end, ap (λ (s : List (List LineRow)). length s) added.added, length-append sequences added.sequences) in
+    let order : u.first
+    ≤ u.end = omega (arith, added.first, added.end, ap (λ (s : List (List LineRow)). length s) added.added, length-append sequences added.sequences) in
     let here : IsUnitOf walk.section walk.entry lowest (record { unit = u; sequences = added.sequences }) =
     is_unit_of walk.section walk.entry lowest program u o added.sequences offset given.unit given.refusal given.notation added.outcome in
     let there : IsUnitOf section entry lowest (record { unit = u; sequences = added.sequences }) =
@@ -108,7 +121,8 @@ one_kept section entry lowest offsets units sequences new walk after o program u
     (subst (λ (e : UnitEntry). IsUnitOf walk.section e lowest (record { unit = u; sequences = added.sequences })) kept.same_entry here) in
     record {
       adjacent = adjacent_more 0 units (length sequences) u (length new) kept.adjacent added.first order added.end;
-      each = subst (All (IsUnitOf section entry lowest)) (sym (added_unit sequences added.sequences new units u kept.adjacent added.added added.first added.end))
+      each =
+          subst (All (IsUnitOf section entry lowest)) (sym (added_unit sequences added.sequences new units u kept.adjacent added.added added.first added.end))
           (All-push (IsUnitOf section entry lowest) (map (with_sequences sequences) units) (record { unit = u; sequences = added.sequences }) kept.each there);
       to_come = kept.to_come
           ∙ ap (λ (os : List ℕ). map (λ (u : ListedUnit). u.offset) units ++ os) (given.next ∙ ap (λ (n : ℕ). n ∷ after.offsets) (sym offset))

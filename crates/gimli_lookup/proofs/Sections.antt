@@ -66,11 +66,13 @@ pub has_units : (units : List ListedUnit) (end index : ℕ) → AreAdjacent 0 un
 has_units [] end index are lt = absurd (omega (arith, are, lt))
 has_units (u ∷ units) end index are lt = omega arith
 
-pub starts_at : (from : ℕ) (units : List ListedUnit) (end : ℕ) (d : ListedUnit) → AreAdjacent from units end → 0 < length units → (slice_index_or units 0 d).first ≡ from
+pub starts_at : (from : ℕ) (units : List ListedUnit) (end : ℕ) (d : ListedUnit) → AreAdjacent from units end → 0 < length units
+    → (slice_index_or units 0 d).first ≡ from
 starts_at from [] end d are some = absurd (omega arith)
 starts_at from (u ∷ units) end d are some = are.0
 
-pub ends_at : (from : ℕ) (units : List ListedUnit) (end k : ℕ) (d : ListedUnit) → AreAdjacent from units end → k + 1 ≡ length units → (slice_index_or units k d).end ≡ end
+pub ends_at : (from : ℕ) (units : List ListedUnit) (end k : ℕ) (d : ListedUnit) → AreAdjacent from units end → k + 1 ≡ length units
+    → (slice_index_or units k d).end ≡ end
 ends_at from [] end k d are is = absurd (omega (arith, is))
 ends_at from (u ∷ []) end zero d are is = are.2
 ends_at from (u ∷ v ∷ units) end zero d are is = absurd (omega (arith, is))
@@ -98,6 +100,7 @@ earlier_ends from (u ∷ units) end zero (suc k) d e are lt within =
 earlier_ends from (u ∷ units) end (suc j) (suc k) d e are lt within = earlier_ends u.end units end j k d e are.2 (omega arith) (omega arith)
 
 -- all sequences of a section that is seen as these units
-pub all_are : (sequences : List (List LineRow)) (units : List ListedUnit) (seen : List (List LineRow)) (kept : List KeptUnit) → AreAdjacent 0 units (length sequences)
+pub all_are : (sequences : List (List LineRow)) (units : List ListedUnit) (seen : List (List LineRow)) (kept : List KeptUnit)
+    → AreAdjacent 0 units (length sequences)
     → map (with_sequences sequences) units ≡ kept → seen ≡ sequences → seen ≡ all_sequences kept
 all_are sequences units seen kept are is same = same ∙ sym (have_all sequences units are) ∙ ap all_sequences is

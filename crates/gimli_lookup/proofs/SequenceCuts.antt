@@ -59,13 +59,16 @@ module _ {X : Type 0} (p : X → Bool) where
           → (split_from (past, part ++ x ∷ []) xs).0 ++ (split_from (past, part ++ x ∷ []) xs).1 ∷ [] ≡ past ++ onto (part ++ x ∷ []) (slice_split p xs)
           → (split_from (past, part) (x ∷ xs)).0 ++ (split_from (past, part) (x ∷ xs)).1 ∷ [] ≡ past ++ onto part (slice_split p (x ∷ xs))
       at_test true is ended goes =
-          let first : (split_from (past, part) (x ∷ xs)).0 ++ (split_from (past, part) (x ∷ xs)).1 ∷ [] ≡ (split_from (past ++ part ∷ [], []) xs).0 ++ (split_from (past ++ part ∷ [], []) xs).1 ∷ []
+          let first : (split_from (past, part) (x ∷ xs)).0 ++ (split_from (past, part) (x ∷ xs)).1 ∷ []
+          ≡ (split_from (past ++ part ∷ [], []) xs).0 ++ (split_from (past ++ part ∷ [], []) xs).1 ∷ []
           = ap (λ (b : Bool). let s = split_from (if b then (past ++ part ∷ [], []) else (past, part ++ x ∷ [])) xs in s.0 ++ s.1 ∷ []) is in
           let last : past ++ part ∷ slice_split p xs ≡ past ++ onto part (slice_split p (x ∷ xs))
           = rw is (ap (λ (last : List X). past ++ last ∷ slice_split p xs) (sym (append-nil part))) in
-          first ∙ ended ∙ append_assoc past (part ∷ []) (onto [] (slice_split p xs)) ∙ ap (λ (parts : List (List X)). past ++ part ∷ parts) (onto_none xs) ∙ last
+          first ∙ ended ∙ append_assoc past (part ∷ []) (onto [] (slice_split p xs)) ∙ ap (λ (parts : List (List X)). past ++ part ∷ parts) (onto_none xs)
+          ∙ last
       at_test false is ended goes =
-          let first : (split_from (past, part) (x ∷ xs)).0 ++ (split_from (past, part) (x ∷ xs)).1 ∷ [] ≡ (split_from (past, part ++ x ∷ []) xs).0 ++ (split_from (past, part ++ x ∷ []) xs).1 ∷ []
+          let first : (split_from (past, part) (x ∷ xs)).0 ++ (split_from (past, part) (x ∷ xs)).1 ∷ []
+          ≡ (split_from (past, part ++ x ∷ []) xs).0 ++ (split_from (past, part ++ x ∷ []) xs).1 ∷ []
           = ap (λ (b : Bool). let s = split_from (if b then (past ++ part ∷ [], []) else (past, part ++ x ∷ [])) xs in s.0 ++ s.1 ∷ []) is in
           first ∙ goes ∙ ap (λ (parts : List (List X)). past ++ parts) (onto_more part x xs is)
 
@@ -83,7 +86,8 @@ pub record IsCut (rows : List LineRow) (a : SequenceCut) : Type 0 where
   pub each : AllByRecursion EndOnce sequences
   pub no_end : HaveNoEnd unended
   pub split : (split_from (λ (r : LineRow). not (stands a.lowest r)) ([], []) unended).1 ≡ a.rows
-  pub parts : a.parts ≡ flat_map (standing_parts a.lowest) sequences ++ filter has_rows (split_from (λ (r : LineRow). not (stands a.lowest r)) ([], []) unended).0
+  pub parts : a.parts
+      ≡ flat_map (standing_parts a.lowest) sequences ++ filter has_rows (split_from (λ (r : LineRow). not (stands a.lowest r)) ([], []) unended).0
   pub ended : a.ended ≡ length (flat_map (standing_parts a.lowest) sequences)
 
 all_more : {X : Type 0} (P : X → Type 0) (xs : List X) (x : X) → AllByRecursion P xs → P x → AllByRecursion P (xs ++ x ∷ [])
@@ -158,12 +162,18 @@ module _ (done : List LineRow) (r : LineRow) (a : SequenceCut) (is : IsCut done 
         each = is.each;
         no_end = all_more (λ (r : LineRow). r.end_sequence ≡ false) is.unended r is.no_end goes_on;
         split = ap (λ (l : ℕ). (split_from (λ (q : LineRow). not (stands l q)) ([], []) (is.unended ++ r ∷ [])).1) low ∙ placed.rows;
-        parts = placed.parts ∙ ap (λ (l : ℕ). flat_map (standing_parts l) is.sequences ++ filter has_rows (split_from (λ (q : LineRow). not (stands l q)) ([], []) (is.unended ++ r ∷ [])).0) (sym low);
+        parts =
+            placed.parts
+            ∙ ap
+            (λ (l : ℕ). flat_map (standing_parts l) is.sequences
+            ++ filter has_rows (split_from (λ (q : LineRow). not (stands l q)) ([], []) (is.unended ++ r ∷ [])).0)
+            (sym low);
         ended = placed.ended ∙ ap (λ (l : ℕ). length (flat_map (standing_parts l) is.sequences)) (sym low);
       }
 
   -- the parts of the sequence that ends with the row
-  ended_parts : (b : SequenceCut) → IsPlaced b → b.parts ++ filter has_rows (b.rows ∷ []) ≡ flat_map (standing_parts a.lowest) (is.sequences ++ (is.unended ++ r ∷ []) ∷ [])
+  ended_parts : (b : SequenceCut) → IsPlaced b
+      → b.parts ++ filter has_rows (b.rows ∷ []) ≡ flat_map (standing_parts a.lowest) (is.sequences ++ (is.unended ++ r ∷ []) ∷ [])
   ended_parts b at =
       ap (λ (parts : List (List LineRow)). parts ++ filter has_rows (b.rows ∷ [])) at.parts
       ∙ append_assoc kept (filter has_rows after.0) (filter has_rows (b.rows ∷ []))
@@ -183,7 +193,9 @@ module _ (done : List LineRow) (r : LineRow) (a : SequenceCut) (is : IsCut done 
         sequences = all;
         unended = [];
         joined = joined_more done is.sequences is.unended r is.joined;
-        each = all_more EndOnce is.sequences (is.unended ++ r ∷ []) is.each (record { front = is.unended; last = r; parts = refl; unended = is.no_end; ended = ends });
+        each =
+            all_more EndOnce is.sequences (is.unended ++ r ∷ []) is.each
+            (record { front = is.unended; last = r; parts = refl; unended = is.no_end; ended = ends });
         no_end = tt;
         split = refl;
         parts = parts ∙ sym (append-nil (flat_map (standing_parts b.lowest) all));
@@ -192,7 +204,8 @@ module _ (done : List LineRow) (r : LineRow) (a : SequenceCut) (is : IsCut done 
 
   one_more : (b : Bool) → r.end_sequence ≡ b → IsCut (done ++ r ∷ []) (with_row r a)
   one_more true ends = subst (IsCut (done ++ r ∷ [])) (sym (ap (λ (b : Bool). if b then with_end (with_place r a) else with_place r a) ends)) (closed ends)
-  one_more false goes_on = subst (IsCut (done ++ r ∷ [])) (sym (ap (λ (b : Bool). if b then with_end (with_place r a) else with_place r a) goes_on)) (open_still goes_on)
+  one_more false goes_on =
+      subst (IsCut (done ++ r ∷ [])) (sym (ap (λ (b : Bool). if b then with_end (with_place r a) else with_place r a) goes_on)) (open_still goes_on)
 
 pub are_cut : (done rows : List LineRow) (a : SequenceCut) → IsCut done a → IsCut (done ++ rows) (with_rows rows a)
 are_cut done [] a is = rw (append-nil done) is

@@ -1,5 +1,6 @@
 -- The addresses of a line, row by row.
-use Rattle.std.proofs.Common.{◌≡◌, ◌≢◌, ℕ, Bool, true, false, nat_eq, not, ◌&&◌, ◌||◌, if◌then◌else◌, List, [], ◌∷◌, ◌++◌, drop, Option, Some, None, refl, sym, ap, ◌∙◌, append_assoc}
+use Rattle.std.proofs.Common.{◌≡◌, ◌≢◌, ℕ, Bool, true, false, nat_eq, not, ◌&&◌, ◌||◌, if◌then◌else◌, List, [], ◌∷◌, ◌++◌, drop, Option, Some, None, refl, sym}
+use Rattle.std.proofs.Common.{ap, ◌∙◌, append_assoc}
 use Rattle.std.specs.Prelude.{flat_map}
 use Rattle.std.proofs.Math.Path.{fun_ext}
 use Rattle.std.specs.List.{onto_first}
@@ -29,7 +30,8 @@ module _ (is_file : ℕ → Bool) (line : ℕ) where
 
   pub of_none : (given : Bool) (r : LineRow) (rows : List LineRow) → is_of_line is_file line r ≡ false → addresses_on given (r ∷ rows) ≡ addresses_on false rows
   of_none given r rows not_of =
-      ap (addresses_left given) (slice_split-cons_yes (λ r. not (is_of_line is_file line r)) r rows (ap not not_of)) ∙ between_runs given (runs is_file line rows)
+      ap (addresses_left given) (slice_split-cons_yes (λ r. not (is_of_line is_file line r)) r rows (ap not not_of))
+      ∙ between_runs given (runs is_file line rows)
 
   -- a row of the line is put before the first run
   of_line : (given : Bool) (r : LineRow) (rows : List LineRow) → is_of_line is_file line r ≡ true
@@ -41,7 +43,8 @@ module _ (is_file : ℕ → Bool) (line : ℕ) where
   given_before r [] = refl
   given_before r (part ∷ parts) = refl
 
-  first_of_run : (r : LineRow) (parts : List (List LineRow)) → r.is_stmt ≡ true → addresses_left false (onto_first r parts) ≡ r.address ∷ addresses_left true parts
+  first_of_run : (r : LineRow) (parts : List (List LineRow)) → r.is_stmt ≡ true
+      → addresses_left false (onto_first r parts) ≡ r.address ∷ addresses_left true parts
   first_of_run r [] stmt = ap (λ b. (if b then r.address ∷ [] else []) ++ []) stmt
   first_of_run r (part ∷ parts) stmt = ap (λ b. (if b then r.address ∷ [] else first_statement part) ++ flat_map first_statement parts) stmt
 

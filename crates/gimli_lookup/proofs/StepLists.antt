@@ -1,9 +1,11 @@
 -- What lists of steps say at an address.
-use Rattle.std.proofs.Common.{◌≡◌, ℕ, ◌+◌, ◌-◌, ◌<◌, ◌≤◌, leb, List, [], ◌∷◌, ◌++◌, length, take, drop, Option, None, Some, refl, sym, ap, subst, ◌∙◌, inl, inr, arith}
+use Rattle.std.proofs.Common.{◌≡◌, ℕ, ◌+◌, ◌-◌, ◌<◌, ◌≤◌, leb, List, [], ◌∷◌, ◌++◌, length, take, drop, Option, None, Some, refl, sym, ap, subst, ◌∙◌, inl, inr}
+use Rattle.std.proofs.Common.{arith}
 use Rattle.std.specs.Prelude.{All, fold, slice_index_or, nat_le, if◌then◌else◌}
 use Rattle.std.specs.Option.{option_or}
 use Rattle.std.proofs.lemmas.Bool.{le-leb, lt-leb, cond-true, cond-false, cases_lt}
-use Rattle.std.proofs.lemmas.List.{append-nil, take-append-drop, length-append, length-drop, length_push, get_or-drop, get_or_append_left, get_or-append_right, get_or_push}
+use Rattle.std.proofs.lemmas.List.{append-nil, take-append-drop, length-append, length-drop, length_push, get_or-drop, get_or_append_left, get_or-append_right}
+use Rattle.std.proofs.lemmas.List.{get_or_push}
 use Rattle.std.proofs.lemmas.List.Elements.{All-tail}
 use Rattle.std.proofs.lemmas.List.Sums.{fold_push, fold-append, fold_more}
 use Rattle.gimli_lookup.specs.declared.steps.Step.{Step}
@@ -26,7 +28,8 @@ before_all a current (s ∷ steps) above =
     ap (λ (now : Option ℕ). fold (at_step a) now steps) (cond-false (leb s.from a) s.sequence current (lt-leb s.from a (above 0 s (omega arith))))
     ∙ before_all a current steps (All-tail (λ (s : Step). a < s.from) s steps above)
 
-pub after_all : (a : ℕ) (current : Option ℕ) (steps : List Step) → All (λ (s : Step). s.from ≤ a) steps → fold (at_step a) current steps ≡ fold step_after current steps
+pub after_all : (a : ℕ) (current : Option ℕ) (steps : List Step) → All (λ (s : Step). s.from ≤ a) steps
+    → fold (at_step a) current steps ≡ fold step_after current steps
 after_all a current [] below = refl
 after_all a current (s ∷ steps) below =
     ap (λ (now : Option ℕ). fold (at_step a) now steps) (cond-true (leb s.from a) s.sequence current (le-leb s.from a (below 0 s (omega arith))))

@@ -25,14 +25,16 @@ in_turn_start first = record {
   below = λ k d lt. absurd (omega arith);
 }
 
-module _ (first i : ℕ) (sequences : List (List LineRow)) (rows : List LineRow) (steps : List Step) (end : ℕ) (lt : i < length sequences) (there : rows ≡ slice_index_or sequences i rows) (so_far : AreInTurn first (take i sequences) steps end) where
+module _ (first i : ℕ) (sequences : List (List LineRow)) (rows : List LineRow) (steps : List Step) (end : ℕ) (lt : i < length sequences)
+    (there : rows ≡ slice_index_or sequences i rows) (so_far : AreInTurn first (take i sequences) steps end) where
   more : take i sequences ++ rows ∷ [] ≡ take (i + 1) sequences
   more = sym (take_more sequences i rows lt ∙ ap (λ (r : List LineRow). take i sequences ++ r ∷ []) (sym there))
 
   appended : (right : List Step) → AreStepsOf (first + i) (rows ∷ []) right → AreApart steps right → AreStepsOf first (take (i + 1) sequences) (steps ++ right)
   appended right of_one apart =
       let size : i ≡ length (take i sequences) = sym (length-take-le i sequences (omega arith)) in
-      let of_right : AreStepsOf (first + length (take i sequences)) (rows ∷ []) right = subst (λ (n : ℕ). AreStepsOf (first + n) (rows ∷ []) right) size of_one in
+      let of_right : AreStepsOf (first + length (take i sequences)) (rows ∷ []) right =
+      subst (λ (n : ℕ). AreStepsOf (first + n) (rows ∷ []) right) size of_one in
       subst (λ (xs : List (List LineRow)). AreStepsOf first xs (steps ++ right)) more
       (joined_steps first (take i sequences) (rows ∷ []) steps right (steps ++ right) so_far.of of_right
       (are_appended steps right so_far.of.in_order of_one.in_order apart so_far.of.ended of_one.ended))

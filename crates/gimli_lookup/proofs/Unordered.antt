@@ -1,9 +1,11 @@
 -- The sequences whose addresses go down, one after the other, and the first pair of all.
-use Rattle.std.proofs.Common.{◌≡◌, ◌⊎◌, ℕ, zero, suc, ◌+◌, ◌-◌, ◌<◌, ◌≤◌, ◌^◌, Bool, true, false, cond, List, [], ◌∷◌, length, take, drop, Option, Some, MatchOption, refl, sym, ap, subst, ◌∙◌, inl, inr, arith}
+use Rattle.std.proofs.Common.{◌≡◌, ◌⊎◌, ℕ, zero, suc, ◌+◌, ◌-◌, ◌<◌, ◌≤◌, ◌^◌, Bool, true, false, cond, List, [], ◌∷◌, length, take, drop, Option, Some}
+use Rattle.std.proofs.Common.{MatchOption, refl, sym, ap, subst, ◌∙◌, inl, inr, arith}
 use Rattle.std.specs.Prelude.{All, Any, sum_by, slice_index_or}
 use Rattle.std.proofs.lemmas.Bool.{cond-true, cond-false, cases_lt, cases_Bool, true≢false}
 use Rattle.std.proofs.lemmas.List.{length-drop, length-take-le, take-take, get_or-drop, get_or-take, get_or_default, drop-drop}
-use Rattle.std.proofs.lemmas.List.Sums.{sum_by_more, sum_by_more_le_part, sum_by-take-le, sum_by-take-drop, sum_by-le, sum_by-le-sum_by, sum_by-drop_more, get_or-le-sum_by}
+use Rattle.std.proofs.lemmas.List.Sums.{sum_by_more, sum_by_more_le_part, sum_by-take-le, sum_by-take-drop, sum_by-le, sum_by-le-sum_by, sum_by-drop_more}
+use Rattle.std.proofs.lemmas.List.Sums.{get_or-le-sum_by}
 use Rattle.std.proofs.lemmas.Option.{slice_get-get_or, slice_get_within}
 use Rattle.gimli_line.specs.declared.run.row.LineRow.{LineRow}
 use Rattle.gimli_lookup.specs.declared.steps.Step.{Step}
@@ -116,7 +118,8 @@ pub record Scanned (a : ℕ) (sequences : List (List LineRow)) (left : List ℕ)
   pub at_least : 0 < sum_by scan_probes (take from sequences) → at_start < now
   pub at_most : now ≤ at_start + sum_by scan_probes (take from sequences)
 
-pub scan_start : (a : ℕ) (sequences : List (List LineRow)) (indexes : List ℕ) (n : ℕ) → indexes ≡ indexes_out_of_order 0 sequences → Scanned a sequences indexes n n
+pub scan_start : (a : ℕ) (sequences : List (List LineRow)) (indexes : List ℕ) (n : ℕ) → indexes ≡ indexes_out_of_order 0 sequences
+    → Scanned a sequences indexes n n
 scan_start a sequences indexes n is = record {
   from = 0;
   within = omega arith;
@@ -127,7 +130,8 @@ scan_start a sequences indexes n is = record {
   at_most = omega arith;
 }
 
-module _ (a : ℕ) (sequences : List (List LineRow)) (index : ℕ) (others : List ℕ) (at_start now : ℕ) (scanned : Scanned a sequences (index ∷ others) at_start now) where
+module _ (a : ℕ) (sequences : List (List LineRow)) (index : ℕ) (others : List ℕ) (at_start now : ℕ)
+    (scanned : Scanned a sequences (index ∷ others) at_start now) where
   next : IsNextUnordered scanned.from (drop scanned.from sequences) index others
   next = next_unordered scanned.from (drop scanned.from sequences) index others scanned.indexes
 
@@ -173,7 +177,8 @@ module _ (a : ℕ) (sequences : List (List LineRow)) (index : ℕ) (others : Lis
         ap (λ (r : List LineRow). length r) item,
       )
 
-  module _ (rows : List LineRow) (item : rows ≡ slice_index_or sequences index rows) (later : ℕ) (grows : now ≤ later) (at_least : 0 < length rows → now < later) (at_most : later ≤ now + length rows) where
+  module _ (rows : List LineRow) (item : rows ≡ slice_index_or sequences index rows) (later : ℕ) (grows : now ≤ later)
+      (at_least : 0 < length rows → now < later) (at_most : later ≤ now + length rows) where
     counted : later ≤ at_start + (sum_by scan_probes (take index sequences) + scan_probes (slice_index_or sequences index rows))
     counted =
         omega (
@@ -242,10 +247,12 @@ module _ (a : ℕ) (sequences : List (List LineRow)) (index : ℕ) (others : Lis
 -- ---- a scan at its end: no index is left
 
 module _ (a : ℕ) (sequences : List (List LineRow)) (at_start now : ℕ) (scanned : Scanned a sequences [] at_start now) where
-  ordered_after : (k : ℕ) (d : List LineRow) → k < length (drop scanned.from sequences) → never_go_down (slice_index_or (drop scanned.from sequences) k d) ≡ true
+  ordered_after : (k : ℕ) (d : List LineRow) → k < length (drop scanned.from sequences)
+      → never_go_down (slice_index_or (drop scanned.from sequences) k d) ≡ true
   ordered_after = none_unordered scanned.from (drop scanned.from sequences) scanned.indexes
 
-  none_at_all : (k : ℕ) (d : List LineRow) → k < length sequences → never_go_down (slice_index_or sequences k d) ≡ false → HasNoPair a (slice_index_or sequences k d)
+  none_at_all : (k : ℕ) (d : List LineRow) → k < length sequences → never_go_down (slice_index_or sequences k d) ≡ false
+      → HasNoPair a (slice_index_or sequences k d)
   none_at_all k d lt goes_down = elim (cases_lt k scanned.from) [
     | inl before ↦ scanned.none k d before goes_down
     | inr after ↦
@@ -264,7 +271,9 @@ module _ (a : ℕ) (sequences : List (List LineRow)) (at_start now : ℕ) (scann
 
   all_counted : sum_by scan_probes sequences ≡ sum_by scan_probes (take scanned.from sequences)
   all_counted =
-      let rest = sum_by-le scan_probes 0 (drop scanned.from sequences) (λ k d lt. omega (arith, scan_ordered (slice_index_or (drop scanned.from sequences) k d) (ordered_after k d lt))) in
+      let rest =
+      sum_by-le scan_probes 0 (drop scanned.from sequences) (λ k d lt.
+      omega (arith, scan_ordered (slice_index_or (drop scanned.from sequences) k d) (ordered_after k d lt))) in
       omega (arith, sum_by-take-drop scan_probes sequences scanned.from, rest)
 
   pub end_at_least : 0 < sum_by scan_probes sequences → at_start < now
@@ -326,7 +335,8 @@ looked_into sequences [] value some = inr (by_kind some.4)
     by_kind : IsLookedInto some.1 → 0 < sum_by scan_probes sequences
     by_kind (inl covering) =
         let none : All (λ (rows : List LineRow). covers covering.0 rows ≡ false) sequences =
-        subst (λ (o : Option ℕ). MatchOption o (All (λ (rows : List LineRow). covers covering.0 rows ≡ false) sequences) (IsFirstCovering covering.0 0 sequences))
+        subst (λ (o : Option ℕ).
+        MatchOption o (All (λ (rows : List LineRow). covers covering.0 rows ≡ false) sequences) (IsFirstCovering covering.0 0 sequences))
         (sym (value covering.0)) (cases_covering covering.0 0 sequences) in
         absurd (true≢false (sym covering.1 ∙ ap (covers covering.0) (sym some.3) ∙ none some.0 some.1 some.2))
     by_kind (inr goes_down) =

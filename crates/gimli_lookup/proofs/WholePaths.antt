@@ -1,12 +1,14 @@
 -- What can be said of whole paths.
-use Rattle.std.proofs.Common.{◌≡◌, ℕ, Bool, true, false, ◌&&◌, ◌||◌, if◌then◌else◌, nat_eq, List, [], ◌∷◌, ◌++◌, length, Ok, Err, refl, sym, ap, subst, ◌∙◌, inl, inr, append_assoc}
+use Rattle.std.proofs.Common.{◌≡◌, ℕ, Bool, true, false, ◌&&◌, ◌||◌, if◌then◌else◌, nat_eq, List, [], ◌∷◌, ◌++◌, length, Ok, Err, refl, sym, ap, subst, ◌∙◌}
+use Rattle.std.proofs.Common.{inl, inr, append_assoc}
 use Rattle.std.proofs.lemmas.Bool.{cases_eq, ne_eqb}
 use Rattle.std.specs.Prelude.{Result}
 use Rattle.std.specs.Char.{is_ascii_alphabetic}
 use Rattle.gimli_core.specs.Reading.{result_map}
 use Rattle.gimli_line.specs.header.File.{File}
 use Rattle.gimli_lookup.specs.Strings.{Strings, string_of}
-use Rattle.gimli_lookup.specs.Paths.{Paths, is_separator, is_absolute, separator_after, path_in, path_from, ◌>>=◌, directory_string, known_directory, base_directory, directory_path, file_path, EndsWithOwnPath, HasAbsoluteRoot}
+use Rattle.gimli_lookup.specs.Paths.{Paths, is_separator, is_absolute, separator_after, path_in, path_from, ◌>>=◌, directory_string, known_directory}
+use Rattle.gimli_lookup.specs.Paths.{base_directory, directory_path, file_path, EndsWithOwnPath, HasAbsoluteRoot}
 use Rattle.gimli_lookup.specs.declared.path_error.PathError.{PathError}
 
 -- ---- absolute paths
@@ -41,7 +43,8 @@ IsAbsolute r = (path : List ℕ) → r ≡ Ok path → is_absolute path ≡ true
 absolute_from : (directory : Result (List ℕ) PathError) (own : List ℕ) → IsAbsolute directory → IsAbsolute (path_from directory own)
 absolute_from directory own absolute = at_test (is_absolute own) refl directory absolute
   where
-    at_test : (b : Bool) → is_absolute own ≡ b → (d : Result (List ℕ) PathError) → IsAbsolute d → IsAbsolute (if b then Ok own else result_map (λ base. path_in base own) d)
+    at_test : (b : Bool) → is_absolute own ≡ b → (d : Result (List ℕ) PathError) → IsAbsolute d
+        → IsAbsolute (if b then Ok own else result_map (λ base. path_in base own) d)
     at_test true test d all path is = let same : own ≡ path = cc in ap is_absolute (sym same) ∙ test
     at_test false test (Ok base) all path is =
         let same : path_in base own ≡ path = cc in
@@ -96,7 +99,8 @@ absolute_root p zero is absolute = (zero, absolute_base (directory_string p 0) z
 own_last : (directory : Result (List ℕ) PathError) (own path : List ℕ) → path_from directory own ≡ Ok path → (front : List ℕ) × (path ≡ front ++ own)
 own_last directory own path is = at_test (is_absolute own) directory is
   where
-    at_test : (b : Bool) (d : Result (List ℕ) PathError) → (if b then Ok own else result_map (λ base. path_in base own) d) ≡ Ok path → (front : List ℕ) × (path ≡ front ++ own)
+    at_test : (b : Bool) (d : Result (List ℕ) PathError) → (if b then Ok own else result_map (λ base. path_in base own) d) ≡ Ok path
+        → (front : List ℕ) × (path ≡ front ++ own)
     at_test true d is = ([], cc)
     at_test false (Ok base) is = (base ++ separator_after base, cc)
     at_test false (Err e) is = absurd cc

@@ -1,9 +1,10 @@
--- The rows that cover an address: what a row says holds from its address on, up to that of the next row of its
--- sequence (DWARF 5, section 6.2).
+-- The rows that cover an address: what a row says holds from its address on, up to that of the next
+-- row of its sequence (DWARF 5, section 6.2).
 use Rattle.std.specs.Prelude.{◌≡◌, ◌≤◌, ◌<◌, ◌+◌, ℕ, List, ◌∷◌, ◌++◌, Some, slice_get, All}
 use Rattle.gimli_line.specs.declared.run.row.LineRow.{LineRow}
 
--- x stands at an index among the rows of a sequence and y right after it, x's address is at most a, and y's above a
+-- x stands at an index among the rows of a sequence and y right after it, x's address is at most a,
+-- and y's above a
 pub record IsPairAt (a : ℕ) (rows : List LineRow) (index : ℕ) (x y : LineRow) : Type 0 where
   pub first : slice_get rows index ≡ Some x
   pub second : slice_get rows (index + 1) ≡ Some y

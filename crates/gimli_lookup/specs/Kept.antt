@@ -7,7 +7,8 @@ use Rattle.gimli_line.specs.header.Orders.{HeaderOrders, AreOneOrder}
 use Rattle.gimli_line.specs.run.Events.{Event, row, Events, through_last_end}
 use Rattle.gimli_line.specs.run.Sequences.{Part}
 
--- the header with all files, the orders of bytes of its readers, the sequences, and the rows of each
+-- the header with all files, the orders of bytes of its readers, the sequences, and the rows of
+-- each
 pub record Kept : Type 0 where
   pub header : Header
   pub notation : Notation
@@ -21,7 +22,8 @@ abbrev pub IsOfOneOrder : Kept → Type 0
 IsOfOneOrder k = AreOneOrder k.notation.big k.orders
 
 -- the rows, one sequence after the other, are those of a program through its last end
-pub record AreRowsThroughLastEnd (notation : Notation) (h : Header) (rows : List (List LineRow)) : Type 0 where
+pub record AreRowsThroughLastEnd (notation : Notation) (h : Header) (rows : List (List LineRow))
+    : Type 0 where
   pub events : List Event
   pub given : Events notation h h.program events
   pub joined : flat_map (map row) rows ≡ through_last_end events

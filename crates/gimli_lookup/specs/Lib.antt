@@ -14,4 +14,5 @@ pub mod RowsTaken
 pub mod Section
 pub mod SectionUnits
 pub mod SectionAddresses
+pub mod Ranges
 pub mod inside

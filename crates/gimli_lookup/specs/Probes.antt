@@ -1,5 +1,6 @@
 -- How many addresses of rows a lookup reads.
-use Rattle.std.specs.Prelude.{ℕ, zero, suc, ◌+◌, ◌/◌, Bool, true, not, ◌&&◌, nat_lt, if◌then◌else◌, List, [], ◌∷◌, length}
+use Rattle.std.specs.Prelude.{ℕ, zero, suc, ◌+◌, ◌/◌, Bool, true, not, ◌&&◌, nat_lt, if◌then◌else◌}
+use Rattle.std.specs.Prelude.{List, [], ◌∷◌, length}
 use Rattle.gimli_line.specs.declared.run.row.LineRow.{LineRow}
 
 -- no row has an address below the one before it, nor the first below `lowest`
@@ -21,6 +22,7 @@ halvings (suc limit) (suc n) = 1 + halvings limit (suc n / 2)
 abbrev pub binary_digits : ℕ → ℕ
 binary_digits n = halvings n n
 
--- the most probes in a sequence: it is searched by halves where its addresses never go down, else row by row
+-- the most probes in a sequence: it is searched by halves where its addresses never go down, else
+-- row by row
 abbrev pub most_probes : List LineRow → ℕ
 most_probes rows = if never_go_down rows then binary_digits (length rows) else length rows

@@ -15,16 +15,19 @@ use Rattle.gimli_lookup.specs.FirstPair.{HasNoPair, IsFirstPair}
 
 -- what is found is the first pair of the sequences, or None where they have none
 abbrev pub IsFirstFound : ℕ → List (List LineRow) → Option (LineRow × LineRow) → Type 0
-IsFirstFound a sequences found = MatchOption found (All (HasNoPair a) sequences) (λ pair. IsFirstPair a sequences pair.0 pair.1)
+IsFirstFound a sequences found =
+    MatchOption found (All (HasNoPair a) sequences) (λ pair. IsFirstPair a sequences pair.0 pair.1)
 
 -- a program gives rows and no fault, and these are the rows of each of its sequences
-pub record AreRowsOfSequences (notation : Notation) (h : Header) (sequences : List (List LineRow)) : Type 0 where
+pub record AreRowsOfSequences (notation : Notation) (h : Header) (sequences : List (List LineRow))
+    : Type 0 where
   pub rows : List LineRow
   pub given : Events notation h h.program (map row rows)
   pub cut : AreCutAtEnds rows sequences
 
 -- what is found is the first pair of the sequences of such a program, or None where they have none
-pub record IsFoundInRun (notation : Notation) (h : Header) (a : ℕ) (found : Option (LineRow × LineRow)) : Type 0 where
+pub record IsFoundInRun (notation : Notation) (h : Header) (a : ℕ)
+    (found : Option (LineRow × LineRow)) : Type 0 where
   pub sequences : List (List LineRow)
   pub are : AreRowsOfSequences notation h sequences
   pub first : IsFirstFound a sequences found
@@ -38,4 +41,5 @@ pub record DefinesFile (notation : Notation) (h : Header) : Type 0 where
 
 -- the program is refused by its first fault, or there was no memory for a file that it defines
 abbrev pub IsRefusedInRun : Notation → Header → Error → Type 0
-IsRefusedInRun notation h e = HasFirstFault notation h e ⊎ ((e ≡ OutOfMemory) × DefinesFile notation h)
+IsRefusedInRun notation h e =
+    HasFirstFault notation h e ⊎ ((e ≡ OutOfMemory) × DefinesFile notation h)

@@ -1,6 +1,7 @@
--- What a lookup keeps of a section: its units, and the sequences of each, which are the parts of those of its program
--- that stand (`UnitRun.antt`).
-use Rattle.std.specs.Prelude.{◌≡◌, ◌≤◌, ◌-◌, ℕ, List, [], ◌∷◌, take, drop, Option, Some, None, All, slice_get}
+-- What a lookup keeps of a section: its units, and the sequences of each, which are the parts of
+-- those of its program that stand (`UnitRun.antt`).
+use Rattle.std.specs.Prelude.{◌≡◌, ◌≤◌, ◌-◌, ℕ, List, [], ◌∷◌, take, drop, Option, Some, None, All}
+use Rattle.std.specs.Prelude.{slice_get}
 use Rattle.std.specs.List.{flat_map}
 use Rattle.gimli_core.specs.Notation.{Notation}
 use Rattle.gimli_core.specs.declared.error.Error.{Error}
@@ -46,7 +47,10 @@ all_sequences units = flat_map (λ u. u.sequences) units
 
 -- a unit, with its part of the sequences of all units
 abbrev pub with_sequences : List (List LineRow) → ListedUnit → KeptUnit
-with_sequences sequences u = record { unit = u; sequences = take (u.end - u.first) (drop u.first sequences) }
+with_sequences sequences u = record {
+  unit = u;
+  sequences = take (u.end - u.first) (drop u.first sequences);
+}
 
 -- a unit without its header, with the same sequences
 abbrev pub unit_without_header : KeptUnit → KeptUnit
@@ -55,10 +59,13 @@ unit_without_header u = record u { unit = without_header u.unit }
 -- the units have the sequences of these indices, one unit after the other
 abbrev pub AreAdjacent : ℕ → List ListedUnit → ℕ → Type 0
 AreAdjacent from [] end = from ≡ end
-AreAdjacent from (u ∷ units) end = (u.first ≡ from) × (u.first ≤ u.end) × AreAdjacent u.end units end
+AreAdjacent from (u ∷ units) end =
+    (u.first ≡ from) × (u.first ≤ u.end) × AreAdjacent u.end units end
 
--- x and y are the first adjacent rows round an address in the unit at an index, and no unit before it has any
-pub record IsFirstPairOfUnit (a : ℕ) (units : List KeptUnit) (index : ℕ) (x y : LineRow) : Type 0 where
+-- x and y are the first adjacent rows round an address in the unit at an index, and no unit before
+-- it has any
+pub record IsFirstPairOfUnit (a : ℕ) (units : List KeptUnit) (index : ℕ) (x y : LineRow)
+    : Type 0 where
   pub unit : KeptUnit
   pub there : slice_get units index ≡ Some unit
   pub none_earlier : All (λ u. All (HasNoPair a) u.sequences) (take index units)

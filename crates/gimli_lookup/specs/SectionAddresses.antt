@@ -8,12 +8,15 @@ use Rattle.gimli_lookup.specs.Strings.{Strings}
 
 -- whether the file of an index of a unit has a path; a refused unit has no files
 abbrev pub unit_has_path : Strings → List ℕ → ListedUnit → ℕ → Bool
-unit_has_path sections path u i = option_map_or (λ h. has_path (paths_of sections h.meaning) path i) u.header false
+unit_has_path sections path u i =
+    option_map_or (λ h. has_path (paths_of sections h.meaning) path i) u.header false
 
 -- the addresses of a line of a path in one unit
 abbrev pub unit_addresses : Strings → List ℕ → KeptUnit → ℕ → List ℕ
-unit_addresses sections path u line = addresses_of (unit_has_path sections path u.unit) u.sequences line
+unit_addresses sections path u line =
+    addresses_of (unit_has_path sections path u.unit) u.sequences line
 
 -- the addresses of a line of a path in units, in their order
 abbrev pub addresses_of_path : Strings → List ℕ → List KeptUnit → ℕ → List ℕ
-addresses_of_path sections path units line = flat_map (λ u. unit_addresses sections path u line) units
+addresses_of_path sections path units line =
+    flat_map (λ u. unit_addresses sections path u line) units

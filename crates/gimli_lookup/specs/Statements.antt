@@ -1,19 +1,23 @@
 -- Where code of a line begins: the addresses for a breakpoint (DWARF 5, section 6.2.2).
-use Rattle.std.specs.Prelude.{◌≡◌, ◌≢◌, ◌≤◌, ◌<◌, ℕ, Bool, not, ◌&&◌, ◌==◌, nat_lt, if◌then◌else◌, List, [], ◌∷◌, flat_map, Option, Some, None}
+use Rattle.std.specs.Prelude.{◌≡◌, ◌≢◌, ◌≤◌, ◌<◌, ℕ, Bool, not, ◌&&◌, ◌==◌, nat_lt, if◌then◌else◌}
+use Rattle.std.specs.Prelude.{List, [], ◌∷◌, flat_map, Option, Some, None}
 use Rattle.std.specs.List.{slice_split}
 use Rattle.gimli_line.specs.declared.run.row.LineRow.{LineRow}
 use Rattle.gimli_lookup.specs.declared.statements.Addresses.{Addresses}
 
--- whether a row is of a line of a file, by a test of file numbers, since several may stand for one file. An end row is of
--- none, for no code begins at it; nor is a row of line 0, whose code is of no line
+-- whether a row is of a line of a file, by a test of file numbers, since several may stand for one
+-- file. An end row is of none, for no code begins at it; nor is a row of line 0, whose code is of
+-- no line
 abbrev pub is_of_line : (ℕ → Bool) → ℕ → LineRow → Bool
-is_of_line is_file line r = not r.end_sequence && nat_lt 0 r.line && r.line == line && is_file r.file
+is_of_line is_file line r =
+    not r.end_sequence && nat_lt 0 r.line && r.line == line && is_file r.file
 
 -- the runs of a line: rows of it that stand side by side, between those that aren't of it
 abbrev pub runs : (ℕ → Bool) → ℕ → List LineRow → List (List LineRow)
 runs is_file line rows = slice_split (λ r. not (is_of_line is_file line r)) rows
 
--- the address of the first row of a run that is a recommended place for a breakpoint (is_stmt), where it has one
+-- the address of the first row of a run that is a recommended place for a breakpoint (is_stmt),
+-- where it has one
 abbrev pub first_statement : List LineRow → List ℕ
 first_statement [] = []
 first_statement (r ∷ run) = if r.is_stmt then r.address ∷ [] else first_statement run
@@ -36,7 +40,9 @@ pub record IsFirstLine (addresses : ℕ → List ℕ) (asked line : ℕ) : Type 
   pub some : addresses line ≢ []
   pub none_before : (l : ℕ) → asked ≤ l → l < line → addresses l ≡ []
 
--- the answer for a line: the first line from it on that has an address, with all its addresses; None where no line has any
+-- the answer for a line: the first line from it on that has an address, with all its addresses;
+-- None where no line has any
 abbrev pub AreAddressesFrom : (ℕ → List ℕ) → ℕ → Option Addresses → Type 0
 AreAddressesFrom addresses asked None = HasNoLine addresses asked
-AreAddressesFrom addresses asked (Some found) = IsFirstLine addresses asked found.line × (found.addresses.items ≡ addresses found.line)
+AreAddressesFrom addresses asked (Some found) =
+    IsFirstLine addresses asked found.line × (found.addresses.items ≡ addresses found.line)

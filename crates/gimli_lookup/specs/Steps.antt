@@ -1,6 +1,7 @@
--- The steps of an index: the first sequence that covers an address, as a function of the address that changes at
--- few places.
-use Rattle.std.specs.Prelude.{◌≡◌, ◌<◌, ◌≤◌, ◌+◌, ◌*◌, ◌^◌, ℕ, nat_le, if◌then◌else◌, List, [], ◌∷◌, length, fold, sum_by, slice_index_or, Option, None}
+-- The steps of an index: the first sequence that covers an address, as a function of the address
+-- that changes at few places.
+use Rattle.std.specs.Prelude.{◌≡◌, ◌<◌, ◌≤◌, ◌+◌, ◌*◌, ◌^◌, ℕ, nat_le, if◌then◌else◌, List, [], ◌∷◌}
+use Rattle.std.specs.Prelude.{length, fold, sum_by, slice_index_or, Option, None}
 use Rattle.gimli_line.specs.declared.run.row.LineRow.{LineRow}
 use Rattle.gimli_lookup.specs.declared.steps.Step.{Step}
 use Rattle.gimli_lookup.specs.declared.index.Index.{Index}
@@ -20,19 +21,22 @@ abbrev pub AreInOrder : List Step → Type 0
 AreInOrder steps = (i j : ℕ) (d : Step) → i ≤ j → j < length steps
     → (slice_index_or steps i d).from ≤ (slice_index_or steps j d).from
 
--- the steps say which of these sequences is the first that covers an address, the first of them having the index
--- `first`; after the last step none does, and a sequence has two steps at most
-pub record AreStepsOf (first : ℕ) (sequences : List (List LineRow)) (steps : List Step) : Type 0 where
+-- the steps say which of these sequences is the first that covers an address, the first of them
+-- having the index `first`; after the last step none does, and a sequence has two steps at most
+pub record AreStepsOf (first : ℕ) (sequences : List (List LineRow)) (steps : List Step)
+    : Type 0 where
   pub in_order : AreInOrder steps
   pub value : (a : ℕ) → step_at a steps ≡ covering_index a first sequences
   pub ended : last_step steps ≡ None
   pub few : length steps ≤ 2 * length sequences
 
--- the indices of the sequences whose addresses go down, the first of these sequences having the index `first`
+-- the indices of the sequences whose addresses go down, the first of these sequences having the
+-- index `first`
 abbrev pub indexes_out_of_order : ℕ → List (List LineRow) → List ℕ
 indexes_out_of_order first [] = []
 indexes_out_of_order first (rows ∷ later) =
-    if never_go_down rows then indexes_out_of_order (first + 1) later else first ∷ indexes_out_of_order (first + 1) later
+    if never_go_down rows then indexes_out_of_order (first + 1) later
+    else first ∷ indexes_out_of_order (first + 1) later
 
 -- an index of these sequences. All probes that a search of them takes can be counted
 pub record IsIndexOf (index : Index) (sequences : List (List LineRow)) : Type 0 where

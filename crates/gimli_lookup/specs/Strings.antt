@@ -5,9 +5,21 @@ use Rattle.std.specs.Result.{result_map_both}
 use Rattle.gimli_core.specs.Production.{text}
 use Rattle.gimli_core.specs.Reading.{text_at}
 use Rattle.gimli_core.specs.Values.{Value}
-use Rattle.gimli_core.specs.declared.attribute_value.AttributeValue.TheVariants.{String, DebugStrRef, DebugStrRefSup, DebugLineStrRef, DebugStrOffsetsIndex}
+use Rattle.gimli_core.specs.declared.attribute_value.AttributeValue.TheVariants.{
+  String,
+  DebugStrRef,
+  DebugStrRefSup,
+  DebugLineStrRef,
+  DebugStrOffsetsIndex,
+}
 use Rattle.gimli_lookup.specs.declared.path_error.PathError.{PathError}
-use Rattle.gimli_lookup.specs.declared.path_error.PathError.TheVariants.{UnsupportedStringIndex, UnsupportedSupplementaryString, StringOffsetOutOfBounds, UnterminatedString, ExpectedStringAttributeValue}
+use Rattle.gimli_lookup.specs.declared.path_error.PathError.TheVariants.{
+  UnsupportedStringIndex,
+  UnsupportedSupplementaryString,
+  StringOffsetOutOfBounds,
+  UnterminatedString,
+  ExpectedStringAttributeValue,
+}
 use Rattle.gimli_lookup.specs.declared.string_sections.StringSections.{StringSections}
 
 -- the bytes of the sections of strings
@@ -15,12 +27,17 @@ abbrev pub Strings : Type 0
 Strings = StringSections (List ℕ)
 
 abbrev pub strings : {R : Type 0} → (R → List ℕ) → StringSections R → Strings
-strings bytes sections = record { debug_line_str = bytes sections.debug_line_str; debug_str = bytes sections.debug_str }
+strings bytes sections = record {
+  debug_line_str = bytes sections.debug_line_str;
+  debug_str = bytes sections.debug_str;
+}
 
--- the string at the front of bytes, which are what a section has from an offset on: those before the first zero byte
+-- the string at the front of bytes, which are what a section has from an offset on: those before
+-- the first zero byte
 abbrev pub front_string : List ℕ → Result (List ℕ) PathError
 front_string [] = Err StringOffsetOutOfBounds
-front_string (byte ∷ bytes) = result_map_both (λ string. string) (λ e. UnterminatedString) (text_at (byte ∷ bytes)).0
+front_string (byte ∷ bytes) =
+    result_map_both (λ string. string) (λ e. UnterminatedString) (text_at (byte ∷ bytes)).0
 
 abbrev pub string_at : List ℕ → ℕ → Result (List ℕ) PathError
 string_at section offset = front_string (drop offset section)

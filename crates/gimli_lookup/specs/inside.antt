@@ -1,4 +1,5 @@
 -- What no public clause reaches: private functions and proofs alone speak of it.
+pub mod Ends
 pub mod FirstPair
 pub mod PairSearch
 pub mod PathFiles

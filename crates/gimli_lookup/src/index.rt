@@ -1,15 +1,21 @@
-//! An index of sequences: few stored addresses are looked at to find the first sequence that covers an address.
+//! An index of sequences: few stored addresses are looked at to find the first sequence that covers
+//! an address.
 
-ghost use Rattle.std.specs.Prelude.{◌≡◌, ◌≤◌, ◌<◌, ◌+◌, ◌*◌, ◌^◌, ℕ, true, false, length, slice_index_or, sum_by, take, All, Any, IfErr, IfOk, MatchOption};
+ghost use Rattle.std.specs.Prelude.{◌≡◌, ◌≤◌, ◌<◌, ◌+◌, ◌*◌, ◌^◌, ℕ, true, false, length};
+ghost use Rattle.std.specs.Prelude.{slice_index_or, sum_by, take, All, Any, IfErr, IfOk, IfSome};
+ghost use Rattle.std.specs.Prelude.{MatchOption};
 ghost use Rattle.gimli_line.specs.declared.run.row.LineRow.{LineRow};
 ghost use Rattle.gimli_lookup.specs.declared.steps.Step.{Step};
 ghost use Rattle.gimli_lookup.specs.FirstPair.{HasNoPair};
+ghost use Rattle.gimli_lookup.specs.Ranges.{IsBefore};
+ghost use Rattle.gimli_lookup.specs.inside.Ends.{IsFoundIn};
 ghost use Rattle.gimli_lookup.specs.inside.FirstPair.{IsFirstPairIn};
 ghost use Rattle.gimli_lookup.specs.Covering.{covering_probes, scan_probes, IsLookedInto};
 ghost use Rattle.gimli_lookup.specs.Probes.{binary_digits};
 ghost use Rattle.gimli_lookup.specs.Steps.{step_at, indexes_out_of_order, AreInOrder, IsIndexOf};
 ghost use Rattle.gimli_lookup.specs.inside.Steps.{HaveNoUnorderedPair, IsFirstUnorderedPair};
 
+use crate::ends::{nearer, next_step, next_unordered};
 use crate::kept_rows::KeptRows;
 use crate::search;
 use crate::steps::{Step, steps_of};
@@ -25,8 +31,8 @@ pub(crate) struct Found {
     pub(crate) next: LineRow,
 }
 
-/// Which of some sequences is the first that covers an address. Sequences whose addresses go down stand beside, and are
-/// searched row by row.
+/// Which of some sequences is the first that covers an address. Sequences whose addresses go down
+/// stand beside, and are searched row by row.
 #[derive(Debug, Drop)]
 pub(crate) struct Index {
     steps: Vec<Step>,
@@ -114,8 +120,8 @@ fn sequence_at(steps: &[Step], a: u64, probes: &mut u64) -> Option<usize>
     steps[count - 1].sequence
 }
 
-/// The first rows that cover `a`, of the sequences whose addresses go down and that stand before `end`; None where there
-/// are none. Each is searched row by row.
+/// The first rows that cover `a`, of the sequences whose addresses go down and that stand before
+/// `end`; None where there are none. Each is searched row by row.
 fn find_unordered(
     indexes: &[usize],
     sequences: &[KeptRows],
@@ -162,9 +168,9 @@ impl Index {
         Ok(Index { steps, unordered })
     }
 
-    /// The first rows that cover `a` of the first of these sequences that has some, with its index; None where no
-    /// sequence has any. And the number of probes: of stored addresses that were looked at, of steps and of rows.
-    /// Requires the sequences that the index was made of.
+    /// The first rows that cover `a` of the first of these sequences that has some, with its index;
+    /// None where no sequence has any. And the number of probes: of stored addresses that were
+    /// looked at, of steps and of rows. Requires the sequences that the index was made of.
     pub(crate) fn find(&self, sequences: &[KeptRows], a: u64) -> (Option<Found>, u64)
         requires { IsIndexOf self.now sequences.now }
         ensures found { MatchOption result.0 (All (HasNoPair a) sequences.now)
@@ -191,5 +197,40 @@ impl Index {
             next,
         };
         (Some(found), probes)
+    }
+
+    /// What `find` returns at `a`, and the address up to which it returns the same; None where it
+    /// does so at all addresses from `a` on. Requires the sequences that the index was made of.
+    pub(crate) fn find_with_end(
+        &self,
+        sequences: &[KeptRows],
+        a: u64,
+    ) -> (Option<Found>, Option<u64>)
+        requires { IsIndexOf self.now sequences.now }
+        ensures above { IfSome result.1 (λ end. a < end) }
+        ensures found { (b : ℕ) → a ≤ b → IsBefore b result.1 → IsFoundIn b sequences.now result.0 }
+    {
+        let (found, _) = self.find(sequences, a);
+        let end = self.end_after(sequences, a, &found);
+        (found, end)
+    }
+
+    /// The address up to which what is found at `a` is found. Requires the sequences that the index
+    /// was made of.
+    fn end_after(&self, sequences: &[KeptRows], a: u64, found: &Option<Found>) -> Option<u64>
+        requires index { IsIndexOf self.now sequences.now }
+        requires found { IsFoundIn a sequences.now found.now }
+        ensures above { IfSome result (λ end. a < end) }
+        ensures found { (b : ℕ) → a ≤ b → IsBefore b result → IsFoundIn b sequences.now found.now }
+    {
+        let steps = self.steps.as_slice();
+        let mut probes = 0;
+        let count = steps_up_to(steps, a, &mut probes);
+        let unordered = next_unordered(self.unordered.as_slice(), sequences, a);
+        let end = nearer(next_step(steps, a, count), unordered);
+        match found {
+            Some(found) => nearer(end, Some(found.next.address())),
+            None => end,
+        }
     }
 }

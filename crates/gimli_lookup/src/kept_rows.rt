@@ -1,6 +1,7 @@
 //! The rows of a sequence, which count each reading of an address.
 
-ghost use Rattle.std.specs.Prelude.{◌≡◌, ◌<◌, ◌+◌, ◌-◌, ◌^◌, length, option_map, slice_get, slice_index_or, Some};
+ghost use Rattle.std.specs.Prelude.{◌≡◌, ◌<◌, ◌+◌, ◌-◌, ◌^◌, length, option_map, slice_get};
+ghost use Rattle.std.specs.Prelude.{slice_index_or, Some};
 ghost use Rattle.gimli_line.specs.declared.run.row.LineRow.{LineRow};
 ghost use Rattle.gimli_lookup.specs.Covering.{range};
 ghost use Rattle.gimli_lookup.specs.Probes.{never_go_down};
@@ -23,8 +24,8 @@ fn addresses_never_go_down(rows: &RowList) -> bool
     true
 }
 
-/// The rows of one sequence, in order. A search reads addresses by `address` alone, which counts each as a probe; `pair`
-/// returns the two rows that it found, and counts nothing.
+/// The rows of one sequence, in order. A search reads addresses by `address` alone, which counts
+/// each as a probe; `pair` returns the two rows that it found, and counts nothing.
 #[derive(Debug, Drop)]
 pub(crate) struct KeptRows {
     rows: RowList,
@@ -66,7 +67,8 @@ impl KeptRows {
         self.rows.len()
     }
 
-    /// The address of the row at an index, which is a probe. Requires an index of a row, and that the count can grow.
+    /// The address of the row at an index, which is a probe. Requires an index of a row, and that
+    /// the count can grow.
     pub(crate) fn address(&self, index: usize, probes: &mut u64) -> u64
         requires index { index < length self.now }
         requires count { probes.old + 1 < 2 ^ 64 }
@@ -97,7 +99,8 @@ impl KeptRows {
         (first, second)
     }
 
-    /// The address of the first row, and that of the last one; None where there are no rows. Counts no probe.
+    /// The address of the first row, and that of the last one; None where there are no rows. Counts
+    /// no probe.
     pub(crate) fn range(&self) -> Option<(u64, u64)>
         ensures first { option_map (λ range. range.0) result
             ≡ option_map (λ row. row.address) (slice_get self.now 0) }

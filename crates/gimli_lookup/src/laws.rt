@@ -10,7 +10,10 @@ ghost use Rattle.gimli_lookup.specs.FirstPair.{IsFirstPair};
 ghost use Rattle.gimli_lookup.specs.Paths.{Paths, is_absolute, directory_string};
 ghost use Rattle.gimli_lookup.specs.Paths.{file_path, EndsWithOwnPath, HasAbsoluteRoot};
 ghost use Rattle.gimli_lookup.specs.Run.{AreRowsOfSequences, IsFirstFound, IsFoundInRun};
-ghost use Rattle.gimli_lookup.specs.declared.path_error.PathError.TheVariants.{StringOffsetOutOfBounds, UnterminatedString};
+ghost use Rattle.gimli_lookup.specs.declared.path_error.PathError.TheVariants.{
+  StringOffsetOutOfBounds,
+  UnterminatedString,
+};
 ghost use Rattle.gimli_lookup.specs.Strings.{string_at, HasNoStringEnd, IsStringAt};
 
 use crate::path_error::PathError;
@@ -24,8 +27,8 @@ pub fn one_first_pair()
         IsFirstPair a sequences x y → IsFirstPair a sequences z w → (x ≡ z) × (y ≡ w) }
 {}
 
-/// The string at an offset of a section is the one that is spelled there. It is refused exactly where the section has no
-/// byte at the offset, or no zero byte from there on.
+/// The string at an offset of a section is the one that is spelled there. It is refused exactly
+/// where the section has no byte at the offset, or no zero byte from there on.
 pub fn strings_are_spelled()
     ensures found { (section : List ℕ) (offset : ℕ) (string : List ℕ) →
         string_at section offset ≡ Ok string → IsStringAt section offset string }
@@ -68,8 +71,8 @@ pub fn clones_of_errors_are_same()
 pub fn clones_of_sections_are_same<R: Clone>()
     ensures { GivesSame R.is_clone R.is_infallible → ClonesGiveSame ⟦<StringSections<R> as Clone>⟧ }
 {}
-/// A program has one list of the rows of its sequences. So `find_in_run` returns what `Lookup::find` does, over a
-/// lookup of the same program.
+/// A program has one list of the rows of its sequences. So `find_in_run` returns what
+/// `Lookup::find` does, over a lookup of the same program.
 pub fn one_answer()
     ensures sequences { (notation : Notation) (h : Header) (rows other : List (List LineRow)) →
         AreRowsOfSequences notation h rows → AreRowsOfSequences notation h other → rows ≡ other }

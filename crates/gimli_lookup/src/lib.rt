@@ -1,12 +1,13 @@
-//! The rows of line programs that cover an address, the paths of their files, and the addresses of a line, in DWARF
-//! versions 2 to 5.
+//! The rows of line programs that cover an address, the paths of their files, and the addresses of
+//! a line, in DWARF versions 2 to 5.
 //!
-//! [`Lookup`] keeps the rows of each sequence of a program, and finds the two between which an address stands.
-//! [`SectionLookup`] does so for all units of a section. [`find_in_run`] returns what a lookup does for one address,
-//! and keeps no rows. [`Paths`] gives the whole path of a row's file. The way back, from a line of a file to
-//! [`Addresses`], goes by the same rows.
+//! [`Lookup`] keeps the rows of each sequence of a program, and finds the two between which an
+//! address stands. [`SectionLookup`] does so for all units of a section. [`find_in_run`] returns
+//! what a lookup does for one address, and keeps no rows. [`Paths`] gives the whole path of a row's
+//! file. The way back, from a line of a file to [`Addresses`], goes by the same rows.
 #![tactic(auto)]
 
+mod ends;
 mod index;
 mod kept_rows;
 pub mod laws;
@@ -14,6 +15,7 @@ mod lookup;
 mod path_error;
 mod path_files;
 mod paths;
+mod ranges;
 mod run;
 mod search;
 mod section_addresses;
@@ -28,6 +30,7 @@ mod unit_run;
 pub use lookup::Lookup;
 pub use path_error::PathError;
 pub use paths::Paths;
+pub use ranges::{CoveredRange, Ranges};
 pub use run::find_in_run;
 pub use section_lookup::{CoveringRows, SectionLookup};
 pub use section_unit::UnitLookup;

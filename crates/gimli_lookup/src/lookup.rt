@@ -1,6 +1,7 @@
 //! The rows of a program, kept so that those that cover an address are found.
 
-ghost use Rattle.std.specs.Prelude.{◌≡◌, ◌≢◌, ◌≤◌, ◌+◌, ◌*◌, length, map, nat_eq, sum_by, All, Any, IfErr, IfOk, MatchOption};
+ghost use Rattle.std.specs.Prelude.{◌≡◌, ◌≢◌, ◌≤◌, ◌+◌, ◌*◌, length, map, nat_eq, sum_by, All, Any};
+ghost use Rattle.std.specs.Prelude.{IfErr, IfOk, MatchOption};
 ghost use Rattle.gimli_line.specs.header.Header.{HasOneOrder};
 ghost use Rattle.gimli_line.specs.header.Orders.{header_orders};
 ghost use Rattle.gimli_line.specs.run.Events.{row};
@@ -41,6 +42,13 @@ fn keep_each(alloc: Global, rows: Vec<RowList>) -> Result<Vec<KeptRows>>
 }
 
 /// The rows of a line program, kept so that those that cover an address are found.
+///
+/// <!-- part of crates/uses/src/lookup.rt -->
+/// ```rust
+/// let program = section.program(alloc, offset, 8, None, None)?;
+/// let lookup = Lookup::new(program)?;
+/// Ok(row_at(&lookup, address))
+/// ```
 #[derive(Drop)]
 #[derive_where(Debug; R, R::Offset)]
 pub struct Lookup<R: Reader> {
@@ -72,8 +80,9 @@ impl<R: Reader> Model for Lookup<R> {
 }
 
 impl<R: Reader> Lookup<R> {
-    /// Runs the whole program, and keeps the rows of each of its sequences. Rows after the last end row are in no
-    /// sequence. Refused as `sequences` is: by the first fault of the run, wherever it stands; or by `OutOfMemory`.
+    /// Runs the whole program, and keeps the rows of each of its sequences. Rows after the last end
+    /// row are in no sequence. Refused as `sequences` is: by the first fault of the run, wherever
+    /// it stands; or by `OutOfMemory`.
     pub fn new(program: IncompleteLineProgram<R>) -> Result<Lookup<R>>
         ensures sequences { IfOk result (λ lookup.
             AreSequences program.notation program.meaning lookup.header lookup.parts) }
@@ -120,8 +129,9 @@ impl<R: Reader> Lookup<R> {
         self.sequences.as_slice()
     }
 
-    /// The rows that cover the address `a`: the first adjacent rows of one sequence of which the first has an address
-    /// at most `a`, and the second one above it. None where there are none. Takes no memory.
+    /// The rows that cover the address `a`: the first adjacent rows of one sequence of which the
+    /// first has an address at most `a`, and the second one above it. None where there are none.
+    /// Takes no memory.
     pub fn find(&self, a: u64) -> Option<(LineRow, LineRow)>
         ensures { MatchOption result (All (HasNoPair a) self.now.rows)
             (λ pair. IsFirstPair a self.now.rows pair.0 pair.1) }
@@ -129,9 +139,10 @@ impl<R: Reader> Lookup<R> {
         self.find_indexed_counted(a).0
     }
 
-    /// What `find` returns, and the number of probes that it takes: of stored addresses that are looked at. A sequence
-    /// whose addresses never go down is found by halves, however many there are and however they overlap, and then its
-    /// rows by halves; the others are searched row by row.
+    /// What `find` returns, and the number of probes that it takes: of stored addresses that are
+    /// looked at. A sequence whose addresses never go down is found by halves, however many there
+    /// are and however they overlap, and then its rows by halves; the others are searched row by
+    /// row.
     pub fn find_indexed_counted(&self, a: u64) -> (Option<(LineRow, LineRow)>, u64)
         ensures pair { MatchOption result.0 (All (HasNoPair a) self.now.rows)
             (λ pair. IsFirstPair a self.now.rows pair.0 pair.1) }
@@ -146,9 +157,9 @@ impl<R: Reader> Lookup<R> {
         }
     }
 
-    /// What `find` returns, found by going over the sequences one after the other, and the number of probes that this
-    /// takes: of times that the address of a row is read. In a sequence whose addresses never go down the rows are
-    /// searched by halves, in any other one by one.
+    /// What `find` returns, found by going over the sequences one after the other, and the number
+    /// of probes that this takes: of times that the address of a row is read. In a sequence whose
+    /// addresses never go down the rows are searched by halves, in any other one by one.
     pub fn find_counted(&self, a: u64) -> (Option<(LineRow, LineRow)>, u64)
         ensures pair { MatchOption result.0 (All (HasNoPair a) self.now.rows)
             (λ pair. IsFirstPair a self.now.rows pair.0 pair.1) }
@@ -164,10 +175,10 @@ impl<R: Reader> Lookup<R> {
         (None, probes)
     }
 
-    /// The addresses for a breakpoint at a line of a file, by the file's index in the header: of each run of rows of
-    /// that line that stand side by side in a sequence, that of the first with `is_stmt` (DWARF 5, section 6.2.2).
-    /// Where the line has none, those of the next line that has; None where no line from it on has any. Fails only
-    /// with `OutOfMemory`.
+    /// The addresses for a breakpoint at a line of a file, by the file's index in the header: of
+    /// each run of rows of that line that stand side by side in a sequence, that of the first with
+    /// `is_stmt` (DWARF 5, section 6.2.2). Where the line has none, those of the next line that
+    /// has; None where no line from it on has any. Fails only with `OutOfMemory`.
     pub fn addresses_of_file(&self, file: u64, line: u64) -> Result<Option<Addresses>>
         ensures ok { IfOk result
             (AreAddressesFrom (addresses_of (nat_eq file) self.now.rows) line) }

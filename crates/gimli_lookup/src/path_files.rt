@@ -1,6 +1,7 @@
 //! The files of a header that have a path.
 
-ghost use Rattle.std.specs.Prelude.{◌≡◌, ◌++◌, [], ◌∷◌, if◌then◌else◌, ℕ, length, IfErr, IfOk, OnOk};
+ghost use Rattle.std.specs.Prelude.{◌≡◌, ◌++◌, [], ◌∷◌, if◌then◌else◌, ℕ, length, IfErr, IfOk};
+ghost use Rattle.std.specs.Prelude.{OnOk};
 ghost use Rattle.gimli_lookup.specs.PathFiles.{has_path, paths_of};
 ghost use Rattle.gimli_lookup.specs.inside.PathFiles.{AreBelow};
 ghost use Rattle.gimli_lookup.specs.inside.Statements.{is_among};
@@ -77,15 +78,16 @@ fn files_below<R: Reader>(
     Ok(files)
 }
 
-/// The greatest index that a file may have: that of the last one up to version 4, where the table begins at 1.
+/// The greatest index that a file may have: that of the last one up to version 4, where the table
+/// begins at 1.
 fn last_index<R: Reader>(header: &LineProgramHeader<R>) -> u64
     ensures { result ≡ length header.now.meaning.files }
 {
     header.file_names().len() as u64
 }
 
-/// The indices of the files that have this whole path; one that has no path isn't among them. Fails only with
-/// `OutOfMemory`.
+/// The indices of the files that have this whole path; one that has no path isn't among them. Fails
+/// only with `OutOfMemory`.
 pub(crate) fn files_with_path<R: Reader>(
     alloc: Global,
     header: &LineProgramHeader<R>,

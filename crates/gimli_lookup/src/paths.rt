@@ -98,6 +98,13 @@ fn string_bytes<R: Reader>(
 /// goes on from the directory of the compilation, which is directory 0. In version 5 that one may
 /// be relative itself: then all relative directories, directory 0 too, go on from the directory
 /// that the caller knows. Where nobody knows an absolute one, the path stays relative.
+///
+/// <!-- part of crates/uses/src/where_is.rt -->
+/// ```rust
+/// let Some(directory) = self.compilations.directory_of(offset) else {
+///     return Paths::new(header, self.strings, None).of_row(alloc, row);
+/// };
+/// ```
 #[derive(Drop)]
 #[derive_where(Debug; R, R::Offset)]
 pub struct Paths<'a, R: Reader> {
@@ -147,8 +154,8 @@ impl<'a, R: Reader> Paths<'a, R> {
         }
     }
 
-    /// The whole path of a file, as bytes of any kind. Refused as `PathError` says; a directory that the path doesn't go on
-    /// from isn't read, and so refuses nothing.
+    /// The whole path of a file, as bytes of any kind. Refused as `PathError` says; a directory
+    /// that the path doesn't go on from isn't read, and so refuses nothing.
     pub fn of_file(&self, alloc: Global, file: &FileEntry<R>) -> Result<Vec<u8>, PathError>
         ensures ok { IfOk result (λ path.
             file_path self.now (file_seen R.bytes R.Offset.number file.now) ≡ Ok path.items) }
@@ -163,8 +170,8 @@ impl<'a, R: Reader> Paths<'a, R> {
         path_in(directory, &path)
     }
 
-    /// The whole path of a row's file. Refused as `of_file` is, and by `InvalidFileIndex` where the header has no such
-    /// file.
+    /// The whole path of a row's file. Refused as `of_file` is, and by `InvalidFileIndex` where the
+    /// header has no such file.
     pub fn of_row(&self, alloc: Global, row: &LineRow) -> Result<Vec<u8>, PathError>
         ensures ok { IfOk result (λ path. row_path self.now row.now ≡ Ok path.items) }
         ensures err { IfErr result (λ e. e ≢ OutOfMemory → row_path self.now row.now ≡ Err e) }
@@ -216,7 +223,8 @@ impl<'a, R: Reader> Paths<'a, R> {
         self.comp_dir.unwrap_or(&[])
     }
 
-    /// The directory of an index, as it is written. Up to version 4 that of index 0 may be the caller's.
+    /// The directory of an index, as it is written. Up to version 4 that of index 0 may be the
+    /// caller's.
     fn directory_string(&self, alloc: Global, index: u64) -> Result<Vec<u8>, PathError>
         ensures ok { IfOk result (λ path. directory_string self.now index ≡ Ok path.items) }
         ensures err { IfErr result (λ e. e ≢ OutOfMemory

@@ -86,9 +86,9 @@ impl PairSearch {
     }
 }
 
-/// What `Lookup::find` returns at the address `a`, found while the whole program runs once. Takes no memory but for
-/// files that the program defines. Refused by the first fault of the run, wherever it stands; or by `OutOfMemory`,
-/// which a program that defines no file never is.
+/// What `Lookup::find` returns at the address `a`, found while the whole program runs once. Takes
+/// no memory but for files that the program defines. Refused by the first fault of the run,
+/// wherever it stands; or by `OutOfMemory`, which a program that defines no file never is.
 pub fn find_in_run<R: Reader>(
     program: IncompleteLineProgram<R>,
     a: u64,

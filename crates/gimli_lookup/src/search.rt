@@ -1,6 +1,7 @@
 //! The search for the rows of one sequence that cover an address.
 
-ghost use Rattle.std.specs.Prelude.{◌≡◌, ◌≤◌, ◌<◌, ◌+◌, ◌^◌, ℕ, true, length, slice_index_or, MatchOption};
+ghost use Rattle.std.specs.Prelude.{◌≡◌, ◌≤◌, ◌<◌, ◌+◌, ◌^◌, ℕ, true, length, slice_index_or};
+ghost use Rattle.std.specs.Prelude.{MatchOption};
 ghost use Rattle.gimli_line.specs.declared.run.row.LineRow.{LineRow};
 ghost use Rattle.gimli_lookup.specs.FirstPair.{HasNoPair, IsFirstPairOf};
 ghost use Rattle.gimli_lookup.specs.Probes.{never_go_down, binary_digits, most_probes};
@@ -8,13 +9,14 @@ ghost use Rattle.gimli_lookup.specs.Probes.{never_go_down, binary_digits, most_p
 use crate::kept_rows::KeptRows;
 use gimli_line::LineRow;
 
-/// The index of the first row whose address is above `a`, or the number of rows where there is none. Requires addresses
-/// that never go down.
+/// The index of the first row whose address is above `a`, or the number of rows where there is
+/// none. Requires addresses that never go down.
 fn first_above(rows: &KeptRows, a: u64, probes: &mut u64) -> usize
     requires order { never_go_down rows.now ≡ true }
     requires count { probes.old + length rows.now < 2 ^ 64 }
     ensures index { result ≤ length rows.now }
-    ensures before { (k : ℕ) (d : LineRow) → k < result → (slice_index_or rows.now k d).address ≤ a }
+    ensures before { (k : ℕ) (d : LineRow) → k < result
+        → (slice_index_or rows.now k d).address ≤ a }
     ensures after { (k : ℕ) (d : LineRow) → result ≤ k → k < length rows.now
         → a < (slice_index_or rows.now k d).address }
     ensures grows { probes.old ≤ probes.new }

@@ -2,7 +2,11 @@
 
 ghost use Rattle.std.specs.Prelude.{◌≡◌, ◌<◌, ℕ, IfErr, IfOk, length, nat_eq, slice_index_or};
 ghost use Rattle.gimli_lookup.specs.Section.{KeptUnit};
-ghost use Rattle.gimli_lookup.specs.SectionAddresses.{unit_has_path, unit_addresses, addresses_of_path};
+ghost use Rattle.gimli_lookup.specs.SectionAddresses.{
+  unit_has_path,
+  unit_addresses,
+  addresses_of_path,
+};
 ghost use Rattle.gimli_lookup.specs.Statements.{addresses_of, AreAddressesFrom};
 ghost use Rattle.gimli_lookup.specs.inside.Statements.{is_among};
 ghost use Rattle.gimli_lookup.specs.Strings.{strings};
@@ -33,10 +37,11 @@ fn unit_files<R: Reader>(
 }
 
 impl<R: Reader> SectionLookup<R> {
-    /// The addresses for a breakpoint at a line of a file of one unit, by the file's index in the unit's header: of each
-    /// run of rows of that line that stand side by side in a sequence, that of the first with `is_stmt` (DWARF 5,
-    /// section 6.2.2). Where the line has none, those of the next line that has; None where no line from it on has any.
-    /// Fails only with `OutOfMemory`. Requires an index of a unit.
+    /// The addresses for a breakpoint at a line of a file of one unit, by the file's index in the
+    /// unit's header: of each run of rows of that line that stand side by side in a sequence, that
+    /// of the first with `is_stmt` (DWARF 5, section 6.2.2). Where the line has none, those of the
+    /// next line that has; None where no line from it on has any. Fails only with `OutOfMemory`.
+    /// Requires an index of a unit.
     pub fn addresses_of_file(&self, unit: usize, file: u64, line: u64) -> Result<Option<Addresses>>
         requires { unit < length self.now }
         ensures ok { (d : KeptUnit) → IfOk result (AreAddressesFrom
@@ -46,10 +51,11 @@ impl<R: Reader> SectionLookup<R> {
         addresses_from(self.allocator(), self.sequences_of(unit), &[file], line)
     }
 
-    /// The addresses for a breakpoint at a line of the files that have a whole path, over all units: as
-    /// `addresses_of_file` gives them, in the order of the units, their sequences and their rows. The line is the first
-    /// from the asked one on that has an address in any unit. A file that has no path is passed over, and so is
-    /// a unit that was refused. Fails only with `OutOfMemory`.
+    /// The addresses for a breakpoint at a line of the files that have a whole path, over all
+    /// units: as `addresses_of_file` gives them, in the order of the units, their sequences and
+    /// their rows. The line is the first from the asked one on that has an address in any unit. A
+    /// file that has no path is passed over, and so is a unit that was refused. Fails only with
+    /// `OutOfMemory`.
     pub fn addresses_of(
         &self,
         sections: &StringSections<R>,

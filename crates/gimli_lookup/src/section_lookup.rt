@@ -1,6 +1,8 @@
 //! The rows of all units of a section, kept so that those that cover an address are found.
 
-ghost use Rattle.std.specs.Prelude.{◌≡◌, ◌<◌, ◌≤◌, ◌+◌, ◌-◌, ◌*◌, ◌++◌, ◌∷◌, [], ℕ, length, map, drop, sum_by, take, slice_index_or, All, Any, IfErr, IfOk, IfSome, IsTrue, MatchOption, None};
+ghost use Rattle.std.specs.Prelude.{◌≡◌, ◌<◌, ◌≤◌, ◌+◌, ◌-◌, ◌*◌, ◌++◌, ◌∷◌, [], ℕ, length, map};
+ghost use Rattle.std.specs.Prelude.{drop, sum_by, take, slice_index_or, All, Any, IfErr, IfOk};
+ghost use Rattle.std.specs.Prelude.{IfSome, IsTrue, MatchOption, None};
 ghost use Rattle.gimli_core.specs.Notation.{notation_of};
 ghost use Rattle.gimli_core.specs.Numbers.{is_address_size};
 ghost use Rattle.gimli_line.specs.Units.{AreUnits};
@@ -9,18 +11,22 @@ ghost use Rattle.gimli_line.specs.run.Unread.{unread_of};
 ghost use Rattle.gimli_lookup.specs.Covering.{covering_probes, scan_probes, IsLookedInto};
 ghost use Rattle.gimli_lookup.specs.FirstPair.{HasNoPair, IsFirstPair};
 ghost use Rattle.gimli_lookup.specs.Probes.{binary_digits};
-ghost use Rattle.gimli_lookup.specs.Section.{all_sequences, without_header, unit_without_header, AreAdjacent, IsFirstPairOfUnit, KeptUnit, ListedUnit};
+ghost use Rattle.gimli_lookup.specs.Ranges.{AreFoundIn};
+ghost use Rattle.gimli_lookup.specs.Section.{all_sequences, without_header, unit_without_header};
+ghost use Rattle.gimli_lookup.specs.Section.{AreAdjacent, IsFirstPairOfUnit, KeptUnit, ListedUnit};
 ghost use Rattle.gimli_lookup.specs.SectionUnits.{IsUnitOf};
 
 use crate::index::Index;
 use crate::kept_rows::KeptRows;
+use crate::ranges::CoveredRange;
 use crate::section_unit::UnitLookup;
 use gimli_core::{EndianSlice, Endianity, Error, Reader, ReaderOffset, Result};
 use gimli_line::{DebugLine, LineRow};
 use std::alloc::Global;
 use std::marker::Model;
 
-/// The sequences from an index up to another. Requires indices in this order, up to the number of sequences.
+/// The sequences from an index up to another. Requires indices in this order, up to the number of
+/// sequences.
 fn part(sequences: &[KeptRows], from: usize, end: usize) -> &[KeptRows]
     requires order { from ≤ end }
     requires end { end ≤ length sequences.now }
@@ -29,8 +35,8 @@ fn part(sequences: &[KeptRows], from: usize, end: usize) -> &[KeptRows]
     &sequences[from..end]
 }
 
-/// The index of the unit that has the sequence at an index, found by halves. Requires units that have the sequences up to
-/// some index after it.
+/// The index of the unit that has the sequence at an index, found by halves. Requires units that
+/// have the sequences up to some index after it.
 fn unit_of<R: Reader>(units: &[UnitLookup<R>], sequence: usize) -> usize
     requires { (end : ℕ) × AreAdjacent 0 units.now end × (sequence < end) }
     ensures unit { result < length units.now }
@@ -77,6 +83,18 @@ fn without_headers<E: Endianity>(
 }
 
 /// The rows that cover an address, and their unit.
+///
+/// <!-- part of crates/rows_reading/src/covering_rows.rt -->
+/// ```rust
+/// match lookup.find(address) {
+///     Some(found) => {
+///         let unit = found.unit;
+///         lines.put(format_args!("{address:016x} unit {unit}"));
+///         lines.put(RowLine(found.row));
+///         lines.put(RowLine(found.next));
+///     }
+///     None => lines.put(format_args!("{address:016x} none")),
+/// ```
 #[derive(Clone, Copy, Debug)]
 pub struct CoveringRows {
     /// The index of the unit, from 0 on.
@@ -88,7 +106,16 @@ pub struct CoveringRows {
     pub next: LineRow,
 }
 
-/// The units of a section and the rows of their sequences, kept so that those that cover an address are found.
+/// The units of a section and the rows of their sequences, kept so that those that cover an address
+/// are found.
+///
+/// <!-- part of crates/uses/src/where_is.rt -->
+/// ```rust
+/// let Some(found) = program.lookup.find(address) else {
+///     return Ok(None);
+/// };
+/// let unit = program.lookup.units().get(found.unit);
+/// ```
 #[derive(Drop)]
 #[derive_where(Debug; R, R::Offset)]
 pub struct SectionLookup<R: Reader> {
@@ -131,9 +158,11 @@ impl<R: Reader> SectionLookup<R> {
         lowest: u64,
     ) -> Result<SectionLookup<R>>
         requires { IsTrue (is_address_size address_size) }
-        ensures offsets { IfOk result (λ units. AreUnits (notation_of (R.big section.now) R.Offset.limit) 0
+        ensures offsets { IfOk result (λ units.
+            AreUnits (notation_of (R.big section.now) R.Offset.limit) 0
             (R.bytes section.now) (map (λ u. u.unit.offset) units)) }
-        ensures units { IfOk result (All (IsUnitOf (unread_of R.bytes R.big R.Offset.limit section.now)
+        ensures units { IfOk result
+            (All (IsUnitOf (unread_of R.bytes R.big R.Offset.limit section.now)
             (unit_entry R.bytes address_size None None) lowest)) }
         ensures err { IfErr result (λ e. e ≡ Error.OutOfMemory) }
     {
@@ -171,9 +200,10 @@ impl<R: Reader> SectionLookup<R> {
         self.find_counted(a).0
     }
 
-    /// What `find` returns, and the number of probes that it takes: of stored addresses that are looked at. Of the
-    /// sequences whose addresses never go down, the one that covers the address is found by halves, however many there
-    /// are, and then its rows by halves; the others are searched row by row.
+    /// What `find` returns, and the number of probes that it takes: of stored addresses that are
+    /// looked at. Of the sequences whose addresses never go down, the one that covers the address
+    /// is found by halves, however many there are, and then its rows by halves; the others are
+    /// searched row by row.
     pub fn find_counted(&self, a: u64) -> (Option<CoveringRows>, u64)
         ensures pair { MatchOption result.0 (All (HasNoPair a) (all_sequences self.now))
             (λ found. IsFirstPair a (all_sequences self.now) found.row found.next) }
@@ -181,7 +211,8 @@ impl<R: Reader> SectionLookup<R> {
             (λ found. IsFirstPairOfUnit a self.now found.unit found.row found.next) }
         ensures at_least { Any IsLookedInto (all_sequences self.now) → 1 ≤ result.1 }
         ensures at_most { let sequences = all_sequences self.now in result.1
-            ≤ binary_digits (2 * length sequences) + covering_probes a sequences + sum_by scan_probes sequences }
+            ≤ binary_digits (2 * length sequences) + covering_probes a sequences
+            + sum_by scan_probes sequences }
     {
         let (found, probes) = self.index.find(self.sequences.as_slice(), a);
         match found {
@@ -194,6 +225,28 @@ impl<R: Reader> SectionLookup<R> {
                 };
                 (Some(rows), probes)
             }
+        }
+    }
+
+    /// What `find` returns at the address `a`, and up to where it returns the same.
+    pub(crate) fn range_from(&self, a: u64) -> CoveredRange
+        ensures start { result.start ≡ a }
+        ensures end { IfSome result.end (λ end. a < end) }
+        ensures found { AreFoundIn self.now result }
+    {
+        let (found, end) = self.index.find_with_end(self.sequences.as_slice(), a);
+        let rows = match found {
+            None => None,
+            Some(found) => Some(CoveringRows {
+                unit: unit_of(self.units.as_slice(), found.sequence),
+                row: found.row,
+                next: found.next,
+            }),
+        };
+        CoveredRange {
+            start: a,
+            end,
+            rows,
         }
     }
 
@@ -213,8 +266,8 @@ impl<R: Reader> SectionLookup<R> {
 }
 
 impl<'i, E: Endianity> SectionLookup<EndianSlice<'i, E>> {
-    /// The same rows, without the headers of the units: what is left borrows nothing of the section, which may go. Fails
-    /// only with `OutOfMemory`.
+    /// The same rows, without the headers of the units: what is left borrows nothing of the
+    /// section, which may go. Fails only with `OutOfMemory`.
     pub fn without_headers(self) -> Result<SectionLookup<EndianSlice<'static, E>>>
         ensures ok { IfOk result (λ units. units ≡ map unit_without_header self.entry) }
         ensures err { IfErr result (λ e. e ≡ Error.OutOfMemory) }

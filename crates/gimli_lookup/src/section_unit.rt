@@ -12,6 +12,15 @@ use std::marker::Model;
 use std::ops::Range;
 
 /// A unit of a section, as a [`SectionLookup`](crate::SectionLookup) lists it.
+///
+/// <!-- part of crates/uses/src/where_is.rt -->
+/// ```rust
+/// let unit = program.lookup.units().get(found.unit);
+/// let Some(header) = unit.and_then(|unit| unit.header()) else {
+///     return Err(PathError::InvalidFileIndex(found.row.file_index()));
+/// };
+/// let path = program.path_of(alloc, header, &found.row)?;
+/// ```
 #[derive(Drop)]
 #[derive_where(Debug; R, R::Offset)]
 pub struct UnitLookup<R: Reader> {
@@ -40,14 +49,15 @@ impl<R: Reader> Model for UnitLookup<R> {
       end = a.end;
     } };
 
-    ghost invariant = { λ a. IfSome a.run (λ run. IsOfOneOrder run × (run.offset ≡ R.Offset.number a.offset.0)) };
+    ghost invariant = { λ a.
+        IfSome a.run (λ run. IsOfOneOrder run × (run.offset ≡ R.Offset.number a.offset.0)) };
 }
 
 impl<R: Reader> UnitLookup<R> {
     ghost use Rattle.gimli_lookup.specs.inside.Section.{IsAdded};
 
-    /// What is kept of the program of a unit, or of its refusal: its sequences come after those of the units before
-    /// it. Fails only with `OutOfMemory`.
+    /// What is kept of the program of a unit, or of its refusal: its sequences come after those of
+    /// the units before it. Fails only with `OutOfMemory`.
     pub(crate) fn new(
         alloc: Global,
         offset: DebugLineOffset<R::Offset>,
@@ -92,11 +102,13 @@ impl<R: Reader> UnitLookup<R> {
         self.offset
     }
 
-    /// The header of the unit, with all files that are defined before the first fault. None where the unit was refused.
+    /// The header of the unit, with all files that are defined before the first fault. None where
+    /// the unit was refused.
     pub fn header(&self) -> Option<&LineProgramHeader<R>>
         ensures header { MatchOption result (self.now.header ≡ None) (λ header. self.now.header
             ≡ Some (record { meaning = header.now.meaning; notation = header.now.notation })) }
-        ensures offset { IfSome result (λ header. R.Offset.number header.now.offset.0 ≡ self.now.offset) }
+        ensures offset { IfSome result (λ header.
+            R.Offset.number header.now.offset.0 ≡ self.now.offset) }
         ensures order { IfSome result (λ header. HasOneOrder R.big header.now) }
     {
         match &self.run {

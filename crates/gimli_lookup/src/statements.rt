@@ -1,10 +1,13 @@
 //! From lines to addresses: where code of a line begins.
 
-ghost use Rattle.std.specs.Prelude.{◌≡◌, ◌<◌, ◌++◌, ◌==◌, ◌||◌, ℕ, Bool, true, false, List, IfErr, IfOk, OnOk, MatchOption, [], ◌∷◌};
+ghost use Rattle.std.specs.Prelude.{◌≡◌, ◌<◌, ◌++◌, ◌==◌, ◌||◌, ℕ, Bool, true, false, List, IfErr};
+ghost use Rattle.std.specs.Prelude.{IfOk, OnOk, MatchOption, [], ◌∷◌};
 ghost use Rattle.gimli_line.specs.declared.run.row.LineRow.{LineRow};
-ghost use Rattle.gimli_lookup.specs.Statements.{is_of_line, addresses_in, addresses_of, AreAddressesFrom};
+ghost use Rattle.gimli_lookup.specs.Statements.{is_of_line, addresses_in, addresses_of};
+ghost use Rattle.gimli_lookup.specs.Statements.{AreAddressesFrom};
 ghost use Rattle.gimli_lookup.specs.inside.Statements.{is_among};
-ghost use Rattle.gimli_lookup.specs.inside.StatementLines.{is_statement, has_statement, have_statement, IsFirstWith};
+ghost use Rattle.gimli_lookup.specs.inside.StatementLines.{is_statement, has_statement};
+ghost use Rattle.gimli_lookup.specs.inside.StatementLines.{have_statement, IsFirstWith};
 
 use crate::kept_rows::KeptRows;
 use gimli_core::{Error, Result};
@@ -12,6 +15,14 @@ use gimli_line::LineRow;
 use std::alloc::Global;
 
 /// A line, and the addresses at which its code begins.
+///
+/// <!-- part of crates/checks_reading/src/many.rt -->
+/// ```rust
+/// Some(found) => {
+///     check_equal(rt, found.line, 1);
+///     check_equal(rt, found.addresses.len(), MANY / 2 + SEQUENCES);
+/// }
+/// ```
 #[derive(Debug, Drop)]
 pub struct Addresses {
     /// The line.
@@ -138,8 +149,8 @@ pub(crate) fn first_line_of(sequences: &[KeptRows], files: &[u64], asked: u64) -
     first
 }
 
-/// The addresses of the first line from the asked one on that has any in sequences. None where no line has any. Fails
-/// only with `OutOfMemory`.
+/// The addresses of the first line from the asked one on that has any in sequences. None where no
+/// line has any. Fails only with `OutOfMemory`.
 pub(crate) fn addresses_from(
     alloc: Global,
     sequences: &[KeptRows],
@@ -158,7 +169,8 @@ pub(crate) fn addresses_from(
     Ok(Some(Addresses { line, addresses }))
 }
 
-/// The addresses in two parts of a section, one after the other, by those in each. Fails only with `OutOfMemory`.
+/// The addresses in two parts of a section, one after the other, by those in each. Fails only with
+/// `OutOfMemory`.
 pub(crate) fn join(first: Option<Addresses>, second: Option<Addresses>) -> Result<Option<Addresses>>
     ensures ok { (before after : ℕ → List ℕ) (asked : ℕ) → AreAddressesFrom before asked first
         → AreAddressesFrom after asked second

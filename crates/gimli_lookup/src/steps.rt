@@ -1,6 +1,8 @@
-//! The steps of an index: which sequence is the first that covers an address, from one address on up to the next.
+//! The steps of an index: which sequence is the first that covers an address, from one address on
+//! up to the next.
 
-ghost use Rattle.std.specs.Prelude.{◌≡◌, ◌≤◌, ◌<◌, ◌+◌, ◌^◌, ◌++◌, ◌∷◌, [], ℕ, None, true, false, length, slice_index_or, IfErr, IfOk, MatchOption};
+ghost use Rattle.std.specs.Prelude.{◌≡◌, ◌≤◌, ◌<◌, ◌+◌, ◌^◌, ◌++◌, ◌∷◌, [], ℕ, None, true, false};
+ghost use Rattle.std.specs.Prelude.{length, slice_index_or, IfErr, IfOk, MatchOption};
 ghost use Rattle.gimli_lookup.specs.declared.steps.Step.{Step};
 ghost use Rattle.gimli_lookup.specs.Steps.{last_step, AreInOrder, AreStepsOf};
 ghost use Rattle.gimli_lookup.specs.inside.Steps.{AreJoined};
@@ -28,8 +30,8 @@ fn push_step(steps: &mut Vec<Step>, step: Step) -> Result<()>
     Ok(())
 }
 
-/// Whether the next step is the left one of two lists: the one with the lesser address, or of equal ones the left.
-/// Requires that some step is left.
+/// Whether the next step is the left one of two lists: the one with the lesser address, or of equal
+/// ones the left. Requires that some step is left.
 fn is_left_next(left: &[Step], of_left: usize, right: &[Step], of_right: usize) -> bool
     requires left { of_left ≤ length left.now }
     requires right { of_right ≤ length right.now }
@@ -96,8 +98,8 @@ fn is_after(left: &[Step], right: &[Step]) -> bool
     }
 }
 
-/// Two lists of steps as one; where the right one stands after the left one it is appended. Fails only with
-/// `OutOfMemory`.
+/// Two lists of steps as one; where the right one stands after the left one it is appended. Fails
+/// only with `OutOfMemory`.
 fn join(alloc: Global, mut left: Vec<Step>, mut right: Vec<Step>) -> Result<Vec<Step>>
     requires left_order { AreInOrder left.items }
     requires right_order { AreInOrder right.items }
@@ -115,8 +117,8 @@ fn join(alloc: Global, mut left: Vec<Step>, mut right: Vec<Step>) -> Result<Vec<
     Ok(left)
 }
 
-/// The steps of one sequence: from its first address on it covers addresses, and from its last on none. It has no steps
-/// where it covers no address, or where its addresses go down.
+/// The steps of one sequence: from its first address on it covers addresses, and from its last on
+/// none. It has no steps where it covers no address, or where its addresses go down.
 fn steps_of_one(rows: &KeptRows, index: usize) -> Option<(Step, Step)>
     ensures { MatchOption result (AreStepsOf index (rows.now ∷ []) [])
         (λ steps. AreStepsOf index (rows.now ∷ []) (steps.0 ∷ steps.1 ∷ [])) }
@@ -139,8 +141,9 @@ fn steps_of_one(rows: &KeptRows, index: usize) -> Option<(Step, Step)>
     Some((covered, uncovered))
 }
 
-/// The steps of sequences, of which the first has the index `first`, one after the other; None where the steps of one
-/// begin below the end of those before it, which takes two sequences. Fails only with `OutOfMemory`.
+/// The steps of sequences, of which the first has the index `first`, one after the other; None
+/// where the steps of one begin below the end of those before it, which takes two sequences. Fails
+/// only with `OutOfMemory`.
 fn steps_in_turn(alloc: Global, sequences: &[KeptRows], first: usize) -> Result<Option<Vec<Step>>>
     requires { first + length sequences.now < 2 ^ 64 }
     ensures ok { IfOk result (λ found. MatchOption found (2 ≤ length sequences.now)
@@ -164,8 +167,8 @@ fn steps_in_turn(alloc: Global, sequences: &[KeptRows], first: usize) -> Result<
     Ok(Some(steps))
 }
 
-/// The steps of sequences, of which the first has the index `first`: one after the other where they stand so, else those
-/// of both halves, joined. Fails only with `OutOfMemory`.
+/// The steps of sequences, of which the first has the index `first`: one after the other where they
+/// stand so, else those of both halves, joined. Fails only with `OutOfMemory`.
 pub(crate) fn steps_of(alloc: Global, sequences: &[KeptRows], first: usize) -> Result<Vec<Step>>
     requires { first + length sequences.now < 2 ^ 64 }
     ensures ok { IfOk result (λ steps. AreStepsOf first sequences.now steps.items) }

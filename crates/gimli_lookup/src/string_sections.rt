@@ -8,7 +8,16 @@ ghost use Rattle.gimli_lookup.specs.Strings.{strings, string_at, string_of};
 use crate::path_error::PathError;
 use gimli_core::{AttributeValue, Reader};
 
-/// The sections that hold strings (DWARF 5, section 7.26). Where a program has no such section, it is a reader of no bytes.
+/// The sections that hold strings (DWARF 5, section 7.26). Where a program has no such section, it
+/// is a reader of no bytes.
+///
+/// <!-- part of crates/uses/src/where_is.rt -->
+/// ```rust
+/// strings: StringSections {
+///     debug_line_str: sections.debug_line_str,
+///     debug_str: sections.debug_str,
+/// },
+/// ```
 #[derive(Clone, Copy, Debug)]
 pub struct StringSections<R> {
     /// The section `.debug_line_str`.
@@ -18,8 +27,8 @@ pub struct StringSections<R> {
 }
 
 impl<R: Reader> StringSections<R> {
-    /// The string that a value stands for, without its zero byte (DWARF 5, section 7.5.5). One that stands in the value
-    /// needs no section. Refused as `PathError` says. Takes no memory.
+    /// The string that a value stands for, without its zero byte (DWARF 5, section 7.5.5). One that
+    /// stands in the value needs no section. Refused as `PathError` says. Takes no memory.
     pub fn attr_line_string(&self, value: AttributeValue<R>) -> Result<R, PathError>
         ensures { result_map R.bytes result
             ≡ string_of (strings R.bytes self.now) (value_seen R.bytes R.Offset.number value) }

@@ -26,7 +26,8 @@ use Rattle.gimli_build.specs.ReadsBack.{IsUnit, IsDirectory, IsFile, ReadsBack, 
 use Rattle.gimli_write.specs.declared.convert_error.ConvertError.{ConvertError}
 use Rattle.gimli_write.specs.declared.convert_error.ConvertError.TheVariants.{Read, OutOfMemory as NoMemory}
 use Rattle.gimli_write.specs.declared.read_back.RoundTrip.{RoundTrip}
-use Rattle.gimli_write.specs.RoundTrip.{FileAnswer, file_answer, built_file, Answers, answers, IsFileAnswer, AreAnswers, AnswersUnit, AnswersProgram, IsRunRefusal, RefusesUnit, slice_notation, unit_entry_of, sections_of}
+use Rattle.gimli_write.specs.RoundTrip.{FileAnswer, file_answer, built_file, Answers, answers, IsFileAnswer, AreAnswers, AnswersUnit, AnswersProgram}
+use Rattle.gimli_write.specs.RoundTrip.{IsRunRefusal, RefusesUnit, slice_notation, unit_entry_of, sections_of}
 use Rattle.gimli_write.proofs.ReadTexts.{text_there}
 use Rattle.gimli_write.proofs.ReadUnits.{read_back, AreShort}
 
@@ -87,7 +88,8 @@ file_same s p texts read built answer is also =
 events_same : (notation : Notation) (h : Header) (bytes : List ℕ) (es fs : List Event) → Events notation h bytes es → Events notation h bytes fs → es ≡ fs
 events_same notation h bytes es fs a b =
     a.given
-    ∙ ap (λ (c : List Ins × Option Error). program_events h.parameters c.0 c.1) (one_decoding notation h bytes a.list a.end a.decoding ∙ sym (one_decoding notation h bytes b.list b.end b.decoding))
+    ∙ ap (λ (c : List Ins × Option Error). program_events h.parameters c.0 c.1)
+    (one_decoding notation h bytes a.list a.end a.decoding ∙ sym (one_decoding notation h bytes b.list b.end b.decoding))
     ∙ sym b.given
 
 rows_same : (rows others : List ReadRow) → map row rows ≡ map row others → rows ≡ others
@@ -109,7 +111,8 @@ no_fault_among (r ∷ rows) (s ∷ others) e rest is =
     no_fault_among rows others e rest later
 
 -- a program that gives rows has no first fault, and its rows are answered unless memory is missing
-rows_refused : (notation : Notation) (h : Header) (rows : List ReadRow) (e : ConvertError) → Events notation h h.program (map row rows) → IsRunRefusal notation h e → e ≡ NoMemory
+rows_refused : (notation : Notation) (h : Header) (rows : List ReadRow) (e : ConvertError) → Events notation h h.program (map row rows)
+    → IsRunRefusal notation h e → e ≡ NoMemory
 rows_refused notation h rows NoMemory given refused = refl
 rows_refused notation h rows (Read e) given refused =
     let whole : Events notation h h.program (program_events h.parameters refused.list refused.end) = record {
@@ -162,7 +165,8 @@ module _ (notation : Notation) (unit_entry : UnitEntry) (sections : Sections) (p
 
 -- ---- the unit of a program
 
-module _ (big : Bool) (p : Built) (texts : StringTables) (section : List ℕ) (n : ℕ) (whole : ReadsBackAs big p texts (drop n section)) (fits : length section < 2 ^ 64) (held : AreShort texts) where
+module _ (big : Bool) (p : Built) (texts : StringTables) (section : List ℕ) (n : ℕ) (whole : ReadsBackAs big p texts (drop n section))
+    (fits : length section < 2 ^ 64) (held : AreShort texts) where
   read_again : ReadsBack (slice_notation big) (unit_entry_of p texts) (sections_of texts) p texts (drop n section)
   read_again = read_back big p texts section n whole fits held
 

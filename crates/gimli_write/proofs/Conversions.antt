@@ -10,9 +10,12 @@ use Rattle.gimli_line.specs.run.InstructionReading.{decoded_at}
 use Rattle.gimli_build.specs.Texts.{Sections}
 use Rattle.gimli_write.specs.declared.convert_error.ConvertError.{ConvertError}
 use Rattle.gimli_write.specs.convert.Texts.{◌>>=◌, IsRefusedBy, source_path}
-use Rattle.gimli_write.specs.convert.SourceTables.{SourceTables, TablesAndTexts, tables_with, version_of, with_path, directory_added, FileParts, file_parts, with_parts, file_added, all_added}
-use Rattle.gimli_write.specs.convert.Preparation.{Handed, tables_of_header, start_of_tables, first_texts, encoding_of, working_directory, source_file, line_encoding_of}
-use Rattle.gimli_write.specs.convert.Items.{Reading, stops, defines, offers, file_id, row_in, built_row, row_offered, row_or_end_offered, defines_first, after_definitions}
+use Rattle.gimli_write.specs.convert.SourceTables.{SourceTables, TablesAndTexts, tables_with, version_of, with_path, directory_added, FileParts, file_parts}
+use Rattle.gimli_write.specs.convert.SourceTables.{with_parts, file_added, all_added}
+use Rattle.gimli_write.specs.convert.Preparation.{Handed, tables_of_header, start_of_tables, first_texts, encoding_of, working_directory, source_file}
+use Rattle.gimli_write.specs.convert.Preparation.{line_encoding_of}
+use Rattle.gimli_write.specs.convert.Items.{Reading, stops, defines, offers, file_id, row_in, built_row, row_offered, row_or_end_offered, defines_first}
+use Rattle.gimli_write.specs.convert.Items.{after_definitions}
 use Rattle.gimli_write.specs.declared.convert.run.SourceRow.{SourceRow}
 use Rattle.gimli_write.specs.declared.convert.rows.ConvertLineRow.TheVariants.{Row, EndSequence}
 use Rattle.gimli_write.specs.convert.SourceRun.{SourceRun, reading_from, reading_upon, reading_left}
@@ -22,32 +25,41 @@ use Rattle.gimli_write.specs.convert.Conversion.{Conversion, without_built, IsRe
 
 -- ---- tables without what is built
 
-pub plain_file : (s : Sections) (tables : TablesAndTexts) (f : File) → file_added s (without_built tables) f ≡ (file_added s tables f >>= λ next. Ok (without_built next))
+pub plain_file : (s : Sections) (tables : TablesAndTexts) (f : File)
+    → file_added s (without_built tables) f ≡ (file_added s tables f >>= λ next. Ok (without_built next))
 plain_file s tables f = by (file_parts (version_of tables) s tables.directory_ids f)
   where
-    by : (r : Result FileParts ConvertError) → (r >>= λ parts. Ok (with_parts (without_built tables) f parts)) ≡ ((r >>= λ parts. Ok (with_parts tables f parts)) >>= λ next. Ok (without_built next))
+    by : (r : Result FileParts ConvertError)
+        → (r >>= λ parts. Ok (with_parts (without_built tables) f parts))
+        ≡ ((r >>= λ parts. Ok (with_parts tables f parts)) >>= λ next. Ok (without_built next))
     by (Ok parts) = refl
     by (Err e) = refl
 
-pub plain_directory : (s : Sections) (tables : TablesAndTexts) (v : Value) → directory_added s (without_built tables) v ≡ (directory_added s tables v >>= λ next. Ok (without_built next))
+pub plain_directory : (s : Sections) (tables : TablesAndTexts) (v : Value)
+    → directory_added s (without_built tables) v ≡ (directory_added s tables v >>= λ next. Ok (without_built next))
 plain_directory s tables v = by (source_path (version_of tables) s v)
   where
-    by : (r : Result (List ℕ) ConvertError) → (r >>= λ path. Ok (with_path (without_built tables) path)) ≡ ((r >>= λ path. Ok (with_path tables path)) >>= λ next. Ok (without_built next))
+    by : (r : Result (List ℕ) ConvertError)
+        → (r >>= λ path. Ok (with_path (without_built tables) path)) ≡ ((r >>= λ path. Ok (with_path tables path)) >>= λ next. Ok (without_built next))
     by (Ok path) = refl
     by (Err e) = refl
 
 -- ---- a file that is defined
 
-stops_there : (sections : Sections) (s : SourceRun) (e : ConvertError) (list : List Ins) (end : Option Error) → reading_from sections s (Err e) list end ≡ stops e
+stops_there : (sections : Sections) (s : SourceRun) (e : ConvertError) (list : List Ins) (end : Option Error)
+    → reading_from sections s (Err e) list end ≡ stops e
 stops_there sections s e [] end = refl
 stops_there sections s e (i ∷ list) end = refl
 
 module _ (sections : Sections) (s : SourceRun) (tables : TablesAndTexts) (f : File) where
   -- after it
-  pub file_taken : (next : TablesAndTexts) → file_added sections tables f ≡ Ok next → reading_upon sections s (file_added sections (without_built tables) f) ≡ reading_left sections s (without_built next)
-  file_taken next is = ap (reading_upon sections s) (plain_file sections tables f ∙ ap (λ (r : Result TablesAndTexts ConvertError). r >>= λ n. Ok (without_built n)) is)
+  pub file_taken : (next : TablesAndTexts) → file_added sections tables f ≡ Ok next
+      → reading_upon sections s (file_added sections (without_built tables) f) ≡ reading_left sections s (without_built next)
+  file_taken next is =
+      ap (reading_upon sections s) (plain_file sections tables f ∙ ap (λ (r : Result TablesAndTexts ConvertError). r >>= λ n. Ok (without_built n)) is)
 
-  pub file_refused : (e : ConvertError) → file_added sections tables f ≡ Err e → reading_upon sections s (file_added sections (without_built tables) f) ≡ stops e
+  pub file_refused : (e : ConvertError) → file_added sections tables f ≡ Err e
+      → reading_upon sections s (file_added sections (without_built tables) f) ≡ stops e
   file_refused e is =
       ap (reading_upon sections s) (plain_file sections tables f ∙ ap (λ (r : Result TablesAndTexts ConvertError). r >>= λ n. Ok (without_built n)) is)
       ∙ stops_there sections s e (decoded_at s.unread.notation s.header s.unread.bytes).0 (decoded_at s.unread.notation s.header s.unread.bytes).1
@@ -68,7 +80,8 @@ bound (Err e) f y is = absurd cc
 ok_same : {A : Type 0} (x y : A) → ◌≡◌ {A = Result A ConvertError} (Ok x) (Ok y) → x ≡ y
 ok_same x y is = cc
 
-module _ {A : Type 0} (add : TablesAndTexts → A → Result TablesAndTexts ConvertError) (commutes : (tables : TablesAndTexts) (x : A) → add (without_built tables) x ≡ (add tables x >>= λ next. Ok (without_built next))) where
+module _ {A : Type 0} (add : TablesAndTexts → A → Result TablesAndTexts ConvertError)
+    (commutes : (tables : TablesAndTexts) (x : A) → add (without_built tables) x ≡ (add tables x >>= λ next. Ok (without_built next))) where
   one_plain : (tables next : TablesAndTexts) (x : A) → without_built tables ≡ tables → add tables x ≡ Ok next → without_built next ≡ next
   one_plain tables next x is added =
       ok_same (without_built next) next
@@ -81,14 +94,16 @@ module _ {A : Type 0} (add : TablesAndTexts → A → Result TablesAndTexts Conv
       let one = bound (add tables x) (all_added add xs) next added in
       all_plain xs one.0 next (one_plain tables one.0 x is one.1) one.2
 
-pub prepared_plain : (sections : Sections) (h : Header) (given : Handed) (line_strings : List (List ℕ)) (tables : TablesAndTexts) → tables_of_header sections h given line_strings ≡ Ok tables → without_built tables ≡ tables
+pub prepared_plain : (sections : Sections) (h : Header) (given : Handed) (line_strings : List (List ℕ)) (tables : TablesAndTexts)
+    → tables_of_header sections h given line_strings ≡ Ok tables → without_built tables ≡ tables
 prepared_plain sections h given line_strings tables is =
     let encoding = encoding_of h given in
     let directory = bound (working_directory encoding.version sections h) _ tables is in
     let file = bound (source_file encoding.version sections h given.name) _ tables directory.2 in
     let lines = bound (line_encoding_of h.parameters.line_encoding given.line_encoding) _ tables file.2 in
     let directories = bound (all_added (directory_added sections) h.directories
-    (start_of_tables encoding lines.0 h (first_texts encoding.version line_strings directory.0 file.0))) (all_added (file_added sections) h.files) tables lines.2 in
+    (start_of_tables encoding lines.0 h (first_texts encoding.version line_strings directory.0 file.0))) (all_added (file_added sections) h.files) tables
+    lines.2 in
     all_plain (file_added sections) (plain_file sections) h.files directories.0 tables
     (all_plain (directory_added sections) (plain_directory sections) h.directories
     (start_of_tables encoding lines.0 h (first_texts encoding.version line_strings directory.0 file.0)) directories.0 refl directories.1)
@@ -129,7 +144,8 @@ conversion sections source tables address held failed = record {
 
 -- ---- a row that is held
 
-module _ (sections : Sections) (source : SourceRun) (tables : SourceTables) (address after : Option ℕ) (held taken : Option SourceRow) (failed : Option ConvertError) (line_strings : List (List ℕ)) (r : SourceRow) (is : held ≡ Some r) where
+module _ (sections : Sections) (source : SourceRun) (tables : SourceTables) (address after : Option ℕ) (held taken : Option SourceRow)
+    (failed : Option ConvertError) (line_strings : List (List ℕ)) (r : SourceRow) (is : held ≡ Some r) where
   abbrev now : TablesAndTexts
   now = tables_with line_strings tables
 
@@ -141,14 +157,16 @@ module _ (sections : Sections) (source : SourceRun) (tables : SourceTables) (add
 
   -- it is handed out
   pub held_last : taken ≡ None → lacks_file version_here now r ≡ false
-      → final_tables (conversion sections source tables after taken failed) line_strings ≡ final_tables (conversion sections source tables address held failed) line_strings
+      → final_tables (conversion sections source tables after taken failed) line_strings
+      ≡ final_tables (conversion sections source tables address held failed) line_strings
   held_last none found =
       ap (λ (o : Option SourceRow). if is_some failed then now else tables_after_row version_here now o rest) none
       ∙ sym (ap (λ (o : Option SourceRow). if is_some failed then now else tables_after_row version_here now o rest) is
       ∙ ap (λ (b : Bool). if is_some failed then now else (if b then now else rest)) found)
 
   -- no file has its number
-  pub held_stops : failed ≡ None → lacks_file version_here now r ≡ true → now ≡ final_tables (conversion sections source tables address held failed) line_strings
+  pub held_stops : failed ≡ None → lacks_file version_here now r ≡ true
+      → now ≡ final_tables (conversion sections source tables address held failed) line_strings
   held_stops well lacks =
       sym (ap (λ (o : Option ConvertError). if is_some o then now else tables_after_row version_here now held rest) well
       ∙ ap (λ (o : Option SourceRow). tables_after_row version_here now o rest) is

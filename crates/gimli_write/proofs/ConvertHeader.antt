@@ -8,7 +8,8 @@ use Rattle.gimli_build.specs.Texts.{Sections}
 use Rattle.gimli_write.specs.declared.convert_error.ConvertError.{ConvertError}
 use Rattle.gimli_write.specs.convert.Texts.{◌>>=◌, IsRefusedBy}
 use Rattle.gimli_write.specs.convert.SourceTables.{SourceTables, TablesAndTexts, tables_with, directory_added, file_added, all_added}
-use Rattle.gimli_write.specs.convert.Preparation.{working_directory, SourceFile, source_file, line_encoding_of, first_texts, start_of_tables, Handed, encoding_of, tables_of_header}
+use Rattle.gimli_write.specs.convert.Preparation.{working_directory, SourceFile, source_file, line_encoding_of, first_texts, start_of_tables, Handed}
+use Rattle.gimli_write.specs.convert.Preparation.{encoding_of, tables_of_header}
 use Rattle.gimli_write.proofs.ConvertSteps.{done_first, refused_first, refused_same}
 
 -- tables whose parts are these
@@ -23,7 +24,8 @@ ok_by_three (Err e) P Q R S f p q r = tt
 
 -- ---- two steps that don't ask for each other, and what follows them
 
-module _ {A B C : Type 0} (a : Result A ConvertError) (b : Result B ConvertError) (f : A → B → Result C ConvertError) (x : A) (y : B) (first : a ≡ Ok x) (second : b ≡ Ok y) where
+module _ {A B C : Type 0} (a : Result A ConvertError) (b : Result B ConvertError) (f : A → B → Result C ConvertError) (x : A) (y : B) (first : a ≡ Ok x)
+    (second : b ≡ Ok y) where
   pub at_third : (a >>= λ x. b >>= λ y. f x y) ≡ f x y
   at_third = done_first a (λ x. b >>= λ y. f x y) x first ∙ done_first b (λ y. f x y) y second
 
@@ -31,7 +33,8 @@ module _ {A B C : Type 0} (a : Result A ConvertError) (b : Result B ConvertError
   refused_at_third e refused = refused_same (f x y) (a >>= λ x. b >>= λ y. f x y) e (sym at_third) refused
 
 -- a step after three others is the fourth
-fourth_step : {A B C D E : Type 0} (a : Result A ConvertError) (b : Result B ConvertError) (c : Result C ConvertError) (f : A → B → C → D) (k : D → Result E ConvertError)
+fourth_step : {A B C D E : Type 0} (a : Result A ConvertError) (b : Result B ConvertError) (c : Result C ConvertError) (f : A → B → C → D)
+    (k : D → Result E ConvertError)
     → ((a >>= λ x. b >>= λ y. c >>= λ z. Ok (f x y z)) >>= k) ≡ (a >>= λ x. b >>= λ y. c >>= λ z. k (f x y z))
 fourth_step (Ok x) (Ok y) (Ok z) f k = refl
 fourth_step (Ok x) (Ok y) (Err e) f k = refl
@@ -57,7 +60,8 @@ module _ (s : Sections) (h : Header) (given : Handed) (line_strings : List (List
 
   whole : (tables_at_start >>= λ tables. listed tables) ≡ tables_of_header s h given line_strings
   whole =
-      fourth_step (working_directory encoding.version s h) (source_file encoding.version s h given.name) (line_encoding_of h.parameters.line_encoding given.line_encoding)
+      fourth_step (working_directory encoding.version s h) (source_file encoding.version s h given.name)
+      (line_encoding_of h.parameters.line_encoding given.line_encoding)
       begun_lists (λ tables. listed tables)
       ∙ ap (λ (encoding : Encoding).
       working_directory encoding.version s h >>= λ directory. source_file encoding.version s h given.name >>= λ file.
@@ -67,10 +71,12 @@ module _ (s : Sections) (h : Header) (given : Handed) (line_strings : List (List
 
   pub refused_at_start : (e : ConvertError) → IsRefusedBy tables_at_start e → IsRefusedBy (tables_of_header s h given line_strings) e
   refused_at_start e refused =
-      refused_same (tables_at_start >>= λ tables. listed tables) (tables_of_header s h given line_strings) e whole (refused_first tables_at_start (λ tables. listed tables) e refused)
+      refused_same (tables_at_start >>= λ tables. listed tables) (tables_of_header s h given line_strings) e whole
+      (refused_first tables_at_start (λ tables. listed tables) e refused)
 
   pub at_listed : (tables : TablesAndTexts) → tables_at_start ≡ Ok tables → listed tables ≡ tables_of_header s h given line_strings
   at_listed tables start = sym (done_first tables_at_start (λ tables. listed tables) tables start) ∙ whole
 
-  pub refused_at_listed : (tables : TablesAndTexts) (e : ConvertError) → tables_at_start ≡ Ok tables → IsRefusedBy (listed tables) e → IsRefusedBy (tables_of_header s h given line_strings) e
+  pub refused_at_listed : (tables : TablesAndTexts) (e : ConvertError) → tables_at_start ≡ Ok tables → IsRefusedBy (listed tables) e
+      → IsRefusedBy (tables_of_header s h given line_strings) e
   refused_at_listed tables e start refused = refused_same (listed tables) (tables_of_header s h given line_strings) e (at_listed tables start) refused

@@ -64,7 +64,8 @@ parts_are_added tables f parts path source paths line_strings made after source_
 -- ---- many
 
 -- what is left to be added begins with the next element
-pub next_added : {A B : Type 0} (add : TablesAndTexts → B → Result TablesAndTexts ConvertError) (seen : A → B) (xs : List A) (i : ℕ) (x : A) (tables : TablesAndTexts)
+pub next_added : {A B : Type 0} (add : TablesAndTexts → B → Result TablesAndTexts ConvertError) (seen : A → B) (xs : List A) (i : ℕ) (x : A)
+    (tables : TablesAndTexts)
     → i < length xs → x ≡ get_or xs i x
     → all_added add (map seen (drop i xs)) tables ≡ (add tables (seen x) >>= λ next. all_added add (map seen (drop (i + 1) xs)) next)
 next_added {A = A} add seen xs i x tables lt is =

@@ -8,7 +8,8 @@ use Rattle.gimli_write.specs.convert.SourceTables.{TablesAndTexts}
 use Rattle.gimli_write.specs.convert.Items.{Reading, ends, stops, defines, offers, address_offered, after_definitions}
 use Rattle.gimli_write.specs.convert.Sequences.{sequence_from, sequence_with}
 use Rattle.gimli_write.specs.convert.Texts.{IsRefusedBy}
-use Rattle.gimli_write.specs.convert.Conversion.{Conversion, tables_of, version_of_source, after_held, unless_failed, source_left, still_to_read, IsReadRefusal, AddsFiles}
+use Rattle.gimli_write.specs.convert.Conversion.{Conversion, tables_of, version_of_source, after_held, unless_failed, source_left, still_to_read, IsReadRefusal}
+use Rattle.gimli_write.specs.convert.Conversion.{AddsFiles}
 use Rattle.gimli_write.specs.declared.convert_error.ConvertError.{ConvertError}
 use Rattle.gimli_write.specs.declared.convert_error.ConvertError.TheVariants.{MissingLineEndSequence}
 use Rattle.gimli_write.specs.declared.convert.rows.ConvertLineSequenceEnd.TheVariants.{Address}
@@ -21,21 +22,26 @@ gathered_after start rows (stops e) = refl
 gathered_after start rows (offers item tables rest) = refl
 
 -- what is gathered, by what is read after them
-pub gathered_first : (start : Option ℕ) (rows : List LineRow) (old next : Reading) → after_definitions old ≡ next → sequence_from start rows old ≡ sequence_from start rows next
+pub gathered_first : (start : Option ℕ) (rows : List LineRow) (old next : Reading) → after_definitions old ≡ next
+    → sequence_from start rows old ≡ sequence_from start rows next
 gathered_first start rows old next is = sym (gathered_after start rows old) ∙ ap (sequence_from start rows) is
 
 -- after a row
-pub row_gathered : (start : Option ℕ) (rows more : List LineRow) (row : LineRow) (old rest : Reading) (tables : TablesAndTexts) → after_definitions old ≡ offers (Row row) tables rest → more ≡ rows ++ row ∷ []
+pub row_gathered : (start : Option ℕ) (rows more : List LineRow) (row : LineRow) (old rest : Reading) (tables : TablesAndTexts)
+    → after_definitions old ≡ offers (Row row) tables rest → more ≡ rows ++ row ∷ []
     → sequence_from start more rest ≡ sequence_from start rows old
-row_gathered start rows more row old rest tables hands more_is = ap (λ (r : List LineRow). sequence_from start r rest) more_is ∙ sym (gathered_first start rows old (offers (Row row) tables rest) hands)
+row_gathered start rows more row old rest tables hands more_is =
+    ap (λ (r : List LineRow). sequence_from start r rest) more_is ∙ sym (gathered_first start rows old (offers (Row row) tables rest) hands)
 
 -- after an address, before the first row
-pub address_gathered : (start : Option ℕ) (rows : List LineRow) (a : ℕ) (old rest : Reading) (tables : TablesAndTexts) → after_definitions old ≡ offers (SetAddress a) tables rest → rows ≡ []
+pub address_gathered : (start : Option ℕ) (rows : List LineRow) (a : ℕ) (old rest : Reading) (tables : TablesAndTexts)
+    → after_definitions old ≡ offers (SetAddress a) tables rest → rows ≡ []
     → sequence_from (Some a) rows rest ≡ sequence_from start rows old
 address_gathered start rows a old rest tables hands none = rw none (sym (gathered_first start [] old (offers (SetAddress a) tables rest) hands))
 
 -- an address after a row is where a sequence ends, and is read again
-pub address_ends : (start : Option ℕ) (rows : List LineRow) (a : ℕ) (old rest : Reading) (tables : TablesAndTexts) → after_definitions old ≡ offers (SetAddress a) tables rest
+pub address_ends : (start : Option ℕ) (rows : List LineRow) (a : ℕ) (old rest : Reading) (tables : TablesAndTexts)
+    → after_definitions old ≡ offers (SetAddress a) tables rest
     → nat_eq (length rows) 0 ≡ false → sequence_from start rows old ≡ Ok (Some (sequence_with start rows (Address a)), offers (SetAddress a) tables rest)
 address_ends start [] a old rest tables hands some = absurd cc
 address_ends start (row ∷ rows) a old rest tables hands some = gathered_first start (row ∷ rows) old (offers (SetAddress a) tables rest) hands
@@ -52,23 +58,27 @@ module _ (c d : Conversion) (line_strings : List (List ℕ)) (a : ℕ) where
       rest = after_held (version_of_source c) tables c.held (source_left c line_strings)
 
       by : (failed : Option ConvertError) (address : Option ℕ) → failed ≡ None → address ≡ None
-          → offers (SetAddress a) tables (unless_failed failed (address_offered address tables rest)) ≡ unless_failed failed (address_offered (Some a) tables rest)
+          → offers (SetAddress a) tables (unless_failed failed (address_offered address tables rest))
+          ≡ unless_failed failed (address_offered (Some a) tables rest)
       by None None well none = refl
       by (Some e) address well none = absurd cc
       by None (Some b) well none = absurd cc
 
 -- the end of what is read
-pub nothing_gathered : (start : Option ℕ) (rows : List LineRow) (old rest : Reading) (tables : TablesAndTexts) → after_definitions old ≡ ends tables → rest ≡ ends tables → rows ≡ []
+pub nothing_gathered : (start : Option ℕ) (rows : List LineRow) (old rest : Reading) (tables : TablesAndTexts) → after_definitions old ≡ ends tables
+    → rest ≡ ends tables → rows ≡ []
     → sequence_from start rows old ≡ Ok (None, rest)
 nothing_gathered start rows old rest tables end left none = rw (none, left) (gathered_first start [] old (ends tables) end)
 
-pub rows_left : (start : Option ℕ) (rows : List LineRow) (old : Reading) (tables : TablesAndTexts) → after_definitions old ≡ ends tables → nat_eq (length rows) 0 ≡ false
+pub rows_left : (start : Option ℕ) (rows : List LineRow) (old : Reading) (tables : TablesAndTexts) → after_definitions old ≡ ends tables
+    → nat_eq (length rows) 0 ≡ false
     → sequence_from start rows old ≡ Err MissingLineEndSequence
 rows_left start [] old tables end some = absurd cc
 rows_left start (row ∷ rows) old tables end some = gathered_first start (row ∷ rows) old (ends tables) end
 
 -- a refusal
-pub gather_refused : (start : Option ℕ) (rows : List LineRow) (old : Reading) (e : ConvertError) → IsReadRefusal old e → IsRefusedBy (sequence_from start rows old) e
+pub gather_refused : (start : Option ℕ) (rows : List LineRow) (old : Reading) (e : ConvertError) → IsReadRefusal old e
+    → IsRefusedBy (sequence_from start rows old) e
 gather_refused start rows old e (inl is) = inr (gathered_first start rows old (stops e) is)
 gather_refused start rows old e (inr memory) = inl memory.0
 

@@ -7,6 +7,7 @@ pub mod ConvertSteps
 pub mod ConvertHeader
 pub mod SourceReadings
 pub mod SourceSteps
+pub mod SourceFromBytes
 pub mod MappedAddresses
 pub mod MappedRows
 pub mod MappedTables
@@ -21,7 +22,9 @@ pub mod Conversions
 mod TablesAtEnd
 mod KeptFiles
 mod Writable
+mod BuilderCalls
 pub mod Outcomes
 pub mod MappedLaws
 mod WorkedConversions
 pub mod Gathers
+mod ReadLemmas

@@ -7,22 +7,26 @@ use Rattle.gimli_line.specs.declared.run.instruction.LineInstruction.TheVariants
 use Rattle.gimli_line.specs.header.Parameters.{Parameters}
 use Rattle.gimli_line.specs.run.Instruction.{Ins, is_end, makes_row}
 use Rattle.gimli_line.specs.run.Events.{row_at}
-use Rattle.gimli_line.specs.run.OperationPointer.{OperationPointer, address_limit, is_tombstone, is_too_large, advanced_by, pointer_at_overflow, next_pointer, pointer_at, is_under_tombstone}
+use Rattle.gimli_line.specs.run.OperationPointer.{OperationPointer, address_limit, is_tombstone, is_too_large, advanced_by, pointer_at_overflow, next_pointer}
+use Rattle.gimli_line.specs.run.OperationPointer.{pointer_at, is_under_tombstone}
 use Rattle.gimli_line.proofs.NonDecreasingLaws.{rises}
 use Rattle.gimli_write.specs.convert.Items.{base_at, pending_address}
 use Rattle.gimli_write.specs.convert.Mapped.{gave_row}
 
 -- ---- addresses are below their limit
 
-set_within : (parameters : Parameters) (a : ℕ) (p : OperationPointer) → p.address < address_limit parameters → (next_pointer parameters false (SetAddress a) p).address < address_limit parameters
+set_within : (parameters : Parameters) (a : ℕ) (p : OperationPointer) → p.address < address_limit parameters
+    → (next_pointer parameters false (SetAddress a) p).address < address_limit parameters
 set_within parameters a p lt = at_test (nat_lt a p.address) (nat_le (address_limit parameters - 2) a) refl
   where
-    at_test : (b c : Bool) → nat_le (address_limit parameters - 2) a ≡ c → (if b || c then p else (let q : OperationPointer = record { address = a; op_index = 0 } in q)).address < address_limit parameters
+    at_test : (b c : Bool) → nat_le (address_limit parameters - 2) a ≡ c
+        → (if b || c then p else (let q : OperationPointer = record { address = a; op_index = 0 } in q)).address < address_limit parameters
     at_test true c e = lt
     at_test false true e = lt
     at_test false false e = let below : a < address_limit parameters - 2 = leb-false (address_limit parameters - 2) a e in omega arith
 
-advance_within : (parameters : Parameters) (tombstone : Bool) (i : Ins) (p to : OperationPointer) → (pointer_at_overflow i p to).address ≡ p.address → p.address < address_limit parameters
+advance_within : (parameters : Parameters) (tombstone : Bool) (i : Ins) (p to : OperationPointer) → (pointer_at_overflow i p to).address ≡ p.address
+    → p.address < address_limit parameters
     → (if tombstone then p else (if is_too_large parameters to then pointer_at_overflow i p to else to)).address < address_limit parameters
 advance_within parameters true i p to stays lt = lt
 advance_within parameters false i p to stays lt = at_test (is_too_large parameters to) refl
@@ -31,29 +35,35 @@ advance_within parameters false i p to stays lt = at_test (is_too_large paramete
     at_test true e = omega (arith, stays)
     at_test false e = leb-false (address_limit parameters) to.address e
 
-next_within : (parameters : Parameters) (tombstone : Bool) (i : Ins) (p : OperationPointer) → p.address < address_limit parameters → (next_pointer parameters tombstone i p).address < address_limit parameters
+next_within : (parameters : Parameters) (tombstone : Bool) (i : Ins) (p : OperationPointer) → p.address < address_limit parameters
+    → (next_pointer parameters tombstone i p).address < address_limit parameters
 next_within parameters tombstone EndSequence p lt = omega arith
 next_within parameters tombstone (SetAddress a) p lt = set_within parameters a p lt
 next_within parameters tombstone (Special o) p lt = advance_within parameters tombstone (Special o) p (advanced_by parameters _ p) refl lt
 next_within parameters tombstone (AdvancePc n) p lt = advance_within parameters tombstone (AdvancePc n) p (advanced_by parameters n p) refl lt
 next_within parameters tombstone ConstAddPc p lt = advance_within parameters tombstone ConstAddPc p (advanced_by parameters _ p) refl lt
-next_within parameters tombstone (FixedAddPc n) p lt = advance_within parameters tombstone (FixedAddPc n) p (record { address = p.address + n; op_index = 0 }) refl lt
+next_within parameters tombstone (FixedAddPc n) p lt =
+    advance_within parameters tombstone (FixedAddPc n) p (record { address = p.address + n; op_index = 0 }) refl lt
 next_within parameters tombstone i p lt = lt
 
 pub address_within : (parameters : Parameters) (past : List Ins) → (pointer_at parameters past).address < address_limit parameters
 address_within parameters [] = pow_pos (8 * parameters.encoding.address_size)
-address_within parameters (i ∷ past) = next_within parameters (is_under_tombstone parameters past) i (pointer_at parameters past) (address_within parameters past)
+address_within parameters (i ∷ past) =
+    next_within parameters (is_under_tombstone parameters past) i (pointer_at parameters past) (address_within parameters past)
 
 -- ---- the address that was last set
 
 -- one that doesn't hide isn't below the address before it, nor one of the two greatest
-pub set_seen : (parameters : Parameters) (a : ℕ) (p : OperationPointer) → is_tombstone parameters a p ≡ false → (p.address ≤ a) × (a < address_limit parameters - 2)
+pub set_seen : (parameters : Parameters) (a : ℕ) (p : OperationPointer) → is_tombstone parameters a p ≡ false
+    → (p.address ≤ a) × (a < address_limit parameters - 2)
 set_seen parameters a p seen =
     let parts = or_parts (nat_lt a p.address) (nat_le (address_limit parameters - 2) a) seen in
     (ltb-false a p.address parts.0, leb-false (address_limit parameters - 2) a parts.1)
 
-pub set_moves : (parameters : Parameters) (a : ℕ) (p : OperationPointer) (tombstone : Bool) → is_tombstone parameters a p ≡ false → (next_pointer parameters tombstone (SetAddress a) p).address ≡ a
-set_moves parameters a p tombstone seen = ap (λ (b : Bool). (if b then p else (let q : OperationPointer = record { address = a; op_index = 0 } in q)).address) seen
+pub set_moves : (parameters : Parameters) (a : ℕ) (p : OperationPointer) (tombstone : Bool) → is_tombstone parameters a p ≡ false
+    → (next_pointer parameters tombstone (SetAddress a) p).address ≡ a
+set_moves parameters a p tombstone seen =
+    ap (λ (b : Bool). (if b then p else (let q : OperationPointer = record { address = a; op_index = 0 } in q)).address) seen
 
 pub pending_is_base : (past : List Ins) (a : ℕ) → pending_address past ≡ Some a → base_at past ≡ a
 pending_is_base [] a is = absurd cc
@@ -75,7 +85,8 @@ base_below parameters (i ∷ past) seen =
     omega arith
 
 -- nor above that of the row that a point makes
-pub base_below_row : (parameters : Parameters) (past : List Ins) (i : Ins) → is_under_tombstone parameters past ≡ false → is_end i ≡ false → base_at past ≤ (row_at parameters past i).address
+pub base_below_row : (parameters : Parameters) (past : List Ins) (i : Ins) → is_under_tombstone parameters past ≡ false → is_end i ≡ false
+    → base_at past ≤ (row_at parameters past i).address
 base_below_row parameters past i seen inner =
     let before = base_below parameters past seen in
     let up = rises parameters (is_under_tombstone parameters past) i (pointer_at parameters past) inner in
@@ -100,7 +111,12 @@ follows_start parameters = record { reached = omega arith; counted = λ seen non
 
 -- an end
 pub follows_end : (parameters : Parameters) (past : List Ins) (i : Ins) → is_end i ≡ true → Follows parameters (i ∷ past) 0 0
-follows_end parameters past EndSequence closes = record { reached = omega arith; counted = λ seen none. refl; ahead = λ a seen is. absurd cc; unset = λ none. omega arith }
+follows_end parameters past EndSequence closes = record {
+  reached = omega arith;
+  counted = λ seen none. refl;
+  ahead = λ a seen is. absurd cc;
+  unset = λ none. omega arith;
+}
 follows_end parameters past i closes = absurd cc
 
 -- a point that makes a row and doesn't end a sequence
@@ -121,7 +137,8 @@ not_false true e = refl
 not_false false e = absurd cc
 
 -- one that is under a tombstone
-quiet_row : (parameters : Parameters) (past : List Ins) (i : Ins) (base position : ℕ) → makes_row i ≡ true → is_end i ≡ false → not (is_under_tombstone parameters past) ≡ false
+quiet_row : (parameters : Parameters) (past : List Ins) (i : Ins) (base position : ℕ) → makes_row i ≡ true → is_end i ≡ false
+    → not (is_under_tombstone parameters past) ≡ false
     → Follows parameters past base position → Follows parameters (i ∷ past) base position
 quiet_row parameters past i base position loud inner quiet f =
     let at : IsRowPoint parameters past i = row_point parameters past i loud inner in
@@ -146,11 +163,15 @@ follows_row parameters past i loud inner seen =
       reached = omega arith;
       counted = λ still none. sym at.base;
       ahead = λ a still is. let so : pending_address (i ∷ past) ≡ None = at.none_pending in absurd cc;
-      unset = λ none. let gave : gave_row parameters (i ∷ past) ≡ true = at.gave ∙ or_left (not (is_under_tombstone parameters past)) (gave_row parameters past) (not_from_false (is_under_tombstone parameters past) seen) in absurd cc;
+      unset = λ none.
+          let gave : gave_row parameters (i ∷ past) ≡ true = at.gave
+          ∙ or_left (not (is_under_tombstone parameters past)) (gave_row parameters past) (not_from_false (is_under_tombstone parameters past) seen) in
+          absurd cc;
     }
 
 -- a point that gives nothing
-pub follows_quiet : (parameters : Parameters) (past : List Ins) (i : Ins) (base position : ℕ) → (makes_row i && not (is_under_tombstone parameters past)) ≡ false
+pub follows_quiet : (parameters : Parameters) (past : List Ins) (i : Ins) (base position : ℕ)
+    → (makes_row i && not (is_under_tombstone parameters past)) ≡ false
     → (is_end i ≡ true → is_under_tombstone parameters past ≡ true → gave_row parameters past ≡ false)
     → Follows parameters past base position → Follows parameters (i ∷ past) base position
 follows_quiet parameters past EndSequence base position quiet ends f =

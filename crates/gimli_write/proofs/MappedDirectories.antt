@@ -1,5 +1,6 @@
 -- The directories of a conversion: each id of a directory of the source is that of its path.
-use Rattle.std.proofs.Common.{◌≡◌, ℕ, zero, suc, ◌+◌, Bool, true, false, if◌then◌else◌, List, [], ◌∷◌, ◌++◌, length, refl, sym, ap, subst, ◌∙◌, arith, inl, inr, append_assoc, length-append}
+use Rattle.std.proofs.Common.{◌≡◌, ℕ, zero, suc, ◌+◌, Bool, true, false, if◌then◌else◌, List, [], ◌∷◌, ◌++◌, length, refl, sym, ap, subst, ◌∙◌, arith, inl, inr}
+use Rattle.std.proofs.Common.{append_assoc, length-append}
 use Rattle.std.specs.Prelude.{◌⊎◌, nat_le, Option, Some, None, option_map, slice_get, Result, Ok, Err}
 use Rattle.std.specs.List.{list_any}
 use Rattle.std.specs.Option.{option_map_or}
@@ -22,10 +23,12 @@ use Rattle.gimli_write.specs.declared.convert_error.ConvertError.TheVariants.{Re
 use Rattle.gimli_write.specs.convert.Texts.{◌>>=◌, without_zero, source_text, source_path}
 use Rattle.gimli_write.specs.convert.SourceTables.{TablesAndTexts, version_of, with_path, directory_added, file_parts, with_parts, file_added, all_added}
 use Rattle.gimli_write.specs.convert.Mapped.{IsDirectoryPath}
-use Rattle.gimli_write.specs.convert.Preparation.{SourceFile, first_path, working_directory, first_texts, start_of_tables, first_ids, Handed, encoding_of, needed_from_5}
+use Rattle.gimli_write.specs.convert.Preparation.{SourceFile, first_path, working_directory, first_texts, start_of_tables, first_ids, Handed, encoding_of}
+use Rattle.gimli_write.specs.convert.Preparation.{needed_from_5}
 use Rattle.gimli_write.proofs.ReadTexts.{text_read}
 use Rattle.gimli_write.proofs.MappedTables.{took, same_ok, sources_table, IsPrepared}
-use Rattle.gimli_write.proofs.MappedTexts.{grown_index, grown_any, own_index, own_any, same_text, IsMade, HasMade, has_itself, has_then, is_made, is_same, table_has, made_apart}
+use Rattle.gimli_write.proofs.MappedTexts.{grown_index, grown_any, own_index, own_any, same_text, IsMade, HasMade, has_itself, has_then, is_made, is_same}
+use Rattle.gimli_write.proofs.MappedTexts.{table_has, made_differ}
 
 -- ---- texts of a source
 
@@ -54,7 +57,8 @@ source_path_of version sections v path is =
     by text true so = absurd cc
     by text false so = cc
 
-first_path_of : (version : ℕ) (sections : Sections) (h : Header) (v : Value) (path : List ℕ) → first_path version sections h v ≡ Ok path → text_of sections v ≡ Ok path
+first_path_of : (version : ℕ) (sections : Sections) (h : Header) (v : Value) (path : List ℕ) → first_path version sections h v ≡ Ok path
+    → text_of sections v ≡ Ok path
 first_path_of version sections h v path is = by (nat_le h.parameters.encoding.version 4) is
   where
     by : (old : Bool) → (if old then source_text sections v else source_path version sections v) ≡ Ok path → text_of sections v ≡ Ok path
@@ -129,7 +133,8 @@ pub directory_there : (version : ℕ) (line_strings : List (List ℕ)) (director
 directory_there version line_strings directories path id so =
     let t = made_text version line_strings path in
     ap (slice_get directories) so.index
-    ∙ subst (λ (ds : List LineText). slice_get ds (index_of_directory directories t) ≡ Some t) (ap (λ (b : Bool). if b then directories else directories ++ t ∷ []) so.present) (directory_found directories t)
+    ∙ subst (λ (ds : List LineText). slice_get ds (index_of_directory directories t) ≡ Some t)
+    (ap (λ (b : Bool). if b then directories else directories ++ t ∷ []) so.present) (directory_found directories t)
 
 -- so one id has one path
 pub one_path : (version : ℕ) (line_strings : List (List ℕ)) (directories : List LineText) (a b : List ℕ) (id : ℕ)
@@ -138,7 +143,7 @@ one_path version line_strings directories a b id x y =
     let first = directory_there version line_strings directories a id x in
     let second = directory_there version line_strings directories b id y in
     let same : made_text version line_strings a ≡ made_text version line_strings b = cc in
-    made_apart version line_strings a b x.made y.made same
+    made_differ version line_strings a b x.made y.made same
 
 -- the texts that were there are there after a source, if one is made
 pub sources_has : (version : ℕ) (paths : List (List ℕ)) (source : Option (List ℕ)) → HasMade version paths (sources_table version paths source)
@@ -150,11 +155,13 @@ sources_has version paths None = has_itself version paths
 -- each id of a directory of the source is that of its path
 pub record AreDirectories (sections : Sections) (h : Header) (tables : TablesAndTexts) : Type 0 where
   pub each : (d id : ℕ) → slice_get tables.directory_ids d ≡ Some id
-      → (path : List ℕ) × IsDirectoryPath sections (directory_of h d) path × IsDirectoryId (version_of tables) tables.line_strings tables.program.directories path id
+      → (path : List ℕ) × IsDirectoryPath sections (directory_of h d) path
+      × IsDirectoryId (version_of tables) tables.line_strings tables.program.directories path id
 
 module _ (sections : Sections) (h : Header) where
   -- the next directory of a header is added
-  directory_next : (tables next : TablesAndTexts) (v : Value) → directory_of h (length tables.directory_ids) ≡ Some v → directory_added sections tables v ≡ Ok next
+  directory_next : (tables next : TablesAndTexts) (v : Value) → directory_of h (length tables.directory_ids) ≡ Some v
+      → directory_added sections tables v ≡ Ok next
       → AreDirectories sections h tables → AreDirectories sections h next × (length next.directory_ids ≡ length tables.directory_ids + 1)
   directory_next tables next v here is so =
       let version = version_of tables in
@@ -164,22 +171,27 @@ module _ (sections : Sections) (h : Header) where
       let text = made_text version tables.line_strings path in
       let same : made_text version after path ≡ text = is_same version tables.line_strings path in
       let there = list_any (line_text_eq text) tables.program.directories in
-      let new : IsDirectoryId version after (with_directory tables.program.directories text) path (index_of_directory tables.program.directories text) = record {
+      let new : IsDirectoryId version after (with_directory tables.program.directories text) path (index_of_directory tables.program.directories text) =
+      record {
         made = is_made version tables.line_strings path;
         present = subst (λ (x : LineText). list_any (line_text_eq x) (with_directory tables.program.directories text) ≡ true) (sym same)
             (own_any (line_text_eq text) there tables.program.directories text refl (same_text text));
-        index = subst (λ (x : LineText). index_of_directory tables.program.directories text ≡ index_of_directory (with_directory tables.program.directories text) x) (sym same)
+        index =
+            subst (λ (x : LineText). index_of_directory tables.program.directories text ≡ index_of_directory (with_directory tables.program.directories text) x)
+            (sym same)
             (sym (own_index (line_text_eq text) there tables.program.directories text refl (same_text text)));
       } in
       let read : IsText sections v path = text_read sections v path (source_path_of version sections v path t.1) in
-      subst (λ (l : TablesAndTexts). AreDirectories sections h l × (length l.directory_ids ≡ length tables.directory_ids + 1)) (same_ok (with_path tables path) next t.2) (
+      subst (λ (l : TablesAndTexts). AreDirectories sections h l × (length l.directory_ids ≡ length tables.directory_ids + 1))
+      (same_ok (with_path tables path) next t.2) (
         record {
           each = λ d id at. elim (grown_cases tables.directory_ids (index_of_directory tables.program.directories text) id d at) [
             | inl old ↦
                 let before = so.each d id old in (
                   before.0,
                   before.1,
-                  longer_texts version tables.line_strings after (with_directory tables.program.directories text) before.0 id (table_has version tables.line_strings path)
+                  longer_texts version tables.line_strings after (with_directory tables.program.directories text) before.0 id
+                      (table_has version tables.line_strings path)
                       (more_directories version tables.line_strings tables.program.directories text before.0 id before.2),
                 )
             | inr here_it_is ↦ (
@@ -199,25 +211,31 @@ module _ (sections : Sections) (h : Header) where
   directories_next done (v ∷ rest) tables last parts count is so =
       let t = took (directory_added sections tables v) (all_added (directory_added sections) rest) last is in
       let here : directory_of h (length tables.directory_ids) ≡ Some v =
-      ap (λ (ds : List Value). if nat_le h.parameters.encoding.version 4 then from_one (option_map String h.comp_dir) ds (length tables.directory_ids) else slice_get ds (length tables.directory_ids)) parts
+      ap
+      (λ (ds : List Value). if nat_le h.parameters.encoding.version 4 then from_one (option_map String h.comp_dir) ds (length tables.directory_ids)
+      else slice_get ds (length tables.directory_ids))
+      parts
       ∙ entry_at (nat_le h.parameters.encoding.version 4) (option_map String h.comp_dir) done rest v (length tables.directory_ids) count in
       let next = directory_next tables t.0 v here t.1 so in
       directories_next (done ++ v ∷ []) rest t.0 last (parts ∙ sym (append_assoc done (v ∷ []) rest))
       (omega (arith, next.1, count, length-append done (v ∷ []))) t.2 next.0
 
   -- the working directory, up to version 4 of the source
-  working_read : (version : ℕ) (directory : List ℕ) → working_directory version sections h ≡ Ok directory → IsDirectoryPath sections (directory_of h 0) directory
+  working_read : (version : ℕ) (directory : List ℕ) → working_directory version sections h ≡ Ok directory
+      → IsDirectoryPath sections (directory_of h 0) directory
   working_read version directory is = by (directory_of h 0) is
     where
       none : (b : Bool) → (if b then Ok [] else Err MissingCompilationDirectory) ≡ Ok directory → directory ≡ []
       none true so = cc
       none false so = absurd cc
 
-      by : (o : Option Value) → option_map_or (first_path version sections h) o (needed_from_5 version [] MissingCompilationDirectory) ≡ Ok directory → IsDirectoryPath sections o directory
+      by : (o : Option Value) → option_map_or (first_path version sections h) o (needed_from_5 version [] MissingCompilationDirectory) ≡ Ok directory
+          → IsDirectoryPath sections o directory
       by (Some v) so = text_read sections v directory (first_path_of version sections h v directory so)
       by None so = none (nat_le version 4) so
 
-  directories_first : (encoding : Encoding) (line_encoding : LineEncoding) (line_strings : List (List ℕ)) (directory : List ℕ) (file : SourceFile) → IsDirectoryPath sections (directory_of h 0) directory
+  directories_first : (encoding : Encoding) (line_encoding : LineEncoding) (line_strings : List (List ℕ)) (directory : List ℕ) (file : SourceFile)
+      → IsDirectoryPath sections (directory_of h 0) directory
       → AreDirectories sections h (start_of_tables encoding line_encoding h (first_texts encoding.version line_strings directory file))
   directories_first encoding line_encoding line_strings directory file read = record { each = each (nat_le h.parameters.encoding.version 4) }
     where
@@ -227,7 +245,8 @@ module _ (sections : Sections) (h : Header) where
       own : Option LineText
       own = (first_texts encoding.version line_strings directory file).source_directory
 
-      alone : IsDirectoryId encoding.version (made_table encoding.version line_strings directory) (made_text encoding.version line_strings directory ∷ []) directory 0
+      alone : IsDirectoryId encoding.version (made_table encoding.version line_strings directory) (made_text encoding.version line_strings directory ∷ [])
+          directory 0
       alone =
           let t = made_text encoding.version line_strings directory in
           let same = sym (is_same encoding.version line_strings directory) in
@@ -239,7 +258,8 @@ module _ (sections : Sections) (h : Header) where
             index = subst (λ (x : LineText). 0 ≡ index_of_directory (t ∷ []) x) same at;
           }
 
-      with_own : (last : List (List ℕ)) (working : LineText) (own : Option LineText) (old : Bool) → IsDirectoryId encoding.version last (working ∷ []) directory 0
+      with_own : (last : List (List ℕ)) (working : LineText) (own : Option LineText) (old : Bool)
+          → IsDirectoryId encoding.version last (working ∷ []) directory 0
           → IsDirectoryId encoding.version last (if old then working ∷ [] else option_map_or (with_directory (working ∷ [])) own (working ∷ [])) directory 0
       with_own last working own true so = so
       with_own last working (Some t) false so = more_directories encoding.version last (working ∷ []) t directory 0 so
@@ -248,7 +268,9 @@ module _ (sections : Sections) (h : Header) where
       each : (old : Bool) (d id : ℕ) → slice_get (if old then 0 ∷ [] else []) d ≡ Some id
           → (path : List ℕ) × IsDirectoryPath sections (directory_of h d) path
           × IsDirectoryId encoding.version (first_texts encoding.version line_strings directory file).line_strings
-          (first_directories encoding.version (made_text encoding.version line_strings directory) (first_texts encoding.version line_strings directory file).source_directory) path id
+          (first_directories encoding.version (made_text encoding.version line_strings directory)
+          (first_texts encoding.version line_strings directory file).source_directory)
+          path id
       each true zero id at =
           let second = made_table encoding.version line_strings directory in
           let third = sources_table encoding.version second file.directory in
@@ -265,20 +287,26 @@ module _ (sections : Sections) (h : Header) where
       each false d id at = absurd cc
 
   -- those of a header
-  pub directories_prepared : (given : Handed) (line_strings : List (List ℕ)) (tables : TablesAndTexts) (p : IsPrepared sections h given line_strings tables) → AreDirectories sections h p.with_directories
+  pub directories_prepared : (given : Handed) (line_strings : List (List ℕ)) (tables : TablesAndTexts) (p : IsPrepared sections h given line_strings tables)
+      → AreDirectories sections h p.with_directories
   directories_prepared given line_strings tables p =
       directories_next [] h.directories _ p.with_directories refl (first_count h.parameters.encoding.version ∙ omega arith) p.directories
-      (directories_first (encoding_of h given) p.line_encoding line_strings p.directory p.file (working_read (encoding_of h given).version p.directory p.directory_is))
+      (directories_first (encoding_of h given) p.line_encoding line_strings p.directory p.file
+      (working_read (encoding_of h given).version p.directory p.directory_is))
 
   -- a file changes none of them
-  pub directories_stay : (tables next : TablesAndTexts) (f : File) → file_added sections tables f ≡ Ok next → AreDirectories sections h tables → AreDirectories sections h next
+  pub directories_stay : (tables next : TablesAndTexts) (f : File) → file_added sections tables f ≡ Ok next → AreDirectories sections h tables
+      → AreDirectories sections h next
   directories_stay tables next f is so =
       let version = version_of tables in
       let t = took (file_parts version sections tables.directory_ids f) (λ parts. Ok (with_parts tables f parts)) next is in
       let parts = t.0 in
       let paths = made_table version tables.line_strings parts.path in
       let after = sources_table version paths parts.source in
-      let has : HasMade version tables.line_strings after = has_then version tables.line_strings paths after (table_has version tables.line_strings parts.path) (sources_has version paths parts.source) in
+      let has : HasMade version tables.line_strings after =
+      has_then version tables.line_strings paths after (table_has version tables.line_strings parts.path) (sources_has version paths parts.source) in
       subst (AreDirectories sections h) (same_ok (with_parts tables f parts) next t.2) (record {
-        each = λ d id at. let before = so.each d id at in (before.0, before.1, longer_texts version tables.line_strings after tables.program.directories before.0 id has before.2);
+        each = λ d id at.
+            let before = so.each d id at in
+            (before.0, before.1, longer_texts version tables.line_strings after tables.program.directories before.0 id has before.2);
       })

@@ -1,6 +1,7 @@
 -- The files of a conversion: each id of a file of the source is that of its paths, with what is known of the last file
 -- that has them.
-use Rattle.std.proofs.Common.{◌≡◌, ◌≢◌, ℕ, zero, suc, ◌+◌, ◌<◌, Bool, true, false, not, cond, ◌||◌, if◌then◌else◌, List, [], ◌∷◌, ◌++◌, length, refl, sym, ap, subst, ◌∙◌, inl, inr, append_assoc}
+use Rattle.std.proofs.Common.{◌≡◌, ◌≢◌, ℕ, zero, suc, ◌+◌, ◌<◌, Bool, true, false, not, cond, ◌||◌, if◌then◌else◌, List, [], ◌∷◌, ◌++◌, length, refl, sym, ap}
+use Rattle.std.proofs.Common.{subst, ◌∙◌, inl, inr, append_assoc}
 use Rattle.std.specs.Prelude.{◌⊎◌, nat_eq, Option, Some, None, option_map, slice_get, Ok, bytes_eq, IfSome}
 use Rattle.std.specs.List.{list_any, position_or_len, AllByRecursion}
 use Rattle.std.proofs.lemmas.Bool.{true≢false, eqb-true, eq-eqb}
@@ -20,30 +21,35 @@ use Rattle.gimli_write.specs.convert.SourceTables.{TablesAndTexts, version_of, F
 use Rattle.gimli_write.specs.convert.Items.{tables_after_definition, tables_at}
 use Rattle.gimli_write.specs.convert.Preparation.{first_ids}
 use Rattle.gimli_write.proofs.MappedTables.{took, same_ok, sources_table}
-use Rattle.gimli_write.proofs.MappedTexts.{index_stays, index_new, any_stays, any_new, index_none, last_element, same_key, IsMade, HasMade, has_then, is_made, is_same, table_has, made_apart}
+use Rattle.gimli_write.proofs.MappedTexts.{index_stays, index_new, any_stays, any_new, index_none, last_element, same_key, IsMade, HasMade, has_then, is_made}
+use Rattle.gimli_write.proofs.MappedTexts.{is_same, table_has, made_differ}
 use Rattle.gimli_write.proofs.MappedDirectories.{sources_has}
 
 -- ---- elements one by one
 
-pub one_by_one_map : {A B : Type 0} (R S : A → B → Type 0) → ((x : A) (y : B) → R x y → S x y) → (xs : List A) (ys : List B) → OneByOne R xs ys → OneByOne S xs ys
+pub one_by_one_map : {A B : Type 0} (R S : A → B → Type 0) → ((x : A) (y : B) → R x y → S x y) → (xs : List A) (ys : List B) → OneByOne R xs ys
+    → OneByOne S xs ys
 one_by_one_map R S f [] [] all = tt
 one_by_one_map R S f [] (y ∷ ys) all = elim all [ ]
 one_by_one_map R S f (x ∷ xs) [] all = elim all [ ]
 one_by_one_map R S f (x ∷ xs) (y ∷ ys) all = (f x y all.0, one_by_one_map R S f xs ys all.1)
 
-one_by_one_push : {A B : Type 0} (R : A → B → Type 0) (xs : List A) (ys : List B) (x : A) (y : B) → OneByOne R xs ys → R x y → OneByOne R (xs ++ x ∷ []) (ys ++ y ∷ [])
+one_by_one_push : {A B : Type 0} (R : A → B → Type 0) (xs : List A) (ys : List B) (x : A) (y : B) → OneByOne R xs ys → R x y
+    → OneByOne R (xs ++ x ∷ []) (ys ++ y ∷ [])
 one_by_one_push R [] [] x y all one = (one, tt)
 one_by_one_push R [] (b ∷ ys) x y all one = elim all [ ]
 one_by_one_push R (a ∷ xs) [] x y all one = elim all [ ]
 one_by_one_push R (a ∷ xs) (b ∷ ys) x y all one = (all.0, one_by_one_push R xs ys x y all.1 one)
 
-pub one_by_one_at : {A B : Type 0} (R : A → B → Type 0) (xs : List A) (ys : List B) (i : ℕ) (x : A) → OneByOne R xs ys → slice_get xs i ≡ Some x → (y : B) × (slice_get ys i ≡ Some y) × R x y
+pub one_by_one_at : {A B : Type 0} (R : A → B → Type 0) (xs : List A) (ys : List B) (i : ℕ) (x : A) → OneByOne R xs ys → slice_get xs i ≡ Some x
+    → (y : B) × (slice_get ys i ≡ Some y) × R x y
 one_by_one_at R [] ys i x all is = absurd cc
 one_by_one_at R (a ∷ xs) [] i x all is = elim all [ ]
 one_by_one_at {A = A} R (a ∷ xs) (b ∷ ys) zero x all is = let same : a ≡ x = cc in (b, refl, subst (λ (z : A). R z b) same all.0)
 one_by_one_at R (a ∷ xs) (b ∷ ys) (suc i) x all is = one_by_one_at R xs ys i x all.1 is
 
-pub one_by_one_back : {A B : Type 0} (R : A → B → Type 0) (xs : List A) (ys : List B) (i : ℕ) (y : B) → OneByOne R xs ys → slice_get ys i ≡ Some y → (x : A) × (slice_get xs i ≡ Some x)
+pub one_by_one_back : {A B : Type 0} (R : A → B → Type 0) (xs : List A) (ys : List B) (i : ℕ) (y : B) → OneByOne R xs ys → slice_get ys i ≡ Some y
+    → (x : A) × (slice_get xs i ≡ Some x)
 one_by_one_back R [] [] i y all is = absurd cc
 one_by_one_back R [] (b ∷ ys) i y all is = elim all [ ]
 one_by_one_back R (a ∷ xs) [] i y all is = elim all [ ]
@@ -99,7 +105,8 @@ module _ (files : List BuiltFile) (k : FileKey) (d : Details) where
   new_index : index_of_file (with_file files k (Some d)) k ≡ index_of_file files k
   new_index = by (has_file files k) refl
     where
-      by : (b : Bool) → has_file files k ≡ b → index_of_file (if b then with_details files (index_of_file files k) d else files ++ (k, d) ∷ []) k ≡ index_of_file files k
+      by : (b : Bool) → has_file files k ≡ b
+          → index_of_file (if b then with_details files (index_of_file files k) d else files ++ (k, d) ∷ []) k ≡ index_of_file files k
       by true is = details_index (key_eq k) files (index_of_file files k) d
       by false is = index_new (λ f. key_eq k f.0) files (k, d) (same_key k) is
 
@@ -107,16 +114,19 @@ module _ (files : List BuiltFile) (k : FileKey) (d : Details) where
   new_entry : slice_get (with_file files k (Some d)) (index_of_file files k) ≡ Some (k, d)
   new_entry = by (has_file files k) refl (file_found_at files k (Some d))
     where
-      there : (o : Option BuiltFile) → option_map (λ f. f.0) (option_map (λ f. let g : BuiltFile = (f.0, d) in g) o) ≡ Some k → option_map (λ f. let g : BuiltFile = (f.0, d) in g) o ≡ Some (k, d)
+      there : (o : Option BuiltFile) → option_map (λ f. f.0) (option_map (λ f. let g : BuiltFile = (f.0, d) in g) o) ≡ Some k
+          → option_map (λ f. let g : BuiltFile = (f.0, d) in g) o ≡ Some (k, d)
       there (Some f) is = let same : f.0 ≡ k = cc in ap (λ (l : FileKey). let o : Option BuiltFile = Some (l, d) in o) same
       there None is = absurd cc
 
-      by : (b : Bool) → has_file files k ≡ b → slice_get (keys_of (if b then with_details files (index_of_file files k) d else files ++ (k, d) ∷ [])) (index_of_file files k) ≡ Some k
+      by : (b : Bool) → has_file files k ≡ b
+          → slice_get (keys_of (if b then with_details files (index_of_file files k) d else files ++ (k, d) ∷ [])) (index_of_file files k) ≡ Some k
           → slice_get (if b then with_details files (index_of_file files k) d else files ++ (k, d) ∷ []) (index_of_file files k) ≡ Some (k, d)
       by true is found =
           let n = index_of_file files k in
           details_at files n d
-          ∙ there (slice_get files n) (ap (option_map (λ f. f.0)) (sym (details_at files n d)) ∙ sym (slice_get-map (λ (f : BuiltFile). f.0) (with_details files n d) n) ∙ found)
+          ∙ there (slice_get files n)
+          (ap (option_map (λ f. f.0)) (sym (details_at files n d)) ∙ sym (slice_get-map (λ (f : BuiltFile). f.0) (with_details files n d) n) ∙ found)
       by false is found = last_element files (k, d) (index_of_file files k) (index_none (λ f. key_eq k f.0) files is)
 
   -- another file keeps its details
@@ -164,7 +174,8 @@ pub record HasOthers (sections : Sections) (version : ℕ) (directory_ids : List
   pub other : SamePaths own parts → ⊥
 
 -- an id is that of the paths of a file; and what is known is of the last of these files that has them
-pub record IsFileOf (sections : Sections) (version : ℕ) (line_strings : List (List ℕ)) (directory_ids : List ℕ) (files : List BuiltFile) (source : List File) (f : File) (id : ℕ) : Type 0 where
+pub record IsFileOf (sections : Sections) (version : ℕ) (line_strings : List (List ℕ)) (directory_ids : List ℕ) (files : List BuiltFile) (source : List File)
+    (f : File) (id : ℕ) : Type 0 where
   pub parts : FileParts
   pub parts_are : HasParts sections version directory_ids parts f
   pub made : IsMade version line_strings parts.path
@@ -182,7 +193,8 @@ pub record IsFileOf (sections : Sections) (version : ℕ) (line_strings : List (
   pub split : source ≡ before ++ last ∷ later
   pub none_after : AllByRecursion (HasOthers sections version directory_ids parts) later
 
-known_longer : (version : ℕ) (old new : List (List ℕ)) (f : File) (source : Option (List ℕ)) (d : Details) → HasMade version old new → IsKnown version old f source d → IsKnown version new f source d
+known_longer : (version : ℕ) (old new : List (List ℕ)) (f : File) (source : Option (List ℕ)) (d : Details) → HasMade version old new
+    → IsKnown version old f source d → IsKnown version new f source d
 known_longer version old new f (Some text) d has so = record {
   timestamp = so.timestamp;
   size = so.size;
@@ -192,7 +204,8 @@ known_longer version old new f (Some text) d has so = record {
 }
 known_longer version old new f None d has so = record { timestamp = so.timestamp; size = so.size; md5 = so.md5; source_is = so.source_is; source_made = tt }
 
-source_known : (version : ℕ) (paths : List (List ℕ)) (source : Option (List ℕ)) → option_map (made_text version paths) source ≡ option_map (made_text version (sources_table version paths source)) source
+source_known : (version : ℕ) (paths : List (List ℕ)) (source : Option (List ℕ))
+    → option_map (made_text version paths) source ≡ option_map (made_text version (sources_table version paths source)) source
 source_known version paths (Some text) = ap Some (sym (is_same version paths text))
 source_known version paths None = refl
 
@@ -202,7 +215,8 @@ source_there version paths None = tt
 
 -- ---- one more file
 
-module _ (sections : Sections) (tables : TablesAndTexts) (g : File) (added : FileParts) (added_are : HasParts sections (version_of tables) tables.directory_ids added g) where
+module _ (sections : Sections) (tables : TablesAndTexts) (g : File) (added : FileParts)
+    (added_are : HasParts sections (version_of tables) tables.directory_ids added g) where
   abbrev paths_after : List (List ℕ)
   paths_after = made_table (version_of tables) tables.line_strings added.path
 
@@ -220,13 +234,16 @@ module _ (sections : Sections) (tables : TablesAndTexts) (g : File) (added : Fil
 
   texts_stay : HasMade (version_of tables) tables.line_strings texts_after
   texts_stay =
-      has_then (version_of tables) tables.line_strings paths_after texts_after (table_has (version_of tables) tables.line_strings added.path) (sources_has (version_of tables) paths_after added.source)
+      has_then (version_of tables) tables.line_strings paths_after texts_after (table_has (version_of tables) tables.line_strings added.path)
+      (sources_has (version_of tables) paths_after added.source)
 
   own_made : IsMade (version_of tables) texts_after added.path
   own_made = (sources_has (version_of tables) paths_after added.source).there added.path (is_made (version_of tables) tables.line_strings added.path)
 
   own_same : made_text (version_of tables) texts_after added.path ≡ made_text (version_of tables) tables.line_strings added.path
-  own_same = (sources_has (version_of tables) paths_after added.source).same added.path (is_made (version_of tables) tables.line_strings added.path) ∙ is_same (version_of tables) tables.line_strings added.path
+  own_same =
+      (sources_has (version_of tables) paths_after added.source).same added.path (is_made (version_of tables) tables.line_strings added.path)
+      ∙ is_same (version_of tables) tables.line_strings added.path
 
   own_known : IsKnown (version_of tables) texts_after g added.source details_of
   own_known = record {
@@ -238,7 +255,8 @@ module _ (sections : Sections) (tables : TablesAndTexts) (g : File) (added : Fil
   }
 
   -- the new file
-  file_new : (source : List File) → IsFileOf sections (version_of tables) texts_after tables.directory_ids files_after_it (source ++ g ∷ []) g (index_of_file tables.program.files key_of)
+  file_new : (source : List File)
+      → IsFileOf sections (version_of tables) texts_after tables.directory_ids files_after_it (source ++ g ∷ []) g (index_of_file tables.program.files key_of)
   file_new source =
       let to = λ (t : LineText). let k : FileKey = (t, added.directory) in k in
       record {
@@ -246,9 +264,13 @@ module _ (sections : Sections) (tables : TablesAndTexts) (g : File) (added : Fil
         parts_are = added_are;
         made = own_made;
         present = subst (λ (t : LineText). has_file files_after_it (to t) ≡ true) (sym own_same) (new_any tables.program.files key_of details_of);
-        index = subst (λ (t : LineText). index_of_file tables.program.files key_of ≡ index_of_file files_after_it (to t)) (sym own_same) (sym (new_index tables.program.files key_of details_of));
+        index =
+            subst (λ (t : LineText). index_of_file tables.program.files key_of ≡ index_of_file files_after_it (to t)) (sym own_same)
+            (sym (new_index tables.program.files key_of details_of));
         details = details_of;
-        entry = subst (λ (t : LineText). slice_get files_after_it (index_of_file tables.program.files key_of) ≡ Some (to t, details_of)) (sym own_same) (new_entry tables.program.files key_of details_of);
+        entry =
+            subst (λ (t : LineText). slice_get files_after_it (index_of_file tables.program.files key_of) ≡ Some (to t, details_of)) (sym own_same)
+            (new_entry tables.program.files key_of details_of);
         last = g;
         last_parts = added;
         last_are = added_are;
@@ -261,7 +283,8 @@ module _ (sections : Sections) (tables : TablesAndTexts) (g : File) (added : Fil
       }
 
   -- a file that was there
-  file_old : (source : List File) (f : File) (id : ℕ) → IsFileOf sections (version_of tables) tables.line_strings tables.directory_ids tables.program.files source f id
+  file_old : (source : List File) (f : File) (id : ℕ)
+      → IsFileOf sections (version_of tables) tables.line_strings tables.directory_ids tables.program.files source f id
       → IsFileOf sections (version_of tables) texts_after tables.directory_ids files_after_it (source ++ g ∷ []) f id
   file_old source f id so = elim (same_paths added so.parts) [ inl same ↦ taken same | inr other ↦ left other ]
     where
@@ -276,16 +299,21 @@ module _ (sections : Sections) (tables : TablesAndTexts) (g : File) (added : Fil
       index : id ≡ index_of_file files_after_it (made_text (version_of tables) texts_after so.parts.path, so.parts.directory)
       index =
           subst (λ (t : LineText). id ≡ index_of_file files_after_it (t, so.parts.directory)) (sym text_same)
-          (so.index ∙ sym (old_index tables.program.files key_of details_of (made_text (version_of tables) tables.line_strings so.parts.path, so.parts.directory) so.present))
+          (so.index
+          ∙ sym (old_index tables.program.files key_of details_of (made_text (version_of tables) tables.line_strings so.parts.path, so.parts.directory)
+          so.present))
 
       -- the added file has its paths
       taken : SamePaths added so.parts → IsFileOf sections (version_of tables) texts_after tables.directory_ids files_after_it (source ++ g ∷ []) f id
       taken same =
-          let text : made_text (version_of tables) tables.line_strings added.path ≡ made_text (version_of tables) tables.line_strings so.parts.path = ap (made_text (version_of tables) tables.line_strings) same.0 in
+          let text : made_text (version_of tables) tables.line_strings added.path
+          ≡ made_text (version_of tables) tables.line_strings so.parts.path = ap (made_text (version_of tables) tables.line_strings) same.0 in
           let key : key_of ≡ (made_text (version_of tables) texts_after so.parts.path, so.parts.directory) =
-          ap (λ (t : LineText). let k : FileKey = (t, added.directory) in k) (text ∙ sym text_same) ∙ ap (λ (n : ℕ). let k : FileKey = (made_text (version_of tables) texts_after so.parts.path, n) in k) same.1 in
+          ap (λ (t : LineText). let k : FileKey = (t, added.directory) in k) (text ∙ sym text_same)
+          ∙ ap (λ (n : ℕ). let k : FileKey = (made_text (version_of tables) texts_after so.parts.path, n) in k) same.1 in
           let old_key : key_of ≡ (made_text (version_of tables) tables.line_strings so.parts.path, so.parts.directory) =
-          ap (λ (t : LineText). let k : FileKey = (t, added.directory) in k) text ∙ ap (λ (n : ℕ). let k : FileKey = (made_text (version_of tables) tables.line_strings so.parts.path, n) in k) same.1 in
+          ap (λ (t : LineText). let k : FileKey = (t, added.directory) in k) text
+          ∙ ap (λ (n : ℕ). let k : FileKey = (made_text (version_of tables) tables.line_strings so.parts.path, n) in k) same.1 in
           let at : index_of_file tables.program.files key_of ≡ id = ap (index_of_file tables.program.files) old_key ∙ sym so.index in
           record {
             parts = so.parts;
@@ -295,8 +323,10 @@ module _ (sections : Sections) (tables : TablesAndTexts) (g : File) (added : Fil
             index = index;
             details = details_of;
             entry =
-                subst (λ (n : ℕ). slice_get files_after_it n ≡ Some ((made_text (version_of tables) texts_after so.parts.path, so.parts.directory), details_of)) at
-                (subst (λ (k : FileKey). slice_get files_after_it (index_of_file tables.program.files key_of) ≡ Some (k, details_of)) key (new_entry tables.program.files key_of details_of));
+                subst (λ (n : ℕ). slice_get files_after_it n ≡ Some ((made_text (version_of tables) texts_after so.parts.path, so.parts.directory), details_of))
+                at
+                (subst (λ (k : FileKey). slice_get files_after_it (index_of_file tables.program.files key_of) ≡ Some (k, details_of)) key
+                (new_entry tables.program.files key_of details_of));
             last = g;
             last_parts = added;
             last_are = added_are;
@@ -311,9 +341,13 @@ module _ (sections : Sections) (tables : TablesAndTexts) (g : File) (added : Fil
       -- the added file has others
       left : (SamePaths added so.parts → ⊥) → IsFileOf sections (version_of tables) texts_after tables.directory_ids files_after_it (source ++ g ∷ []) f id
       left other =
-          let apart : (let k : FileKey = (made_text (version_of tables) tables.line_strings so.parts.path, so.parts.directory) in k) ≢ key_of = λ is.
-          let text : made_text (version_of tables) texts_after so.parts.path ≡ made_text (version_of tables) texts_after added.path = text_same ∙ ap (λ (k : FileKey). k.0) is ∙ sym own_same in
-          other (sym (made_apart (version_of tables) texts_after so.parts.path added.path (texts_stay.there so.parts.path so.made) own_made text), sym (ap (λ (k : FileKey). k.1) is)) in
+          let other_key : (let k : FileKey = (made_text (version_of tables) tables.line_strings so.parts.path, so.parts.directory) in k) ≢ key_of = λ is.
+          let text : made_text (version_of tables) texts_after so.parts.path ≡ made_text (version_of tables) texts_after added.path = text_same
+          ∙ ap (λ (k : FileKey). k.0) is ∙ sym own_same in
+          other (
+            sym (made_differ (version_of tables) texts_after so.parts.path added.path (texts_stay.there so.parts.path so.made) own_made text),
+            sym (ap (λ (k : FileKey). k.1) is),
+          ) in
           record {
             parts = so.parts;
             parts_are = so.parts_are;
@@ -323,7 +357,8 @@ module _ (sections : Sections) (tables : TablesAndTexts) (g : File) (added : Fil
             details = so.details;
             entry =
                 subst (λ (t : LineText). slice_get files_after_it id ≡ Some ((t, so.parts.directory), so.details)) (sym text_same)
-                (other_entry tables.program.files key_of details_of (made_text (version_of tables) tables.line_strings so.parts.path, so.parts.directory) so.details id so.entry apart);
+                (other_entry tables.program.files key_of details_of (made_text (version_of tables) tables.line_strings so.parts.path, so.parts.directory)
+                so.details id so.entry other_key);
             last = so.last;
             last_parts = so.last_parts;
             last_are = so.last_are;
@@ -332,7 +367,9 @@ module _ (sections : Sections) (tables : TablesAndTexts) (g : File) (added : Fil
             before = so.before;
             later = so.later ++ g ∷ [];
             split = ap (λ (l : List File). l ++ g ∷ []) so.split ∙ append_assoc so.before (so.last ∷ so.later) (g ∷ []);
-            none_after = all_push (HasOthers sections (version_of tables) tables.directory_ids so.parts) so.later g so.none_after (record { own = added; own_is = added_are; other = other });
+            none_after =
+                all_push (HasOthers sections (version_of tables) tables.directory_ids so.parts) so.later g so.none_after
+                (record { own = added; own_is = added_are; other = other });
           }
 
 -- ---- all files
@@ -361,27 +398,32 @@ file_next sections h tables next g source is so =
           ∙ append_assoc (first_ids h.parameters.encoding.version) so.ids (index_of_file tables.program.files k ∷ []);
       each =
           one_by_one_push R source so.ids g (index_of_file tables.program.files k)
-          (one_by_one_map (IsFileOf sections version tables.line_strings tables.directory_ids tables.program.files source) R (file_old sections tables g parts t.1 source) source so.ids so.each)
+          (one_by_one_map (IsFileOf sections version tables.line_strings tables.directory_ids tables.program.files source) R
+          (file_old sections tables g parts t.1 source) source so.ids so.each)
           (file_new sections tables g parts t.1 source);
     })
 
 -- those of a header
-pub files_next : (sections : Sections) (h : Header) (done rest : List File) (tables last : TablesAndTexts) → all_added (file_added sections) rest tables ≡ Ok last
+pub files_next : (sections : Sections) (h : Header) (done rest : List File) (tables last : TablesAndTexts)
+    → all_added (file_added sections) rest tables ≡ Ok last
     → AreFiles sections h tables done → AreFiles sections h last (done ++ rest)
 files_next sections h done [] tables last is so =
     subst (AreFiles sections h last) (sym (append-nil done)) (subst (λ (l : TablesAndTexts). AreFiles sections h l done) (same_ok tables last is) so)
 files_next sections h done (g ∷ rest) tables last is so =
     let t = took (file_added sections tables g) (all_added (file_added sections) rest) last is in
-    subst (AreFiles sections h last) (append_assoc done (g ∷ []) rest) (files_next sections h (done ++ g ∷ []) rest t.0 last t.2 (file_next sections h tables t.0 g done t.1 so))
+    subst (AreFiles sections h last) (append_assoc done (g ∷ []) rest)
+    (files_next sections h (done ++ g ∷ []) rest t.0 last t.2 (file_next sections h tables t.0 g done t.1 so))
 
 -- and those that a program defines
-pub files_defined : (sections : Sections) (h : Header) (first : TablesAndTexts) (past : List Ins) (tables : TablesAndTexts) → tables_at sections first past ≡ Ok tables
+pub files_defined : (sections : Sections) (h : Header) (first : TablesAndTexts) (past : List Ins) (tables : TablesAndTexts)
+    → tables_at sections first past ≡ Ok tables
     → AreFiles sections h first h.files → AreFiles sections h tables (defined_files h.files past)
 files_defined sections h first [] tables is so = subst (λ (l : TablesAndTexts). AreFiles sections h l h.files) (same_ok first tables is) so
 files_defined sections h first (i ∷ past) tables is so =
     let t = took (tables_at sections first past) (λ l. tables_after_definition sections l i) tables is in
     one i t.0 t.2 (files_defined sections h first past t.0 t.1 so)
   where
-    one : (i : Ins) (before : TablesAndTexts) → tables_after_definition sections before i ≡ Ok tables → AreFiles sections h before (defined_files h.files past) → AreFiles sections h tables (defined_files h.files (i ∷ past))
+    one : (i : Ins) (before : TablesAndTexts) → tables_after_definition sections before i ≡ Ok tables → AreFiles sections h before (defined_files h.files past)
+        → AreFiles sections h tables (defined_files h.files (i ∷ past))
     one (DefineFile f) before at q = file_next sections h before tables f (defined_files h.files past) at q
     one i before at q = subst (λ (l : TablesAndTexts). AreFiles sections h l (defined_files h.files past)) (same_ok before tables at) q

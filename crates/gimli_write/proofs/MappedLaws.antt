@@ -26,7 +26,7 @@ use Rattle.gimli_write.specs.declared.convert_error.ConvertError.{ConvertError}
 use Rattle.gimli_write.specs.convert.Conversion.{IsConverted}
 use Rattle.gimli_write.specs.convert.Outcome.{Outcome, outcome_of}
 use Rattle.gimli_write.specs.convert.SourceTables.{TablesAndTexts}
-use Rattle.gimli_write.specs.convert.Mapped.{CanBeFaithful, IsMapped, IsReadAs, AreRowsMapped, HasPaths, AreFilesMapped, AreFilesReadAs, HasConstantAddresses}
+use Rattle.gimli_write.specs.convert.Mapped.{CanBeFaithful, IsFaithful, IsReadAs, AreRowsMapped, HasPaths, AreFilesMapped, AreFilesReadAs, HasConstantAddresses}
 use Rattle.gimli_write.specs.convert.Items.{Reading, ReadsItems}
 use Rattle.gimli_write.specs.convert.Preparation.{encoding_of, tables_of_header}
 use Rattle.gimli_write.specs.convert.Sources.{Source}
@@ -48,7 +48,9 @@ was_converted : (convert_address : ℕ → Option Address) (s : Source) (line_st
 was_converted convert_address s line_strings c so = by (tables_of_header s.sections s.header s.given line_strings) refl so.1
   where
     by : (r : Result TablesAndTexts ConvertError) → tables_of_header s.sections s.header s.given line_strings ≡ r
-        → MatchResult r (λ first. ReadsItems s.notation s.sections s.header first s.header.program so.0 × (outcome_of convert_address so.0 first.program ≡ Ok c)) (λ e. (let o : Result Outcome ConvertError = Ok c in o) ≡ Err e)
+        → MatchResult r
+        (λ first. ReadsItems s.notation s.sections s.header first s.header.program so.0 × (outcome_of convert_address so.0 first.program ≡ Ok c))
+        (λ e. (let o : Result Outcome ConvertError = Ok c in o) ≡ Err e)
         → WasConverted convert_address s line_strings c
     by (Ok first) ready m = record { reading = so.0; first = first; ready = ready; reads = m.0; is = m.1 }
     by (Err e) ready m = absurd cc
@@ -71,7 +73,8 @@ same_rows (x ∷ a) (y ∷ b) is =
 -- ---- tables that gained a text
 
 -- a text that is within a table has the same bytes in a longer one
-bytes_longer : (strings old new : List (List ℕ)) (t : LineText) → KeepsTexts old new → IsWithin (texts_in strings old) t → bytes_in (texts_in strings new) t ≡ bytes_in (texts_in strings old) t
+bytes_longer : (strings old new : List (List ℕ)) (t : LineText) → KeepsTexts old new → IsWithin (texts_in strings old) t
+    → bytes_in (texts_in strings new) t ≡ bytes_in (texts_in strings old) t
 bytes_longer strings old new (Inline bytes) keeps within = refl
 bytes_longer strings old new (InStrings i) keeps within = refl
 bytes_longer strings old new (InLineStrings i) keeps within = ap (λ (o : Option (List ℕ)). unwrap_or o []) (keeps.text i within)
@@ -104,36 +107,46 @@ module _ (convert_address : ℕ → Option Address) (s : Source) (line_strings :
     mapped_rows : AreRowsMapped s.notation s.header s.header.program c
     mapped_rows =
         let w = was_converted convert_address s line_strings c so in
-        rows_mapped s.notation s.sections s.header s.given line_strings w.first s.header.program w.reading convert_address c w.ready w.reads can.itself can.wide can.no_end_under_tombstone w.is
+        rows_mapped s.notation s.sections s.header s.given line_strings w.first s.header.program w.reading convert_address c w.ready w.reads can.itself can.wide
+        can.no_end_under_tombstone w.is
 
-    pub conversion_mapped : (strings : List (List ℕ)) → IsMapped s strings c
-    conversion_mapped strings =
-        let w = was_converted convert_address s line_strings c so in
-        record {
-          rows = mapped_rows;
-          source_files = defined_files s.header.files (past_at_end [] w.reads.list);
-          at_end = record { list = w.reads.list; end = w.reads.end; decoding = w.reads.decoding; given = refl };
-          files = files_same s.notation s.sections s.header s.given line_strings w.first s.header.program w.reading convert_address c w.ready w.reads w.is strings;
-        }
-
-    pub conversion_fits : AddressesFit c.program.encoding.address_size 0 (0, 0) c.program.items
+    conversion_fits : AddressesFit c.program.encoding.address_size 0 (0, 0) c.program.items
     conversion_fits =
         let w = was_converted convert_address s line_strings c so in
-        addresses_fit s.notation s.sections s.header s.given line_strings w.first s.header.program w.reading convert_address c w.ready w.reads can.itself can.wide can.no_end_under_tombstone w.is
+        addresses_fit s.notation s.sections s.header s.given line_strings w.first s.header.program w.reading convert_address c w.ready w.reads can.itself
+        can.wide can.no_end_under_tombstone w.is
 
-    pub conversion_constant : HasConstantAddresses c.program
+    conversion_constant : HasConstantAddresses c.program
     conversion_constant =
         let w = was_converted convert_address s line_strings c so in
-        constants_set s.notation s.sections s.header s.given line_strings w.first s.header.program w.reading convert_address c w.ready w.reads can.itself can.wide can.no_end_under_tombstone w.is
+        constants_set s.notation s.sections s.header s.given line_strings w.first s.header.program w.reading convert_address c w.ready w.reads can.itself
+        can.wide can.no_end_under_tombstone w.is
 
     pub conversion_back : (rows back : List ReadRow) → Events s.notation s.header s.header.program (map row rows)
         → (AddressesFit c.program.encoding.address_size 0 (0, 0) c.program.items → RowsMatch c.program.encoding.version [] c.program.items back)
         → OneByOne (IsReadAs s.header.parameters.encoding.version c.program.encoding.version c.file_ids) rows back
     conversion_back rows back events built =
         let mapped : AreRowsMapped s.notation s.header s.header.program c = mapped_rows in
-        let same : mapped.rows ≡ rows = same_rows mapped.rows rows (events_once s.notation s.header s.header.program (map row mapped.rows) (map row rows) mapped.events events) in
+        let same : mapped.rows
+        ≡ rows = same_rows mapped.rows rows (events_once s.notation s.header s.header.program (map row mapped.rows) (map row rows) mapped.events events) in
         subst (λ (source : List ReadRow). OneByOne (IsReadAs s.header.parameters.encoding.version c.program.encoding.version c.file_ids) source back) same
-        (rows_again s.header.parameters.encoding.version c.program.encoding.version c.file_ids [] c.program.items mapped.rows back mapped.mapped (built conversion_fits))
+        (rows_again s.header.parameters.encoding.version c.program.encoding.version c.file_ids [] c.program.items mapped.rows back mapped.mapped
+        (built conversion_fits))
+
+    pub conversion_faithful : (strings : List (List ℕ)) → IsFaithful s strings c
+    conversion_faithful strings =
+        let w = was_converted convert_address s line_strings c so in
+        record {
+          rows = mapped_rows;
+          source_files = defined_files s.header.files (past_at_end [] w.reads.list);
+          at_end = record { list = w.reads.list; end = w.reads.end; decoding = w.reads.decoding; given = refl };
+          files =
+              files_same s.notation s.sections s.header s.given line_strings w.first s.header.program w.reading convert_address c w.ready w.reads w.is strings;
+          can_write = conversion_written strings;
+          constants = conversion_constant;
+          addresses = conversion_fits;
+          read_back = λ rows back events built. conversion_back rows back events (λ fits. built);
+        }
 
     -- the same of a unit that is read back
     pub unit_back : (rows : List ReadRow) → Events s.notation s.header s.header.program (map row rows)
@@ -148,8 +161,12 @@ module _ (convert_address : ℕ → Option Address) (s : Source) (line_strings :
       AreFilesReadAs s.sections s.header files c.file_ids (map (bytes_in texts) c.program.directories) (map (built_file c.program texts) c.program.files))
   files_back strings files at_end =
       let w = was_converted convert_address s line_strings c so in
-      let once = one_decoding s.notation s.header s.header.program w.reads.list w.reads.end w.reads.decoding ∙ sym (one_decoding s.notation s.header s.header.program at_end.list at_end.end at_end.decoding) in
-      let same : defined_files s.header.files (past_at_end [] w.reads.list) ≡ files = ap (λ (p : List Ins × Option Error). defined_files s.header.files (past_at_end [] p.0)) once ∙ sym at_end.given in
+      let once =
+      one_decoding s.notation s.header s.header.program w.reads.list w.reads.end w.reads.decoding
+      ∙ sym (one_decoding s.notation s.header s.header.program at_end.list at_end.end at_end.decoding) in
+      let same : defined_files s.header.files (past_at_end [] w.reads.list)
+      ≡ files = ap (λ (p : List Ins × Option Error). defined_files s.header.files (past_at_end [] p.0)) once
+      ∙ sym at_end.given in
       let mapped : AreFilesMapped s.sections s.header files strings c =
       subst (λ (files : List File). AreFilesMapped s.sections s.header files strings c) same
       (files_same s.notation s.sections s.header s.given line_strings w.first s.header.program w.reading convert_address c w.ready w.reads w.is strings) in
@@ -164,9 +181,11 @@ module _ (convert_address : ℕ → Option Address) (s : Source) (line_strings :
             let built = built_file c.program (texts_in strings after) in
             let answer : FileAnswer = built m.built in
             let path : bytes_in (texts_in strings after) m.built.0.0 ≡ bytes_in (texts_in strings c.line_strings) m.built.0.0 =
-            bytes_longer strings c.line_strings after m.built.0.0 keeps (element (λ f. IsWithin (texts_in strings c.line_strings) f.0.0) c.program.files found.0 m.built can.paths m.there) in
+            bytes_longer strings c.line_strings after m.built.0.0 keeps
+            (element (λ f. IsWithin (texts_in strings c.line_strings) f.0.0) c.program.files found.0 m.built can.paths m.there) in
             let directory : bytes_in (texts_in strings after) m.directory ≡ bytes_in (texts_in strings c.line_strings) m.directory =
-            bytes_longer strings c.line_strings after m.directory keeps (element (IsWithin (texts_in strings c.line_strings)) c.program.directories m.built.0.1 m.directory can.directories m.directory_there) in (
+            bytes_longer strings c.line_strings after m.directory keeps
+            (element (IsWithin (texts_in strings c.line_strings)) c.program.directories m.built.0.1 m.directory can.directories m.directory_there) in (
               found.0,
               found.1,
               (
@@ -174,7 +193,9 @@ module _ (convert_address : ℕ → Option Address) (s : Source) (line_strings :
                 slice_get-map built c.program.files found.0 ∙ ap (option_map built) m.there,
                 record {
                   directory = bytes_in (texts_in strings after) m.directory;
-                  directory_there = slice_get-map (bytes_in (texts_in strings after)) c.program.directories m.built.0.1 ∙ ap (option_map (bytes_in (texts_in strings after))) m.directory_there;
+                  directory_there =
+                      slice_get-map (bytes_in (texts_in strings after)) c.program.directories m.built.0.1
+                      ∙ ap (option_map (bytes_in (texts_in strings after))) m.directory_there;
                   has = subst (λ (path : List ℕ). HasPaths s.sections s.header path (bytes_in (texts_in strings after) m.directory) f) (sym path)
                       (subst (λ (d : List ℕ). HasPaths s.sections s.header (bytes_in (texts_in strings c.line_strings) m.built.0.0) d f) (sym directory) m.has);
                 },

@@ -47,7 +47,8 @@ record AreRead (sections : Sections) (directory_ids : List ℕ) (parts : FilePar
   directory : slice_get directory_ids f.directory_index ≡ Some parts.directory
   source : if_there (source_text sections) f.source ≡ Ok parts.source
 
-are_read : (sections : Sections) (version : ℕ) (directory_ids : List ℕ) (parts : FileParts) (f : File) → HasParts sections version directory_ids parts f → AreRead sections directory_ids parts f
+are_read : (sections : Sections) (version : ℕ) (directory_ids : List ℕ) (parts : FileParts) (f : File) → HasParts sections version directory_ids parts f
+    → AreRead sections directory_ids parts f
 are_read sections version directory_ids parts f is =
     let a = took (source_path version sections f.path_name) _ parts is in
     let b = took (ok_or (slice_get directory_ids f.directory_index) InvalidDirectoryIndex) _ parts a.2 in
@@ -95,28 +96,38 @@ module _ (sections : Sections) (h : Header) (strings : List (List ℕ)) (tables 
       subst (λ (path : List ℕ). IsDirectoryId (version_of tables) tables.line_strings tables.program.directories path own.directory) same there.2 in
       (one_text sections g.path_name own.path parts.path read.path has.own, moved.index ∙ sym at.index)
 
-  others_after : (parts : FileParts) (directory : List ℕ) → IsDirectoryId (version_of tables) tables.line_strings tables.program.directories directory parts.directory
+  others_after : (parts : FileParts) (directory : List ℕ)
+      → IsDirectoryId (version_of tables) tables.line_strings tables.program.directories directory parts.directory
       → (later : List File) → AllByRecursion (HasOthers sections (version_of tables) tables.directory_ids parts) later
       → AllByRecursion (λ g. HasPaths sections h parts.path directory g → ⊥) later
   others_after parts directory at [] all = tt
   others_after parts directory at (g ∷ later) all =
       (λ has. all.0.other (parts_of parts all.0.own g directory all.0.own_is at has), others_after parts directory at later all.1)
 
-  file_mapped : (source : List File) (c : Outcome) (f : File) (id : ℕ) → c.program.directories ≡ tables.program.directories → c.program.files ≡ tables.program.files → c.line_strings ≡ tables.line_strings
-      → IsFileOf sections (version_of tables) tables.line_strings tables.directory_ids tables.program.files source f id → IsMappedFile sections h source strings c f id
+  file_mapped : (source : List File) (c : Outcome) (f : File) (id : ℕ) → c.program.directories ≡ tables.program.directories
+      → c.program.files ≡ tables.program.files → c.line_strings ≡ tables.line_strings
+      → IsFileOf sections (version_of tables) tables.line_strings tables.directory_ids tables.program.files source f id
+      → IsMappedFile sections h source strings c f id
   file_mapped source c f id directories_same files_same texts_same so =
       let version = version_of tables in
       let read = are_read sections version tables.directory_ids so.parts f so.parts_are in
       let d = directories.each f.directory_index so.parts.directory read.directory in
       let text = made_text version tables.line_strings so.parts.path in
       let directory = made_text version tables.line_strings d.0 in
-      let path_bytes : so.parts.path ≡ bytes_in (texts_in strings c.line_strings) text = sym (ap (λ (t : List (List ℕ)). bytes_in (texts_in strings t) text) texts_same ∙ made_bytes version (texts_in strings tables.line_strings) so.parts.path so.made) in
-      let directory_bytes : d.0 ≡ bytes_in (texts_in strings c.line_strings) directory = sym (ap (λ (t : List (List ℕ)). bytes_in (texts_in strings t) directory) texts_same ∙ made_bytes version (texts_in strings tables.line_strings) d.0 d.2.made) in
-      let to = λ (P : List ℕ → List ℕ → Type 0) (p : P so.parts.path d.0). subst (λ (x : List ℕ). P x (bytes_in (texts_in strings c.line_strings) directory)) path_bytes (subst (P so.parts.path) directory_bytes p) in
+      let path_bytes : so.parts.path
+      ≡ bytes_in (texts_in strings c.line_strings) text = sym (ap (λ (t : List (List ℕ)). bytes_in (texts_in strings t) text) texts_same
+      ∙ made_bytes version (texts_in strings tables.line_strings) so.parts.path so.made) in
+      let directory_bytes : d.0
+      ≡ bytes_in (texts_in strings c.line_strings) directory = sym (ap (λ (t : List (List ℕ)). bytes_in (texts_in strings t) directory) texts_same
+      ∙ made_bytes version (texts_in strings tables.line_strings) d.0 d.2.made) in
+      let to =
+      λ (P : List ℕ → List ℕ → Type 0) (p : P so.parts.path d.0).
+      subst (λ (x : List ℕ). P x (bytes_in (texts_in strings c.line_strings) directory)) path_bytes (subst (P so.parts.path) directory_bytes p) in
       let last_read = are_read sections version tables.directory_ids so.last_parts so.last so.last_are in
       let at_last : IsDirectoryId version tables.line_strings tables.program.directories d.0 so.last_parts.directory =
       subst (IsDirectoryId version tables.line_strings tables.program.directories d.0) (sym so.same.1) d.2 in
-      let last_has : HasPaths sections h so.parts.path d.0 so.last = subst (λ (path : List ℕ). HasPaths sections h path d.0 so.last) so.same.0 (paths_of so.last_parts so.last d.0 so.last_are at_last) in
+      let last_has : HasPaths sections h so.parts.path d.0 so.last =
+      subst (λ (path : List ℕ). HasPaths sections h path d.0 so.last) so.same.0 (paths_of so.last_parts so.last d.0 so.last_are at_last) in
       let is_last : IsLastWithPaths sections h so.parts.path d.0 source so.last = record {
         before = so.before;
         later = so.later;
@@ -128,15 +139,20 @@ module _ (sections : Sections) (h : Header) (strings : List (List ℕ)) (tables 
         built = ((text, so.parts.directory), so.details);
         there = ap (λ (files : List BuiltFile). slice_get files id) files_same ∙ so.entry;
         directory = directory;
-        directory_there = ap (λ (ds : List LineText). slice_get ds so.parts.directory) directories_same ∙ directory_there version tables.line_strings tables.program.directories d.0 so.parts.directory d.2;
+        directory_there =
+            ap (λ (ds : List LineText). slice_get ds so.parts.directory) directories_same
+            ∙ directory_there version tables.line_strings tables.program.directories d.0 so.parts.directory d.2;
         has = to (λ path directory. HasPaths sections h path directory f) (paths_of so.parts f d.0 so.parts_are d.2);
         last = so.last;
         is_last = to (λ path directory. IsLastWithPaths sections h path directory source so.last) is_last;
         timestamp = so.known.timestamp;
         size = so.known.size;
         md5 = so.known.md5;
-        source = subst (λ (t : List (List ℕ)). IsOptionalText sections so.last.source (option_map (bytes_in (texts_in strings t)) so.details.source)) (sym texts_same)
-            (subst (λ (o : Option LineText). IsOptionalText sections so.last.source (option_map (bytes_in (texts_in strings tables.line_strings)) o)) (sym so.known.source_is)
+        source =
+            subst (λ (t : List (List ℕ)). IsOptionalText sections so.last.source (option_map (bytes_in (texts_in strings t)) so.details.source))
+            (sym texts_same)
+            (subst (λ (o : Option LineText). IsOptionalText sections so.last.source (option_map (bytes_in (texts_in strings tables.line_strings)) o))
+            (sym so.known.source_is)
             (source_is_text sections version (texts_in strings tables.line_strings) so.last.source so.last_parts.source last_read.source so.known.source_made));
       }
 
@@ -151,8 +167,11 @@ module _ (version : ℕ) (R : File → ℕ → Type 0) (files : List File) (ids 
       let found = one_by_one_at R files ids i f all at in
       (found.0, record { from_one = λ old zero. absurd (omega arith); there = ap (λ (l : List ℕ). slice_get l (suc i)) ids_are ∙ found.1 }, found.2)
   each_number false is ids_are n f at =
-      let found = one_by_one_at R files ids n f all at in
-      (found.0, record { from_one = λ old. absurd (true≢false (sym (le-leb version 4 old) ∙ is)); there = ap (λ (l : List ℕ). slice_get l n) ids_are ∙ found.1 }, found.2)
+      let found = one_by_one_at R files ids n f all at in (
+        found.0,
+        record { from_one = λ old. absurd (true≢false (sym (le-leb version 4 old) ∙ is)); there = ap (λ (l : List ℕ). slice_get l n) ids_are ∙ found.1 },
+        found.2,
+      )
 
   -- and no other
   only_number : (old : Bool) → nat_le version 4 ≡ old → file_ids ≡ (if old then 0 ∷ [] else []) ++ ids
@@ -163,12 +182,16 @@ module _ (version : ℕ) (R : File → ℕ → Type 0) (files : List File) (ids 
 
 -- ---- all files
 
-pub files_mapped : (sections : Sections) (h : Header) (strings : List (List ℕ)) (tables : TablesAndTexts) (source : List File) (c : Outcome) → AreDirectories sections h tables → AreFiles sections h tables source
-    → c.program.directories ≡ tables.program.directories → c.program.files ≡ tables.program.files → c.file_ids ≡ tables.file_ids → c.line_strings ≡ tables.line_strings
+pub files_mapped : (sections : Sections) (h : Header) (strings : List (List ℕ)) (tables : TablesAndTexts) (source : List File) (c : Outcome)
+    → AreDirectories sections h tables → AreFiles sections h tables source
+    → c.program.directories ≡ tables.program.directories → c.program.files ≡ tables.program.files → c.file_ids ≡ tables.file_ids
+    → c.line_strings ≡ tables.line_strings
     → AreFilesMapped sections h source strings c
 files_mapped sections h strings tables source c directories so directories_same files_same ids_same texts_same =
     let version = h.parameters.encoding.version in
-    let all = one_by_one_map (IsFileOf sections (version_of tables) tables.line_strings tables.directory_ids tables.program.files source) (IsMappedFile sections h source strings c)
+    let all =
+    one_by_one_map (IsFileOf sections (version_of tables) tables.line_strings tables.directory_ids tables.program.files source)
+    (IsMappedFile sections h source strings c)
     (λ f id is. file_mapped sections h strings tables directories source c f id directories_same files_same texts_same is) source so.ids so.each in
     record {
       each = each_number version (IsMappedFile sections h source strings c) source so.ids c.file_ids all (nat_le version 4) refl (ids_same ∙ so.ids_are);

@@ -25,7 +25,8 @@ use Rattle.gimli_write.specs.convert.SourceTables.{TablesAndTexts}
 use Rattle.gimli_write.specs.convert.Preparation.{Handed, encoding_of, tables_of_header}
 use Rattle.gimli_write.specs.convert.Items.{Reading, ReadsItems}
 use Rattle.gimli_write.specs.convert.Outcome.{Outcome, outcome_of}
-use Rattle.gimli_write.specs.convert.Mapped.{MapsToItself, NoSequenceEndsUnderTombstone, NoneEndsUnderTombstone, RowsMapped, AreRowsMapped, IsReadAs, SetsConstant, HasConstantAddresses}
+use Rattle.gimli_write.specs.convert.Mapped.{MapsToItself, NoSequenceEndsUnderTombstone, NoneEndsUnderTombstone, RowsMapped, AreRowsMapped, IsReadAs}
+use Rattle.gimli_write.specs.convert.Mapped.{SetsConstant, HasConstantAddresses}
 use Rattle.gimli_write.proofs.MappedAddresses.{follows_start}
 use Rattle.gimli_write.proofs.MappedEnds.{encoding_kept}
 use Rattle.gimli_write.proofs.MappedTables.{IsReady, prepared_ready}
@@ -34,7 +35,8 @@ use Rattle.gimli_write.proofs.MappedRows.{Rest, rest_mapped}
 -- ---- one row
 
 -- a row that is read back says what the source's row says, but for the number of its file
-same_others : (source_version version base : ℕ) (built : LineRow) (source back : ReadRow) → source ≡ record (read_row source_version base built) { file = source.file } → back ≡ read_row version base built
+same_others : (source_version version base : ℕ) (built : LineRow) (source back : ReadRow)
+    → source ≡ record (read_row source_version base built) { file = source.file } → back ≡ read_row version base built
     → back ≡ record source { file = back.file }
 same_others source_version version base built source back mapped matches =
     let number = file_number version built.file in
@@ -44,9 +46,11 @@ same_others source_version version base built source back mapped matches =
 
 -- ---- the whole
 
-module _ (notation : Notation) (sections : Sections) (h : Header) (given : Handed) (line_strings : List (List ℕ)) (first : TablesAndTexts) (bytes : List ℕ) (reading : Reading)
+module _ (notation : Notation) (sections : Sections) (h : Header) (given : Handed) (line_strings : List (List ℕ)) (first : TablesAndTexts) (bytes : List ℕ)
+    (reading : Reading)
     (convert_address : ℕ → Option Address) (c : Outcome)
-    (ready : tables_of_header sections h given line_strings ≡ Ok first) (reads : ReadsItems notation sections h first bytes reading) (itself : MapsToItself convert_address)
+    (ready : tables_of_header sections h given line_strings ≡ Ok first) (reads : ReadsItems notation sections h first bytes reading)
+    (itself : MapsToItself convert_address)
     (wide : h.parameters.encoding.address_size ≤ (encoding_of h given).address_size) (no_end_under_tombstone : NoSequenceEndsUnderTombstone notation h bytes)
     (is : outcome_of convert_address reading first.program ≡ Ok c) where
   first_ready : (strings : List (List ℕ)) → IsReady strings (encoding_of h given) first
@@ -54,13 +58,16 @@ module _ (notation : Notation) (sections : Sections) (h : Header) (given : Hande
 
   decodes_once : (list : List Ins) (end : Option Error) → Decodes notation h bytes list end → list ≡ reads.list
   decodes_once list end decoding =
-      ap (λ (p : List Ins × Option Error). p.0) (one_decoding notation h bytes list end decoding ∙ sym (one_decoding notation h bytes reads.list reads.end reads.decoding))
+      ap (λ (p : List Ins × Option Error). p.0)
+      (one_decoding notation h bytes list end decoding ∙ sym (one_decoding notation h bytes reads.list reads.end reads.decoding))
 
   whole : Rest sections h.parameters first (encoding_of h given).address_size c [] reads.list reads.end 0 (0, 0) first.program
   whole =
-      rest_mapped sections h.parameters first convert_address itself (encoding_of h given).address_size (pow_mono (omega (arith, wide))) c [] reads.list reads.end 0 (0, 0) first.program
+      rest_mapped sections h.parameters first convert_address itself (encoding_of h given).address_size (pow_mono (omega (arith, wide))) c [] reads.list
+      reads.end 0 (0, 0) first.program
       (follows_start h.parameters)
-      (subst (NoneEndsUnderTombstone h.parameters []) (decodes_once no_end_under_tombstone.list no_end_under_tombstone.end no_end_under_tombstone.decoding) no_end_under_tombstone.seen)
+      (subst (NoneEndsUnderTombstone h.parameters []) (decodes_once no_end_under_tombstone.list no_end_under_tombstone.end no_end_under_tombstone.decoding)
+      no_end_under_tombstone.seen)
       (ap (λ (r : Reading). outcome_of convert_address r first.program) (sym reads.given) ∙ is)
 
   -- what was built is what was built after the start
@@ -76,7 +83,8 @@ module _ (notation : Notation) (sections : Sections) (h : Header) (given : Hande
 
   pub addresses_fit : AddressesFit c.program.encoding.address_size 0 (0, 0) c.program.items
   addresses_fit =
-      subst (λ (e : Encoding). AddressesFit e.address_size 0 (0, 0) c.program.items) (sym (encoding_kept notation sections h given line_strings first bytes reading convert_address c ready reads is))
+      subst (λ (e : Encoding). AddressesFit e.address_size 0 (0, 0) c.program.items)
+      (sym (encoding_kept notation sections h given line_strings first bytes reading convert_address c ready reads is))
       (subst (λ (items : List BuiltItem). AddressesFit (encoding_of h given).address_size 0 (0, 0) items) (sym all_items) whole.fit)
 
   pub constants_set : HasConstantAddresses c.program
@@ -86,7 +94,8 @@ module _ (notation : Notation) (sections : Sections) (h : Header) (given : Hande
 
 -- rows that are mapped to items, and rows that these items are read as, say the same
 pub rows_again : (source_version version : ℕ) (file_ids : List ℕ) (past items : List BuiltItem) (source back : List ReadRow)
-    → RowsMapped source_version file_ids (base_of past) items source → RowsMatch version past items back → OneByOne (IsReadAs source_version version file_ids) source back
+    → RowsMapped source_version file_ids (base_of past) items source → RowsMatch version past items back
+    → OneByOne (IsReadAs source_version version file_ids) source back
 rows_again source_version version file_ids past [] source back mapped matches = rw (mapped, matches) tt
 rows_again source_version version file_ids past (SetAddress a ∷ items) source back mapped matches =
     rows_again source_version version file_ids (SetAddress a ∷ past) items source back mapped matches

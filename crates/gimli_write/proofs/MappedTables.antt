@@ -19,13 +19,16 @@ use Rattle.gimli_line.specs.run.Instruction.{Ins}
 use Rattle.gimli_build.specs.Built.{Built}
 use Rattle.gimli_build.specs.Conditions.{CanWrite}
 use Rattle.gimli_build.specs.LineText.{LineText, Inline, InStrings, InLineStrings, IsWithin, HasNoZero, made_text, made_table}
-use Rattle.gimli_build.specs.Tables.{FileKey, Details, File as BuiltFile, with_directory, index_of_directory, with_details, with_file, has_file, index_of_file, no_details}
+use Rattle.gimli_build.specs.Tables.{FileKey, Details, File as BuiltFile, with_directory, index_of_directory, with_details, with_file, has_file, index_of_file}
+use Rattle.gimli_build.specs.Tables.{no_details}
 use Rattle.gimli_build.specs.Texts.{Sections}
 use Rattle.gimli_write.specs.declared.convert_error.ConvertError.{ConvertError}
 use Rattle.gimli_write.specs.convert.Texts.{◌>>=◌, source_path}
-use Rattle.gimli_write.specs.convert.SourceTables.{TablesAndTexts, version_of, with_path, directory_added, FileParts, file_parts, with_parts, file_added, all_added}
+use Rattle.gimli_write.specs.convert.SourceTables.{TablesAndTexts, version_of, with_path, directory_added, FileParts, file_parts, with_parts, file_added}
+use Rattle.gimli_write.specs.convert.SourceTables.{all_added}
 use Rattle.gimli_write.specs.convert.Items.{tables_after_definition, tables_at}
-use Rattle.gimli_write.specs.convert.Preparation.{SourceFile, working_directory, source_file, line_encoding_of, first_texts, start_of_tables, Handed, encoding_of, tables_of_header}
+use Rattle.gimli_write.specs.convert.Preparation.{SourceFile, working_directory, source_file, line_encoding_of, first_texts, start_of_tables, Handed}
+use Rattle.gimli_write.specs.convert.Preparation.{encoding_of, tables_of_header}
 
 -- ---- steps that were done
 
@@ -49,11 +52,14 @@ pub record IsPrepared (sections : Sections) (h : Header) (given : Handed) (line_
       (start_of_tables (encoding_of h given) line_encoding h (first_texts (encoding_of h given).version line_strings directory file)) ≡ Ok with_directories
   pub files : all_added (file_added sections) h.files with_directories ≡ Ok tables
 
-pub is_prepared : (sections : Sections) (h : Header) (given : Handed) (line_strings : List (List ℕ)) (tables : TablesAndTexts) → tables_of_header sections h given line_strings ≡ Ok tables
+pub is_prepared : (sections : Sections) (h : Header) (given : Handed) (line_strings : List (List ℕ)) (tables : TablesAndTexts)
+    → tables_of_header sections h given line_strings ≡ Ok tables
     → IsPrepared sections h given line_strings tables
 is_prepared sections h given line_strings tables is =
     let encoding = encoding_of h given in
-    let begin = λ (directory : List ℕ) (file : SourceFile) (line_encoding : LineEncoding). start_of_tables encoding line_encoding h (first_texts encoding.version line_strings directory file) in
+    let begin =
+    λ (directory : List ℕ) (file : SourceFile) (line_encoding : LineEncoding).
+    start_of_tables encoding line_encoding h (first_texts encoding.version line_strings directory file) in
     let a = took (working_directory encoding.version sections h) _ tables is in
     let b = took (source_file encoding.version sections h given.name) _ tables a.2 in
     let l = took (line_encoding_of h.parameters.line_encoding given.line_encoding) _ tables b.2 in
@@ -63,14 +69,16 @@ is_prepared sections h given line_strings tables is =
 -- ---- what each step keeps
 
 module _ (P : TablesAndTexts → Type 0) where
-  pub all_added_keeps : {A : Type 0} (add : TablesAndTexts → A → Result TablesAndTexts ConvertError) → ((tables next : TablesAndTexts) (x : A) → add tables x ≡ Ok next → P tables → P next)
+  pub all_added_keeps : {A : Type 0} (add : TablesAndTexts → A → Result TablesAndTexts ConvertError)
+      → ((tables next : TablesAndTexts) (x : A) → add tables x ≡ Ok next → P tables → P next)
       → (xs : List A) (tables last : TablesAndTexts) → all_added add xs tables ≡ Ok last → P tables → P last
   all_added_keeps add step [] tables last is p = subst P (same_ok tables last is) p
   all_added_keeps add step (x ∷ xs) tables last is p =
       let t = took (add tables x) (all_added add xs) last is in
       all_added_keeps add step xs t.0 last t.2 (step tables t.0 x t.1 p)
 
-  pub lists_at_keeps : (sections : Sections) (first : TablesAndTexts) → ((tables next : TablesAndTexts) (f : File) → file_added sections tables f ≡ Ok next → P tables → P next)
+  pub lists_at_keeps : (sections : Sections) (first : TablesAndTexts)
+      → ((tables next : TablesAndTexts) (f : File) → file_added sections tables f ≡ Ok next → P tables → P next)
       → (past : List Ins) (tables : TablesAndTexts) → tables_at sections first past ≡ Ok tables → P first → P tables
   lists_at_keeps sections first step [] tables is p = subst P (same_ok first tables is) p
   lists_at_keeps sections first step (i ∷ past) tables is p =
@@ -95,7 +103,8 @@ module _ (strings old new : List (List ℕ)) (indices : (i : ℕ) → i < length
   if_some_where None so = tt
 
 -- so it is in a longer one
-pub within_longer : (strings old new : List (List ℕ)) (t : LineText) → length old ≤ length new → IsWithin (texts_in strings old) t → IsWithin (texts_in strings new) t
+pub within_longer : (strings old new : List (List ℕ)) (t : LineText) → length old ≤ length new → IsWithin (texts_in strings old) t
+    → IsWithin (texts_in strings new) t
 within_longer strings old new t le so = within_where strings old new (λ i lt. omega (arith, lt, le)) t so
 
 pub table_longer : (version : ℕ) (line_strings : List (List ℕ)) (text : List ℕ) → length line_strings ≤ length (made_table version line_strings text)
@@ -110,7 +119,9 @@ pub made_within : (strings : List (List ℕ)) (version : ℕ) (line_strings : Li
     → IsWithin (texts_in strings (made_table version line_strings text)) (made_text version line_strings text)
 made_within strings version line_strings text = by (nat_le version 4)
   where
-    by : (old : Bool) → IsWithin (texts_in strings (if old then line_strings else with_text line_strings text)) (if old then Inline text else InLineStrings (index_of_text line_strings text))
+    by : (old : Bool)
+        → IsWithin (texts_in strings (if old then line_strings else with_text line_strings text))
+        (if old then Inline text else InLineStrings (index_of_text line_strings text))
     by true = tt
     by false = slice_get_within (with_text line_strings text) (index_of_text line_strings text) text (with_text-found line_strings text)
 
@@ -147,13 +158,16 @@ with_kept_files p texts program directories files =
       sources_end = λ new has. All-weaker Q (λ f. IfSome f.1.source HasNoZero) (λ f so. so.source_ends new) p.files files;
     }
 
-pub ready_written : (strings : List (List ℕ)) (encoding : Encoding) (tables : TablesAndTexts) → IsReady strings encoding tables → CanWrite tables.program (texts_in strings tables.line_strings)
+pub ready_written : (strings : List (List ℕ)) (encoding : Encoding) (tables : TablesAndTexts) → IsReady strings encoding tables
+    → CanWrite tables.program (texts_in strings tables.line_strings)
 ready_written strings encoding tables so = with_kept_files tables.program (texts_in strings tables.line_strings) so.program so.directories so.files
 
-if_some_longer : (strings old new : List (List ℕ)) (t : Option LineText) → length old ≤ length new → IfSome t (IsWithin (texts_in strings old)) → IfSome t (IsWithin (texts_in strings new))
+if_some_longer : (strings old new : List (List ℕ)) (t : Option LineText) → length old ≤ length new → IfSome t (IsWithin (texts_in strings old))
+    → IfSome t (IsWithin (texts_in strings new))
 if_some_longer strings old new t le so = if_some_where strings old new (λ i lt. omega (arith, lt, le)) t so
 
-kept_longer : (strings old new : List (List ℕ)) (version : ℕ) (f : BuiltFile) → length old ≤ length new → CanKeep (texts_in strings old) version f → CanKeep (texts_in strings new) version f
+kept_longer : (strings old new : List (List ℕ)) (version : ℕ) (f : BuiltFile) → length old ≤ length new → CanKeep (texts_in strings old) version f
+    → CanKeep (texts_in strings new) version f
 kept_longer strings old new version f le so = record {
   path = within_longer strings old new f.0.0 le so.path;
   source = if_some_longer strings old new f.1.source le so.source;
@@ -183,7 +197,8 @@ module _ (Q : BuiltFile → Type 0) (d : Details) (other : (k : FileKey) (e : De
 
 -- ---- a directory, and a file
 
-pub directory_ready : (strings : List (List ℕ)) (encoding : Encoding) (sections : Sections) (tables next : TablesAndTexts) (v : Value) → directory_added sections tables v ≡ Ok next
+pub directory_ready : (strings : List (List ℕ)) (encoding : Encoding) (sections : Sections) (tables next : TablesAndTexts) (v : Value)
+    → directory_added sections tables v ≡ Ok next
     → IsReady strings encoding tables → IsReady strings encoding next
 directory_ready strings encoding sections tables next v is so =
     let t = took (source_path (version_of tables) sections v) (λ path. Ok (with_path tables path)) next is in
@@ -195,9 +210,12 @@ directory_ready strings encoding sections tables next v is so =
       program = so.program;
       encoding_is = so.encoding_is;
       directories = directories_with (texts_in strings after) tables.program.directories (made_text (version_of tables) tables.line_strings path)
-          (All-weaker (IsWithin (texts_in strings tables.line_strings)) (IsWithin (texts_in strings after)) (λ d w. within_longer strings tables.line_strings after d le w) tables.program.directories so.directories)
+          (All-weaker (IsWithin (texts_in strings tables.line_strings)) (IsWithin (texts_in strings after))
+          (λ d w. within_longer strings tables.line_strings after d le w) tables.program.directories so.directories)
           (made_within strings (version_of tables) tables.line_strings path);
-      files = All-weaker (CanKeep (texts_in strings tables.line_strings) (version_of tables)) (CanKeep (texts_in strings after) (version_of tables)) (λ f w. kept_longer strings tables.line_strings after (version_of tables) f le w) tables.program.files so.files;
+      files =
+          All-weaker (CanKeep (texts_in strings tables.line_strings) (version_of tables)) (CanKeep (texts_in strings after) (version_of tables))
+          (λ f w. kept_longer strings tables.line_strings after (version_of tables) f le w) tables.program.files so.files;
     })
 
 -- the line strings after the source of a file
@@ -217,25 +235,30 @@ source_ends : (version : ℕ) (paths : List (List ℕ)) (source : Option (List �
 source_ends version paths (Some text) new = made_ends version paths text new
 source_ends version paths None new = tt
 
-parts_ready : (strings : List (List ℕ)) (encoding : Encoding) (tables : TablesAndTexts) (f : File) (parts : FileParts) → IsReady strings encoding tables → IsReady strings encoding (with_parts tables f parts)
+parts_ready : (strings : List (List ℕ)) (encoding : Encoding) (tables : TablesAndTexts) (f : File) (parts : FileParts) → IsReady strings encoding tables
+    → IsReady strings encoding (with_parts tables f parts)
 parts_ready strings encoding tables f parts so =
     let version = version_of tables in
     let paths = made_table version tables.line_strings parts.path in
     let after = sources_table version paths parts.source in
     let text = made_text version tables.line_strings parts.path in
     let details : Details = record { timestamp = f.timestamp; size = f.size; md5 = f.md5; source = option_map (made_text version paths) parts.source } in
-    let le : length tables.line_strings ≤ length after = omega (arith, table_longer version tables.line_strings parts.path, source_longer version paths parts.source) in
+    let le : length tables.line_strings
+    ≤ length after = omega (arith, table_longer version tables.line_strings parts.path, source_longer version paths parts.source) in
     let first_le : length paths ≤ length after = source_longer version paths parts.source in
     let Q : BuiltFile → Type 0 = CanKeep (texts_in strings after) version in
     record {
       items = so.items;
       program = so.program;
       encoding_is = so.encoding_is;
-      directories = All-weaker (IsWithin (texts_in strings tables.line_strings)) (IsWithin (texts_in strings after)) (λ d w. within_longer strings tables.line_strings after d le w) tables.program.directories so.directories;
+      directories =
+          All-weaker (IsWithin (texts_in strings tables.line_strings)) (IsWithin (texts_in strings after))
+          (λ d w. within_longer strings tables.line_strings after d le w) tables.program.directories so.directories;
       files = files_with Q details
           (λ k e w. record { path = w.path; source = source_within strings version paths parts.source; source_ends = source_ends version paths parts.source })
           tables.program.files (text, parts.directory)
-          (All-weaker (CanKeep (texts_in strings tables.line_strings) version) Q (λ f w. kept_longer strings tables.line_strings after version f le w) tables.program.files so.files)
+          (All-weaker (CanKeep (texts_in strings tables.line_strings) version) Q (λ f w. kept_longer strings tables.line_strings after version f le w)
+          tables.program.files so.files)
           (record {
             path = within_longer strings paths after text first_le (made_within strings version tables.line_strings parts.path);
             source = source_within strings version paths parts.source;
@@ -243,7 +266,8 @@ parts_ready strings encoding tables f parts so =
           });
     }
 
-pub file_ready : (strings : List (List ℕ)) (encoding : Encoding) (sections : Sections) (tables next : TablesAndTexts) (f : File) → file_added sections tables f ≡ Ok next
+pub file_ready : (strings : List (List ℕ)) (encoding : Encoding) (sections : Sections) (tables next : TablesAndTexts) (f : File)
+    → file_added sections tables f ≡ Ok next
     → IsReady strings encoding tables → IsReady strings encoding next
 file_ready strings encoding sections tables next f is so =
     let t = took (file_parts (version_of tables) sections tables.directory_ids f) (λ parts. Ok (with_parts tables f parts)) next is in
@@ -251,7 +275,8 @@ file_ready strings encoding sections tables next f is so =
 
 -- ---- the tables of a header
 
-started_ready : (strings : List (List ℕ)) (encoding : Encoding) (line_encoding : LineEncoding) (h : Header) (line_strings : List (List ℕ)) (directory : List ℕ) (file : SourceFile)
+started_ready : (strings : List (List ℕ)) (encoding : Encoding) (line_encoding : LineEncoding) (h : Header) (line_strings : List (List ℕ)) (directory : List ℕ)
+    (file : SourceFile)
     → IsReady strings encoding (start_of_tables encoding line_encoding h (first_texts encoding.version line_strings directory file))
 started_ready strings encoding line_encoding h line_strings directory file =
     let texts = first_texts encoding.version line_strings directory file in
@@ -261,8 +286,10 @@ started_ready strings encoding line_encoding h line_strings directory file =
     let a : length second ≤ length third = source_longer encoding.version second file.directory in
     let b : length third ≤ length last = table_longer encoding.version third file.path in
     let le : length second ≤ length last = omega arith in
-    let working : IsWithin (texts_in strings last) texts.working_directory = within_longer strings second last texts.working_directory le (made_within strings encoding.version line_strings directory) in
-    let own : IfSome texts.source_directory (IsWithin (texts_in strings last)) = if_some_longer strings third last texts.source_directory b (source_within strings encoding.version second file.directory) in
+    let working : IsWithin (texts_in strings last) texts.working_directory =
+    within_longer strings second last texts.working_directory le (made_within strings encoding.version line_strings directory) in
+    let own : IfSome texts.source_directory (IsWithin (texts_in strings last)) =
+    if_some_longer strings third last texts.source_directory b (source_within strings encoding.version second file.directory) in
     let path : IsWithin (texts_in strings last) texts.source_file = made_within strings encoding.version third file.path in
     record {
       items = refl;
@@ -272,16 +299,22 @@ started_ready strings encoding line_encoding h line_strings directory file =
       files = one last texts.working_directory texts.source_directory texts.source_file (nat_le encoding.version 4) path;
     }
   where
-    both : (last : List (List ℕ)) (working : LineText) (own : Option LineText) (old : Bool) → IsWithin (texts_in strings last) working → IfSome own (IsWithin (texts_in strings last))
+    both : (last : List (List ℕ)) (working : LineText) (own : Option LineText) (old : Bool) → IsWithin (texts_in strings last) working
+        → IfSome own (IsWithin (texts_in strings last))
         → All (IsWithin (texts_in strings last)) (if old then working ∷ [] else option_map_or (with_directory (working ∷ [])) own (working ∷ []))
     both last working own true w o = All-cons (IsWithin (texts_in strings last)) working [] w (All-nil (IsWithin (texts_in strings last)))
-    both last working (Some t) false w o = directories_with (texts_in strings last) (working ∷ []) t (All-cons (IsWithin (texts_in strings last)) working [] w (All-nil (IsWithin (texts_in strings last)))) o
+    both last working (Some t) false w o =
+        directories_with (texts_in strings last) (working ∷ []) t
+        (All-cons (IsWithin (texts_in strings last)) working [] w (All-nil (IsWithin (texts_in strings last)))) o
     both last working None false w o = All-cons (IsWithin (texts_in strings last)) working [] w (All-nil (IsWithin (texts_in strings last)))
 
     one : (last : List (List ℕ)) (working : LineText) (own : Option LineText) (path : LineText) (old : Bool) → IsWithin (texts_in strings last) path
-        → All (CanKeep (texts_in strings last) encoding.version) (if old then [] else ((path, option_map_or (index_of_directory (working ∷ [])) own 0), no_details) ∷ [])
+        → All (CanKeep (texts_in strings last) encoding.version)
+        (if old then [] else ((path, option_map_or (index_of_directory (working ∷ [])) own 0), no_details) ∷ [])
     one last working own path true w = All-nil (CanKeep (texts_in strings last) encoding.version)
-    one last working own path false w = All-cons (CanKeep (texts_in strings last) encoding.version) _ [] (record { path = w; source = tt; source_ends = λ new. tt }) (All-nil (CanKeep (texts_in strings last) encoding.version))
+    one last working own path false w =
+        All-cons (CanKeep (texts_in strings last) encoding.version) _ [] (record { path = w; source = tt; source_ends = λ new. tt })
+        (All-nil (CanKeep (texts_in strings last) encoding.version))
 
 -- what `new` makes of a header can be written, and nothing is built in it
 pub prepared_ready : (strings : List (List ℕ)) (sections : Sections) (h : Header) (given : Handed) (line_strings : List (List ℕ)) (tables : TablesAndTexts)
@@ -289,6 +322,8 @@ pub prepared_ready : (strings : List (List ℕ)) (sections : Sections) (h : Head
 prepared_ready strings sections h given line_strings tables is =
     let p = is_prepared sections h given line_strings tables is in
     let encoding = encoding_of h given in
-    all_added_keeps (IsReady strings encoding) (file_added sections) (λ l n f a so. file_ready strings encoding sections l n f a so) h.files p.with_directories tables p.files
-    (all_added_keeps (IsReady strings encoding) (directory_added sections) (λ l n v a so. directory_ready strings encoding sections l n v a so) h.directories _ p.with_directories p.directories
+    all_added_keeps (IsReady strings encoding) (file_added sections) (λ l n f a so. file_ready strings encoding sections l n f a so) h.files p.with_directories
+    tables p.files
+    (all_added_keeps (IsReady strings encoding) (directory_added sections) (λ l n v a so. directory_ready strings encoding sections l n v a so) h.directories _
+    p.with_directories p.directories
     (started_ready strings encoding p.line_encoding h line_strings p.directory p.file))

@@ -1,5 +1,6 @@
 -- Texts that a conversion makes: the same text is made the same, however many others were made since.
-use Rattle.std.proofs.Common.{◌≡◌, ℕ, zero, suc, ◌+◌, Bool, true, false, cond, not, ◌||◌, if◌then◌else◌, List, [], ◌∷◌, ◌++◌, length, refl, sym, ap, subst, ◌∙◌, arith}
+use Rattle.std.proofs.Common.{◌≡◌, ℕ, zero, suc, ◌+◌, Bool, true, false, cond, not, ◌||◌, if◌then◌else◌, List, [], ◌∷◌, ◌++◌, length, refl, sym, ap, subst, ◌∙◌}
+use Rattle.std.proofs.Common.{arith}
 use Rattle.std.specs.Prelude.{nat_le, Option, Some, unwrap_or, slice_get, bytes_eq}
 use Rattle.std.specs.List.{list_any, position_or_len}
 use Rattle.std.proofs.lemmas.Bool.{or_left, or_right, or_parts, eq-eqb}
@@ -122,7 +123,8 @@ module _ (version : ℕ) (line_strings : List (List ℕ)) (text : List ℕ) wher
   is_same = made_same (nat_le version 4)
 
   -- and those that were there
-  others_any : (other : List ℕ) (old : Bool) → list_any (bytes_eq other) line_strings ≡ true → list_any (bytes_eq other) (if old then line_strings else with_text line_strings text) ≡ true
+  others_any : (other : List ℕ) (old : Bool) → list_any (bytes_eq other) line_strings ≡ true
+      → list_any (bytes_eq other) (if old then line_strings else with_text line_strings text) ≡ true
   others_any other true any = any
   others_any other false any = grown_any (bytes_eq other) (list_any (bytes_eq text) line_strings) line_strings text any
 
@@ -139,17 +141,21 @@ module _ (version : ℕ) (line_strings : List (List ℕ)) (text : List ℕ) wher
   }
 
 -- the bytes of a text that is there
-pub made_bytes : (version : ℕ) (texts : StringTables) (text : List ℕ) → IsMade version texts.line_strings text → bytes_in texts (made_text version texts.line_strings text) ≡ text
+pub made_bytes : (version : ℕ) (texts : StringTables) (text : List ℕ) → IsMade version texts.line_strings text
+    → bytes_in texts (made_text version texts.line_strings text) ≡ text
 made_bytes version texts text so = by (nat_le version 4) so.any
   where
-    by : (old : Bool) → (old ≡ false → list_any (bytes_eq text) texts.line_strings ≡ true) → bytes_in texts (if old then Inline text else InLineStrings (index_of_text texts.line_strings text)) ≡ text
+    by : (old : Bool) → (old ≡ false → list_any (bytes_eq text) texts.line_strings ≡ true)
+        → bytes_in texts (if old then Inline text else InLineStrings (index_of_text texts.line_strings text)) ≡ text
     by true any = refl
     by false any =
-        let found = subst (λ (ts : List (List ℕ)). slice_get ts (index_of_text texts.line_strings text) ≡ Some text) (with_text-there texts.line_strings text (any refl)) (with_text-found texts.line_strings text) in
+        let found =
+        subst (λ (ts : List (List ℕ)). slice_get ts (index_of_text texts.line_strings text) ≡ Some text)
+        (with_text-there texts.line_strings text (any refl)) (with_text-found texts.line_strings text) in
         ap (λ (o : Option (List ℕ)). unwrap_or o []) found
 
 -- so texts that are made the same are the same
-pub made_apart : (version : ℕ) (line_strings : List (List ℕ)) (a b : List ℕ) → IsMade version line_strings a → IsMade version line_strings b
+pub made_differ : (version : ℕ) (line_strings : List (List ℕ)) (a b : List ℕ) → IsMade version line_strings a → IsMade version line_strings b
     → made_text version line_strings a ≡ made_text version line_strings b → a ≡ b
-made_apart version line_strings a b x y is =
+made_differ version line_strings a b x y is =
     sym (made_bytes version (texts_in [] line_strings) a x) ∙ ap (bytes_in (texts_in [] line_strings)) is ∙ made_bytes version (texts_in [] line_strings) b y

@@ -49,7 +49,8 @@ can_follow-tells e position o i =
           and_from (divides && within && after && later) fits
           (and_from (divides && within && after) later
           (and_from (divides && within) after
-          (and_from divides within (eq-eqb (o % e.minimum_instruction_length) 0 can.position.divides) (lt-ltb i e.maximum_operations_per_instruction can.position.within))
+          (and_from divides within (eq-eqb (o % e.minimum_instruction_length) 0 can.position.divides)
+          (lt-ltb i e.maximum_operations_per_instruction can.position.within))
           (le-leb position.0 o can.after))
           (later_tested o position.0 position.1 i can.later))
           (lt-ltb ((o - position.0) / e.minimum_instruction_length * e.maximum_operations_per_instruction + i) (2 ^ 64) can.fits),

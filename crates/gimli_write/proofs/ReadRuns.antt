@@ -56,7 +56,8 @@ pub is_memory : (e : Error) → (e ≡ OutOfMemory) ⊎ (e ≢ OutOfMemory)
 is_memory OutOfMemory = inl refl
 is_memory e = inr (λ is. absurd cc)
 
-first_fault : (notation : Notation) (h : Header) (events left rest : List EventWithFiles) (rows : List LineRow) (files : List File) (e : Error) → EventsWithFiles notation true h h.program events
+first_fault : (notation : Notation) (h : Header) (events left rest : List EventWithFiles) (rows : List LineRow) (files : List File) (e : Error)
+    → EventsWithFiles notation true h h.program events
     → events_of events ≡ map row rows ++ events_of left → left ≡ record { event = fault e; files = files } ∷ rest → HasFirstFault notation h e
 first_fault notation h events left rest rows files e tells so_far next = record {
   list = tells.list;

@@ -56,13 +56,15 @@ same_fault limit size n big other directory other_directory section other_sectio
     (subst (λ (x : List ℕ). BeginsFault (record { big = other; limit = limit }) (unit_entry_with size other_directory) (drop n x) e) s
     (record { fault = fault })))
 
-pub same_sections : (strings other_strings line_strings other_line_strings : List ℕ) (s : Sections) → other_strings ≡ strings → other_line_strings ≡ line_strings
+pub same_sections : (strings other_strings line_strings other_line_strings : List ℕ) (s : Sections) → other_strings ≡ strings
+    → other_line_strings ≡ line_strings
     → record { strings = strings; line_strings = line_strings } ≡ s → record { strings = other_strings; line_strings = other_line_strings } ≡ s
 same_sections strings other_strings line_strings other_line_strings s a b is =
     ap (λ (x : List ℕ). let t : Sections = record { strings = x; line_strings = other_line_strings } in t) a
     ∙ ap (λ (x : List ℕ). let t : Sections = record { strings = strings; line_strings = x } in t) b ∙ is
 
-pub same_notation : (limit : ℕ) (big other : Bool) (n : Notation) → n ≡ record { big = other; limit = limit } → other ≡ big → n ≡ record { big = big; limit = limit }
+pub same_notation : (limit : ℕ) (big other : Bool) (n : Notation) → n ≡ record { big = other; limit = limit } → other ≡ big
+    → n ≡ record { big = big; limit = limit }
 same_notation limit big other n is b = is ∙ ap (λ (x : Bool). let m : Notation = record { big = x; limit = limit } in m) b
 
 -- ---- one header
@@ -72,11 +74,13 @@ module _ (notation : Notation) (unit_entry : UnitEntry) (bytes : List ℕ) where
   same_header h k s t = one_header notation unit_entry bytes h k s.spelled t.spelled
 
   -- the texts of the header that is read are there
-  pub texts_there : (sections : Sections) (k : Header) → CanRead notation unit_entry sections bytes → BeginsUnit notation unit_entry bytes k → HasTexts sections k
+  pub texts_there : (sections : Sections) (k : Header) → CanRead notation unit_entry sections bytes → BeginsUnit notation unit_entry bytes k
+      → HasTexts sections k
   texts_there sections k can unit = subst (λ (h : Header). HasTexts sections h) (same_header can.header k can.unit unit) can.texts
 
   -- a header that is there isn't refused
-  pub header_refused : (h : Header) (e : Error) (r : ConvertError) → BeginsUnit notation unit_entry bytes h → (e ≢ OutOfMemory → BeginsFault notation unit_entry bytes e)
+  pub header_refused : (h : Header) (e : Error) (r : ConvertError) → BeginsUnit notation unit_entry bytes h
+      → (e ≢ OutOfMemory → BeginsFault notation unit_entry bytes e)
       → (e ≡ OutOfMemory → r ≡ NoMemory) → IsRunRefusal notation h r
   header_refused h e r unit fault named = elim (is_memory e) [
     | inl memory ↦ rw (named memory) tt
@@ -98,7 +102,8 @@ same_refusal r n m h k a d is =
 
 -- ---- a program's unit
 
-one_by_one_all : {A B : Type 0} (Related : A → B → Type 0) (P : A → Type 0) → ((x : A) (y : B) → Related x y → P x) → (xs : List A) (ys : List B) → OneByOne Related xs ys → All P xs
+one_by_one_all : {A B : Type 0} (Related : A → B → Type 0) (P : A → Type 0) → ((x : A) (y : B) → Related x y → P x) → (xs : List A) (ys : List B)
+    → OneByOne Related xs ys → All P xs
 one_by_one_all Related P gives [] [] all = All-nil P
 one_by_one_all Related P gives (x ∷ xs) (y ∷ ys) all = All-cons P x xs (gives x y all.0) (one_by_one_all Related P gives xs ys all.1)
 one_by_one_all Related P gives [] (y ∷ ys) all = absurd all
@@ -120,7 +125,8 @@ file_texts_there s p texts read built is = record {
 abbrev pub AreShort : StringTables → Type 0
 AreShort texts = (byte_count texts.strings < 2 ^ 64) × (byte_count texts.line_strings < 2 ^ 64)
 
-module _ (big : Bool) (p : Built) (texts : StringTables) (section : List ℕ) (n : ℕ) (whole : ReadsBackAs big p texts (drop n section)) (fits : length section < 2 ^ 64) (held : AreShort texts) where
+module _ (big : Bool) (p : Built) (texts : StringTables) (section : List ℕ) (n : ℕ) (whole : ReadsBackAs big p texts (drop n section))
+    (fits : length section < 2 ^ 64) (held : AreShort texts) where
   read_well : IsReadWell (slice_notation big) (unit_entry_of p texts) (sections_of texts) big p texts (drop n section)
   read_well = record {
     order = refl;
@@ -184,8 +190,12 @@ module _ (big other : Bool) (p : Built) (texts : StringTables) (section other_se
     header = back.header;
     unit = begins;
     texts = record {
-      directories = one_by_one_all (IsDirectory (sections_of texts) texts) (HasText (sections_of texts)) (λ v t is. (_, is)) (directories_from_zero back.header) p.directories back.directories;
-      files = one_by_one_all (IsFile (sections_of texts) p texts) (HasFileTexts (sections_of texts)) (λ f built is. file_texts_there (sections_of texts) p texts f built is) back.header.files p.files back.files;
+      directories =
+          one_by_one_all (IsDirectory (sections_of texts) texts) (HasText (sections_of texts)) (λ v t is. (_, is)) (directories_from_zero back.header)
+          p.directories back.directories;
+      files =
+          one_by_one_all (IsFile (sections_of texts) p texts) (HasFileTexts (sections_of texts))
+          (λ f built is. file_texts_there (sections_of texts) p texts f built is) back.header.files p.files back.files;
     };
   })
 
@@ -193,14 +203,16 @@ module _ (big other : Bool) (p : Built) (texts : StringTables) (section other_se
   begins_there = moved (λ b g xs t. BeginsUnit (slice_notation b) g (drop n xs) back.header) begins
 
   pub program_answered : (r : Result RoundTrip ConvertError)
-      → ((h : Header) → BeginsUnit (slice_notation other) (unit_entry_with size directory) (drop n other_section) h → IfOk r (λ answer. AreAnswers (slice_notation other) s h (answers answer)))
+      → ((h : Header) → BeginsUnit (slice_notation other) (unit_entry_with size directory) (drop n other_section) h
+      → IfOk r (λ answer. AreAnswers (slice_notation other) s h (answers answer)))
       → IfOk r (AnswersProgram big p texts (drop n section))
   program_answered r is =
       let answered = moved_back (λ b t. IfOk r (λ answer. AreAnswers (slice_notation b) t back.header (answers answer))) (is back.header begins_there) in
       IfOk-weaker r _ _ (λ answer a. record { header = back.header; is_unit = back.is_unit; answered = a }) answered
 
   pub program_refused : (r : Result RoundTrip ConvertError)
-      → ((h : Header) → BeginsUnit (slice_notation other) (unit_entry_with size directory) (drop n other_section) h → IfErr r (IsRunRefusal (slice_notation other) h))
+      → ((h : Header) → BeginsUnit (slice_notation other) (unit_entry_with size directory) (drop n other_section) h
+      → IfErr r (IsRunRefusal (slice_notation other) h))
       → IfErr r (RefusesUnit (slice_notation big) (unit_entry_of p texts) (drop n section))
   program_refused r is =
       let refused = moved_back (λ b t. IfErr r (IsRunRefusal (slice_notation b) back.header)) (is back.header begins_there) in

@@ -62,5 +62,7 @@ pub unit_not_answered : (big other : Bool) (wanted : ToWrite) (unit_entry : Unit
 unit_not_answered big other wanted unit_entry old new n r order none there offset is =
     let written = unit_written wanted old new none there in
     let later = ap (λ (xs : List ℕ). drop n xs) written.1.appended ∙ ap (λ (i : ℕ). drop i (old ++ written.0)) offset ∙ drop-append_seam old written.0 in
-    let refused = subst (λ (x : Bool). IfErr r (RefusesUnit (slice_notation x) unit_entry written.0)) order (subst (λ (xs : List ℕ). IfErr r (RefusesUnit (slice_notation other) unit_entry xs)) later is) in
+    let refused =
+    subst (λ (x : Bool). IfErr r (RefusesUnit (slice_notation x) unit_entry written.0)) order
+    (subst (λ (xs : List ℕ). IfErr r (RefusesUnit (slice_notation other) unit_entry xs)) later is) in
     MatchResult-weaker r refused (λ _ u. u) (λ e f. unit_refused big wanted unit_entry old new written.0 e written.1 f)

@@ -1,5 +1,6 @@
 -- What one instruction of a source does to what is still to be read.
-use Rattle.std.proofs.Common.{◌≡◌, ◌≢◌, ℕ, ◌<◌, ◌≤◌, ◌-◌, Bool, true, false, not, ◌&&◌, ◌||◌, if◌then◌else◌, List, [], ◌∷◌, ◌++◌, length, refl, sym, ap, ◌∙◌, subst, append_assoc, arith}
+use Rattle.std.proofs.Common.{◌≡◌, ◌≢◌, ℕ, ◌<◌, ◌≤◌, ◌-◌, Bool, true, false, not, ◌&&◌, ◌||◌, if◌then◌else◌, List, [], ◌∷◌, ◌++◌, length, refl, sym, ap, ◌∙◌}
+use Rattle.std.proofs.Common.{subst, append_assoc, arith}
 use Rattle.std.specs.Prelude.{Option, Some, None, unwrap_or, Result, Ok, Err, OnOk, OnErr, IfOk, IfErr}
 use Rattle.std.proofs.lemmas.List.{length-append, append-nil}
 use Rattle.std.proofs.lemmas.Bool.{false≢true}
@@ -28,7 +29,8 @@ use Rattle.gimli_write.specs.declared.convert.run.SourceStep.{SourceStep}
 use Rattle.gimli_write.specs.declared.convert.run.SourceStep.TheVariants.{More, Made}
 use Rattle.gimli_write.specs.convert.SourceTables.{TablesAndTexts, file_added}
 use Rattle.gimli_write.specs.convert.Items.{Reading, defines, with_definition, ends, stops, address_operand, source_row_offered, tables_after_definition}
-use Rattle.gimli_write.specs.convert.SourceRun.{SourceRun, row_made, base_after, pending_after, state_after, instruction_reading, reading_from, reading_upon, reading_left}
+use Rattle.gimli_write.specs.convert.SourceRun.{SourceRun, row_made, base_after, pending_after, state_after, instruction_reading, reading_from, reading_upon}
+use Rattle.gimli_write.specs.convert.SourceRun.{reading_left}
 use Rattle.gimli_write.specs.inside.convert.SourceRun.{step_reading, step_made, Shortens}
 
 -- ---- what a program is decoded into, by its front
@@ -38,7 +40,8 @@ module _ (notation : Notation) (h : Header) (bytes : List ℕ) where
   decoded_none e = sym (one_decoding notation h bytes [] None (record { front = []; rest = bytes; parts = refl; spelled = refl; ended = e }))
 
   pub decoded_fault : (e : Error) → bytes ≢ [] → (instruction_production notation h).Fault bytes e → decoded_at notation h bytes ≡ ([], Some e)
-  decoded_fault e some f = sym (one_decoding notation h bytes [] (Some e) (record { front = []; rest = bytes; parts = refl; spelled = refl; ended = (some, f) }))
+  decoded_fault e some f =
+      sym (one_decoding notation h bytes [] (Some e) (record { front = []; rest = bytes; parts = refl; spelled = refl; ended = (some, f) }))
 
   pub decoded_some : (i : Ins) (front rest : List ℕ) → bytes ≡ front ++ rest → SpellsInstruction notation h front i
       → decoded_at notation h bytes ≡ (i ∷ (decoded_at notation h rest).0, (decoded_at notation h rest).1)
@@ -56,7 +59,8 @@ module _ (notation : Notation) (h : Header) (bytes : List ℕ) where
   pub is_shorter : (i : Ins) (front rest : List ℕ) → bytes ≡ front ++ rest → SpellsInstruction notation h front i → length rest < length bytes
   is_shorter i front rest parts s =
       let some : length (i ∷ []) ≤ length front =
-      instructions_bounded notation h front (i ∷ []) None (record { front = front; rest = []; parts = sym (append-nil front); spelled = (front, [], sym (append-nil front), s, refl); ended = refl }) in
+      instructions_bounded notation h front (i ∷ []) None
+      (record { front = front; rest = []; parts = sym (append-nil front); spelled = (front, [], sym (append-nil front), s, refl); ended = refl }) in
       omega (arith, length-append front rest, ap length parts)
 
 -- ---- readings
@@ -81,26 +85,35 @@ same_reading : (sections : Sections) (u v : Unread) (s : SourceRun) (there : Res
 same_reading sections u v s there [] end = refl
 same_reading sections u v s (Err e) (i ∷ list) end = refl
 same_reading sections u v s (Ok tables) (i ∷ list) end =
-    ap (λ (r : Reading). instruction_reading s tables i (with_definition i r)) (same_reading sections u v (state_after i s) (tables_after_definition sections tables i) list end)
+    ap (λ (r : Reading). instruction_reading s tables i (with_definition i r))
+    (same_reading sections u v (state_after i s) (tables_after_definition sections tables i) list end)
 
 module _ (sections : Sections) (tables : TablesAndTexts) (s : SourceRun) where
   pub none_left : s.unread.bytes ≡ [] → reading_left sections s tables ≡ ends tables
   none_left e = ap (λ (c : List Ins × Option Error). reading_from sections s (Ok tables) c.0 c.1) (decoded_none s.unread.notation s.header s.unread.bytes e)
 
-  pub at_fault : (e : Error) → s.unread.bytes ≢ [] → (instruction_production s.unread.notation s.header).Fault s.unread.bytes e → reading_left sections s tables ≡ stops (Read e)
-  at_fault e some f = ap (λ (c : List Ins × Option Error). reading_from sections s (Ok tables) c.0 c.1) (decoded_fault s.unread.notation s.header s.unread.bytes e some f)
+  pub at_fault : (e : Error) → s.unread.bytes ≢ [] → (instruction_production s.unread.notation s.header).Fault s.unread.bytes e
+      → reading_left sections s tables ≡ stops (Read e)
+  at_fault e some f =
+      ap (λ (c : List Ins × Option Error). reading_from sections s (Ok tables) c.0 c.1) (decoded_fault s.unread.notation s.header s.unread.bytes e some f)
 
-  module _ (u : Unread) (notation : u.notation ≡ s.unread.notation) (i : Ins) (front : List ℕ) (parts : s.unread.bytes ≡ front ++ u.bytes) (spelled : SpellsInstruction s.unread.notation s.header front i) where
+  module _ (u : Unread) (notation : u.notation ≡ s.unread.notation) (i : Ins) (front : List ℕ) (parts : s.unread.bytes ≡ front ++ u.bytes)
+      (spelled : SpellsInstruction s.unread.notation s.header front i) where
     -- an instruction stands first
     pub first_is : reading_left sections s tables
-        ≡ instruction_reading s tables i (with_definition i (reading_upon sections (record (state_after i s) { unread = u }) (tables_after_definition sections tables i)))
+        ≡ instruction_reading s tables i
+        (with_definition i (reading_upon sections (record (state_after i s) { unread = u }) (tables_after_definition sections tables i)))
     first_is =
         let there = tables_after_definition sections tables i in
         let c = decoded_at s.unread.notation s.header u.bytes in
         let rest : reading_from sections (state_after i s) there c.0 c.1 ≡ reading_upon sections (record (state_after i s) { unread = u }) there =
         same_reading sections s.unread u (state_after i s) there c.0 c.1
-        ∙ ap (λ (n : Notation). reading_from sections (record (state_after i s) { unread = u }) there (decoded_at n s.header u.bytes).0 (decoded_at n s.header u.bytes).1) (sym notation) in
-        ap (λ (d : List Ins × Option Error). reading_from sections s (Ok tables) d.0 d.1) (decoded_some s.unread.notation s.header s.unread.bytes i front u.bytes parts spelled)
+        ∙ ap
+        (λ (n : Notation). reading_from sections (record (state_after i s) { unread = u }) there (decoded_at n s.header u.bytes).0
+        (decoded_at n s.header u.bytes).1)
+        (sym notation) in
+        ap (λ (d : List Ins × Option Error). reading_from sections s (Ok tables) d.0 d.1)
+        (decoded_some s.unread.notation s.header s.unread.bytes i front u.bytes parts spelled)
         ∙ ap (λ (r : Reading). instruction_reading s tables i (with_definition i r)) rest
 
     abbrev next : SourceRun
@@ -120,11 +133,14 @@ module _ (sections : Sections) (tables : TablesAndTexts) (s : SourceRun) where
       done = first_is ∙ if_false (is_refused s.header.parameters i s.row) (stops (Read AddressOverflow)) quiet_or_row fits
 
       later : rest ≡ reading_left sections next tables
-      later = no_definition i (reading_upon sections next (tables_after_definition sections tables i)) file ∙ ap (reading_upon sections next) (no_file sections tables i file)
+      later =
+          no_definition i (reading_upon sections next (tables_after_definition sections tables i)) file
+          ∙ ap (reading_upon sections next) (no_file sections tables i file)
 
       pub after_quiet : (makes_row i && not s.row.tombstone) ≡ false → reading_left sections s tables ≡ reading_left sections next tables
       after_quiet quiet =
-          done ∙ if_false (makes_row i && not s.row.tombstone) (source_row_offered s.header.parameters.encoding.version tables (row_made s i) rest) rest quiet ∙ later
+          done ∙ if_false (makes_row i && not s.row.tombstone) (source_row_offered s.header.parameters.encoding.version tables (row_made s i) rest) rest quiet
+          ∙ later
 
       pub after_row : (makes_row i && not s.row.tombstone) ≡ true
           → reading_left sections s tables ≡ source_row_offered s.header.parameters.encoding.version tables (row_made s i) (reading_left sections next tables)
@@ -133,7 +149,8 @@ module _ (sections : Sections) (tables : TablesAndTexts) (s : SourceRun) where
           ∙ ap (source_row_offered s.header.parameters.encoding.version tables (row_made s i)) later
 
   -- a file is defined
-  pub after_file : (u : Unread) → u.notation ≡ s.unread.notation → (f : File) (front : List ℕ) → s.unread.bytes ≡ front ++ u.bytes → SpellsInstruction s.unread.notation s.header front (DefineFile f)
+  pub after_file : (u : Unread) → u.notation ≡ s.unread.notation → (f : File) (front : List ℕ) → s.unread.bytes ≡ front ++ u.bytes
+      → SpellsInstruction s.unread.notation s.header front (DefineFile f)
       → reading_left sections s tables ≡ defines (reading_upon sections (record s { unread = u }) (file_added sections tables f))
   after_file u notation f front parts spelled = first_is u notation (DefineFile f) front parts spelled
 
@@ -202,7 +219,8 @@ ready_after_row q new after reset = rw reset (reset_ready q new new.end_sequence
 -- ---- what is done of an instruction that sets no address and defines no file
 
 module _ {R Endian Offset : Type 0} where
-  shown : (tombstone : Bool) (d : SourceRow) → ◌≡◌ {A = SourceStep R Endian Offset} (if tombstone then More else Made d) (if not tombstone then Made d else More)
+  shown : (tombstone : Bool) (d : SourceRow)
+      → ◌≡◌ {A = SourceStep R Endian Offset} (if tombstone then More else Made d) (if not tombstone then Made d else More)
   shown true d = refl
   shown false d = refl
 
@@ -215,7 +233,8 @@ module _ (i : Ins) (h h2 : Header) (r r2 : LineRow) (b : ℕ) (p : Option ℕ) (
   pub header_kept : h2 ≡ h
   header_kept = header_same i h h2 file files
 
-  next_is : (made : Bool) → makes_row i ≡ made → next_registers h.parameters i r ≡ (if made then reset_row h.parameters (step_of h.parameters i r) else step_of h.parameters i r)
+  next_is : (made : Bool) → makes_row i ≡ made
+      → next_registers h.parameters i r ≡ (if made then reset_row h.parameters (step_of h.parameters i r) else step_of h.parameters i r)
   next_is made is =
       let goes : (is_refused h.parameters i r || makes_row i) ≡ made = ap (λ (c : Bool). c || makes_row i) fits ∙ is in
       ap (λ (c : Bool). if c then reset_row h.parameters (step_of h.parameters i r) else step_of h.parameters i r) goes
@@ -247,7 +266,8 @@ module _ (i : Ins) (h h2 : Header) (r r2 : LineRow) (b : ℕ) (p : Option ℕ) (
       ∙ ap (λ (o : Option ℕ). state h (next_registers h.parameters i r) (base_after i b) o u) (sym pends)
 
   pub made_is : {R Endian Offset : Type 0} (given : SourceStep R Endian Offset) (offset : ℕ)
-      → given ≡ (if r2.tombstone then More else Made (record { set_address = p; address_offset = offset; row = r2 })) → makes_row i ≡ true → offset ≡ r2.address - b
+      → given ≡ (if r2.tombstone then More else Made (record { set_address = p; address_offset = offset; row = r2 })) → makes_row i ≡ true
+      → offset ≡ r2.address - b
       → given ≡ step_made (state h r b p u) i
   made_is given offset is loud counts =
       let same : r2.tombstone ≡ r.tombstone = ap (λ (w : LineRow). w.tombstone) step ∙ keeps_tombstone h.parameters i r address in
@@ -263,14 +283,16 @@ module _ (i : Ins) (h h2 : Header) (r r2 : LineRow) (b : ℕ) (p : Option ℕ) (
 module _ (p : Parameters) (a : ℕ) (old new : LineRow) where
   pub address_done : (r : Result Bool Error) → OnOk r (new ≡ step_of p (SetAddress a) old)
       → IfErr r (λ e. e ≡ AddressOverflow → (is_refused p (SetAddress a) old ≡ true) × (new ≡ step_of p (SetAddress a) old))
-      → IfErr r (λ e. e ≢ AddressOverflow → (e ≡ OutOfMemory) × (true ≡ true) × (defines_file (SetAddress a) ≡ true) × (new ≡ old)) → new ≡ step_of p (SetAddress a) old
+      → IfErr r (λ e. e ≢ AddressOverflow → (e ≡ OutOfMemory) × (true ≡ true) × (defines_file (SetAddress a) ≡ true) × (new ≡ old))
+      → new ≡ step_of p (SetAddress a) old
   address_done (Ok m) step over memory = step
   address_done (Err e) step over memory = (over (is_overflow (SetAddress a) e (λ n. (memory n).2) refl)).1
 
   pub address_ready : IsReady old → new ≡ step_of p (SetAddress a) old → IsReady new
   address_ready ready step = ap (λ (r : LineRow). r.end_sequence) step ∙ ready
 
-pub address_header : (a : ℕ) (h h2 : Header) (r : Result Bool Error) → OnOk r (h2 ≡ record h { files = files_after true (SetAddress a) h.files }) → OnErr r (h2 ≡ h) → h2 ≡ h
+pub address_header : (a : ℕ) (h h2 : Header) (r : Result Bool Error) → OnOk r (h2 ≡ record h { files = files_after true (SetAddress a) h.files })
+    → OnErr r (h2 ≡ h) → h2 ≡ h
 address_header a h h2 (Ok m) files kept = files
 address_header a h h2 (Err e) files kept = kept
 
@@ -285,45 +307,62 @@ abbrev pub with_unread : SourceRun → Unread → SourceRun
 with_unread s u = record s { unread = u }
 
 -- a spelling by the header that was lent
-pub spelled_as : (notation : Notation) (h k : Header) (front : List ℕ) (i j : Ins) → k ≡ h → i ≡ j → SpellsInstruction notation k front i → SpellsInstruction notation h front j
-spelled_as notation h k front i j same is s = subst (λ (x : Header). SpellsInstruction notation x front j) same (subst (λ (y : Ins). SpellsInstruction notation k front y) is s)
+pub spelled_as : (notation : Notation) (h k : Header) (front : List ℕ) (i j : Ins) → k ≡ h → i ≡ j → SpellsInstruction notation k front i
+    → SpellsInstruction notation h front j
+spelled_as notation h k front i j same is s =
+    subst (λ (x : Header). SpellsInstruction notation x front j) same (subst (λ (y : Ins). SpellsInstruction notation k front y) is s)
 
 module _ (R Endian Offset : Type 0) (s old new : SourceRun) (i : Ins) where
-  shortens : length new.unread.bytes < length old.unread.bytes → (b : Bool) → Shortens {R = R} {Endian = Endian} {Offset = Offset} (if b then Made (row_made s i) else More) old new
+  shortens : length new.unread.bytes < length old.unread.bytes → (b : Bool)
+      → Shortens {R = R} {Endian = Endian} {Offset = Offset} (if b then Made (row_made s i) else More) old new
   shortens lt true = lt
   shortens lt false = lt
 
 module _ {R Endian Offset : Type 0} (s old new : SourceRun) (i : Ins) where
-  pub executed_shortens : (r : Result (SourceStep R Endian Offset) ConvertError) → IfOk r (λ step. step ≡ step_made s i) → length new.unread.bytes < length old.unread.bytes → IfOk r (λ step. Shortens step old new)
+  pub executed_shortens : (r : Result (SourceStep R Endian Offset) ConvertError) → IfOk r (λ step. step ≡ step_made s i)
+      → length new.unread.bytes < length old.unread.bytes → IfOk r (λ step. Shortens step old new)
   executed_shortens (Ok step) made lt = rw made (shortens R Endian Offset s old new i lt (makes_row i && not s.row.tombstone))
   executed_shortens (Err e) made lt = tt
 
-module _ {R Offset : Type 0} (Endian : Type 0) (bytes : R → List ℕ) (number : Offset → ℕ) (s : SourceRun) (u : Unread) (notation : u.notation ≡ s.unread.notation)
+module _ {R Offset : Type 0} (Endian : Type 0) (bytes : R → List ℕ) (number : Offset → ℕ) (s : SourceRun) (u : Unread)
+    (notation : u.notation ≡ s.unread.notation)
     (i : Ins) (front : List ℕ) (parts : s.unread.bytes ≡ front ++ u.bytes) (spelled : SpellsInstruction s.unread.notation s.header front i) where
   made_reading : is_refused s.header.parameters i s.row ≡ false → defines_file i ≡ false → (sections : Sections) (tables : TablesAndTexts)
-      → reading_left sections s tables ≡ step_reading {Endian = Endian} bytes number sections tables (step_made (with_unread s u) i) (state_after i (with_unread s u))
+      → reading_left sections s tables
+      ≡ step_reading {Endian = Endian} bytes number sections tables (step_made (with_unread s u) i) (state_after i (with_unread s u))
   made_reading fits file sections tables = by (makes_row i && not s.row.tombstone) refl
     where
-      by : (b : Bool) → (makes_row i && not s.row.tombstone) ≡ b → reading_left sections s tables ≡ step_reading {Endian = Endian} bytes number sections tables (step_made (with_unread s u) i) (state_after i (with_unread s u))
+      by : (b : Bool) → (makes_row i && not s.row.tombstone) ≡ b
+          → reading_left sections s tables
+          ≡ step_reading {Endian = Endian} bytes number sections tables (step_made (with_unread s u) i) (state_after i (with_unread s u))
       by true e =
           after_row sections tables s u notation i front parts spelled fits file e
-          ∙ ap (λ (c : Bool). step_reading {Endian = Endian} bytes number sections tables (if c then Made (row_made (with_unread s u) i) else More) (state_after i (with_unread s u))) (sym e)
+          ∙ ap
+          (λ (c : Bool). step_reading {Endian = Endian} bytes number sections tables (if c then Made (row_made (with_unread s u) i) else More)
+          (state_after i (with_unread s u)))
+          (sym e)
       by false e =
           after_quiet sections tables s u notation i front parts spelled fits file e
-          ∙ ap (λ (c : Bool). step_reading {Endian = Endian} bytes number sections tables (if c then Made (row_made (with_unread s u) i) else More) (state_after i (with_unread s u))) (sym e)
+          ∙ ap
+          (λ (c : Bool). step_reading {Endian = Endian} bytes number sections tables (if c then Made (row_made (with_unread s u) i) else More)
+          (state_after i (with_unread s u)))
+          (sym e)
 
-  pub executed_reading : (t : SourceRun) (r : Result (SourceStep R Endian Offset) ConvertError) → defines_file i ≡ false → OnOk r (is_refused s.header.parameters i s.row ≡ false)
+  pub executed_reading : (t : SourceRun) (r : Result (SourceStep R Endian Offset) ConvertError) → defines_file i ≡ false
+      → OnOk r (is_refused s.header.parameters i s.row ≡ false)
       → OnOk r (t ≡ state_after i (with_unread s u)) → IfOk r (λ step. step ≡ step_made (with_unread s u) i)
       → IfOk r (λ step. (sections : Sections) (tables : TablesAndTexts) → reading_left sections s tables ≡ step_reading bytes number sections tables step t)
   executed_reading t (Ok step) file fits next made = λ sections tables. rw (made, next) (made_reading fits file sections tables)
   executed_reading t (Err e) file fits next made = tt
 
-  pub executed_refusal : (r : Result (SourceStep R Endian Offset) ConvertError) → IfErr r (λ e. (e ≡ Read AddressOverflow) × (is_refused s.header.parameters i s.row ≡ true))
+  pub executed_refusal : (r : Result (SourceStep R Endian Offset) ConvertError)
+      → IfErr r (λ e. (e ≡ Read AddressOverflow) × (is_refused s.header.parameters i s.row ≡ true))
       → IfErr r (λ e. (sections : Sections) (tables : TablesAndTexts) → reading_left sections s tables ≡ stops e)
   executed_refusal (Ok step) over = tt
   executed_refusal (Err e) over = λ sections tables. after_refusal sections tables s u notation i front parts spelled over.1 ∙ ap stops (sym over.0)
 
 -- an instruction that isn't a definition defines no file
-pub other_kind : {R Offset Endian : Type 0} (bytes : R → List ℕ) (number : Offset → ℕ) (x : LineInstruction R Offset Endian) → ((f : FileEntry R Offset Endian) → x ≢ DefineFile f) → defines_file (ins_seen bytes number x) ≡ false
+pub other_kind : {R Offset Endian : Type 0} (bytes : R → List ℕ) (number : Offset → ℕ) (x : LineInstruction R Offset Endian)
+    → ((f : FileEntry R Offset Endian) → x ≢ DefineFile f) → defines_file (ins_seen bytes number x) ≡ false
 other_kind bytes number (DefineFile f) other = absurd (other f refl)
 other_kind bytes number x other = refl

@@ -30,9 +30,11 @@ same_lists : (sections : Sections) (u v : Unread) (s : SourceRun) (tables : Tabl
     → tables_after sections (record s { unread = u }) tables list ≡ tables_after sections (record s { unread = v }) tables list
 same_lists sections u v s tables [] = refl
 same_lists sections u v s tables (i ∷ list) =
-    ap (λ (rest : TablesAndTexts). if refuses s tables i then tables else rest) (by (λ next. same_lists sections u v (state_after i s) next list) (tables_after_definition sections tables i))
+    ap (λ (rest : TablesAndTexts). if refuses s tables i then tables else rest)
+    (by (λ next. same_lists sections u v (state_after i s) next list) (tables_after_definition sections tables i))
   where
-    by : ((next : TablesAndTexts) → tables_after sections (record (state_after i s) { unread = u }) next list ≡ tables_after sections (record (state_after i s) { unread = v }) next list)
+    by : ((next : TablesAndTexts)
+        → tables_after sections (record (state_after i s) { unread = u }) next list ≡ tables_after sections (record (state_after i s) { unread = v }) next list)
         → (there : Result TablesAndTexts ConvertError)
         → unless_refused tables there (λ next. tables_after sections (record (state_after i s) { unread = u }) next list)
         ≡ unless_refused tables there (λ next. tables_after sections (record (state_after i s) { unread = v }) next list)
@@ -43,10 +45,13 @@ module _ (sections : Sections) (tables : TablesAndTexts) (s : SourceRun) where
   pub none_last : s.unread.bytes ≡ [] → tables_at_end sections s tables ≡ tables
   none_last e = ap (λ (c : List Ins × Option Error). tables_after sections s tables c.0) (decoded_none s.unread.notation s.header s.unread.bytes e)
 
-  pub fault_last : (e : Error) → s.unread.bytes ≢ [] → (instruction_production s.unread.notation s.header).Fault s.unread.bytes e → tables_at_end sections s tables ≡ tables
-  fault_last e some f = ap (λ (c : List Ins × Option Error). tables_after sections s tables c.0) (decoded_fault s.unread.notation s.header s.unread.bytes e some f)
+  pub fault_last : (e : Error) → s.unread.bytes ≢ [] → (instruction_production s.unread.notation s.header).Fault s.unread.bytes e
+      → tables_at_end sections s tables ≡ tables
+  fault_last e some f =
+      ap (λ (c : List Ins × Option Error). tables_after sections s tables c.0) (decoded_fault s.unread.notation s.header s.unread.bytes e some f)
 
-  module _ (u : Unread) (notation : u.notation ≡ s.unread.notation) (i : Ins) (front : List ℕ) (parts : s.unread.bytes ≡ front ++ u.bytes) (spelled : SpellsInstruction s.unread.notation s.header front i) where
+  module _ (u : Unread) (notation : u.notation ≡ s.unread.notation) (i : Ins) (front : List ℕ) (parts : s.unread.bytes ≡ front ++ u.bytes)
+      (spelled : SpellsInstruction s.unread.notation s.header front i) where
     abbrev next : SourceRun
     next = record (state_after i s) { unread = u }
 
@@ -54,7 +59,8 @@ module _ (sections : Sections) (tables : TablesAndTexts) (s : SourceRun) where
     first_last : tables_at_end sections s tables
         ≡ (if refuses s tables i then tables else unless_refused tables (tables_after_definition sections tables i) (λ more. tables_at_end sections next more))
     first_last =
-        ap (λ (d : List Ins × Option Error). tables_after sections s tables d.0) (decoded_some s.unread.notation s.header s.unread.bytes i front u.bytes parts spelled)
+        ap (λ (d : List Ins × Option Error). tables_after sections s tables d.0)
+        (decoded_some s.unread.notation s.header s.unread.bytes i front u.bytes parts spelled)
         ∙ ap (λ (rest : TablesAndTexts). if refuses s tables i then tables else rest) (by (tables_after_definition sections tables i))
       where
         by : (there : Result TablesAndTexts ConvertError)
@@ -75,16 +81,25 @@ module _ (sections : Sections) (tables : TablesAndTexts) (s : SourceRun) where
       -- it is done, and its row is handed out if it gives one
       done_last : (shown : Bool) → (makes_row i && not s.row.tombstone) ≡ shown
           → tables_at_end sections s tables
-          ≡ (if shown then tables_after_row s.header.parameters.encoding.version tables (Some (row_made s i)) (tables_at_end sections next tables) else tables_at_end sections next tables)
+          ≡ (if shown then tables_after_row s.header.parameters.encoding.version tables (Some (row_made s i)) (tables_at_end sections next tables)
+          else tables_at_end sections next tables)
       done_last shown is =
           first_last
-          ∙ ap (λ (there : Result TablesAndTexts ConvertError). if refuses s tables i then tables else unless_refused tables there (λ more. tables_at_end sections next more)) (no_file sections tables i file)
-          ∙ ap (λ (b : Bool). if b || (makes_row i && not s.row.tombstone && lacks_file s.header.parameters.encoding.version tables (row_made s i)) then tables else tables_at_end sections next tables) fits
+          ∙ ap
+          (λ (there : Result TablesAndTexts ConvertError). if refuses s tables i then tables
+          else unless_refused tables there (λ more. tables_at_end sections next more))
+          (no_file sections tables i file)
+          ∙ ap
+          (λ (b : Bool). if b || (makes_row i && not s.row.tombstone && lacks_file s.header.parameters.encoding.version tables (row_made s i)) then tables
+          else tables_at_end sections next tables)
+          fits
           ∙ by (makes_row i) (not s.row.tombstone) shown is
         where
           by : (makes not_under_tombstone given : Bool) → (makes && not_under_tombstone) ≡ given
-              → (if makes && not_under_tombstone && lacks_file s.header.parameters.encoding.version tables (row_made s i) then tables else tables_at_end sections next tables)
-              ≡ (if given then tables_after_row s.header.parameters.encoding.version tables (Some (row_made s i)) (tables_at_end sections next tables) else tables_at_end sections next tables)
+              → (if makes && not_under_tombstone && lacks_file s.header.parameters.encoding.version tables (row_made s i) then tables
+              else tables_at_end sections next tables)
+              ≡ (if given then tables_after_row s.header.parameters.encoding.version tables (Some (row_made s i)) (tables_at_end sections next tables)
+              else tables_at_end sections next tables)
           by true true given e = rw (← e) refl
           by true false given e = rw (← e) refl
           by false not_under_tombstone given e = rw (← e) refl
@@ -93,44 +108,59 @@ module _ (sections : Sections) (tables : TablesAndTexts) (s : SourceRun) where
       quiet_last quiet = done_last false quiet
 
       pub row_last : (makes_row i && not s.row.tombstone) ≡ true
-          → tables_at_end sections s tables ≡ tables_after_row s.header.parameters.encoding.version tables (Some (row_made s i)) (tables_at_end sections next tables)
+          → tables_at_end sections s tables
+          ≡ tables_after_row s.header.parameters.encoding.version tables (Some (row_made s i)) (tables_at_end sections next tables)
       row_last loud = done_last true loud
 
   -- a file is defined
-  pub file_last : (u : Unread) → u.notation ≡ s.unread.notation → (f : File) (front : List ℕ) → s.unread.bytes ≡ front ++ u.bytes → SpellsInstruction s.unread.notation s.header front (DefineFile f)
+  pub file_last : (u : Unread) → u.notation ≡ s.unread.notation → (f : File) (front : List ℕ) → s.unread.bytes ≡ front ++ u.bytes
+      → SpellsInstruction s.unread.notation s.header front (DefineFile f)
       → tables_at_end sections s tables ≡ unless_refused tables (file_added sections tables f) (λ more. tables_at_end sections (record s { unread = u }) more)
   file_last u notation f front parts spelled = first_last u notation (DefineFile f) front parts spelled
 
 -- ---- what is done of an instruction that sets no address and defines no file
 
-module _ {R Offset : Type 0} (Endian : Type 0) (bytes : R → List ℕ) (number : Offset → ℕ) (s : SourceRun) (u : Unread) (notation : u.notation ≡ s.unread.notation)
+module _ {R Offset : Type 0} (Endian : Type 0) (bytes : R → List ℕ) (number : Offset → ℕ) (s : SourceRun) (u : Unread)
+    (notation : u.notation ≡ s.unread.notation)
     (i : Ins) (front : List ℕ) (parts : s.unread.bytes ≡ front ++ u.bytes) (spelled : SpellsInstruction s.unread.notation s.header front i) where
   made_last : is_refused s.header.parameters i s.row ≡ false → defines_file i ≡ false → (sections : Sections) (tables : TablesAndTexts)
-      → tables_at_end sections s tables ≡ step_tables {Endian = Endian} bytes number sections tables (step_made (with_unread s u) i) (state_after i (with_unread s u))
+      → tables_at_end sections s tables
+      ≡ step_tables {Endian = Endian} bytes number sections tables (step_made (with_unread s u) i) (state_after i (with_unread s u))
   made_last fits file sections tables = by (makes_row i && not s.row.tombstone) refl
     where
-      by : (b : Bool) → (makes_row i && not s.row.tombstone) ≡ b → tables_at_end sections s tables ≡ step_tables {Endian = Endian} bytes number sections tables (step_made (with_unread s u) i) (state_after i (with_unread s u))
+      by : (b : Bool) → (makes_row i && not s.row.tombstone) ≡ b
+          → tables_at_end sections s tables
+          ≡ step_tables {Endian = Endian} bytes number sections tables (step_made (with_unread s u) i) (state_after i (with_unread s u))
       by true e =
           row_last sections tables s u notation i front parts spelled fits file e
-          ∙ ap (λ (c : Bool). step_tables {Endian = Endian} bytes number sections tables (if c then Made (row_made (with_unread s u) i) else More) (state_after i (with_unread s u))) (sym e)
+          ∙ ap
+          (λ (c : Bool). step_tables {Endian = Endian} bytes number sections tables (if c then Made (row_made (with_unread s u) i) else More)
+          (state_after i (with_unread s u)))
+          (sym e)
       by false e =
           quiet_last sections tables s u notation i front parts spelled fits file e
-          ∙ ap (λ (c : Bool). step_tables {Endian = Endian} bytes number sections tables (if c then Made (row_made (with_unread s u) i) else More) (state_after i (with_unread s u))) (sym e)
+          ∙ ap
+          (λ (c : Bool). step_tables {Endian = Endian} bytes number sections tables (if c then Made (row_made (with_unread s u) i) else More)
+          (state_after i (with_unread s u)))
+          (sym e)
 
-  pub executed_last : (t : SourceRun) (r : Result (SourceStep R Endian Offset) ConvertError) → defines_file i ≡ false → OnOk r (is_refused s.header.parameters i s.row ≡ false)
+  pub executed_last : (t : SourceRun) (r : Result (SourceStep R Endian Offset) ConvertError) → defines_file i ≡ false
+      → OnOk r (is_refused s.header.parameters i s.row ≡ false)
       → OnOk r (t ≡ state_after i (with_unread s u)) → IfOk r (λ step. step ≡ step_made (with_unread s u) i)
       → IfOk r (λ step. (sections : Sections) (tables : TablesAndTexts) → tables_at_end sections s tables ≡ step_tables bytes number sections tables step t)
   executed_last t (Ok step) file fits next made = λ sections tables. rw (made, next) (made_last fits file sections tables)
   executed_last t (Err e) file fits next made = tt
 
-  pub executed_stop : (r : Result (SourceStep R Endian Offset) ConvertError) → IfErr r (λ e. (e ≡ Read AddressOverflow) × (is_refused s.header.parameters i s.row ≡ true))
+  pub executed_stop : (r : Result (SourceStep R Endian Offset) ConvertError)
+      → IfErr r (λ e. (e ≡ Read AddressOverflow) × (is_refused s.header.parameters i s.row ≡ true))
       → IfErr r (λ e. (sections : Sections) (tables : TablesAndTexts) → tables_at_end sections s tables ≡ tables)
   executed_stop (Ok step) over = tt
   executed_stop (Err e) over = λ sections tables. refusal_last sections tables s u notation i front parts spelled over.1
 
 -- ---- a file that is refused
 
-pub file_stopped : (before new last : TablesAndTexts) (there : Result TablesAndTexts ConvertError) (more : TablesAndTexts → TablesAndTexts) (e : ConvertError) → IsRefusedBy there e → e ≢ OutOfMemory → new ≡ before
+pub file_stopped : (before new last : TablesAndTexts) (there : Result TablesAndTexts ConvertError) (more : TablesAndTexts → TablesAndTexts) (e : ConvertError)
+    → IsRefusedBy there e → e ≢ OutOfMemory → new ≡ before
     → unless_refused before there more ≡ last → new ≡ last
 file_stopped before new last there more e (inl memory) other same is = absurd (other memory)
 file_stopped before new last there more e (inr refused) other same is =

@@ -14,7 +14,8 @@ use Rattle.gimli_build.specs.declared.built.row.LineRow.{LineRow}
 use Rattle.gimli_build.specs.declared.built.items.BuiltItem.{BuiltItem}
 use Rattle.gimli_build.specs.declared.built.items.BuiltItem.TheVariants as item
 use Rattle.gimli_write.specs.declared.convert_error.ConvertError.{ConvertError}
-use Rattle.gimli_write.specs.declared.convert_error.ConvertError.TheVariants.{InvalidFileIndex, InvalidAddress, MissingLineEndSequence, UnsupportedLineInstruction}
+use Rattle.gimli_write.specs.declared.convert_error.ConvertError.TheVariants.{InvalidFileIndex, InvalidAddress, MissingLineEndSequence}
+use Rattle.gimli_write.specs.declared.convert_error.ConvertError.TheVariants.{UnsupportedLineInstruction}
 use Rattle.gimli_write.specs.convert.SourceTables.{TablesAndTexts}
 use Rattle.gimli_write.specs.convert.Mapped.{NoneEndsUnderTombstone}
 use Rattle.gimli_write.specs.convert.Items.{Reading, reading_after}
@@ -24,14 +25,22 @@ use Rattle.gimli_write.specs.convert.Outcome.{outcome_of}
 abbrev source : ℕ → Parameters
 source length = record {
   encoding = record { address_size = 4; format = Dwarf32; version = 4 };
-  line_encoding = record { minimum_instruction_length = length; maximum_operations_per_instruction = 1; default_is_stmt = true; line_base = negsuc 4; line_range = 14 };
+  line_encoding = record {
+    minimum_instruction_length = length;
+    maximum_operations_per_instruction = 1;
+    default_is_stmt = true;
+    line_base = negsuc 4;
+    line_range = 14;
+  };
   opcode_base = 13;
 }
 
 -- its directory is /w, and its file a.c there
 abbrev tables : ℕ → TablesAndTexts
 tables length = record {
-  program = empty_built false (source length).encoding (source length).line_encoding (Inline (47 ∷ 119 ∷ []) ∷ []) (((Inline (97 ∷ 46 ∷ 99 ∷ []), 0), no_details) ∷ []);
+  program =
+      empty_built false (source length).encoding (source length).line_encoding (Inline (47 ∷ 119 ∷ []) ∷ [])
+      (((Inline (97 ∷ 46 ∷ 99 ∷ []), 0), no_details) ∷ []);
   directory_ids = 0 ∷ [];
   file_ids = 0 ∷ 0 ∷ [];
   line_strings = [];
@@ -75,13 +84,20 @@ mid_sequence : items_of itself 1 (SetAddress 16 ∷ Copy ∷ AdvancePc 4 ∷ Set
 mid_sequence = refl
 
 -- an address that goes back is a tombstone for a row, up to one that doesn't; its sequence ends seen
-row_under_tombstone : items_of itself 1 (SetAddress 16 ∷ Copy ∷ SetAddress 8 ∷ AdvanceLine (pos 1) ∷ Copy ∷ SetAddress 32 ∷ AdvanceLine (pos 1) ∷ Copy ∷ EndSequence ∷ [])
+row_under_tombstone : items_of itself 1
+    (SetAddress 16 ∷ Copy ∷ SetAddress 8 ∷ AdvanceLine (pos 1) ∷ Copy ∷ SetAddress 32 ∷ AdvanceLine (pos 1) ∷ Copy ∷ EndSequence ∷ [])
     ≡ Ok (item.SetAddress (Constant 16) ∷ item.Row (a_row 0 1) ∷ item.SetAddress (Constant 32) ∷ item.Row (a_row 0 3) ∷ item.End 0 0 ∷ [])
 row_under_tombstone = refl
 
-row_under_tombstone_seen : NoneEndsUnderTombstone (source 1) [] (SetAddress 16 ∷ Copy ∷ SetAddress 8 ∷ AdvanceLine (pos 1) ∷ Copy ∷ SetAddress 32 ∷ AdvanceLine (pos 1) ∷ Copy ∷ EndSequence ∷ [])
-row_under_tombstone_seen =
-    (λ e h. absurd cc, (λ e h. absurd cc, (λ e h. absurd cc, (λ e h. absurd cc, (λ e h. absurd cc, (λ e h. absurd cc, (λ e h. absurd cc, (λ e h. absurd cc, (λ e h. absurd cc, tt)))))))))
+row_under_tombstone_seen : NoneEndsUnderTombstone (source 1) []
+    (SetAddress 16 ∷ Copy ∷ SetAddress 8 ∷ AdvanceLine (pos 1) ∷ Copy ∷ SetAddress 32 ∷ AdvanceLine (pos 1) ∷ Copy ∷ EndSequence ∷ [])
+row_under_tombstone_seen = (
+  λ e h. absurd cc,
+  (
+    λ e h. absurd cc,
+    (λ e h. absurd cc, (λ e h. absurd cc, (λ e h. absurd cc, (λ e h. absurd cc, (λ e h. absurd cc, (λ e h. absurd cc, (λ e h. absurd cc, tt))))))),
+  ),
+)
 
 -- a sequence of which all is under a tombstone gives nothing
 all_under_tombstone : items_of itself 1 (SetAddress 4294967294 ∷ Copy ∷ EndSequence ∷ []) ≡ Ok []

@@ -24,9 +24,12 @@ module _ (strings old new : List (List ℕ)) (kept : KeepsTexts old new) where
   written_later p can = record {
     program = can.program;
     directories = All-weaker (IsWithin (texts_in strings old)) (IsWithin (texts_in strings new)) within_kept p.directories can.directories;
-    paths = All-weaker (λ (f : BuiltFile). IsWithin (texts_in strings old) f.0.0) (λ (f : BuiltFile). IsWithin (texts_in strings new) f.0.0) (λ f so. within_kept f.0.0 so) p.files can.paths;
+    paths =
+        All-weaker (λ (f : BuiltFile). IsWithin (texts_in strings old) f.0.0) (λ (f : BuiltFile). IsWithin (texts_in strings new) f.0.0)
+        (λ f so. within_kept f.0.0 so) p.files can.paths;
     sources =
-        All-weaker (λ (f : BuiltFile). IfSome f.1.source (IsWithin (texts_in strings old))) (λ (f : BuiltFile). IfSome f.1.source (IsWithin (texts_in strings new)))
+        All-weaker (λ (f : BuiltFile). IfSome f.1.source (IsWithin (texts_in strings old))) (λ (f : BuiltFile).
+        IfSome f.1.source (IsWithin (texts_in strings new)))
         (λ f so. if_some_where strings old new (λ i lt. still_there old new i kept lt) f.1.source so) p.files can.sources;
     sources_end = can.sources_end;
   }
@@ -39,7 +42,8 @@ written_with_file p texts path directory d within source ends can = record {
   directories = can.directories;
   paths = files_with (λ (f : BuiltFile). IsWithin texts f.0.0) d (λ k e so. so) p.files (path, directory) can.paths within;
   sources = files_with (λ (f : BuiltFile). IfSome f.1.source (IsWithin texts)) d (λ k e so. source) p.files (path, directory) can.sources source;
-  sources_end = λ new has. files_with (λ (f : BuiltFile). IfSome f.1.source HasNoZero) d (λ k e so. ends) p.files (path, directory) (can.sources_end new has) ends;
+  sources_end =
+      λ new has. files_with (λ (f : BuiltFile). IfSome f.1.source HasNoZero) d (λ k e so. ends) p.files (path, directory) (can.sources_end new has) ends;
 }
 
 -- what is so of a source that was made is so of its text
@@ -48,16 +52,21 @@ module _ {A : Type 0} (text : A → LineText) where
   source_so P (Some a) so = so
   source_so P None so = tt
 
-  source_within : (strings line_strings : List (List ℕ)) (made : Option A) → IfSome made (λ a. (strings : List (List ℕ)) → IsWithin (texts_in strings line_strings) (text a))
+  source_within : (strings line_strings : List (List ℕ)) (made : Option A)
+      → IfSome made (λ a. (strings : List (List ℕ)) → IsWithin (texts_in strings line_strings) (text a))
       → IfSome (option_map text made) (IsWithin (texts_in strings line_strings))
   source_within strings line_strings (Some a) so = so strings
   source_within strings line_strings None so = tt
 
   -- with a file whose path was made, and then its source
-  pub written_with_parts : (p : Built) (strings old between new : List (List ℕ)) (path : A) (source : Option A) (directory : ℕ) (timestamp size : ℕ) (md5 : List ℕ)
+  pub written_with_parts : (p : Built) (strings old between new : List (List ℕ)) (path : A) (source : Option A) (directory : ℕ) (timestamp size : ℕ)
+      (md5 : List ℕ)
       → KeepsTexts old between → KeepsTexts between new
-      → ((strings : List (List ℕ)) → IsWithin (texts_in strings between) (text path)) → IfSome source (λ a. (strings : List (List ℕ)) → IsWithin (texts_in strings new) (text a)) → IfSome source (λ a. HasNoZero (text a))
-      → CanWrite p (texts_in strings old) → CanWrite (after_file (text path, directory) (Some (record { timestamp = timestamp; size = size; md5 = md5; source = option_map text source })) p) (texts_in strings new)
+      → ((strings : List (List ℕ)) → IsWithin (texts_in strings between) (text path))
+      → IfSome source (λ a. (strings : List (List ℕ)) → IsWithin (texts_in strings new) (text a)) → IfSome source (λ a. HasNoZero (text a))
+      → CanWrite p (texts_in strings old)
+      → CanWrite (after_file (text path, directory) (Some (record { timestamp = timestamp; size = size; md5 = md5; source = option_map text source })) p)
+      (texts_in strings new)
   written_with_parts p strings old between new path source directory timestamp size md5 first second within source_there ends can =
       written_with_file p (texts_in strings new) (text path) directory _
       (within_kept strings between new second (text path) (within strings))
@@ -65,7 +74,8 @@ module _ {A : Type 0} (text : A → LineText) where
       (source_so HasNoZero source ends)
       (written_later strings old new (kept_then old between new first second) p can)
 
-pub writable_then : {a b c : SourceTables} {first second third : List (List ℕ)} → StaysWritable a first b second → StaysWritable b second c third → StaysWritable a first c third
+pub writable_then : {a b c : SourceTables} {first second third : List (List ℕ)} → StaysWritable a first b second → StaysWritable b second c third
+    → StaysWritable a first c third
 writable_then before after = record { still = λ strings can. after.still strings (before.still strings can) }
 
 -- ---- with more items
@@ -96,7 +106,8 @@ written_tables p texts has = record {
   sources_end = has.sources_end;
 }
 
-pub writable_with_items : (old new : SourceTables) (line_strings : List (List ℕ)) → without_items new.program ≡ without_items old.program → StaysWritable old line_strings new line_strings
+pub writable_with_items : (old new : SourceTables) (line_strings : List (List ℕ)) → without_items new.program ≡ without_items old.program
+    → StaysWritable old line_strings new line_strings
 writable_with_items old new line_strings same = record {
   still = λ strings can.
       let texts = texts_in strings line_strings in
@@ -104,7 +115,8 @@ writable_with_items old new line_strings same = record {
 }
 
 -- after a builder call, of which a refused one changes nothing
-pub writable_built : {A E : Type 0} (result : Result A E) (old new : SourceTables) (line_strings : List (List ℕ)) (built : Built) → without_items built ≡ without_items old.program
+pub writable_built : {A E : Type 0} (result : Result A E) (old new : SourceTables) (line_strings : List (List ℕ)) (built : Built)
+    → without_items built ≡ without_items old.program
     → OnOk result (new ≡ record old { program = built }) → OnErr result (new ≡ old) → StaysWritable old line_strings new line_strings
 writable_built (Ok _) old new line_strings built same is kept = rw is (writable_with_items old (record old { program = built }) line_strings same)
 writable_built (Err _) old new line_strings built same is kept = rw kept (record { still = λ strings can. can })

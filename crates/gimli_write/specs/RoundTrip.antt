@@ -1,5 +1,6 @@
 -- What is answered of a unit that was written and read again.
-use Rattle.std.specs.Prelude.{◌≡◌, ℕ, ◌^◌, List, [], ◌++◌, map, slice_get, Option, Some, None, option_map, Result, Ok, Bool}
+use Rattle.std.specs.Prelude.{◌≡◌, ℕ, ◌^◌, List, [], ◌++◌, map, slice_get, Option, Some, None}
+use Rattle.std.specs.Prelude.{option_map, Result, Ok, Bool}
 use Rattle.gimli_core.specs.Notation.{Notation}
 use Rattle.gimli_core.specs.declared.common.Encoding.{Encoding}
 use Rattle.gimli_line.specs.header.Header.{Header, UnitEntry}
@@ -21,7 +22,11 @@ use Rattle.gimli_build.specs.Cause.{first_cause}
 use Rattle.gimli_build.specs.Items.{AddressesFit}
 use Rattle.gimli_build.specs.SameRow.{RowsMatch}
 use Rattle.gimli_write.specs.declared.convert_error.ConvertError.{ConvertError}
-use Rattle.gimli_write.specs.declared.convert_error.ConvertError.TheVariants.{Read, Write, OutOfMemory}
+use Rattle.gimli_write.specs.declared.convert_error.ConvertError.TheVariants.{
+  Read,
+  Write,
+  OutOfMemory,
+}
 use Rattle.gimli_write.specs.declared.read_back.RoundTrip.{RoundTrip}
 use Rattle.gimli_write.specs.declared.read_back.RoundTripFile.{RoundTripFile}
 
@@ -68,15 +73,17 @@ pub record IsFileAnswer (sections : Sections) (read : ReadFile) (answer : FileAn
   pub md5 : answer.md5 ≡ read.md5
   pub source : IsOptionalText sections read.source answer.source
 
--- a header and its program are answered: the directories from index 0 on, the files, and the rows, which are all that
--- the program gives
-pub record AreAnswers (notation : Notation) (sections : Sections) (h : Header) (a : Answers) : Type 0 where
+-- a header and its program are answered: the directories from index 0 on, the files, and the rows,
+-- which are all that the program gives
+pub record AreAnswers (notation : Notation) (sections : Sections) (h : Header) (a : Answers)
+    : Type 0 where
   pub directories : OneByOne (IsText sections) (directories_from_zero h) a.directories
   pub files : OneByOne (IsFileAnswer sections) h.files a.files
   pub rows : Events notation h h.program (map row a.rows)
 
 -- the bytes are a unit and nothing else, and what is read of it is answered
-pub record AnswersUnit (notation : Notation) (unit_entry : UnitEntry) (sections : Sections) (unit : List ℕ) (a : Answers) : Type 0 where
+pub record AnswersUnit (notation : Notation) (unit_entry : UnitEntry) (sections : Sections)
+    (unit : List ℕ) (a : Answers) : Type 0 where
   pub header : Header
   pub is_unit : IsUnit notation unit_entry unit header
   pub answered : AreAnswers notation sections header a
@@ -97,14 +104,20 @@ unit_entry_of p texts = record {
 
 -- beside the tables, each in an empty section
 abbrev pub sections_of : StringTables → Sections
-sections_of texts = record { strings = table_bytes texts.strings; line_strings = table_bytes texts.line_strings }
+sections_of texts = record {
+  strings = table_bytes texts.strings;
+  line_strings = table_bytes texts.line_strings;
+}
 
--- the bytes are a unit and nothing else, and what is read of it is answered, where it is read as a program's unit is
+-- the bytes are a unit and nothing else, and what is read of it is answered, where it is read as a
+-- program's unit is
 abbrev pub AnswersProgram : Bool → Built → StringTables → List ℕ → RoundTrip → Type 0
 AnswersProgram big p texts unit answer =
-    AnswersUnit (slice_notation big) (unit_entry_of p texts) (sections_of texts) unit (answers answer)
+    AnswersUnit (slice_notation big) (unit_entry_of p texts) (sections_of texts) unit
+    (answers answer)
 
--- what was appended is a unit and nothing else, and what is read of it is answered, where it is read as a program's unit is
+-- what was appended is a unit and nothing else, and what is read of it is answered, where it is
+-- read as a program's unit is
 abbrev pub AnswersAppended : Bool → Built → StringTables → List ℕ → List ℕ → RoundTrip → Type 0
 AnswersAppended big p texts old new answer =
     (unit : List ℕ) × (new ≡ old ++ unit) × AnswersProgram big p texts unit answer
@@ -140,7 +153,8 @@ IsRunRefusal notation h e = ⊥
 
 -- the bytes are a unit and nothing else, and why its rows aren't answered
 abbrev pub RefusesUnit : Notation → UnitEntry → List ℕ → ConvertError → Type 0
-RefusesUnit notation unit_entry unit e = (h : Header) × IsUnit notation unit_entry unit h × IsRunRefusal notation h e
+RefusesUnit notation unit_entry unit e =
+    (h : Header) × IsUnit notation unit_entry unit h × IsRunRefusal notation h e
 
 -- what is to be written of a program, and the cause why it can't be, if there is one
 pub record ToWrite : Type 0 where
@@ -153,25 +167,28 @@ pub record WasWritten (wanted : ToWrite) (old new unit : List ℕ) : Type 0 wher
   pub bytes : wanted.bytes ≡ Ok unit
   pub appended : new ≡ old ++ unit
 
--- why a program isn't written or not read again: the cause why it can't be written, if there is one; where there is none,
--- the first fault of its unit, which was appended; or `OutOfMemory`
+-- why a program isn't written or not read again: the cause why it can't be written, if there is
+-- one; where there is none, the first fault of its unit, which was appended; or `OutOfMemory`
 abbrev pub IsRefusal : Bool → ToWrite → UnitEntry → List ℕ → List ℕ → ConvertError → Type 0
 IsRefusal big wanted unit_entry old new OutOfMemory = Unit {0}
 IsRefusal big wanted unit_entry old new (Write e) = wanted.cause ≡ Some e
 IsRefusal big wanted unit_entry old new (Read fault) =
-    (unit : List ℕ) × WasWritten wanted old new unit × RefusesUnit (slice_notation big) unit_entry unit (Read fault)
+    (unit : List ℕ) × WasWritten wanted old new unit
+    × RefusesUnit (slice_notation big) unit_entry unit (Read fault)
 IsRefusal big wanted unit_entry old new e = ⊥
 
--- what is to be written of a program in this order and for a unit of this encoding, with these tables
+-- what is to be written of a program in this order and for a unit of this encoding, with these
+-- tables
 abbrev pub to_write : Bool → Encoding → Built → StringTables → ToWrite
 to_write big encoding p texts = record {
   cause = first_cause big encoding p texts;
   bytes = unit_bytes big encoding p texts;
 }
 
--- why a program isn't written in this order and for a unit of this encoding, with these tables, or not read again beside
--- what is then in them
-abbrev pub IsRoundTripRefusal : Bool → Encoding → Built → StringTables → List ℕ → List ℕ → ConvertError → Type 0
+-- why a program isn't written in this order and for a unit of this encoding, with these tables, or
+-- not read again beside what is then in them
+abbrev pub IsRoundTripRefusal : Bool → Encoding → Built → StringTables → List ℕ → List ℕ
+    → ConvertError → Type 0
 IsRoundTripRefusal big encoding p texts old new =
     IsRefusal big (to_write big encoding p texts)
     (unit_entry_of p (texts_after p texts)) old new

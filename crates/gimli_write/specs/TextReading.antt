@@ -4,7 +4,11 @@ use Rattle.gimli_core.specs.Values.{Value}
 use Rattle.gimli_core.specs.Reading.{◌>>=◌, skip_at, text_at}
 use Rattle.gimli_core.specs.declared.error.Error.{Error}
 use Rattle.gimli_core.specs.declared.error.Error.TheVariants.{ExpectedStringAttributeValue}
-use Rattle.gimli_core.specs.declared.attribute_value.AttributeValue.TheVariants.{String, DebugStrRef, DebugLineStrRef}
+use Rattle.gimli_core.specs.declared.attribute_value.AttributeValue.TheVariants.{
+  String,
+  DebugStrRef,
+  DebugLineStrRef,
+}
 use Rattle.gimli_build.specs.Texts.{Sections}
 
 -- the bytes of a section from an offset on, up to a zero byte; bytes may be wanting

@@ -11,5 +11,7 @@ pub mod Mapped
 pub mod Conversion
 pub mod KeptTables
 pub mod LentTables
+pub mod Reads
+pub mod Converter
 pub mod DoneConversions
 pub mod Sequences

@@ -1,5 +1,5 @@
-//! Laws of conversions: a converted program meets what `write` asks; it says what its source says; and so do the rows that
-//! are read back of it. And laws of equality and of clones.
+//! Laws of conversions: a converted program meets what `write` asks; it says what its source says;
+//! and so do the rows that are read back of it. And laws of equality and of clones.
 
 ghost use Rattle.std.specs.Prelude.{◌≡◌, ℕ, List};
 ghost use Rattle.std.specs.Bool.{Decides};
@@ -10,12 +10,15 @@ ghost use Rattle.gimli_line.specs.header.File.{File};
 ghost use Rattle.gimli_line.specs.declared.run.row.LineRow.{LineRow as ReadRow};
 ghost use Rattle.gimli_build.specs.Conditions.{CanBuild, CanWrite};
 ghost use Rattle.gimli_build.specs.declared.built.items.BuiltItem.{BuiltItem};
-ghost use Rattle.gimli_write.specs.RoundTrip.{HasFittingAddresses, AreBuiltRows};
+ghost use Rattle.gimli_write.specs.RoundTrip.{AreBuiltRows};
 ghost use Rattle.gimli_write.specs.convert.Outcome.{can_build};
 ghost use Rattle.gimli_write.specs.convert.Sequences.{sequence_read};
-ghost use Rattle.gimli_write.specs.convert.Mapped.{IsMapped, HasConstantAddresses};
+ghost use Rattle.gimli_write.specs.convert.Mapped.{IsFaithful};
 ghost use Rattle.gimli_write.specs.convert.Preparation.{encoding_of};
-ghost use Rattle.gimli_write.specs.convert.DoneConversions.{DoneConversion, IsToBeFaithful, SourceGives, AreReadAs, UnitReadBack, GivesBack, SourceFilesAre, AreFilesReadBack};
+ghost use Rattle.gimli_write.specs.convert.DoneConversions.{DoneConversion, IsToBeFaithful};
+ghost use Rattle.gimli_write.specs.convert.DoneConversions.{SourceGives, AreReadAs, UnitReadBack};
+ghost use Rattle.gimli_write.specs.convert.DoneConversions.{GivesBack, SourceFilesAre};
+ghost use Rattle.gimli_write.specs.convert.DoneConversions.{AreFilesReadBack};
 
 use crate::convert::rows::{ConvertLineRow, ConvertLineSequence, ConvertLineSequenceEnd};
 use crate::convert_error::ConvertError;
@@ -26,7 +29,8 @@ pub fn conversions_ask_what_the_builder_asks()
         → Decides (can_build e position item) (CanBuild e position item) }
 {}
 
-/// A converted program meets what `write` asks, whatever its addresses are mapped to. `write` may refuse it for a cause.
+/// A converted program meets what `write` asks, whatever its addresses are mapped to. `write` may
+/// refuse it for a cause.
 pub fn converted_programs_can_be_written()
     ensures { (d : DoneConversion) (strings : List (List ℕ))
         → CanWrite d.outcome.program (texts_in strings d.outcome.line_strings) }
@@ -38,21 +42,19 @@ pub fn converted_programs_keep_their_encoding()
         → d.outcome.program.encoding ≡ encoding_of d.source.header d.source.given }
 {}
 
-/// Where each address is mapped to itself, addresses are at least as wide as those of the source, and no sequence of
-/// the source that gave a row ends under a tombstone, a converted program says what its source says. No address in it
-/// is a tombstone for a row, all of them fit its address size, and each that is set is a number, not a symbol.
+/// Where each address is mapped to itself, addresses are at least as wide as those of the source,
+/// and no sequence of the source that gave a row ends under a tombstone, a converted program says
+/// what its source says. No address in it is a tombstone for a row, all of them fit its address
+/// size, and each that is set is a number, not a symbol.
 pub fn conversions_are_faithful()
-    ensures mapped { (d : DoneConversion) (strings : List (List ℕ)) → IsToBeFaithful d
-        → IsMapped d.source strings d.outcome }
-    ensures addresses { (d : DoneConversion) → IsToBeFaithful d
-        → HasFittingAddresses d.outcome.program }
-    ensures constants { (d : DoneConversion) → IsToBeFaithful d
-        → HasConstantAddresses d.outcome.program }
+    ensures { (d : DoneConversion) (strings : List (List ℕ)) → IsToBeFaithful d
+        → IsFaithful d.source strings d.outcome }
 {}
 
-/// So the rows that are read back of it say what the rows of the source say, one by one: an end has its address, and
-/// any other row all its registers, with the number that its file has now. These are the rows that `round_trip`
-/// returns, and those of a unit that `LineProgram::write` wrote, however it is read well.
+/// So the rows that are read back of it say what the rows of the source say, one by one: an end has
+/// its address, and any other row all its registers, with the number that its file has now. These
+/// are the rows that `round_trip` returns, and those of a unit that `LineProgram::write` wrote,
+/// however it is read well.
 pub fn converted_rows_are_read_back()
     ensures answered { (d : DoneConversion) (rows back : List ReadRow) → IsToBeFaithful d
         → SourceGives d rows → AreBuiltRows d.outcome.program back → AreReadAs d rows back }
@@ -60,15 +62,16 @@ pub fn converted_rows_are_read_back()
         → SourceGives d rows → (unit : UnitReadBack d.outcome.program) → GivesBack d rows unit }
 {}
 
-/// And the files that it returns have the paths of those of the source: each file number of the source has an id,
-/// which is the index of its file.
+/// And the files that it returns have the paths of those of the source: each file number of the
+/// source has an id, which is the index of its file.
 pub fn converted_files_are_read_back()
     ensures { (d : DoneConversion) (strings : List (List ℕ)) (files : List File)
         → SourceFilesAre d files → AreFilesReadBack d strings files }
 {}
 
-/// `==` holds of what `read_row` gives, and of the ends of sequences, exactly where both are of one kind and agree in its
-/// parts; and of two sequences exactly where they have the same start or none, the same rows and the same end.
+/// `==` holds of what `read_row` gives, and of the ends of sequences, exactly where both are of one
+/// kind and agree in its parts; and of two sequences exactly where they have the same start or
+/// none, the same rows and the same end.
 pub fn equal_rows_and_sequences()
     ensures row { (a b : ConvertLineRow)
         → Decides (⟦<ConvertLineRow as PartialEq>⟧.eq a b) (a ≡ b) }
@@ -78,8 +81,8 @@ pub fn equal_rows_and_sequences()
         (⟦<ConvertLineSequence as PartialEq>⟧.eq a b) (sequence_read a ≡ sequence_read b) }
 {}
 
-/// `==` holds of two refusals exactly where they are of one kind and agree in the refusal of reading or writing that they
-/// hold.
+/// `==` holds of two refusals exactly where they are of one kind and agree in the refusal of
+/// reading or writing that they hold.
 pub fn equal_refusals()
     ensures { IsExact ⟦<ConvertError as PartialEq>⟧.eq }
 {
@@ -87,7 +90,8 @@ pub fn equal_refusals()
     gimli_bytes::laws::equal_errors_are_same();
 }
 
-/// `clone` of what `read_row` gives, of the end of a sequence and of a refusal is never refused, and gives the same.
+/// `clone` of what `read_row` gives, of the end of a sequence and of a refusal is never refused,
+/// and gives the same.
 pub fn clones_are_same()
     ensures row { ClonesGiveSame ⟦<ConvertLineRow as Clone>⟧ }
     ensures end { ClonesGiveSame ⟦<ConvertLineSequenceEnd as Clone>⟧ }

@@ -1,7 +1,7 @@
 //! Line number programs of DWARF, versions 2 to 5, as they are written and read again.
 //!
-//! This crate has all that a user of the writing half names: writers, sections and tables of strings, the builder, the
-//! round trip, and the converter of a program that is read.
+//! This crate has all that a user of the writing half names: writers, sections and tables of
+//! strings, the builder, the round trip, and the converter of a program that is read.
 #![tactic(auto)]
 
 pub mod conversion_laws;

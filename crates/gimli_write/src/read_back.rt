@@ -1,6 +1,7 @@
 //! A unit that is written, and read again.
 
-ghost use Rattle.std.specs.Prelude.{◌≡◌, ◌<◌, ◌^◌, false, length, map, drop, option_map, IsTrue, IfOk, IfErr, OnOk, All, Some, None, Err};
+ghost use Rattle.std.specs.Prelude.{◌≡◌, ◌<◌, ◌^◌, false, length, map, drop, option_map, IsTrue};
+ghost use Rattle.std.specs.Prelude.{IfOk, IfErr, OnOk, All, Some, None, Err};
 ghost use Rattle.gimli_core.specs.Numbers.{is_address_size};
 ghost use Rattle.gimli_core.specs.Values.{value_seen};
 ghost use Rattle.gimli_bytes.specs.Written.{Begins, Appends};
@@ -31,6 +32,13 @@ use std::alloc::Global;
 use std::marker::Model;
 
 /// What is read of a unit.
+///
+/// <!-- part of crates/uses/src/shift.rt -->
+/// ```rust
+/// let shifted = shift(alloc, unit, by)?;
+/// print_rows(&shifted.rows, text)?;
+/// Ok(())
+/// ```
 #[derive(Debug, Drop)]
 pub struct RoundTrip {
     /// The offset of the unit in its section.
@@ -44,6 +52,15 @@ pub struct RoundTrip {
 }
 
 /// What is read of a file.
+///
+/// <!-- part of crates/rows_writing/src/output.rt -->
+/// ```rust
+/// path: Text(file.path.as_slice()),
+/// directory: file.directory_index,
+/// timestamp: file.timestamp,
+/// size: file.size,
+/// md5: Digits(&file.md5),
+/// ```
 #[derive(Debug, Drop)]
 pub struct RoundTripFile {
     /// The path.
@@ -60,8 +77,13 @@ pub struct RoundTripFile {
     pub source: Option<Vec<u8>>,
 }
 
-ghost use Rattle.gimli_write.specs.RoundTrip.{answers, file_answer, IsFileAnswer, AreAnswers, slice_notation, unit_entry_of, sections_of, IsRunRefusal, RefusesUnit, IsRoundTripRefusal, IsCausedRefusal, built_file, HasFittingAddresses, AreBuiltRows, AnswersProgram, AnswersAppended};
-ghost use Rattle.gimli_write.specs.inside.RoundTrip.{HasTexts, unit_entry_with, BeginsUnit, CanRead};
+ghost use Rattle.gimli_write.specs.RoundTrip.{answers, file_answer, IsFileAnswer, AreAnswers};
+ghost use Rattle.gimli_write.specs.RoundTrip.{slice_notation, unit_entry_of, sections_of};
+ghost use Rattle.gimli_write.specs.RoundTrip.{IsRunRefusal, RefusesUnit, IsRoundTripRefusal};
+ghost use Rattle.gimli_write.specs.RoundTrip.{IsCausedRefusal, built_file, HasFittingAddresses};
+ghost use Rattle.gimli_write.specs.RoundTrip.{AreBuiltRows, AnswersProgram, AnswersAppended};
+ghost use Rattle.gimli_write.specs.inside.RoundTrip.{HasTexts, unit_entry_with, BeginsUnit};
+ghost use Rattle.gimli_write.specs.inside.RoundTrip.{CanRead};
 
 /// The working directory of a program.
 fn working_directory<'a>(
@@ -70,8 +92,10 @@ fn working_directory<'a>(
     line_strings: &'a LineStringTable,
 ) -> &'a [u8]
     requires program { program.now.is_none ≡ false }
-    requires within { All (IsWithin (texts_in strings.now line_strings.now)) program.now.directories }
-    ensures { Some result.now ≡ (unit_entry_of program.now (texts_in strings.now line_strings.now)).directory }
+    requires within { All (IsWithin (texts_in strings.now line_strings.now))
+        program.now.directories }
+    ensures { Some result.now
+        ≡ (unit_entry_of program.now (texts_in strings.now line_strings.now)).directory }
 {
     let directory = program.default_directory();
     program.get_directory(directory).get(strings, line_strings)
@@ -96,20 +120,23 @@ fn directory_values<R: Reader>(
     Ok(directories)
 }
 
-/// The text that a value stands for. Requires a value that stands for one. Refused by `OutOfMemory` alone.
+/// The text that a value stands for. Requires a value that stands for one. Refused by `OutOfMemory`
+/// alone.
 fn text_there<R: Reader>(
     alloc: Global,
     value: AttributeValue<R>,
     sections: &TextSections<R>,
 ) -> ConvertResult<Vec<u8>>
     requires { HasText sections.now (value_seen R.bytes R.Offset.number value) }
-    ensures ok { IfOk result (λ text. IsText sections.now (value_seen R.bytes R.Offset.number value) text.items) }
+    ensures ok { IfOk result (λ text.
+        IsText sections.now (value_seen R.bytes R.Offset.number value) text.items) }
     ensures err { IfErr result (λ e. e ≡ ConvertError.OutOfMemory) }
 {
     text(alloc, value, sections)
 }
 
-/// The texts that values stand for. Requires values that stand for texts. Refused by `OutOfMemory` alone.
+/// The texts that values stand for. Requires values that stand for texts. Refused by `OutOfMemory`
+/// alone.
 fn texts<R: Reader>(
     alloc: Global,
     values: &[AttributeValue<R>],
@@ -117,7 +144,8 @@ fn texts<R: Reader>(
 ) -> ConvertResult<Vec<Vec<u8>>>
     requires { All (HasText sections.now) (map (value_seen R.bytes R.Offset.number) values.now) }
     ensures ok { IfOk result (λ texts. OneByOne (IsText sections.now)
-        (map (value_seen R.bytes R.Offset.number) values.now) (map (λ text. text.items) texts.items)) }
+        (map (value_seen R.bytes R.Offset.number) values.now)
+        (map (λ text. text.items) texts.items)) }
     ensures err { IfErr result (λ e. e ≡ ConvertError.OutOfMemory) }
 {
     let mut texts = Vec::new(alloc);
@@ -127,15 +155,18 @@ fn texts<R: Reader>(
     Ok(texts)
 }
 
-/// The text of a file, where there is one. Requires a value that stands for a text. Refused by `OutOfMemory` alone.
+/// The text of a file, where there is one. Requires a value that stands for a text. Refused by
+/// `OutOfMemory` alone.
 fn source_text<R: Reader>(
     alloc: Global,
     source: Option<AttributeValue<R>>,
     sections: &TextSections<R>,
 ) -> ConvertResult<Option<Vec<u8>>>
-    requires { HasOptionalText sections.now (option_map (value_seen R.bytes R.Offset.number) source) }
+    requires { HasOptionalText sections.now
+        (option_map (value_seen R.bytes R.Offset.number) source) }
     ensures ok { IfOk result (λ text. IsOptionalText sections.now
-        (option_map (value_seen R.bytes R.Offset.number) source) (option_map (λ text. text.items) text)) }
+        (option_map (value_seen R.bytes R.Offset.number) source)
+        (option_map (λ text. text.items) text)) }
     ensures err { IfErr result (λ e. e ≡ ConvertError.OutOfMemory) }
 {
     match source {
@@ -206,8 +237,8 @@ fn read_rows<R: Reader>(
     }
 }
 
-/// What is read of a program at an offset. Requires texts that are there. Refused by the first fault of its run, or by
-/// `OutOfMemory`.
+/// What is read of a program at an offset. Requires texts that are there. Refused by the first
+/// fault of its run, or by `OutOfMemory`.
 fn read_program<R: Reader>(
     alloc: Global,
     offset: DebugLineOffset,
@@ -216,7 +247,8 @@ fn read_program<R: Reader>(
 ) -> ConvertResult<RoundTrip>
     requires { HasTexts sections.now program.meaning }
     ensures offset { IfOk result (λ answer. answer.offset ≡ offset) }
-    ensures ok { IfOk result (λ answer. AreAnswers program.notation sections.now program.meaning (answers answer)) }
+    ensures ok { IfOk result (λ answer.
+        AreAnswers program.notation sections.now program.meaning (answers answer)) }
     ensures err { IfErr result (IsRunRefusal program.notation program.meaning) }
 {
     let directories = texts(
@@ -257,7 +289,8 @@ impl StringSections {
         strings: &StringTable,
         line_strings: &LineStringTable,
     ) -> ConvertResult<StringSections>
-        ensures ok { IfOk result (λ sections. sections ≡ sections_of (texts_in strings.now line_strings.now)) }
+        ensures ok { IfOk result (λ sections.
+            sections ≡ sections_of (texts_in strings.now line_strings.now)) }
         ensures err { IfErr result (λ e. e ≡ ConvertError.OutOfMemory) }
         ensures held { (byte_count strings.now < 2 ^ 64) × (byte_count line_strings.now < 2 ^ 64) }
     {
@@ -278,8 +311,8 @@ impl StringSections {
     }
 }
 
-/// What is read of the unit at an offset of a section. Requires a unit whose texts are there. Refused by the first fault
-/// of its run, or by `OutOfMemory`.
+/// What is read of the unit at an offset of a section. Requires a unit whose texts are there.
+/// Refused by the first fault of its run, or by `OutOfMemory`.
 fn read_section<'x, E: Endianity>(
     alloc: Global,
     section: &'x [u8],
@@ -290,13 +323,15 @@ fn read_section<'x, E: Endianity>(
     sections: &'x StringSections,
 ) -> ConvertResult<RoundTrip>
     requires size { IsTrue (is_address_size address_size) }
-    requires unit { CanRead (slice_notation (E.big endian)) (unit_entry_with address_size directory.now) sections.now
+    requires unit { CanRead (slice_notation (E.big endian))
+        (unit_entry_with address_size directory.now) sections.now
         (drop offset.0 section.now) }
     ensures offset { IfOk result (λ answer. answer.offset ≡ offset) }
     ensures ok { (h : Header)
         → BeginsUnit (slice_notation (E.big endian)) (unit_entry_with address_size directory.now)
         (drop offset.0 section.now) h
-        → IfOk result (λ answer. AreAnswers (slice_notation (E.big endian)) sections.now h (answers answer)) }
+        → IfOk result (λ answer.
+        AreAnswers (slice_notation (E.big endian)) sections.now h (answers answer)) }
     ensures err { (h : Header)
         → BeginsUnit (slice_notation (E.big endian)) (unit_entry_with address_size directory.now)
         (drop offset.0 section.now) h
@@ -314,8 +349,8 @@ fn read_section<'x, E: Endianity>(
     }
 }
 
-/// What is read of the unit at an offset, which is a program's. Refused by the first fault of its run, or by
-/// `OutOfMemory`.
+/// What is read of the unit at an offset, which is a program's. Refused by the first fault of its
+/// run, or by `OutOfMemory`.
 fn read_unit<E: Endianity>(
     program: &LineProgram,
     section: &EndianVec<E>,
@@ -324,20 +359,24 @@ fn read_unit<E: Endianity>(
     strings: &StringTable,
 ) -> ConvertResult<RoundTrip>
     requires program { program.now.is_none ≡ false }
-    requires within { All (IsWithin (texts_in strings.now line_strings.now)) program.now.directories }
-    requires unit { ReadsBackAs (E.big section.now.endian) program.now (texts_in strings.now line_strings.now)
+    requires within { All (IsWithin (texts_in strings.now line_strings.now))
+        program.now.directories }
+    requires unit { ReadsBackAs (E.big section.now.endian) program.now
+        (texts_in strings.now line_strings.now)
         (drop offset.0 section.now.bytes) }
     ensures offset { IfOk result (λ answer. answer.offset ≡ offset) }
     ensures ok { IfOk result (AnswersProgram (E.big section.now.endian) program.now
         (texts_in strings.now line_strings.now) (drop offset.0 section.now.bytes)) }
     ensures err { IfErr result (RefusesUnit (slice_notation (E.big section.now.endian))
-        (unit_entry_of program.now (texts_in strings.now line_strings.now)) (drop offset.0 section.now.bytes)) }
+        (unit_entry_of program.now (texts_in strings.now line_strings.now))
+        (drop offset.0 section.now.bytes)) }
     ensures directories { IfOk result (λ answer. map (λ text. text.items) answer.directories.items
         ≡ map (bytes_in (texts_in strings.now line_strings.now)) program.now.directories) }
     ensures files { IfOk result (λ answer. map file_answer answer.files.items
         ≡ map (built_file program.now (texts_in strings.now line_strings.now)) program.now.files) }
     ensures built { IfOk result (λ answer. AreBuiltRows program.now answer.rows.items) }
-    ensures never_read { HasFittingAddresses program.now → IfErr result (λ e. e ≡ ConvertError.OutOfMemory) }
+    ensures never_read { HasFittingAddresses program.now
+        → IfErr result (λ e. e ≡ ConvertError.OutOfMemory) }
 {
     let alloc = *line_strings.allocator();
     let endian = section.endian();
@@ -354,17 +393,19 @@ fn read_unit<E: Endianity>(
     )
 }
 
-/// Writes a program's unit, as `LineProgram::write` does, and reads it again: from the offset that was returned, in
-/// the same order, with the program's address size and its working directory, and beside the tables, each written to
-/// an empty section. Requires what `write` asks.
+/// Writes a program's unit, as `LineProgram::write` does, and reads it again: from the offset that
+/// was returned, in the same order, with the program's address size and its working directory, and
+/// beside the tables, each written to an empty section. Requires what `write` asks.
 ///
-/// What is answered is what the unit says, and what the machine of its program gives: the built directories and files,
-/// and, where each address fits the address size, none is set below the one reached in its sequence, and none is set
-/// that stands for nothing, the built rows and ends one by one.
+/// What is answered is what the unit says, and what the machine of its program gives: the built
+/// directories and files, and, where each address fits the address size, none is set below the one
+/// reached in its sequence, and none is set that stands for nothing, the built rows and ends one by
+/// one.
 ///
-/// Refused by `Write` as `write` is: where the encoding can't have the program's, nothing is appended. Where nothing
-/// forbids to write it, the unit is appended, and refused by `Read` for the first fault of its program, which no program
-/// with such addresses has. Refused by `OutOfMemory` too. The old bytes stay a beginning of the section then.
+/// Refused by `Write` as `write` is: where the encoding can't have the program's, nothing is
+/// appended. Where nothing forbids to write it, the unit is appended, and refused by `Read` for the
+/// first fault of its program, which no program with such addresses has. Refused by `OutOfMemory`
+/// too. The old bytes stay a beginning of the section then.
 pub fn round_trip<E: Endianity>(
     program: &LineProgram,
     w: &mut DebugLine<EndianVec<E>>,

@@ -24,18 +24,20 @@ impl<R: Reader> Model for TextSections<R> {
 
     ghost Value = { Sections };
 
-    ghost view = { λ a. record { strings = R.bytes a.strings; line_strings = R.bytes a.line_strings } };
+    ghost view = { λ a.
+        record { strings = R.bytes a.strings; line_strings = R.bytes a.line_strings } };
 }
 
-/// The bytes of the text that a value stands for. Refused by `OutOfMemory`, by `UnexpectedEof` where the section
-/// ends before the text does, and by `ExpectedStringAttributeValue` for a value that stands for no text of these
-/// sections.
+/// The bytes of the text that a value stands for. Refused by `OutOfMemory`, by `UnexpectedEof`
+/// where the section ends before the text does, and by `ExpectedStringAttributeValue` for a value
+/// that stands for no text of these sections.
 pub(crate) fn text<R: Reader>(
     alloc: Global,
     value: AttributeValue<R>,
     sections: &TextSections<R>,
 ) -> ConvertResult<Vec<u8>>
-    ensures ok { IfOk result (λ text. text_of sections.now (value_seen R.bytes R.Offset.number value) ≡ Ok text.items) }
+    ensures ok { IfOk result (λ text.
+        text_of sections.now (value_seen R.bytes R.Offset.number value) ≡ Ok text.items) }
     ensures err { IfErr result (λ e. (e ≡ ConvertError.OutOfMemory) ⊎ ((fault : ReadError)
         × (e ≡ ConvertError.Read fault)
         × (text_of sections.now (value_seen R.bytes R.Offset.number value) ≡ Err fault))) }
@@ -51,7 +53,8 @@ fn find_text<R: Reader>(
     value: AttributeValue<R>,
     sections: &TextSections<R>,
 ) -> gimli_core::Result<R>
-    ensures { result_map R.bytes result ≡ text_of sections.now (value_seen R.bytes R.Offset.number value) }
+    ensures { result_map R.bytes result
+        ≡ text_of sections.now (value_seen R.bytes R.Offset.number value) }
 {
     match value {
         AttributeValue::String(text) => Ok(text),

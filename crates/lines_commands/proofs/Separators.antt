@@ -1,5 +1,6 @@
 -- The last character of a kind in a word, which words are split at.
-use Rattle.std.proofs.Common.{arith, ◌≡◌, ◌≢◌, ◌<◌, ◌≤◌, ◌+◌, ℕ, zero, suc, List, Some, None, Option, MatchOption, [], ◌∷◌, ◌++◌, length, take, drop, get_or, Bor, refl, sym, ap, ◌∙◌, subst}
+use Rattle.std.proofs.Common.{arith, ◌≡◌, ◌≢◌, ◌<◌, ◌≤◌, ◌+◌, ℕ, zero, suc, List, Some, None, Option, MatchOption, [], ◌∷◌, ◌++◌, length, take, drop, get_or}
+use Rattle.std.proofs.Common.{Bor, refl, sym, ap, ◌∙◌, subst}
 use Rattle.std.specs.Str.{NoCharPasses}
 use Rattle.std.specs.Str.Pattern.{RFindsChar}
 use Rattle.std.specs.Str.Parse.{AllDigits}
@@ -14,7 +15,10 @@ HasNo c bs = (i : ℕ) → i < length bs → get_or bs i 0 ≢ c
 
 -- the clause of `rsplit_once` at a character of ASCII
 abbrev pub SplitsAtLast : ℕ → List ℕ → Option (Bor (List ℕ) × Bor (List ℕ)) → Type 0
-SplitsAtLast c bs r = MatchOption r (RFindsChar c bs None) (λ x. (i : ℕ) × (j : ℕ) × RFindsChar c bs (Some (i, j)) × (x.0.now ≡ take i bs) × (x.1.now ≡ drop j bs) × (i ≤ j) × (length x.0.now ≡ i) × (length x.1.now + j ≡ length bs))
+SplitsAtLast c bs r =
+    MatchOption r (RFindsChar c bs None) (λ x.
+    (i : ℕ) × (j : ℕ) × RFindsChar c bs (Some (i, j)) × (x.0.now ≡ take i bs) × (x.1.now ≡ drop j bs) × (i ≤ j) × (length x.0.now ≡ i)
+    × (length x.1.now + j ≡ length bs))
 
 pub last_parts : (c : ℕ) → c < 128 → (bs : List ℕ) (r : Option (Bor (List ℕ) × Bor (List ℕ))) → SplitsAtLast c bs r
     → MatchOption r (HasNo c bs) (λ x. (bs ≡ x.0.now ++ (c ∷ x.1.now)) × HasNo c x.1.now)

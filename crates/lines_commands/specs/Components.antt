@@ -4,18 +4,20 @@ use Rattle.std.specs.List.{slice_split}
 use Rattle.std.specs.Str.{bytes_eq}
 use Rattle.gimli_lookup.specs.Paths.{is_separator, begins_with_separator}
 
--- `..` after components, which stand last first: it takes the last one away. Nothing is above the root, which is the component
--- without a name; where no component is known, `..` stays
+-- `..` after components, which stand last first: it takes the last one away. Nothing is above the
+-- root, which is the component without a name; where no component is known, `..` stays
 abbrev pub up : List (List ℕ) → List (List ℕ)
 up [] = codes ".." ∷ []
 up ([] ∷ before) = [] ∷ before
-up ((c ∷ cs) ∷ before) = if bytes_eq (c ∷ cs) (codes "..") then codes ".." ∷ (c ∷ cs) ∷ before else before
+up ((c ∷ cs) ∷ before) =
+    if bytes_eq (c ∷ cs) (codes "..") then codes ".." ∷ (c ∷ cs) ∷ before else before
 
 -- one more written component after these: an empty one, between two separators, and `.` add nothing
 abbrev pub with_component : List (List ℕ) → List ℕ → List (List ℕ)
 with_component before [] = before
 with_component before (c ∷ cs) =
-    if bytes_eq (c ∷ cs) (codes ".") then before else if bytes_eq (c ∷ cs) (codes "..") then up before else (c ∷ cs) ∷ before
+    if bytes_eq (c ∷ cs) (codes ".") then before else if bytes_eq (c ∷ cs) (codes "..")
+    then up before else (c ∷ cs) ∷ before
 
 -- what written components, in their order, come to after these
 abbrev pub resolved : List (List ℕ) → List (List ℕ) → List (List ℕ)

@@ -1,11 +1,15 @@
 -- How grave the findings of a check are, and which of them make its status 1.
 use Rattle.std.specs.Prelude.{ℕ, Bool, true, false, List, not, slice_index_or, ◌&&◌, ◌||◌}
 use Rattle.lines_commands.specs.declared.kinds.FindingKind.{FindingKind}
-use Rattle.lines_commands.specs.declared.kinds.FindingKind.TheVariants.{Header, Program, NoPath, NoFile, GoesDown, BelowCode, NoEnd, SamePath, Overlap, FileZero, Merged, Dropped}
+use Rattle.lines_commands.specs.declared.kinds.FindingKind.TheVariants.{Header, Program, NoPath}
+use Rattle.lines_commands.specs.declared.kinds.FindingKind.TheVariants.{NoFile, GoesDown, BelowCode}
+use Rattle.lines_commands.specs.declared.kinds.FindingKind.TheVariants.{NoEnd, SamePath, Overlap}
+use Rattle.lines_commands.specs.declared.kinds.FindingKind.TheVariants.{FileZero, Merged, Dropped}
 use Rattle.lines_commands.specs.declared.kinds.Severity.{Severity}
 use Rattle.lines_commands.specs.declared.kinds.Severity.TheVariants.{Fault, Lost, Odd, Usual}
 
--- how grave a kind is: a rule of DWARF is broken; no address finds the rows; allowed and unusual; what compilers and linkers do
+-- how grave a kind is: a rule of DWARF is broken; no address finds the rows; allowed and unusual;
+-- what compilers and linkers do
 abbrev pub severity : FindingKind → Severity
 severity Header = Fault
 severity Program = Fault
@@ -46,6 +50,8 @@ is_grave Usual = false
 abbrev pub is_in : List Bool → FindingKind → Bool
 is_in kinds kind = slice_index_or kinds (number kind) false
 
--- a finding of a kind makes the status 1: the kind isn't allowed, and it is a fault, tells of lost rows, or is denied
+-- a finding of a kind makes the status 1: the kind isn't allowed, and it is a fault, tells of lost
+-- rows, or is denied
 abbrev pub is_denied : List Bool → List Bool → FindingKind → Bool
-is_denied allowed denied kind = not (is_in allowed kind) && (is_grave (severity kind) || is_in denied kind)
+is_denied allowed denied kind =
+    not (is_in allowed kind) && (is_grave (severity kind) || is_in denied kind)

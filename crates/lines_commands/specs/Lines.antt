@@ -4,7 +4,8 @@ use Rattle.elf_sections.specs.File.{File, file_at}
 use Rattle.elf_sections.specs.Relocating.{relocated_at}
 use Rattle.elf_sections.specs.declared.place.SectionPlace.TheVariants.{AllAtZero}
 
--- an ELF file with a section .debug_line: made whole where it is compressed, and relocated in an object file, where each section is at 0
+-- an ELF file with a section .debug_line: made whole where it is compressed, and relocated in an
+-- object file, where each section is at 0
 pub record HasLines (bytes : List ℕ) : Type 0 where
   pub file : File
   pub is_file : file_at bytes ≡ Ok file

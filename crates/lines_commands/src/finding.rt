@@ -131,14 +131,16 @@ impl fmt::Display for Finding {
                 let rows = RowCount(rows);
                 write!(
                     f,
-                    "after {rows}: the address goes down from 0x{from:x} to 0x{to:x}, and what follows is left out"
+                    "after {rows}: the address goes down from 0x{from:x} to 0x{to:x}, and what \
+                    follows is left out"
                 )
             }
             Finding::Tombstone { rows, address } => {
                 let rows = RowCount(rows);
                 write!(
                     f,
-                    "after {rows}: the address 0x{address:x} stands for dropped code, and what follows is left out"
+                    "after {rows}: the address 0x{address:x} stands for dropped code, and what \
+                    follows is left out"
                 )
             }
             Finding::BelowCode {
@@ -147,7 +149,8 @@ impl fmt::Display for Finding {
                 lowest,
             } => write!(
                 f,
-                "row {row}: a sequence begins at 0x{address:x}, below the lowest address of code, 0x{lowest:x}"
+                "row {row}: a sequence begins at 0x{address:x}, below the lowest address of code, \
+                0x{lowest:x}"
             ),
             Finding::Overlap {
                 start,
@@ -157,7 +160,8 @@ impl fmt::Display for Finding {
                 other_end,
             } => write!(
                 f,
-                "the sequence from 0x{start:x} to 0x{end:x} overlaps that from 0x{other_start:x} to 0x{other_end:x} in the unit at 0x{other_unit:x}"
+                "the sequence from 0x{start:x} to 0x{end:x} overlaps that from 0x{other_start:x} \
+                to 0x{other_end:x} in the unit at 0x{other_unit:x}"
             ),
         }
     }

@@ -17,7 +17,8 @@ impl fmt::Display for InputError {
     fn fmt<W: fmt::Write>(&self, f: &mut fmt::Formatter<W>) -> fmt::Result {
         match self {
             InputError::Elf(ElfError::NotElf) => f.write_str(
-                "not an ELF file; for a raw section say --raw little or --raw big, and --address-size",
+                "not an ELF file; for a raw section say --raw little or --raw big, and \
+                --address-size",
             ),
             InputError::Elf(error) => write!(f, "{error}"),
             InputError::NoLines => {

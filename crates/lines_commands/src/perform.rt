@@ -22,9 +22,9 @@ use std::io;
 use std::io::{BufRead, ErrorKind, Write};
 
 /// Does what a request asks for, and returns the status of the program: 0, or 1 where something was
-/// refused, and reported on standard error, or found by a check. Fails where memory is missing, where
-/// standard input can't be read, and where standard output takes no more; what was printed before
-/// stands.
+/// refused, and reported on standard error, or found by a check. Fails where memory is missing,
+/// where standard input can't be read, and where standard output takes no more; what was printed
+/// before stands.
 pub fn run<I: BufRead, O: Write, E: Write>(
     alloc: Global,
     request: &Request<'_>,

@@ -34,8 +34,8 @@ fn start(rt: &HostRuntime) -> io::Result<u8> {
     Ok(linetool_commands::run(rt.alloc(), &words, file, &mut out, &mut rt.stderr()))
 }
 
-/// The words after the program's name. One that isn't UTF-8 is taken for an empty word, which is no command, no number
-/// and the name of no file.
+/// The words after the program's name. One that isn't UTF-8 is taken for an empty word, which is no
+/// command, no number and the name of no file.
 fn arguments(rt: &HostRuntime) -> io::Result<Vec<String>> {
     let mut room = Vec::new(rt.alloc());
     room.resize(LONGEST_WORD, 0u8)?;

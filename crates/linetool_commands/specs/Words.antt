@@ -1,16 +1,19 @@
 -- What the words after the program's name ask for.
-use Rattle.std.specs.Prelude.{◌≡◌, ◌<◌, ◌≤◌, ◌^◌, ◌∷◌, ℕ, Bool, false, ◌&&◌, nat_le, List, [], length, codes}
+use Rattle.std.specs.Prelude.{◌≡◌, ◌<◌, ◌≤◌, ◌^◌, ◌∷◌, ℕ, Bool, false, ◌&&◌, nat_le, List, []}
+use Rattle.std.specs.Prelude.{length, codes}
 use Rattle.std.specs.List.{list_any}
 use Rattle.std.specs.Str.Parse.{IsNumeral, digits_value}
 use Rattle.gimli_core.specs.declared.endianity.RunTimeEndian.{RunTimeEndian}
 use Rattle.gimli_core.specs.declared.endianity.RunTimeEndian.TheVariants.{Little, Big}
 use Rattle.rows_reading.specs.declared.order_and_size.AddressSize.{AddressSize}
-use Rattle.rows_reading.specs.declared.order_and_size.AddressSize.TheVariants.{One, Two, Four, Eight}
+use Rattle.rows_reading.specs.declared.order_and_size.AddressSize.TheVariants.{One, Two, Four}
+use Rattle.rows_reading.specs.declared.order_and_size.AddressSize.TheVariants.{Eight}
 use Rattle.rows_reading.specs.declared.request.UnitLocation.{UnitLocation}
 use Rattle.linetool_commands.specs.declared.words.Numbers.{Numbers}
 use Rattle.linetool_commands.specs.declared.words.Query.{Query}
 use Rattle.linetool_commands.specs.declared.words.Command.{Command}
-use Rattle.linetool_commands.specs.declared.words.Command.TheVariants.{Demo, DemoPieces, Rows, Sequences, Units, Find}
+use Rattle.linetool_commands.specs.declared.words.Command.TheVariants.{Demo, DemoPieces, Rows}
+use Rattle.linetool_commands.specs.declared.words.Command.TheVariants.{Sequences, Units, Find}
 
 -- the word of an order
 abbrev pub order_word : RunTimeEndian → List ℕ
@@ -59,11 +62,14 @@ abbrev pub IsCommand : List (List ℕ) → Command → Type 0
 IsCommand words Demo = words ≡ codes "demo" ∷ []
 IsCommand words DemoPieces = words ≡ codes "demo" ∷ codes "pieces" ∷ []
 IsCommand words (Rows location) = (file order size offset : List ℕ)
-    × (words ≡ codes "rows" ∷ file ∷ order ∷ size ∷ offset ∷ []) × NamesLocation order size offset location
+    × (words ≡ codes "rows" ∷ file ∷ order ∷ size ∷ offset ∷ [])
+    × NamesLocation order size offset location
 IsCommand words (Sequences location) = (file order size offset : List ℕ)
-    × (words ≡ codes "sequences" ∷ file ∷ order ∷ size ∷ offset ∷ []) × NamesLocation order size offset location
+    × (words ≡ codes "sequences" ∷ file ∷ order ∷ size ∷ offset ∷ [])
+    × NamesLocation order size offset location
 IsCommand words (Find query) = (file order size offset address : List ℕ)
-    × (words ≡ codes "find" ∷ file ∷ order ∷ size ∷ offset ∷ address ∷ []) × NamesQuery order size offset address query
+    × (words ≡ codes "find" ∷ file ∷ order ∷ size ∷ offset ∷ address ∷ [])
+    × NamesQuery order size offset address query
 IsCommand words (Units numbers) = (file order size : List ℕ)
     × (words ≡ codes "units" ∷ file ∷ order ∷ size ∷ []) × NamesNumbers order size numbers
 

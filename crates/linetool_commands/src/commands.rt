@@ -1,5 +1,5 @@
-//! What the program does, over its words, a reader in place of the file, and writers in place of standard
-//! output and standard error.
+//! What the program does, over its words, a reader in place of the file, and writers in place of
+//! standard output and standard error.
 
 ghost use Rattle.std.specs.Prelude.{◌≡◌, ◌≤◌, Err, IsNone, map};
 ghost use Rattle.linetool_commands.specs.Words.{IsCommand, ReadsFile};
@@ -21,8 +21,8 @@ use std::io::{Read, Write};
 /// The status where the words are no command.
 const USAGE: u8 = 2;
 
-/// Does what the words after the program's name ask for, and returns the status of the program. `file` is the
-/// opened file that the second word names, where there is one.
+/// Does what the words after the program's name ask for, and returns the status of the program.
+/// `file` is the opened file that the second word names, where there is one.
 pub fn run<F: Read + Drop, O: Write, E: Write>(
     alloc: Global,
     words: &[&str],
@@ -30,8 +30,10 @@ pub fn run<F: Read + Drop, O: Write, E: Write>(
     out: &mut O,
     err: &mut E,
 ) -> u8
-    ensures usage { ((command : Command) → IsCommand (map (λ word. word.now) words.now) command → ⊥) → result ≡ 2 }
-    ensures command { (command : Command) → IsCommand (map (λ word. word.now) words.now) command → result ≤ 1 }
+    ensures usage { ((command : Command) → IsCommand (map (λ word. word.now) words.now) command → ⊥)
+        → result ≡ 2 }
+    ensures command { (command : Command) → IsCommand (map (λ word. word.now) words.now) command
+        → result ≤ 1 }
     ensures no_file { (command : Command) → IsCommand (map (λ word. word.now) words.now) command
         → ReadsFile command → IsNone file → result ≡ 1 }
 {

@@ -177,8 +177,8 @@ fn put_file(program: &mut LineProgram, alloc: Global) -> Result<(), Error>
     Ok(())
 }
 
-/// A row at the address, a row 4 bytes and 2 lines further on, and an end 4 bytes later. Refused by `OutOfMemory`
-/// alone.
+/// A row at the address, a row 4 bytes and 2 lines further on, and an end 4 bytes later. Refused by
+/// `OutOfMemory` alone.
 fn put_rows(program: &mut LineProgram) -> Result<(), Error>
     requires can { CanWrite program.old no_texts }
     requires start { IsAtStart program.old }

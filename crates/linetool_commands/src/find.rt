@@ -7,8 +7,8 @@ use gimli_line::{IncompleteLineProgram, LineRow};
 use gimli_lookup::find_in_run;
 use std::io::Write;
 
-/// Prints the two rows that cover an address of a unit, or that none do. The unit is run once, and nothing is printed
-/// where it has a fault, wherever that stands.
+/// Prints the two rows that cover an address of a unit, or that none do. The unit is run once, and
+/// nothing is printed where it has a fault, wherever that stands.
 pub(crate) fn print_pair<R: Reader, O: Write>(
     program: IncompleteLineProgram<R>,
     address: u64,

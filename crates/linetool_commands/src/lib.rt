@@ -1,4 +1,5 @@
-//! The commands of the program `linetool`, over its words, a reader in place of the file, and two writers.
+//! The commands of the program `linetool`, over its words, a reader in place of the file, and two
+//! writers.
 #![tactic(auto)]
 
 mod commands;

@@ -48,8 +48,8 @@ impl Refusal {
         }
     }
 
-    /// Says on standard error why the command ends, and returns the status of the program. Nothing is said where
-    /// standard output takes no more.
+    /// Says on standard error why the command ends, and returns the status of the program. Nothing
+    /// is said where standard output takes no more.
     pub fn report<E: Write>(self, err: &mut E) -> u8
         ensures { result ≡ 1 }
     {

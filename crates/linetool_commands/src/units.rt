@@ -14,7 +14,8 @@ use rows_reading::ShortLine;
 use std::alloc::Global;
 use std::io::{Read, Write};
 
-/// The line of a unit: its offset in the section, its version, and how many rows it gives, ends among them.
+/// The line of a unit: its offset in the section, its version, and how many rows it gives, ends
+/// among them.
 #[derive(Clone, Copy)]
 struct UnitLine {
     offset: u64,

@@ -77,7 +77,8 @@ impl Numbers {
     /// What two words say of the numbers of a section.
     fn parse(order: &str, size: &str) -> Option<Numbers>
         ensures named { IfSome result (NamesNumbers order.now size.now) }
-        ensures only { (numbers : Numbers) → NamesNumbers order.now size.now numbers → result ≡ Some numbers }
+        ensures only { (numbers : Numbers) → NamesNumbers order.now size.now numbers
+            → result ≡ Some numbers }
     {
         let order = parse_order(order)?;
         let address_size = parse_size(size)?;
@@ -106,7 +107,8 @@ impl Query {
 /// The location that three words name.
 fn parse_location(order: &str, size: &str, offset: &str) -> Option<UnitLocation>
     ensures named { IfSome result (NamesLocation order.now size.now offset.now) }
-    ensures only { (location : UnitLocation) → NamesLocation order.now size.now offset.now location → result ≡ Some location }
+    ensures only { (location : UnitLocation) → NamesLocation order.now size.now offset.now location
+        → result ≡ Some location }
 {
     let order = parse_order(order)?;
     let address_size = parse_size(size)?;

@@ -7,8 +7,9 @@ use rows_reading::{
 };
 use std::alloc::Global;
 
-/// What stands in a line after the words that were taken. A word that is missing, or that isn't what it is taken for,
-/// makes the line bad, and something stands in its place: so a call is made, but its line ends the script.
+/// What stands in a line after the words that were taken. A word that is missing, or that isn't
+/// what it is taken for, makes the line bad, and something stands in its place: so a call is made,
+/// but its line ends the script.
 #[derive(Clone, Copy)]
 pub struct Arguments<'a> {
     rest: &'a str,

@@ -11,9 +11,10 @@ use std::alloc::Global;
 /// The greatest buffer of a script.
 const GREATEST_BUFFER: usize = 65536;
 
-/// Runs a script of reader calls: lines of bytes, over which a reader is made, and calls. Each call has a line with its
-/// answer, and with the number of bytes that are left. Bytes after a call are those of a new reader; `-` is none.
-/// `split` and `read_null_terminated_slice` return a part, whose calls have `part` before them. No call takes memory.
+/// Runs a script of reader calls: lines of bytes, over which a reader is made, and calls. Each call
+/// has a line with its answer, and with the number of bytes that are left. Bytes after a call are
+/// those of a new reader; `-` is none. `split` and `read_null_terminated_slice` return a part,
+/// whose calls have `part` before them. No call takes memory.
 pub fn read(request: Request<'_>, input: &str, out: &mut Vec<u8>) -> Result<u8, Stop> {
     let order = order_of(request.words)?;
     let groups = parse_groups(request.alloc, input)?;
@@ -121,7 +122,8 @@ impl<'a> ReaderScript<'a> {
         Ok(())
     }
 
-    /// Reads into a buffer of so many bytes 07, and prints what it holds then, also where the call refused.
+    /// Reads into a buffer of so many bytes 07, and prints what it holds then, also where the call
+    /// refused.
     fn read_slice(&mut self, count: usize, lines: &mut Lines<'_>) -> Made {
         if count > GREATEST_BUFFER {
             return Err(Stop::Bad);

@@ -136,8 +136,8 @@ impl<W: Target> Sections<W> {
         mem::replace(&mut self.section, W::empty(self.alloc, self.order))
     }
 
-    /// Looks whether the bytes of before a refused call are still a beginning, or after a refused `write` all there are,
-    /// and makes the section anew with them.
+    /// Looks whether the bytes of before a refused call are still a beginning, or after a refused
+    /// `write` all there are, and makes the section anew with them.
     fn restore(&mut self, name: &str, out: &mut Answers<'_>) -> Made {
         let now = self.section.to_bytes(self.alloc)?;
         let is_longer = name == "write" && now.len() != self.before.len();
@@ -169,7 +169,8 @@ fn is_made_again<T>(answer: &Result<T>, attempts: Attempts) -> bool {
     matches!(answer, Err(Error::OutOfMemory)) && attempts == Attempts::Two
 }
 
-/// The offset of what is appended next to a writer, as a section of this kind tells it, and the writer.
+/// The offset of what is appended next to a writer, as a section of this kind tells it, and the
+/// writer.
 fn offset_in<W: Writer>(section: SectionId, w: W) -> (W, usize) {
     match section {
         SectionId::DebugStr => {

@@ -74,7 +74,8 @@ impl fmt::Display for Operands<'_> {
     }
 }
 
-/// The name of an instruction's variant, and its operands. Those of a file that it defines are left out.
+/// The name of an instruction's variant, and its operands. Those of a file that it defines are left
+/// out.
 fn parts<R: Lender>(instruction: &LineInstruction<R>) -> (&'static str, Operands<'_>) {
     match instruction {
         LineInstruction::Special(opcode) => ("Special", Operands::number(u64::from(*opcode))),

@@ -34,8 +34,8 @@ impl fmt::Display for Digits<'_> {
     }
 }
 
-/// A text as a script has it: `%` where it is empty, else its bytes, with `%` and two hexadecimal digits for a
-/// blank, a `%`, and whatever isn't printable ASCII.
+/// A text as a script has it: `%` where it is empty, else its bytes, with `%` and two hexadecimal
+/// digits for a blank, a `%`, and whatever isn't printable ASCII.
 #[derive(Clone, Copy)]
 pub struct Text<'a>(pub &'a [u8]);
 

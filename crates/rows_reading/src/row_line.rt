@@ -32,7 +32,8 @@ impl fmt::Display for RowLine {
     }
 }
 
-/// The line of a sequence: its addresses in sixteen hexadecimal digits each, and how many rows it gives.
+/// The line of a sequence: its addresses in sixteen hexadecimal digits each, and how many rows it
+/// gives.
 #[derive(Clone, Copy)]
 pub struct SequenceLine {
     /// The address of its first row; 0 where the end row is the only one.

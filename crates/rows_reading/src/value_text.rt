@@ -147,7 +147,8 @@ impl<P: fmt::Display, S: fmt::Display> fmt::Display for FileLine<'_, P, S> {
     }
 }
 
-/// The text of a refusal: its variant, with what it holds where that is a version, a size or a form.
+/// The text of a refusal: its variant, with what it holds where that is a version, a size or a
+/// form.
 #[derive(Clone, Copy)]
 pub struct ErrorText(pub Error);
 

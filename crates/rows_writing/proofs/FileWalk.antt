@@ -36,7 +36,8 @@ moved : (seen : List File) (f : File) (left : List File) → (seen ++ f ∷ []) 
 moved [] f left = refl
 moved (g ∷ seen) f left = ap (λ (t : List File). g ∷ t) (moved seen f left)
 
-pub walked_next : (P : File → Type 0) (files : List File) (item : ℕ × LineText × ℕ) (old rest : List (ℕ × LineText × ℕ)) → Walked P files old → old ≡ item ∷ rest → Next P files item rest
+pub walked_next : (P : File → Type 0) (files : List File) (item : ℕ × LineText × ℕ) (old rest : List (ℕ × LineText × ℕ)) → Walked P files old
+    → old ≡ item ∷ rest → Next P files item rest
 walked_next P files item old rest w is = by w.seen w.left w.whole (sym w.rest_is ∙ is) w.all
   where
     by : (seen left : List File) → seen ++ left ≡ files → with_indexes (length seen) left ≡ item ∷ rest → All P seen → Next P files item rest
@@ -49,7 +50,9 @@ walked_next P files item old rest w is = by w.seen w.left w.whole (sym w.rest_is
         record {
           file = f;
           there = subst (λ (xs : List File). item.0 < length xs) whole (omega (arith, place, length-append seen (f ∷ left)));
-          found = subst (λ (xs : List File). slice_get xs item.0 ≡ Some f) whole (subst (λ (n : ℕ). slice_get (seen ++ f ∷ left) n ≡ Some f) place (get_after seen f left));
+          found =
+              subst (λ (xs : List File). slice_get xs item.0 ≡ Some f) whole
+              (subst (λ (n : ℕ). slice_get (seen ++ f ∷ left) n ≡ Some f) place (get_after seen f left));
           path = sym (ap (λ (t : ℕ × LineText × ℕ). t.1) head);
           goes = λ p. record {
             seen = seen ++ f ∷ [];

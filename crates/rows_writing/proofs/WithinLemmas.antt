@@ -1,5 +1,6 @@
 -- Texts stay in tables that grow, and so do directories that are added.
-use Rattle.std.proofs.Common.{◌≡◌, ◌≤◌, ◌⊎◌, inl, inr, sym, subst, ℕ, Bool, true, false, ◌&&◌, List, [], ◌∷◌, ◌++◌, length, Option, Some, None, option_map, if◌then◌else◌, arith, length-append}
+use Rattle.std.proofs.Common.{◌≡◌, ◌≤◌, ◌⊎◌, inl, inr, sym, subst, ℕ, Bool, true, false, ◌&&◌, List, [], ◌∷◌, ◌++◌, length, Option, Some, None, option_map}
+use Rattle.std.proofs.Common.{if◌then◌else◌, arith, length-append}
 use Rattle.std.proofs.lemmas.List.Elements.{All-push, All-weaker, All-nil, All-cons}
 use Rattle.std.specs.Prelude.{IfSome, nat_le, nat_eq, bytes_eq}
 use Rattle.std.specs.List.{list_any}
@@ -17,12 +18,14 @@ use Rattle.rows_writing.specs.Within.{AreWithin, AreIds}
 
 -- ---- tables that grow
 
-text_more : (texts more : StringTables) (t : LineText) → length texts.strings ≤ length more.strings → length texts.line_strings ≤ length more.line_strings → IsWithin texts t → IsWithin more t
+text_more : (texts more : StringTables) (t : LineText) → length texts.strings ≤ length more.strings → length texts.line_strings ≤ length more.line_strings
+    → IsWithin texts t → IsWithin more t
 text_more texts more (Inline bytes) h k w = tt
 text_more texts more (InStrings i) h k w = omega arith
 text_more texts more (InLineStrings i) h k w = omega arith
 
-pub within_more : (texts more : StringTables) (ts : List LineText) → length texts.strings ≤ length more.strings → length texts.line_strings ≤ length more.line_strings
+pub within_more : (texts more : StringTables) (ts : List LineText) → length texts.strings ≤ length more.strings
+    → length texts.line_strings ≤ length more.line_strings
     → AreWithin ts texts → AreWithin ts more
 within_more texts more ts h k all = All-weaker (IsWithin texts) (IsWithin more) (λ t w. text_more texts more t h k w) ts all
 
@@ -59,7 +62,8 @@ within_added texts ts t all one = by (list_any (line_text_eq t) ts)
     by true = all
     by false = All-push (IsWithin texts) ts t all one
 
-pub within_first : (texts : StringTables) (version : ℕ) (w : LineText) (d : Option LineString) → IsWithin texts w → IfSome d (λ text. IsWithin texts (line_text text))
+pub within_first : (texts : StringTables) (version : ℕ) (w : LineText) (d : Option LineString) → IsWithin texts w
+    → IfSome d (λ text. IsWithin texts (line_text text))
     → AreWithin (first_directories version w (option_map line_text d)) texts
 within_first texts version w d there so = by (nat_le version 4) d so
   where
@@ -87,6 +91,7 @@ kept-longer old new after h (inr e) = subst (λ (t : List (List ℕ)). length ol
 pub strings_kept-longer : {p : Built} {unit : Encoding} {old new : StringTables} → KeepTables p unit old new → length old.strings ≤ length new.strings
 strings_kept-longer {p} {old = old} {new} kept = kept-longer old.strings new.strings (texts_after p old).strings (strings_after-longer p old) kept.strings
 
-pub line_strings_kept-longer : {p : Built} {unit : Encoding} {old new : StringTables} → KeepTables p unit old new → length old.line_strings ≤ length new.line_strings
+pub line_strings_kept-longer : {p : Built} {unit : Encoding} {old new : StringTables} → KeepTables p unit old new
+    → length old.line_strings ≤ length new.line_strings
 line_strings_kept-longer {p} {old = old} {new} kept =
     kept-longer old.line_strings new.line_strings (texts_after p old).line_strings (line_strings_after-longer p old) kept.line_strings

@@ -22,7 +22,8 @@ pub record Stands (directories : List LineText) (ids : List ℕ) (texts : String
   pub within : AreWithin directories texts
   pub are_ids : AreIds ids directories
 
--- the path and the source of a file are in these tables, and a source that is written has no zero byte
+-- the path and the source of a file are in these tables, and a source that is written has no zero
+-- byte
 pub record IsFileWritable (p : Built) (texts : StringTables) (f : File) : Type 0 where
   pub path : IsWithin texts f.0.0
   pub source : IfSome f.1.source (IsWithin texts)

@@ -8,8 +8,8 @@ use gimli_write::{Error, Result, Sink, Writer};
 use rows_calls::Section;
 use std::alloc::{AllocError, Global};
 
-/// A section in an array, which takes no memory: what passes its end is `LengthOutOfBounds`. That it keeps the bytes
-/// given to it isn't claimed.
+/// A section in an array, which takes no memory: what passes its end is `LengthOutOfBounds`. That
+/// it keeps the bytes given to it isn't claimed.
 #[derive(Drop)]
 pub(crate) struct ArraySection {
     bytes: Vec<u8>,

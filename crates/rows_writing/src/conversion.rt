@@ -59,7 +59,8 @@ impl<'i> Conversion<'i> {
         Ok(())
     }
 
-    /// Prints what is read: of a second conversion, where memory is refused to the first and attempts are two.
+    /// Prints what is read: of a second conversion, where memory is refused to the first and
+    /// attempts are two.
     fn print_read(self, kind: Kind, lines: &mut Lines<'_>) -> Result<Ending, AllocError>
         requires { IsTaken self.target }
     {
@@ -134,7 +135,8 @@ impl<'i> Conversion<'i> {
         }
     }
 
-    /// What is built: by a second conversion, where memory is refused to the first and attempts are two.
+    /// What is built: by a second conversion, where memory is refused to the first and attempts are
+    /// two.
     fn built(self, tables: &mut Tables) -> ConvertResult<(LineProgram, Vec<FileId>)>
         requires { IsTaken self.target }
         ensures { IfOk result (λ built. AreWithin built.0.directories (texts_of tables.new)) }

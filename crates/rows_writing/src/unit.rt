@@ -38,8 +38,8 @@ pub(crate) fn write_program<W: Writer>(
     Ok(())
 }
 
-/// What is read of a program's unit, in an empty section; None where it can't be written. Requires directories that are in
-/// these tables.
+/// What is read of a program's unit, in an empty section; None where it can't be written. Requires
+/// directories that are in these tables.
 pub(crate) fn read_program(
     alloc: Global,
     program: &LineProgram,
@@ -72,7 +72,8 @@ fn can_be_written(program: &LineProgram, tables: &Tables) -> bool
     !program.is_none() && are_files_writable(program, tables)
 }
 
-/// Whether the paths and the sources of files are in these tables, and no source that is written has a zero byte.
+/// Whether the paths and the sources of files are in these tables, and no source that is written
+/// has a zero byte.
 fn are_files_writable(program: &LineProgram, tables: &Tables) -> bool
     ensures { IsTrue result →
         All (IsFileWritable program.now (texts_of tables.now)) program.now.files }
@@ -91,7 +92,8 @@ fn are_files_writable(program: &LineProgram, tables: &Tables) -> bool
 fn is_source_writable(source: &Option<LineString>, emits: bool, tables: &Tables) -> bool
     ensures within { IsTrue result → IfSome (option_map line_text source.now)
         (IsWithin (texts_of tables.now)) }
-    ensures ends { IsTrue result → emits ≡ true → IfSome (option_map line_text source.now) HasNoZero }
+    ensures ends { IsTrue result → emits ≡ true
+        → IfSome (option_map line_text source.now) HasNoZero }
 {
     match source {
         Some(source) => is_within(source, tables) && (!emits || has_no_zero(source)),

@@ -13,7 +13,8 @@ abbrev pub wide : UnitEntry
 wide = record { address_size = 8; directory = None; name = None }
 
 -- a unit stands at this offset of the section; its program has no fault, and gives these rows
-pub record AreRowsOfUnit (notation : Notation) (section : List ℕ) (offset : ℕ) (rows : List LineRow) : Type 0 where
+pub record AreRowsOfUnit (notation : Notation) (section : List ℕ) (offset : ℕ) (rows : List LineRow)
+    : Type 0 where
   pub header : Header
   pub spelled : SpellsUnit notation wide (drop offset section) header
   pub events : List EventWithFiles

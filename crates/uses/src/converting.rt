@@ -14,9 +14,9 @@ use gimli_write::{
     LineStringTable, RoundTrip, StringTable, convert_program, round_trip,
 };
 
-/// Converts a program with its own encodings, writes it, and reads it again. What is under a tombstone in the source
-/// is dropped. Where no sequence of the source that gave a row ends under a tombstone, the rows that are read are
-/// those of the source, one by one.
+/// Converts a program with its own encodings, writes it, and reads it again. What is under a
+/// tombstone in the source is dropped. Where no sequence of the source that gave a row ends under a
+/// tombstone, the rows that are read are those of the source, one by one.
 pub fn convert_and_read_back<R: Reader, E: Endianity>(
     debug_str: R,
     debug_line_str: R,
@@ -45,8 +45,8 @@ pub fn convert_and_read_back<R: Reader, E: Endianity>(
     Ok((answer, files))
 }
 
-/// The first address, row or end that a conversion gives after its header. The texts that the tables had stay first in
-/// them, also where the read is refused.
+/// The first address, row or end that a conversion gives after its header. The texts that the
+/// tables had stay first in them, also where the read is refused.
 fn first_after<R: Reader>(
     header: ConvertLineHeader<R>,
     line_strings: &mut LineStringTable,
@@ -59,8 +59,8 @@ fn first_after<R: Reader>(
     converter.read_row()
 }
 
-/// The first address, row or end that a conversion with a program's own encodings gives. The texts that the tables had
-/// stay first in them, also where the header or the read is refused.
+/// The first address, row or end that a conversion with a program's own encodings gives. The texts
+/// that the tables had stay first in them, also where the header or the read is refused.
 pub fn first_of_conversion<R: Reader>(
     debug_str: R,
     debug_line_str: R,

@@ -10,7 +10,8 @@ use std::alloc::Global;
 
 /// The row that an address belongs to.
 pub fn row_at<R: Reader>(lookup: &Lookup<R>, address: u64) -> Option<LineRow>
-    ensures first { IfSome result (λ found. (next : _) × IsFirstPair address lookup.now.rows found next) }
+    ensures first { IfSome result (λ found.
+        (next : _) × IsFirstPair address lookup.now.rows found next) }
 {
     let (found, _next) = lookup.find(address)?;
     Some(found)

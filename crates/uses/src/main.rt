@@ -1,21 +1,23 @@
 //! The programs that the CALLING pages quote, each in a file of its own, and functions for callers.
 //! All is proved; the proof files hold the invariants of loops, and what the search doesn't find.
 //!
-//! | Words | Prints |
-//! |---|---|
-//! | `where_is FILE ADDRESS..` | `path:line:column` of each address of an ELF file |
-//! | `ends LINES` | all units of a section, and their sequences |
-//! | `make_unit` | the bytes of a unit of version 5 that it builds, and those of its texts |
-//! | `make_object` | the bytes of an object file whose line program has symbols and relocations |
-//! | `shift LINES OFFSET BY [DIRECTORY [NAME]]` | the rows of a unit up to version 4 in version 5, each address moved |
+//! - `where_is FILE ADDRESS..` prints `path:line:column` of each address of an ELF file.
+//! - `ends LINES` prints all units of a section, and their sequences.
+//! - `make_unit` prints the bytes of a unit of version 5 that it builds, and those of its texts.
+//! - `make_object` prints the bytes of an object file whose line program has symbols.
+//! - `shift LINES OFFSET BY [DIRECTORY [NAME]]` prints the rows of a unit up to version 4 in
+//!   version 5, each address moved.
+//! - `index` prints what an index says that it makes of two lines.
 //!
 //! After the word `then` another command may follow. A command that is refused says why, and the
 //! next one is run.
 #![tactic(auto)]
 
 mod comparing;
+mod constants;
 mod converting;
 mod ends;
+mod index;
 mod lookup;
 mod make_object;
 mod make_unit;
@@ -52,6 +54,7 @@ fn run(rt: &HostRuntime, command: &[String]) -> Result<()> {
         "make_object" => make_object::start(rt, words),
         "make_unit" => make_unit::start(rt, words),
         "shift" => shift::start(rt, words),
+        "index" => index::start(rt, words),
         _ => bail!("no command {program}"),
     }
 }

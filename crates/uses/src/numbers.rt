@@ -6,7 +6,8 @@ ghost use Rattle.gimli_core.specs.Reading.{result_map, unsigned_at};
 
 use gimli_core::{EndianSlice, LittleEndian, Reader, Result};
 
-/// The first number of a text of LEB128 numbers, and how many bytes come after it. Refused as `read_uleb128` is.
+/// The first number of a text of LEB128 numbers, and how many bytes come after it. Refused as
+/// `read_uleb128` is.
 pub fn first_number(bytes: &[u8]) -> Result<(u64, usize)>
     ensures number { result_map (λ found. found.0) result ≡ (unsigned_at bytes.now).0 }
     ensures left { IfOk result (λ found. found.1 ≡ length (unsigned_at bytes.now).1) }

@@ -41,8 +41,9 @@ pub struct Sections<R: Reader> {
     pub line_strings: R,
 }
 
-/// The text that a path or a directory stands for. Refused by `UnexpectedEof` where the section ends before the text
-/// does, and by `ExpectedStringAttributeValue` for a value that stands for no text of these sections.
+/// The text that a path or a directory stands for. Refused by `UnexpectedEof` where the section
+/// ends before the text does, and by `ExpectedStringAttributeValue` for a value that stands for no
+/// text of these sections.
 pub fn text<R: Reader>(value: AttributeValue<R>, sections: &Sections<R>) -> Result<R>
     ensures { result_map R.bytes result ≡ text_of (record {
       strings = R.bytes sections.now.strings;
@@ -66,13 +67,15 @@ fn text_from<R: Reader>(section: R, offset: R::Offset) -> Result<R>
     section.read_null_terminated_slice()
 }
 
-/// The path of a row's file, which is relative to its directory. None where the header has no such file.
+/// The path of a row's file, which is relative to its directory. None where the header has no such
+/// file.
 pub fn path_of<R: Reader>(
     row: &LineRow,
     header: &LineProgramHeader<R>,
     sections: &Sections<R>,
 ) -> Result<Option<R>>
-    ensures none { IfOk result (λ path. path ≡ None → file_of header.now.meaning row.now.file ≡ None) }
+    ensures none { IfOk result (λ path.
+        path ≡ None → file_of header.now.meaning row.now.file ≡ None) }
 {
     match row.file(header) {
         Some(file) => Ok(Some(text(file.path_name(), sections)?)),
@@ -104,14 +107,15 @@ pub struct RowWithPath<R: Reader> {
     pub path: Option<R>,
 }
 
-/// All rows of a run, each with the path of its file. Refused by the first fault of the run, by a path that `text`
-/// refuses, or by `OutOfMemory`.
+/// All rows of a run, each with the path of its file. Refused by the first fault of the run, by a
+/// path that `text` refuses, or by `OutOfMemory`.
 pub fn rows_with_paths<R: Reader>(
     alloc: Global,
     rows: OneShotLineRows<R>,
     sections: &Sections<R>,
 ) -> Result<Vec<RowWithPath<R>>>
-    ensures ok { IfOk result (λ found. events_of (events_left rows) ≡ map row (map (λ one. one.row) found.items)) }
+    ensures ok { IfOk result (λ found.
+        events_of (events_left rows) ≡ map row (map (λ one. one.row) found.items)) }
 {
     let mut rows = rows;
     let mut found = Vec::new(alloc);
@@ -129,14 +133,16 @@ pub fn rows_with_paths<R: Reader>(
     }
 }
 
-/// The same for the unit at an offset (`DW_AT_stmt_list`) of a section. Up to version 4 its addresses have 8 bytes.
+/// The same for the unit at an offset (`DW_AT_stmt_list`) of a section. Up to version 4 its
+/// addresses have 8 bytes.
 pub fn rows_of_unit<R: Reader>(
     alloc: Global,
     section: &DebugLine<R>,
     offset: DebugLineOffset<R::Offset>,
     sections: &Sections<R>,
 ) -> Result<Vec<RowWithPath<R>>>
-    ensures ok { IfOk result (λ found. AreRowsOfUnit (notation_of (R.big section.now) R.Offset.limit) (R.bytes section.now)
+    ensures ok { IfOk result (λ found.
+        AreRowsOfUnit (notation_of (R.big section.now) R.Offset.limit) (R.bytes section.now)
         (R.Offset.number offset.0) (map (λ one. one.row) found.items)) }
 {
     let program = section.program(alloc, offset, 8, None, None)?;

@@ -5,7 +5,8 @@ ghost use Rattle.std.specs.Prelude.{◌+◌, ◌<◌, ◌^◌, IfOk};
 ghost use Rattle.std.specs.Option.{SomeIff};
 ghost use Rattle.gimli_write.specs.Conditions.{CanWrite};
 ghost use Rattle.gimli_write.specs.StringTables.{texts_in};
-ghost use Rattle.gimli_write.specs.convert.KeptTables.{IsWritable};
+ghost use Rattle.gimli_write.specs.convert.KeptTables.{IsWritable, HasWritable};
+ghost use Rattle.gimli_write.specs.convert.Converter.{progress};
 
 use anyhow::{Result, bail};
 use gimli_core::{DebugLineOffset, Encoding, EndianSlice, LittleEndian, Reader};
@@ -152,7 +153,7 @@ fn conversion_of<R: Reader>(
     conversion: ConvertLineProgram<'_, '_, R>,
     by: u64,
 ) -> ConvertResult<LineProgram>
-    requires { IsWritable conversion.conversion.tables.program conversion.line_strings.now }
+    requires { HasWritable (progress conversion) }
     ensures { IfOk result (λ program. IsWritable program conversion.exit.0.now) }
 {
     let (program, _files) = conversion.convert(|address| address_after(address, by))?;

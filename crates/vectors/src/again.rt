@@ -5,8 +5,9 @@ use gimli_line::{LineProgram, LineRows};
 use rows_reading::{Attempts, Handed, Lines, Unit, UnitLocation};
 use std::alloc::Global;
 
-/// The rows of a unit, where memory is refused them: the files must be as before, and each later call must say that
-/// there is no more row. Prints `state` and the count of calls where this doesn't hold.
+/// The rows of a unit, where memory is refused them: the files must be as before, and each later
+/// call must say that there is no more row. Prints `state` and the count of calls where this
+/// doesn't hold.
 pub fn watch_rows(alloc: Global, section: &[u8], location: UnitLocation, lines: &mut Lines<'_>) {
     let unit = Unit {
         section,

@@ -36,7 +36,8 @@ pub fn check_rows<O: Write>(
     Ok(tally)
 }
 
-/// Runs the commands of a row, and prints each whose output isn't the expected one. Whether there is none.
+/// Runs the commands of a row, and prints each whose output isn't the expected one. Whether there
+/// is none.
 fn check_row<O: Write>(
     alloc: Global,
     row: &Row<'_>,
@@ -59,7 +60,8 @@ fn gives_what_is_stated(row: &Row<'_>, got: &[u8]) -> bool {
     is_expected(row.expected.as_bytes(), got) != row.must_differ
 }
 
-/// Prints a command of a row whose output isn't the expected one. Its words stand there where the row has others.
+/// Prints a command of a row whose output isn't the expected one. Its words stand there where the
+/// row has others.
 fn print_command<O: Write>(
     row: &Row<'_>,
     command: &RowCommand<'_>,

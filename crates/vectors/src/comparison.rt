@@ -4,7 +4,8 @@ ghost use Rattle.std.specs.Prelude.{◌≡◌, ◌↔◌, IsTrue};
 ghost use Rattle.std.specs.List.{list_all};
 ghost use Rattle.vectors.specs.Output.{is_blank, EndsLine, IsExpected};
 
-/// Whether an output is the expected one, to the last byte. Blank lines at the end of what is expected don't count.
+/// Whether an output is the expected one, to the last byte. Blank lines at the end of what is
+/// expected don't count.
 pub fn is_expected(expected: &[u8], got: &[u8]) -> bool
     ensures { IsTrue result ↔ IsExpected expected.now got.now }
 {

@@ -3,7 +3,8 @@
 use rows_reading::Sections;
 use std::{fs, io};
 
-/// How many words of a conversion stand before its files of texts, or the parts that are their bytes.
+/// How many words of a conversion stand before its files of texts, or the parts that are their
+/// bytes.
 pub const WORDS: usize = 7;
 
 /// Sections that were read of files.
@@ -15,8 +16,8 @@ pub struct SectionFiles {
 }
 
 impl SectionFiles {
-    /// Reads the section of lines, and after it those of texts, as far as they are named. Refused as `InvalidInput` where
-    /// more are.
+    /// Reads the section of lines, and after it those of texts, as far as they are named. Refused
+    /// as `InvalidInput` where more are.
     pub fn read(rt: &HostRuntime, lines: &str, texts: &[&str]) -> io::Result<SectionFiles> {
         let alloc = rt.alloc();
         let (strings, line_strings) = match texts {

@@ -7,8 +7,9 @@ use rows_reading::Stop;
 use std::alloc::Global;
 use std::io::Write;
 
-/// Runs the program `lines`, by its words, of which the first is its name. Its file is the input of the row, and a file of
-/// texts is a part that a word names by `@`. Standard input is empty. Returns the status of the program.
+/// Runs the program `lines`, by its words, of which the first is its name. Its file is the input of
+/// the row, and a file of texts is a part that a word names by `@`. Standard input is empty.
+/// Returns the status of the program.
 pub fn run_lines<'r>(
     alloc: Global,
     words: &[&str],

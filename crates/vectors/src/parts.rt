@@ -1,4 +1,5 @@
-//! Bytes in hexadecimal, which may name parts that were defined before, and have unit lengths put before them.
+//! Bytes in hexadecimal, which may name parts that were defined before, and have unit lengths put
+//! before them.
 
 use gimli_core::RunTimeEndian;
 use rows_reading::{Stop, push_bytes};

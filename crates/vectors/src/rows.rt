@@ -163,7 +163,8 @@ impl<'t> RowsReader<'t> {
         self.parts.finish()
     }
 
-    /// Takes a line before a command: the command of a row, where a row comes from, or more bytes of a part.
+    /// Takes a line before a command: the command of a row, where a row comes from, or more bytes
+    /// of a part.
     fn take_head(&mut self, line: &'t str) -> Result<(), Stop> {
         match (line.strip_prefix('>'), &mut self.draft) {
             (Some(words), Some(draft)) => {
@@ -225,8 +226,8 @@ fn push_line(text: &mut String, line: &str) -> Result<(), Stop> {
     Ok(())
 }
 
-/// How many words of a command with texts stand before the parts that hold them, itself among these. None where the
-/// command has no texts.
+/// How many words of a command with texts stand before the parts that hold them, itself among
+/// these. None where the command has no texts.
 fn words_before_parts(words: &str) -> Option<usize> {
     match words.split_whitespace().next()? {
         "convert" | "convert_sequences" => Some(WORDS + 1),

@@ -20,8 +20,8 @@ type InOne = EndianVec<RunTimeEndian>;
 /// A section in pieces of four bytes.
 type InPieces = PieceVec<RunTimeEndian, 4>;
 
-/// What a command of a row prints: its output, its lines on standard error after `stderr`, and its status, where
-/// it isn't 0, after `status`.
+/// What a command of a row prints: its output, its lines on standard error after `stderr`, and its
+/// status, where it isn't 0, after `status`.
 pub fn run_command(
     alloc: Global,
     command: &RowCommand<'_>,
@@ -146,8 +146,8 @@ fn without_parts<'w>(alloc: Global, words: &[&'w str]) -> Result<Vec<&'w str>, A
     Ok(others)
 }
 
-/// Runs a command of `linetool`, a second time from the start where memory is refused it and attempts are two, and
-/// returns its status.
+/// Runs a command of `linetool`, a second time from the start where memory is refused it and
+/// attempts are two, and returns its status.
 fn run_linetool(
     request: Request<'_>,
     name: &str,

@@ -219,7 +219,8 @@ fn span_of_section<R: Reader>(alloc: Global, section: &DebugLine<R>) -> Result<(
     Ok((lowest, 0))
 }
 
-/// Finds addresses at even distances so many times in a section. The probes are counted in one more time.
+/// Finds addresses at even distances so many times in a section. The probes are counted in one more
+/// time.
 fn find_times_in_section<R: Reader>(
     alloc: Global,
     section: &DebugLine<R>,

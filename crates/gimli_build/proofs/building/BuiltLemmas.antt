@@ -1,5 +1,6 @@
 -- What builder calls keep true of a program.
-use Rattle.std.proofs.Common.{◌≡◌, ℕ, zero, suc, ◌-◌, ◌<◌, ◌≤◌, Bool, true, false, List, [], ◌∷◌, ◌++◌, length, drop, refl, sym, subst, if◌then◌else◌, slice_get, Option, arith, length-append}
+use Rattle.std.proofs.Common.{◌≡◌, ℕ, zero, suc, ◌-◌, ◌<◌, ◌≤◌, Bool, true, false, List, [], ◌∷◌, ◌++◌, length, drop, refl, sym, subst, if◌then◌else◌}
+use Rattle.std.proofs.Common.{slice_get, Option, arith, length-append}
 use Rattle.std.specs.Prelude.{All}
 use Rattle.std.specs.List.{list_any}
 use Rattle.std.specs.Option.{option_map_or}
@@ -23,7 +24,8 @@ reached : ℕ × ℕ → List BuiltItem → ℕ × ℕ
 reached position [] = position
 reached position (item ∷ items) = reached (position_after item) items
 
-last_at : (position : ℕ × ℕ) (item : BuiltItem) (items : List BuiltItem) (n : ℕ) → n ≡ length items → reached position (item ∷ items) ≡ option_map_or position_after (slice_get (item ∷ items) n) (0, 0)
+last_at : (position : ℕ × ℕ) (item : BuiltItem) (items : List BuiltItem) (n : ℕ) → n ≡ length items
+    → reached position (item ∷ items) ≡ option_map_or position_after (slice_get (item ∷ items) n) (0, 0)
 unfolding reached
 last_at position item [] zero h = refl
 last_at position item [] (suc n) h = absurd (omega arith)
@@ -35,7 +37,8 @@ unfolding reached
 reached_last [] = refl
 reached_last (item ∷ items) = last_at (0, 0) item items (length (item ∷ items) - 1) (omega arith)
 
-push_reached : (e : LineEncoding) (position : ℕ × ℕ) (items : List BuiltItem) (item : BuiltItem) → AreBuilt e position items → CanBuild e (reached position items) item → AreBuilt e position (items ++ item ∷ [])
+push_reached : (e : LineEncoding) (position : ℕ × ℕ) (items : List BuiltItem) (item : BuiltItem) → AreBuilt e position items
+    → CanBuild e (reached position items) item → AreBuilt e position (items ++ item ∷ [])
 unfolding reached
 push_reached e position [] item so can = (can, tt)
 push_reached e position (first ∷ items) item so can = (so.0, push_reached e (position_after first) items item so.1 can)
@@ -49,13 +52,16 @@ stands_at e position (Row r ∷ items) can so built = stands_at e (r.address_off
 stands_at e position (End o i ∷ items) can so built = stands_at e (0, 0) items can (start_position e can) built.1
 
 -- the previous row stands at a position
-pub previous_stands : (e : LineEncoding) (items : List BuiltItem) → CanEncode e → AreBuilt e (0, 0) items → IsPosition e (previous_position items).0 (previous_position items).1
+pub previous_stands : (e : LineEncoding) (items : List BuiltItem) → CanEncode e → AreBuilt e (0, 0) items
+    → IsPosition e (previous_position items).0 (previous_position items).1
 previous_stands e items can built =
     subst (λ (position : ℕ × ℕ). IsPosition e position.0 position.1) (reached_last items) (stands_at e (0, 0) items can (start_position e can) built)
 
 -- an item is built after others
-pub item_pushed : {is_none : Bool} {encoding : Encoding} {e : LineEncoding} {directories : List LineText} {keys : List FileKey} (items : List BuiltItem) (item : BuiltItem)
-    → IsProgram is_none encoding e directories keys items → CanBuild e (previous_position items) item → IsProgram is_none encoding e directories keys (items ++ item ∷ [])
+pub item_pushed : {is_none : Bool} {encoding : Encoding} {e : LineEncoding} {directories : List LineText} {keys : List FileKey} (items : List BuiltItem)
+    (item : BuiltItem)
+    → IsProgram is_none encoding e directories keys items → CanBuild e (previous_position items) item
+    → IsProgram is_none encoding e directories keys (items ++ item ∷ [])
 item_pushed {e = e} items item so can = record {
   lines = so.lines;
   address_size = so.address_size;
@@ -68,7 +74,8 @@ item_pushed {e = e} items item so can = record {
 
 -- ---- tables
 
-not_empty_pushed : (ds : List LineText) (t : LineText) → 0 < length ds → All IsNotEmpty (drop 1 ds) → IsNotEmpty t → All IsNotEmpty (drop 1 (with_directory ds t))
+not_empty_pushed : (ds : List LineText) (t : LineText) → 0 < length ds → All IsNotEmpty (drop 1 ds) → IsNotEmpty t
+    → All IsNotEmpty (drop 1 (with_directory ds t))
 not_empty_pushed [] t some all h = absurd (omega arith)
 not_empty_pushed (d ∷ ds) t some all h = by (list_any (line_text_eq t) (d ∷ ds))
   where
@@ -85,8 +92,10 @@ longer (d ∷ ds) t some = by (list_any (line_text_eq t) (d ∷ ds))
     by false = omega arith
 
 -- a directory is added
-pub directory_added : {is_none : Bool} {encoding : Encoding} {e : LineEncoding} {keys : List FileKey} {items : List BuiltItem} (ds : List LineText) (t : LineText)
-    → IsProgram is_none encoding e ds keys items → is_none ≡ false → (encoding.version ≤ 4 → IsNotEmpty t) → IsProgram is_none encoding e (with_directory ds t) keys items
+pub directory_added : {is_none : Bool} {encoding : Encoding} {e : LineEncoding} {keys : List FileKey} {items : List BuiltItem} (ds : List LineText)
+    (t : LineText)
+    → IsProgram is_none encoding e ds keys items → is_none ≡ false → (encoding.version ≤ 4 → IsNotEmpty t)
+    → IsProgram is_none encoding e (with_directory ds t) keys items
 directory_added ds t so is not_empty = record {
   lines = so.lines;
   address_size = so.address_size;
@@ -97,7 +106,8 @@ directory_added ds t so is not_empty = record {
   items_built = so.items_built;
 }
 
-paths_pushed : (files : List File) (k : FileKey) (given : Option Details) → All (λ l. IsNotEmpty l.0) (keys_of files) → IsNotEmpty k.0 → All (λ l. IsNotEmpty l.0) (keys_of (with_file files k given))
+paths_pushed : (files : List File) (k : FileKey) (given : Option Details) → All (λ l. IsNotEmpty l.0) (keys_of files) → IsNotEmpty k.0
+    → All (λ l. IsNotEmpty l.0) (keys_of (with_file files k given))
 paths_pushed files k given all h = rw (keys-with_file files k given) (by (has_file files k))
   where
     by : (b : Bool) → All (λ l. IsNotEmpty l.0) (if b then keys_of files else keys_of files ++ k ∷ [])
@@ -112,8 +122,10 @@ files_longer files k given some = rw (keys-with_file files k given) (by (has_fil
     by false = omega (arith, some, length-append (keys_of files) (k ∷ []))
 
 -- a file is added
-pub file_added : {is_none : Bool} {encoding : Encoding} {e : LineEncoding} {ds : List LineText} {items : List BuiltItem} (files : List File) (k : FileKey) (given : Option Details)
-    → IsProgram is_none encoding e ds (keys_of files) items → (encoding.version ≤ 4 → IsNotEmpty k.0) → IsProgram is_none encoding e ds (keys_of (with_file files k given)) items
+pub file_added : {is_none : Bool} {encoding : Encoding} {e : LineEncoding} {ds : List LineText} {items : List BuiltItem} (files : List File) (k : FileKey)
+    (given : Option Details)
+    → IsProgram is_none encoding e ds (keys_of files) items → (encoding.version ≤ 4 → IsNotEmpty k.0)
+    → IsProgram is_none encoding e ds (keys_of (with_file files k given)) items
 file_added files k given so not_empty = record {
   lines = so.lines;
   address_size = so.address_size;
@@ -125,6 +137,7 @@ file_added files k given so not_empty = record {
 }
 
 -- details are written
-pub details_written : {is_none : Bool} {encoding : Encoding} {e : LineEncoding} {ds : List LineText} {items : List BuiltItem} (files : List File) (i : ℕ) (d : Details)
+pub details_written : {is_none : Bool} {encoding : Encoding} {e : LineEncoding} {ds : List LineText} {items : List BuiltItem} (files : List File) (i : ℕ)
+    (d : Details)
     → IsProgram is_none encoding e ds (keys_of files) items → IsProgram is_none encoding e ds (keys_of (with_details files i d)) items
 details_written files i d so = rw (keys-with_details files i d) so

@@ -28,7 +28,9 @@ can-write-after p texts can =
       program = can.program;
       directories = All-weaker (IsWithin texts) (IsWithin after) within p.directories can.directories;
       paths = All-weaker (λ (f : File). IsWithin texts f.0.0) (λ (f : File). IsWithin after f.0.0) (λ f w. within f.0.0 w) p.files can.paths;
-      sources = All-weaker (λ (f : File). IfSome f.1.source (IsWithin texts)) (λ (f : File). IfSome f.1.source (IsWithin after)) (λ f w. if-some (IsWithin texts) (IsWithin after) within f.1.source w) p.files can.sources;
+      sources =
+          All-weaker (λ (f : File). IfSome f.1.source (IsWithin texts)) (λ (f : File). IfSome f.1.source (IsWithin after))
+          (λ f w. if-some (IsWithin texts) (IsWithin after) within f.1.source w) p.files can.sources;
       sources_end = can.sources_end;
     }
 
@@ -44,7 +46,8 @@ any-at test (y ∷ xs) (suc i) x at is = ap (λ b. test y || b) (any-at test xs 
     by false = refl
 
 -- a file has no source
-pub needs-empty : (p : Built) (i : ℕ) (f : File) → 5 ≤ p.encoding.version → slice_get p.files i ≡ Some f → p.file_has_source ≡ true → f.1.source ≡ None → needs_empty p ≡ true
+pub needs-empty : (p : Built) (i : ℕ) (f : File) → 5 ≤ p.encoding.version → slice_get p.files i ≡ Some f → p.file_has_source ≡ true → f.1.source ≡ None
+    → needs_empty p ≡ true
 needs-empty p i f new at has without =
     let one = le-leb 5 p.encoding.version new in
     let any = any-at (λ (g : File). is_none g.1.source) p.files i f at (ap is_none without) in

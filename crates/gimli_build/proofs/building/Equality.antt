@@ -48,7 +48,8 @@ text-alike s t same = respects_eq-law s t ((text-Decides s t).1 same)
 -- ---- files
 
 source-Decides : (s t : Option LineString) → Decides (option_eq texts.eq s t) (option_map line_text s ≡ option_map line_text t)
-source-Decides (Some s) (Some t) = Decides-like (texts.eq s t) (λ same. ap (λ (x : LineText). let o : Option LineText = Some x in o) same) (λ same. cc) (text-Decides s t)
+source-Decides (Some s) (Some t) =
+    Decides-like (texts.eq s t) (λ same. ap (λ (x : LineText). let o : Option LineText = Some x in o) same) (λ same. cc) (text-Decides s t)
 source-Decides (Some s) None = (λ h. absurd (true≢false (sym h)), λ same. absurd cc)
 source-Decides None (Some t) = (λ h. absurd (true≢false (sym h)), λ same. absurd cc)
 source-Decides None None = (λ h. refl, λ same. refl)
@@ -56,7 +57,8 @@ source-Decides None None = (λ h. refl, λ same. refl)
 pub info-Decides : (a b : FileInfo) → Decides (infos.eq a b) (details a ≡ details b)
 info-Decides a b =
     Decides-like (infos.eq a b) there back
-    (Decides-and (nat_eq a.timestamp b.timestamp) (nat_eq a.size b.size && (bytes_eq a.md5 b.md5 && option_eq texts.eq a.source b.source)) (Decides-eqb a.timestamp b.timestamp)
+    (Decides-and (nat_eq a.timestamp b.timestamp) (nat_eq a.size b.size && (bytes_eq a.md5 b.md5 && option_eq texts.eq a.source b.source))
+    (Decides-eqb a.timestamp b.timestamp)
     (Decides-and (nat_eq a.size b.size) (bytes_eq a.md5 b.md5 && option_eq texts.eq a.source b.source) (Decides-eqb a.size b.size)
     (Decides-and (bytes_eq a.md5 b.md5) (option_eq texts.eq a.source b.source) (bytes_eq-Decides a.md5 b.md5) (source-Decides a.source b.source))))
   where
@@ -67,7 +69,8 @@ info-Decides a b =
     there (timestamp, (size, (md5, source))) = λ i. record { timestamp = timestamp i; size = size i; md5 = md5 i; source = source i }
 
     back : details a ≡ details b → Parts
-    back same = (ap (λ (d : Details). d.timestamp) same, (ap (λ (d : Details). d.size) same, (ap (λ (d : Details). d.md5) same, ap (λ (d : Details). d.source) same)))
+    back same =
+        (ap (λ (d : Details). d.timestamp) same, (ap (λ (d : Details). d.size) same, (ap (λ (d : Details). d.md5) same, ap (λ (d : Details). d.source) same)))
 
 -- ---- ids
 
@@ -84,23 +87,27 @@ also {x = x} {y = y} first rest = Decides-and x y first rest
 
 module _ (a b : LineRow) where
   abbrev Registers : Type 0
-  Registers = (a.address_offset ≡ b.address_offset) × ((a.op_index ≡ b.op_index) × ((a.file ≡ b.file) × ((a.line ≡ b.line) × ((a.column ≡ b.column) × ((a.discriminator ≡ b.discriminator)
-      × ((a.is_statement ≡ b.is_statement) × ((a.basic_block ≡ b.basic_block) × ((a.prologue_end ≡ b.prologue_end) × ((a.epilogue_begin ≡ b.epilogue_begin) × (a.isa ≡ b.isa))))))))))
+  Registers =
+      (a.address_offset ≡ b.address_offset)
+      × ((a.op_index ≡ b.op_index) × ((a.file ≡ b.file) × ((a.line ≡ b.line) × ((a.column ≡ b.column) × ((a.discriminator ≡ b.discriminator)
+      × ((a.is_statement ≡ b.is_statement)
+      × ((a.basic_block ≡ b.basic_block) × ((a.prologue_end ≡ b.prologue_end) × ((a.epilogue_begin ≡ b.epilogue_begin) × (a.isa ≡ b.isa))))))))))
 
   same_row : Registers → a ≡ b
-  same_row (address_offset, (op_index, (file, (line, (column, (discriminator, (is_statement, (basic_block, (prologue_end, (epilogue_begin, (isa))))))))))) = λ i. record {
-    address_offset = address_offset i;
-    op_index = op_index i;
-    file = file i;
-    line = line i;
-    column = column i;
-    discriminator = discriminator i;
-    is_statement = is_statement i;
-    basic_block = basic_block i;
-    prologue_end = prologue_end i;
-    epilogue_begin = epilogue_begin i;
-    isa = isa i;
-  }
+  same_row (address_offset, (op_index, (file, (line, (column, (discriminator, (is_statement, (basic_block, (prologue_end, (epilogue_begin, (isa))))))))))) =
+      λ i. record {
+        address_offset = address_offset i;
+        op_index = op_index i;
+        file = file i;
+        line = line i;
+        column = column i;
+        discriminator = discriminator i;
+        is_statement = is_statement i;
+        basic_block = basic_block i;
+        prologue_end = prologue_end i;
+        epilogue_begin = epilogue_begin i;
+        isa = isa i;
+      }
 
   same_registers : a ≡ b → Registers
   same_registers same = (
@@ -144,10 +151,12 @@ module _ (a b : LineRow) where
       (also (booleans_Decides a.prologue_end b.prologue_end) (also (booleans_Decides a.epilogue_begin b.epilogue_begin) (Decides-eqb a.isa b.isa)))))))))))
 
 pub item-Decides : (a b : BuiltItem) → Decides (items.eq a b) (a ≡ b)
-item-Decides (SetAddress a) (SetAddress b) = Decides-like (items.eq (SetAddress a) (SetAddress b)) (λ same. ap SetAddress same) (λ same. cc) (address-Decides a b)
+item-Decides (SetAddress a) (SetAddress b) =
+    Decides-like (items.eq (SetAddress a) (SetAddress b)) (λ same. ap SetAddress same) (λ same. cc) (address-Decides a b)
 item-Decides (Row a) (Row b) = Decides-like (items.eq (Row a) (Row b)) (λ same. ap Row same) (λ same. cc) (row-Decides a b)
 item-Decides (End o k) (End p l) =
-    Decides-like (items.eq (End o k) (End p l)) (λ same. (let first = same.0 in let second = same.1 in cc)) (λ same. (cc, cc)) (also (Decides-eqb o p) (Decides-eqb k l))
+    Decides-like (items.eq (End o k) (End p l)) (λ same. (let first = same.0 in let second = same.1 in cc)) (λ same. (cc, cc))
+    (also (Decides-eqb o p) (Decides-eqb k l))
 item-Decides (SetAddress a) (Row r) = (λ h. absurd (true≢false (sym h)), λ same. absurd cc)
 item-Decides (SetAddress a) (End o k) = (λ h. absurd (true≢false (sym h)), λ same. absurd cc)
 item-Decides (Row r) (SetAddress a) = (λ h. absurd (true≢false (sym h)), λ same. absurd cc)

@@ -41,7 +41,8 @@ module _ (a b t s m o : ℕ × ℕ) (has_t has_s has_m has_o : Bool) where
 
   -- their number and they, in groups, and what stands after them
   pub formats-grouped : (after : List ℕ)
-      → (length formats ∷ one_format a ++ uleb b.0 ++ uleb b.1) ++ ((due has_t t ++ due has_s s ++ due has_m m) ++ (due has_o o ++ after)) ≡ formats_bytes formats ++ after
+      → (length formats ∷ one_format a ++ uleb b.0 ++ uleb b.1) ++ ((due has_t t ++ due has_s s ++ due has_m m) ++ (due has_o o ++ after))
+      ≡ formats_bytes formats ++ after
   formats-grouped after =
       ap (λ (l : List ℕ). length formats ∷ l) (grouped (one_format a) (uleb b.0) (uleb b.1) (due has_t t ++ due has_s s ++ due has_m m) (due has_o o) after
       ∙ ap (λ (l : List ℕ). (one_format a ++ (one_format b ++ l)) ++ after) (sym each))

@@ -16,7 +16,8 @@ module _ {A : Type 0} (test : A → Bool) (xs : List A) (i : ℕ) where
   any_found x at so is = any_next x at so ∙ ap (λ (b : Bool). b || list_any test (drop (i + 1) xs)) is
 
   -- an element hasn't
-  pub any_passed : (x : A) → slice_get xs i ≡ Some x → list_any test (drop i xs) ≡ list_any test xs → test x ≡ false → list_any test (drop (i + 1) xs) ≡ list_any test xs
+  pub any_passed : (x : A) → slice_get xs i ≡ Some x → list_any test (drop i xs) ≡ list_any test xs → test x ≡ false
+      → list_any test (drop (i + 1) xs) ≡ list_any test xs
   any_passed x at so is = sym (any_next x at so ∙ ap (λ (b : Bool). b || list_any test (drop (i + 1) xs)) is)
 
 module _ (files : List File) (i : ℕ) where
@@ -24,21 +25,25 @@ module _ (files : List File) (i : ℕ) where
   found (Some t) rest = t ∷ rest
   found None rest = rest
 
-  sources_next : (f : File) → slice_get files i ≡ Some f → sources (drop i files) ≡ sources files → sources files ≡ found f.1.source (sources (drop (i + 1) files))
+  sources_next : (f : File) → slice_get files i ≡ Some f → sources (drop i files) ≡ sources files
+      → sources files ≡ found f.1.source (sources (drop (i + 1) files))
   unfolding found
   sources_next f at so = sym so ∙ ap sources (next_at files i f at) ∙ by f.1.source
     where
-      by : (o : Option LineText) → (elim o [ Some t ↦ t ∷ sources (drop (i + 1) files) | None ↦ sources (drop (i + 1) files) ]) ≡ found o (sources (drop (i + 1) files))
+      by : (o : Option LineText)
+          → (elim o [ Some t ↦ t ∷ sources (drop (i + 1) files) | None ↦ sources (drop (i + 1) files) ]) ≡ found o (sources (drop (i + 1) files))
       by (Some t) = refl
       by None = refl
 
   -- the first source
-  pub source_found : (f : File) (t : LineText) → slice_get files i ≡ Some f → sources (drop i files) ≡ sources files → f.1.source ≡ Some t → text_form t ≡ first_form (sources files)
+  pub source_found : (f : File) (t : LineText) → slice_get files i ≡ Some f → sources (drop i files) ≡ sources files → f.1.source ≡ Some t
+      → text_form t ≡ first_form (sources files)
   unfolding found
   source_found f t at so is = sym (ap first_form (sources_next f at so ∙ ap (λ (o : Option LineText). found o (sources (drop (i + 1) files))) is))
 
   -- a file without one
-  pub source_passed : (f : File) → slice_get files i ≡ Some f → sources (drop i files) ≡ sources files → f.1.source ≡ None → sources (drop (i + 1) files) ≡ sources files
+  pub source_passed : (f : File) → slice_get files i ≡ Some f → sources (drop i files) ≡ sources files → f.1.source ≡ None
+      → sources (drop (i + 1) files) ≡ sources files
   unfolding found
   source_passed f at so is = sym (sources_next f at so ∙ ap (λ (o : Option LineText). found o (sources (drop (i + 1) files))) is)
 

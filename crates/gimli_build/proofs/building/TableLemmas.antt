@@ -1,5 +1,7 @@
 -- The tables of directories and files, seen as lists.
-use Rattle.std.proofs.Common.{◌≡◌, ◌≢◌, ℕ, zero, suc, ◌+◌, ◌<◌, Bool, true, false, cond, not, ◌||◌, ◌&&◌, List, [], ◌∷◌, ◌++◌, map, length, refl, sym, ap, subst, ◌∙◌, if◌then◌else◌, slice_get, get_or, drop, Option, Some, None, position, nat_lt, option_map, true≢false, arith, length-append}
+use Rattle.std.proofs.Common.{◌≡◌, ◌≢◌, ℕ, zero, suc, ◌+◌, ◌<◌, Bool, true, false, cond, not, ◌||◌, ◌&&◌, List, [], ◌∷◌, ◌++◌, map, length, refl, sym, ap}
+use Rattle.std.proofs.Common.{subst, ◌∙◌, if◌then◌else◌, slice_get, get_or, drop, Option, Some, None, position, nat_lt, option_map, true≢false, arith}
+use Rattle.std.proofs.Common.{length-append}
 use native.Mathlib.Nat.{suc-add as suc_add}
 use Rattle.std.specs.Prelude.{nat_eq, is_some, unwrap_or}
 use Rattle.std.specs.List.{list_any, position_or_len, AllZip}
@@ -19,7 +21,8 @@ use Rattle.gimli_build.specs.declared.built.line_string.LineString.TheVariants.{
 use Rattle.gimli_build.specs.declared.built.files.FileInfo.{FileInfo}
 use Rattle.gimli_build.specs.contracts.built.line_string.LineStringPartialEq.TheImpl.{ghosts}
 use Rattle.gimli_build.specs.LineText.{LineText, Inline, InStrings, InLineStrings, line_text, line_text_eq, HasNoZero}
-use Rattle.gimli_build.specs.Tables.{with_directory, index_of_directory, FileKey, Details, no_details, File, key_eq, has_file, index_of_file, with_details, with_file, keys_of, Keeps, AreTables, with_indexes}
+use Rattle.gimli_build.specs.Tables.{with_directory, index_of_directory, FileKey, Details, no_details, File, key_eq, has_file, index_of_file, with_details}
+use Rattle.gimli_build.specs.Tables.{with_file, keys_of, Keeps, AreTables, with_indexes}
 use Rattle.gimli_build.specs.TableFields.{details}
 use Rattle.gimli_build.specs.inside.TableFields.{key, directories_of, files_of}
 
@@ -90,7 +93,9 @@ with_directory-AreTables ds ks t so clean = by (list_any (line_text_eq t) ds) re
     by : (b : Bool) → list_any (line_text_eq t) ds ≡ b → AreTables (if b then ds else ds ++ t ∷ []) ks
     by true h = so
     by false h = record {
-      distinct_directories = all_pairs_push (λ s u. s ≢ u) ds t so.distinct_directories (λ k d short same. true≢false (sym (list_any_at (line_text_eq t) ds k d short (line_text_eq-same (get_or ds k d) t same)) ∙ h));
+      distinct_directories =
+          all_pairs_push (λ s u. s ≢ u) ds t so.distinct_directories (λ k d short same.
+          true≢false (sym (list_any_at (line_text_eq t) ds k d short (line_text_eq-same (get_or ds k d) t same)) ∙ h));
       directories_end = All-push HasNoZero ds t so.directories_end clean;
       distinct_files = so.distinct_files;
       paths_end = so.paths_end;
@@ -110,22 +115,29 @@ key_eq-same : (k l : FileKey) → k ≡ l → key_eq l k ≡ true
 key_eq-same k l e = subst (λ (x : FileKey). key_eq l x ≡ true) (sym e) (λ i. line_text_eq-self l.0 i && nat_eq_equiv.refl l.1 i)
 
 -- the files after an insertion
-pub files_insert : (es : List ((LineString × ℕ) × FileInfo)) (k : LineString × ℕ) (v : FileInfo) → files_of (insert_entry pair_eq es k v) ≡ with_file (files_of es) (key k) (Some (details v))
+pub files_insert : (es : List ((LineString × ℕ) × FileInfo)) (k : LineString × ℕ) (v : FileInfo)
+    → files_of (insert_entry pair_eq es k v) ≡ with_file (files_of es) (key k) (Some (details v))
 files_insert [] k v = refl
 files_insert (e ∷ es) k v =
     by (pair_eq k e.0)
     ∙ (λ i. if pair_eq-is k e.0 i then (key e.0, details v) ∷ files_of es else (key e.0, details e.1) ∷ files_insert es k v i)
     ∙ joined (key_eq (key k) (key e.0)) (has_file (files_of es) (key k))
   where
-    by : (b : Bool) → files_of (if b then (e.0, v) ∷ es else e ∷ insert_entry pair_eq es k v) ≡ (if b then (key e.0, details v) ∷ files_of es else (key e.0, details e.1) ∷ files_of (insert_entry pair_eq es k v))
+    by : (b : Bool)
+        → files_of (if b then (e.0, v) ∷ es else e ∷ insert_entry pair_eq es k v)
+        ≡ (if b then (key e.0, details v) ∷ files_of es else (key e.0, details e.1) ∷ files_of (insert_entry pair_eq es k v))
     by true = refl
     by false = refl
 
     one : (n : ℕ) → with_details ((key e.0, details e.1) ∷ files_of es) (1 + n) (details v) ≡ (key e.0, details e.1) ∷ with_details (files_of es) n (details v)
     one n = let h : 1 + n ≡ suc n = omega arith in ap (λ (m : ℕ). with_details ((key e.0, details e.1) ∷ files_of es) m (details v)) h
 
-    joined : (b there : Bool) → (if b then (key e.0, details v) ∷ files_of es else (key e.0, details e.1) ∷ (if there then with_details (files_of es) (index_of_file (files_of es) (key k)) (details v) else files_of es ++ (key k, details v) ∷ []))
-        ≡ (if b || there then with_details ((key e.0, details e.1) ∷ files_of es) (cond (not b) (1 + index_of_file (files_of es) (key k)) 0) (details v) else (key e.0, details e.1) ∷ files_of es ++ (key k, details v) ∷ [])
+    joined : (b there : Bool)
+        → (if b then (key e.0, details v) ∷ files_of es
+        else (key e.0, details e.1)
+        ∷ (if there then with_details (files_of es) (index_of_file (files_of es) (key k)) (details v) else files_of es ++ (key k, details v) ∷ []))
+        ≡ (if b || there then with_details ((key e.0, details e.1) ∷ files_of es) (cond (not b) (1 + index_of_file (files_of es) (key k)) 0) (details v)
+        else (key e.0, details e.1) ∷ files_of es ++ (key k, details v) ∷ [])
     joined true true = refl
     joined true false = refl
     joined false true = sym (one (index_of_file (files_of es) (key k)))
@@ -135,12 +147,14 @@ pub any-files : (k : LineString × ℕ) (es : List ((LineString × ℕ) × FileI
 any-files k [] = refl
 any-files k (e ∷ es) = λ i. pair_eq-is k e.0 i || any-files k es i
 
-pub index_of_equal_file : (es : List ((LineString × ℕ) × FileInfo)) (k : LineString × ℕ) → position_or_len (pair_eq k) (map (λ e. e.0) es) ≡ index_of_file (files_of es) (key k)
+pub index_of_equal_file : (es : List ((LineString × ℕ) × FileInfo)) (k : LineString × ℕ)
+    → position_or_len (pair_eq k) (map (λ e. e.0) es) ≡ index_of_file (files_of es) (key k)
 index_of_equal_file [] k = refl
 index_of_equal_file (e ∷ es) k = λ i. cond (not (pair_eq-is k e.0 i)) (1 + index_of_equal_file es k i) 0
 
 -- a search found a file, or none
-pub file_found : (es : List ((LineString × ℕ) × FileInfo)) (k : LineString × ℕ) (b : Bool) → b ≡ is_some (lookup (pair_eq k) es) → has_file (files_of es) (key k) ≡ b
+pub file_found : (es : List ((LineString × ℕ) × FileInfo)) (k : LineString × ℕ) (b : Bool) → b ≡ is_some (lookup (pair_eq k) es)
+    → has_file (files_of es) (key k) ≡ b
 file_found es k b e = sym (any-files k es) ∙ sym (is_some-lookup (pair_eq k) es) ∙ sym e
 
 -- a file that is there stays as it is, where nothing is handed of it
@@ -170,7 +184,9 @@ with_file-AreTables ds files k d so clean within = by (has_file files k) refl
     by false h = rw (map-append (λ (f : File). f.0) files ((k, d) ∷ [])) (record {
       distinct_directories = so.distinct_directories;
       directories_end = so.directories_end;
-      distinct_files = all_pairs_push (λ l m. l ≢ m) (keys_of files) k so.distinct_files (λ i l short same. true≢false (sym (list_any_at (key_eq k) (keys_of files) i l short (key_eq-same (get_or (keys_of files) i l) k same)) ∙ absent h));
+      distinct_files =
+          all_pairs_push (λ l m. l ≢ m) (keys_of files) k so.distinct_files (λ i l short same.
+          true≢false (sym (list_any_at (key_eq k) (keys_of files) i l short (key_eq-same (get_or (keys_of files) i l) k same)) ∙ absent h));
       paths_end = All-push (λ l. HasNoZero l.0) (keys_of files) k so.paths_end clean;
       in_directories = All-push (λ l. l.1 < length ds) (keys_of files) k so.in_directories within;
     })
@@ -182,12 +198,14 @@ files_with [] n v = refl
 files_with (e ∷ es) zero v = refl
 files_with (e ∷ es) (suc n) v = ap (λ t. (key e.0, details e.1) ∷ t) (files_with es n v)
 
-pub details_at : (es : List ((LineString × ℕ) × FileInfo)) (n : ℕ) (v : FileInfo) → Some v ≡ slice_get (map (λ e. e.1) es) n → option_map (λ f. f.1) (slice_get (files_of es) n) ≡ Some (details v)
+pub details_at : (es : List ((LineString × ℕ) × FileInfo)) (n : ℕ) (v : FileInfo) → Some v ≡ slice_get (map (λ e. e.1) es) n
+    → option_map (λ f. f.1) (slice_get (files_of es) n) ≡ Some (details v)
 details_at [] n v h = cc
 details_at (e ∷ es) zero v h = let same : v ≡ e.1 = cc in ap (λ (i : FileInfo). Some (details i)) (sym same)
 details_at (e ∷ es) (suc n) v h = details_at es n v h
 
-pub written-AreTables : (ds : List LineText) (es : List ((LineString × ℕ) × FileInfo)) (n : ℕ) (v : FileInfo) → AreTables ds (keys_of (files_of es)) → AreTables ds (keys_of (files_of (set_value_at es n v)))
+pub written-AreTables : (ds : List LineText) (es : List ((LineString × ℕ) × FileInfo)) (n : ℕ) (v : FileInfo) → AreTables ds (keys_of (files_of es))
+    → AreTables ds (keys_of (files_of (set_value_at es n v)))
 written-AreTables ds es n v so = rw (files_with es n v) (rw (keys-with_details (files_of es) n (details v)) so)
 
 -- ---- a walk over the files
@@ -195,7 +213,8 @@ written-AreTables ds es n v so = rw (files_with es n v) (rw (keys-with_details (
 pub numbered_more : (es : List ((LineString × ℕ) × FileInfo)) (i j : ℕ) (e : (LineString × ℕ) × FileInfo) → slice_get es i ≡ Some e
     → with_indexes j (drop i (files_of es)) ≡ (j, line_text e.0.0, e.0.1) ∷ with_indexes (j + 1) (drop (i + 1) (files_of es))
 numbered_more [] i j e h = cc
-numbered_more (x ∷ xs) zero j e h = let s : x ≡ e = cc in ap (λ (k : (LineString × ℕ) × FileInfo). (j, line_text k.0.0, k.0.1) ∷ with_indexes (j + 1) (files_of xs)) s
+numbered_more (x ∷ xs) zero j e h =
+    let s : x ≡ e = cc in ap (λ (k : (LineString × ℕ) × FileInfo). (j, line_text k.0.0, k.0.1) ∷ with_indexes (j + 1) (files_of xs)) s
 numbered_more (x ∷ xs) (suc n) j e h = rw suc_add (numbered_more xs n j e h)
 
 -- ---- clones
@@ -208,7 +227,8 @@ directories_cloned (k ∷ ks) [] z = absurd z
 directories_cloned (k ∷ ks) (l ∷ ls) z = λ i. z.0 i ∷ directories_cloned ks ls z.1 i
 
 -- and clones of files the same files
-pub files_cloned : (es fs : List ((LineString × ℕ) × FileInfo)) → AllZip (λ e f. ((line_text f.0.0 ≡ line_text e.0.0) × (f.0.1 ≡ e.0.1)) × (details f.1 ≡ details e.1)) es fs → files_of fs ≡ files_of es
+pub files_cloned : (es fs : List ((LineString × ℕ) × FileInfo))
+    → AllZip (λ e f. ((line_text f.0.0 ≡ line_text e.0.0) × (f.0.1 ≡ e.0.1)) × (details f.1 ≡ details e.1)) es fs → files_of fs ≡ files_of es
 files_cloned [] [] z = refl
 files_cloned [] (f ∷ fs) z = absurd z
 files_cloned (e ∷ es) [] z = absurd z
@@ -216,10 +236,14 @@ files_cloned (e ∷ es) (f ∷ fs) z = λ i. ((z.0.0.0 i, z.0.0.1 i), z.0.1 i) �
 
 -- ---- the keys of files
 
-pub keys-with_file : (files : List File) (k : FileKey) (given : Option Details) → keys_of (with_file files k given) ≡ (if has_file files k then keys_of files else keys_of files ++ k ∷ [])
+pub keys-with_file : (files : List File) (k : FileKey) (given : Option Details)
+    → keys_of (with_file files k given) ≡ (if has_file files k then keys_of files else keys_of files ++ k ∷ [])
 keys-with_file files k given = by (has_file files k) given
   where
-    by : (b : Bool) (given : Option Details) → keys_of (if b then (elim given [ Some d ↦ with_details files (index_of_file files k) d | None ↦ files ]) else files ++ (k, unwrap_or given no_details) ∷ []) ≡ (if b then keys_of files else keys_of files ++ k ∷ [])
+    by : (b : Bool) (given : Option Details)
+        → keys_of
+        (if b then (elim given [ Some d ↦ with_details files (index_of_file files k) d | None ↦ files ]) else files ++ (k, unwrap_or given no_details) ∷ [])
+        ≡ (if b then keys_of files else keys_of files ++ k ∷ [])
     by true (Some d) = keys-with_details files (index_of_file files k) d
     by true None = refl
     by false given = map-append (λ (f : File). f.0) files ((k, unwrap_or given no_details) ∷ [])
@@ -242,7 +266,8 @@ key_eq-tells k l h =
     let both = and_true (line_text_eq k.0 l.0) (nat_eq k.1 l.1) h in
     λ i. (line_text_eq-tells k.0 l.0 both.0 i, nat_eq-tells k.1 l.1 both.1 i)
 
-found_there : {A : Type 0} (eq : A → A → Bool) → ((x y : A) → eq x y ≡ true → x ≡ y) → (xs : List A) (x : A) → list_any (eq x) xs ≡ true → slice_get xs (position_or_len (eq x) xs) ≡ Some x
+found_there : {A : Type 0} (eq : A → A → Bool) → ((x y : A) → eq x y ≡ true → x ≡ y) → (xs : List A) (x : A) → list_any (eq x) xs ≡ true
+    → slice_get xs (position_or_len (eq x) xs) ≡ Some x
 found_there eq tells [] x h = cc
 found_there eq tells (y ∷ xs) x h = at (eq x y) refl (found_there eq tells xs x) h
   where
@@ -264,7 +289,8 @@ found_new eq (y ∷ xs) x h = at (eq x y) (found_new eq xs x) h
         let one : 1 + position_or_len (eq x) xs ≡ suc (position_or_len (eq x) xs) = omega arith in
         ap (slice_get (y ∷ xs ++ x ∷ [])) one ∙ rest h
 
-found : {A : Type 0} (eq : A → A → Bool) → ((x y : A) → eq x y ≡ true → x ≡ y) → (xs : List A) (x : A) → slice_get (if list_any (eq x) xs then xs else xs ++ x ∷ []) (position_or_len (eq x) xs) ≡ Some x
+found : {A : Type 0} (eq : A → A → Bool) → ((x y : A) → eq x y ≡ true → x ≡ y) → (xs : List A) (x : A)
+    → slice_get (if list_any (eq x) xs then xs else xs ++ x ∷ []) (position_or_len (eq x) xs) ≡ Some x
 found eq tells xs x = by (list_any (eq x) xs) refl
   where
     by : (b : Bool) → list_any (eq x) xs ≡ b → slice_get (if b then xs else xs ++ x ∷ []) (position_or_len (eq x) xs) ≡ Some x
@@ -311,10 +337,14 @@ with_details-others (f ∷ files) zero d (suc i) h = refl
 with_details-others (f ∷ files) (suc n) d zero h = refl
 with_details-others (f ∷ files) (suc n) d (suc i) h = with_details-others files n d i (λ e. h (ap suc e))
 
-pub file_others : (files : List File) (k : FileKey) (given : Option Details) (i : ℕ) → i < length files → i ≢ index_of_file files k → slice_get (with_file files k given) i ≡ slice_get files i
+pub file_others : (files : List File) (k : FileKey) (given : Option Details) (i : ℕ) → i < length files → i ≢ index_of_file files k
+    → slice_get (with_file files k given) i ≡ slice_get files i
 file_others files k given i short other = by (has_file files k) given
   where
-    by : (b : Bool) (given : Option Details) → slice_get (if b then (elim given [ Some d ↦ with_details files (index_of_file files k) d | None ↦ files ]) else files ++ (k, unwrap_or given no_details) ∷ []) i ≡ slice_get files i
+    by : (b : Bool) (given : Option Details)
+        → slice_get
+        (if b then (elim given [ Some d ↦ with_details files (index_of_file files k) d | None ↦ files ]) else files ++ (k, unwrap_or given no_details) ∷ []) i
+        ≡ slice_get files i
     by true (Some d) = with_details-others files (index_of_file files k) d i other
     by true None = refl
     by false given = slice_get-kept files ((k, unwrap_or given no_details) ∷ []) i short

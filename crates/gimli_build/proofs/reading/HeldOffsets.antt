@@ -32,7 +32,8 @@ module _ (limit : ℕ) (p : Built) (texts : StringTables) where
 
   first_held : (ts us : List (ℕ × LineText)) → All IsEmittedHeld (ts ++ us) → All IsEmittedHeld ts
   first_held [] us all = All-nil IsEmittedHeld
-  first_held (t ∷ ts) us all = All-cons IsEmittedHeld t ts (All-head IsEmittedHeld t (ts ++ us) all) (first_held ts us (All-tail IsEmittedHeld t (ts ++ us) all))
+  first_held (t ∷ ts) us all =
+      All-cons IsEmittedHeld t ts (All-head IsEmittedHeld t (ts ++ us) all) (first_held ts us (All-tail IsEmittedHeld t (ts ++ us) all))
 
   last_held : (ts us : List (ℕ × LineText)) → All IsEmittedHeld (ts ++ us) → All IsEmittedHeld us
   last_held [] us all = all

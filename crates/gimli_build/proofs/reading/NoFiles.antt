@@ -1,5 +1,6 @@
 -- The instructions of items define no file; and what a run is refused for that defines none.
-use Rattle.std.proofs.Common.{◌≡◌, ℕ, Bool, true, false, not, ◌&&◌, List, [], ◌∷◌, ◌++◌, map, refl, sym, ap, ◌∙◌, append_assoc, if◌then◌else◌, nat_eq, nat_le, inl, inr, true≢false}
+use Rattle.std.proofs.Common.{◌≡◌, ℕ, Bool, true, false, not, ◌&&◌, List, [], ◌∷◌, ◌++◌, map, refl, sym, ap, ◌∙◌, append_assoc, if◌then◌else◌, nat_eq, nat_le}
+use Rattle.std.proofs.Common.{inl, inr, true≢false}
 use Rattle.std.specs.Prelude.{All, Option, None, ℤ, pos, ◌-ℤ◌, ◌*◌, ◌+◌, ◌-◌}
 use Rattle.std.proofs.lemmas.List.{append-nil}
 use Rattle.std.proofs.lemmas.List.Elements.{All-nil, All-cons, All-head, All-tail, All-append}
@@ -13,7 +14,9 @@ use Rattle.gimli_line.specs.header.Orders.{HeaderOrders}
 use Rattle.gimli_line.specs.header.Header.{Header, without_files}
 use Rattle.gimli_line.specs.header.Parameters.{Parameters}
 use Rattle.gimli_line.specs.declared.run.row.LineRow.{LineRow as ReadRow}
-use Rattle.gimli_line.specs.declared.run.instruction.LineInstruction.TheVariants.{Special, Copy, AdvancePc, AdvanceLine, SetFile, SetColumn, NegateStatement, SetBasicBlock, ConstAddPc, SetPrologueEnd, SetEpilogueBegin, SetIsa, EndSequence, SetDiscriminator, SetAddress as ReadAddress}
+use Rattle.gimli_line.specs.declared.run.instruction.LineInstruction.TheVariants.{Special, Copy, AdvancePc, AdvanceLine, SetFile, SetColumn, NegateStatement}
+use Rattle.gimli_line.specs.declared.run.instruction.LineInstruction.TheVariants.{SetBasicBlock, ConstAddPc, SetPrologueEnd, SetEpilogueBegin, SetIsa}
+use Rattle.gimli_line.specs.declared.run.instruction.LineInstruction.TheVariants.{EndSequence, SetDiscriminator, SetAddress as ReadAddress}
 use Rattle.gimli_line.specs.run.Instruction.{Ins, defines_file, makes_row}
 use Rattle.gimli_line.specs.run.InstructionGrammar.{SpellsInstruction, Decodes}
 use Rattle.gimli_line.specs.run.InstructionReading.{decoded_at}
@@ -33,7 +36,8 @@ use Rattle.gimli_build.specs.Advance.{operations}
 use Rattle.gimli_build.specs.Built.{address_value}
 use Rattle.gimli_build.specs.FileNumber.{file_number}
 use Rattle.gimli_build.specs.Due.{when}
-use Rattle.gimli_build.specs.Encode.{differ, marks, changes, is_special_advance, line_opcode, line_part, still_opcode, constant_advance, row_maker, operation_part, row_instructions, end_instructions}
+use Rattle.gimli_build.specs.Encode.{differ, marks, changes, is_special_advance, line_opcode, line_part, still_opcode, constant_advance, row_maker}
+use Rattle.gimli_build.specs.Encode.{operation_part, row_instructions, end_instructions}
 use Rattle.gimli_build.specs.Items.{next_previous, item_instructions, items_instructions}
 use Rattle.gimli_build.specs.NoFiles.{DefinesNoFile}
 
@@ -59,7 +63,8 @@ marks_none r =
 
 changes_none : (version : ℕ) (previous r : LineRow) → All NoFile (changes version previous r)
 changes_none version previous r =
-    four_when (differ r.is_statement previous.is_statement) (not (nat_eq r.file previous.file)) (not (nat_eq r.column previous.column)) (not (nat_eq r.isa previous.isa))
+    four_when (differ r.is_statement previous.is_statement) (not (nat_eq r.file previous.file)) (not (nat_eq r.column previous.column))
+    (not (nat_eq r.isa previous.isa))
     NegateStatement (SetFile (file_number version r.file)) (SetColumn r.column) (SetIsa r.isa) refl refl refl refl
 
 line_none : (e : LineEncoding) (d : ℤ) → All NoFile (line_part e d)
@@ -108,7 +113,8 @@ item_none version e previous (SetAddress a) = All-cons NoFile (ReadAddress (addr
 item_none version e previous (Row r) = row_none version e previous r
 item_none version e previous (End offset op_index) = end_none e previous offset op_index
 
-pub items-none : (version : ℕ) (e : LineEncoding) (previous : LineRow) (items : List BuiltItem) → All (λ i. defines_file i ≡ false) (items_instructions version e previous items)
+pub items-none : (version : ℕ) (e : LineEncoding) (previous : LineRow) (items : List BuiltItem)
+    → All (λ i. defines_file i ≡ false) (items_instructions version e previous items)
 items-none version e previous [] = All-nil NoFile
 items-none version e previous (item ∷ items) =
     let next = next_previous version e.default_is_stmt previous item in
@@ -140,7 +146,8 @@ module _ (notation : Notation) (h : Header) where
         spelled = each_joined front own.front passed more spelled own.spelled;
         ended = own.ended;
       } in
-      let same : (list, None) ≡ (passed ++ more, end) = one_decoding notation h bytes list None all ∙ sym (one_decoding notation h bytes (passed ++ more) end joined) in
+      let same : (list, None) ≡ (passed ++ more, end) = one_decoding notation h bytes list None all
+      ∙ sym (one_decoding notation h bytes (passed ++ more) end joined) in
       let ended : end ≡ None = sym (ap (λ (p : List Ins × Option Error). p.1) same) in
       (more, ap (λ (p : List Ins × Option Error). p.0) same, rw ended at own)
 
@@ -160,7 +167,9 @@ goes-none a b events none p =
 no_memory : (a b : RunState) → DefinesNoFile a → WantsMemory a b → ⊥
 no_memory a b none wants =
     let position = goes-none a wants.point [] none wants.passed in
-    let rest = rest_decoded wants.point.unread.notation wants.point.fixed wants.point.unread.bytes wants.front wants.rest position.list (wants.definition ∷ []) position.decoding wants.parts
+    let rest =
+    rest_decoded wants.point.unread.notation wants.point.fixed wants.point.unread.bytes wants.front wants.rest position.list (wants.definition ∷ [])
+    position.decoding wants.parts
     (wants.front, [], sym (append-nil wants.front), wants.spelled, refl) in
     let all : All NoFile (wants.definition ∷ rest.0) = rw rest.1 at position.none in
     true≢false (sym wants.defines ∙ All-head NoFile wants.definition rest.0 all)
@@ -170,19 +179,22 @@ only_overflow : (appends : Bool) (parameters : Parameters) (r : ReadRow) (files 
     → events_with_files_from appends parameters r files list None ≡ record { event = fault e; files = seen } ∷ rest → e ≡ AddressOverflow
 only_overflow appends parameters r files seen [] rest e is = absurd cc
 only_overflow appends parameters r files seen (i ∷ list) rest e is =
-    by (is_refused parameters i r) (makes_row i && not r.tombstone) (events_with_files_from appends parameters (next_registers parameters i r) (files_after appends i files) list None)
+    by (is_refused parameters i r) (makes_row i && not r.tombstone)
+    (events_with_files_from appends parameters (next_registers parameters i r) (files_after appends i files) list None)
     (only_overflow appends parameters (next_registers parameters i r) (files_after appends i files) seen list rest e) is
   where
     by : (refused made : Bool) (after : List EventWithFiles) → (after ≡ record { event = fault e; files = seen } ∷ rest → e ≡ AddressOverflow)
         → map (λ e. let t : EventWithFiles = record { event = e; files = files } in t)
-        (if refused then fault AddressOverflow ∷ [] else (if made then row (step_of parameters i r) ∷ [] else [])) ++ after ≡ record { event = fault e; files = seen } ∷ rest
+        (if refused then fault AddressOverflow ∷ [] else (if made then row (step_of parameters i r) ∷ [] else [])) ++ after
+        ≡ record { event = fault e; files = seen } ∷ rest
         → e ≡ AddressOverflow
     by true made after next is = let first = ap events_of is in cc
     by false true after next is = let first = ap events_of is in absurd cc
     by false false after next is = next is
 
 pub refused-none : (a b : RunState) (e : Error) → DefinesNoFile a → FaultIs (with_reset_row a) b e → e ≡ AddressOverflow
-refused-none a b e none (inl memory) = absurd (no_memory (with_reset_row a) b (record { list = none.list; decoding = none.decoding; none = none.none }) memory.1)
+refused-none a b e none (inl memory) =
+    absurd (no_memory (with_reset_row a) b (record { list = none.list; decoding = none.decoding; none = none.none }) memory.1)
 refused-none a b e none (inr next) =
     let same = one_decoding a.unread.notation a.fixed a.unread.bytes none.list None none.decoding in
     let whole = ap (λ (p : List Ins × Option Error). events_with_files_from a.appends a.fixed.parameters (with_reset_row a).row a.files p.0 p.1) same in
@@ -191,11 +203,13 @@ refused-none a b e none (inr next) =
 -- ---- a program from its start
 
 -- files have no part in how instructions are spelled
-bare_each : (notation : Notation) (h : Header) (front : List ℕ) (list : List Ins) → Each (SpellsInstruction notation h) front list → Each (SpellsInstruction notation (without_files h)) front list
+bare_each : (notation : Notation) (h : Header) (front : List ℕ) (list : List Ins) → Each (SpellsInstruction notation h) front list
+    → Each (SpellsInstruction notation (without_files h)) front list
 bare_each notation h front [] s = s
 bare_each notation h front (i ∷ list) s = (s.0, s.1, s.2, s.3, bare_each notation h s.1 list s.4)
 
-pub starts-none : (notation : Notation) (h : Header) (appends : Bool) (offset : ℕ) (orders : HeaderOrders) (list : List Ins) → Decodes notation h h.program list None → All (λ i. defines_file i ≡ false) list
+pub starts-none : (notation : Notation) (h : Header) (appends : Bool) (offset : ℕ) (orders : HeaderOrders) (list : List Ins)
+    → Decodes notation h h.program list None → All (λ i. defines_file i ≡ false) list
     → DefinesNoFile (start_of_run appends h notation offset orders (record { bytes = h.program; notation = notation }))
 starts-none notation h appends offset orders list d none = record {
   list = list;

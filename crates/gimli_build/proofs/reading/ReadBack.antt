@@ -26,7 +26,8 @@ unit_known big p texts unit is =
     let b = before_written (version_bytes big p.encoding.version) address w.opening w.opening_is in
     version-known big p.encoding.version b.front b.front_is
 
-pub reads-back : (notation : Notation) (unit_entry : UnitEntry) (sections : Sections) (big : Bool) (unit_encoding : Encoding) (p : Built) (old_texts : StringTables) (unit : List ℕ)
+pub reads-back : (notation : Notation) (unit_entry : UnitEntry) (sections : Sections) (big : Bool) (unit_encoding : Encoding) (p : Built)
+    (old_texts : StringTables) (unit : List ℕ)
     → length unit < 2 ^ 64 → IsBuilt p → CanWrite p old_texts → AreTexts (texts_after p old_texts).strings → AreTexts (texts_after p old_texts).line_strings
     → byte_count (texts_after p old_texts).strings < 2 ^ 64 → byte_count (texts_after p old_texts).line_strings < 2 ^ 64
     → unit_bytes big unit_encoding p old_texts ≡ Ok unit → IsReadWell notation unit_entry sections big p (texts_after p old_texts) unit

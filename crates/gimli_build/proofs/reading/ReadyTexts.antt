@@ -1,5 +1,6 @@
 -- The texts of a program of version 5 can be read back, with the tables as they are once it is written.
-use Rattle.std.proofs.Common.{◌≡◌, ◌≢◌, ℕ, ◌≤◌, Bool, true, false, List, [], ◌∷◌, ◌++◌, length, map, get_or, Option, Some, None, refl, sym, ap, ◌∙◌, arith, ◌||◌, if◌then◌else◌, length-append}
+use Rattle.std.proofs.Common.{◌≡◌, ◌≢◌, ℕ, ◌≤◌, Bool, true, false, List, [], ◌∷◌, ◌++◌, length, map, get_or, Option, Some, None, refl, sym, ap, ◌∙◌, arith}
+use Rattle.std.proofs.Common.{◌||◌, if◌then◌else◌, length-append}
 use Rattle.std.specs.Prelude.{◌&&◌, nat_eq, nat_le, slice_get, unwrap_or, All, IfSome, bytes_eq}
 use Rattle.std.specs.Option.{is_none, option_map_or}
 use Rattle.std.specs.List.{list_any}
@@ -54,7 +55,8 @@ within_more texts more s l (InLineStrings i) within = omega (arith, l, within)
 pub within_after : (p : Built) (texts : StringTables) (t : LineText) → IsWithin texts t → IsWithin (texts_after p texts) t
 within_after p texts t within =
     within_more texts (texts_after p texts)
-    (grows (needs_empty p && nat_eq (first_form (sources p.files)) 0x0e) texts.strings) (grows (needs_empty p && nat_eq (first_form (sources p.files)) 0x1f) texts.line_strings) t within
+    (grows (needs_empty p && nat_eq (first_form (sources p.files)) 0x0e) texts.strings)
+    (grows (needs_empty p && nat_eq (first_form (sources p.files)) 0x1f) texts.line_strings) t within
 
 -- ---- the empty text in a form
 
@@ -65,18 +67,26 @@ record IsEmpty (texts : StringTables) (t : LineText) : Type 0 where
 empty_there : (texts : List (List ℕ)) → list_any (bytes_eq []) texts ≡ true → slice_get texts (index_of_text texts []) ≡ Some []
 empty_there texts has = ap (λ (l : List (List ℕ)). slice_get l (index_of_text texts [])) (sym (with_text-there texts [] has)) ∙ with_text-found texts []
 
-empty_is : (form : ℕ) (texts : StringTables) → (nat_eq form 0x0e ≡ true → list_any (bytes_eq []) texts.strings ≡ true) → (nat_eq form 0x1f ≡ true → list_any (bytes_eq []) texts.line_strings ≡ true)
+empty_is : (form : ℕ) (texts : StringTables) → (nat_eq form 0x0e ≡ true → list_any (bytes_eq []) texts.strings ≡ true)
+    → (nat_eq form 0x1f ≡ true → list_any (bytes_eq []) texts.line_strings ≡ true)
     → IsEmpty texts (empty_text form texts)
 empty_is form texts has has_line = by (nat_eq form 0x0e) refl (nat_eq form 0x1f) refl
   where
     by : (b : Bool) → nat_eq form 0x0e ≡ b → (c : Bool) → nat_eq form 0x1f ≡ c
-        → IsEmpty texts (if b then InStrings (index_of_text texts.strings []) else (if c then InLineStrings (index_of_text texts.line_strings []) else Inline []))
+        → IsEmpty texts
+        (if b then InStrings (index_of_text texts.strings []) else (if c then InLineStrings (index_of_text texts.line_strings []) else Inline []))
     by true s c l =
         let found = empty_there texts.strings (has s) in
-        record { ready = record { clean = tt; within = slice_get_within texts.strings (index_of_text texts.strings []) [] found }; none = ap (λ (o : Option (List ℕ)). unwrap_or o []) found }
+        record {
+          ready = record { clean = tt; within = slice_get_within texts.strings (index_of_text texts.strings []) [] found };
+          none = ap (λ (o : Option (List ℕ)). unwrap_or o []) found;
+        }
     by false s true l =
         let found = empty_there texts.line_strings (has_line l) in
-        record { ready = record { clean = tt; within = slice_get_within texts.line_strings (index_of_text texts.line_strings []) [] found }; none = ap (λ (o : Option (List ℕ)). unwrap_or o []) found }
+        record {
+          ready = record { clean = tt; within = slice_get_within texts.line_strings (index_of_text texts.line_strings []) [] found };
+          none = ap (λ (o : Option (List ℕ)). unwrap_or o []) found;
+        }
     by false s false l = record { ready = record { clean = All-nil (λ b. b ≢ 0); within = tt }; none = refl }
 
 -- ---- what is read back of a program
@@ -144,13 +154,16 @@ module _ (p : Built) (old_texts : StringTables) (new : nat_le p.encoding.version
   -- where sources are written and a file has none, the empty text is there
   empty_ready : p.file_has_source ≡ true → list_any (λ f. is_none f.1.source) p.files ≡ true → IsEmpty texts (empty_text form texts)
   empty_ready flag wanting =
-      let needs : needs_empty p ≡ true = all_three (nat_le 5 p.encoding.version) p.file_has_source (list_any (λ f. is_none f.1.source) p.files) (le-leb 5 p.encoding.version late) flag wanting in
+      let needs : needs_empty p
+      ≡ true = all_three (nat_le 5 p.encoding.version) p.file_has_source (list_any (λ f. is_none f.1.source) p.files) (le-leb 5 p.encoding.version late)
+      flag wanting in
       empty_is form texts
       (λ same. gained (needs_empty p && nat_eq form 0x0e) old_texts.strings (both (needs_empty p) (nat_eq form 0x0e) needs same))
       (λ same. gained (needs_empty p && nat_eq form 0x1f) old_texts.line_strings (both (needs_empty p) (nat_eq form 0x1f) needs same))
 
   file_ready : (f : File) → HasNoZero f.0.0 → IsWithin old_texts f.0.0 → FitsFile f → IfSome f.1.source (IsWithin old_texts)
-      → (p.file_has_source ≡ true → IfSome f.1.source HasNoZero) → (f.1.source ≡ None → list_any (λ f. is_none f.1.source) p.files ≡ true) → IsFileReady p texts f
+      → (p.file_has_source ≡ true → IfSome f.1.source HasNoZero) → (f.1.source ≡ None → list_any (λ f. is_none f.1.source) p.files ≡ true)
+      → IsFileReady p texts f
   file_ready f clean within fits source ends wanting = record {
     path = record { clean = clean; within = within_more old_texts texts more more_lines f.0.0 within };
     fits = fits;
@@ -165,7 +178,9 @@ module _ (p : Built) (old_texts : StringTables) (new : nat_le p.encoding.version
       clean = built.tables.directories_end i d lt;
       within = within_more old_texts texts more more_lines (get_or p.directories i d) (can.directories i d lt);
     };
-    files = λ i d lt. file_ready (get_or p.files i d) (unmapped (λ k. HasNoZero k.0) (λ f. f.0) p.files built.tables.paths_end i d lt) (can.paths i d lt) (built.files_fit i d lt) (can.sources i d lt)
+    files = λ i d lt.
+        file_ready (get_or p.files i d) (unmapped (λ k. HasNoZero k.0) (λ f. f.0) p.files built.tables.paths_end i d lt) (can.paths i d lt)
+        (built.files_fit i d lt) (can.sources i d lt)
         (λ flag. can.sources_end late flag i d lt)
         (λ none. list_any_at (λ f. is_none f.1.source) p.files i d lt (ap is_none none));
   }

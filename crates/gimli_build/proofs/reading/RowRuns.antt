@@ -1,8 +1,10 @@
 -- The machine over the instructions of a row, and of an end.
-use Rattle.std.proofs.Common.{◌≡◌, ℕ, ◌+◌, ◌-◌, ◌*◌, ◌/◌, ◌%◌, ◌^◌, ◌<◌, ◌≤◌, Bool, true, false, not, List, [], ◌∷◌, ◌++◌, refl, sym, ap, ◌∙◌, arith, nat_eq, nat_le, if◌then◌else◌, ℤ, pos, negsuc, ◌+ℤ◌, ◌-ℤ◌, ◌<ℤ◌, ◌≤ℤ◌, nat_lt, add-zero, append_assoc, lit<}
+use Rattle.std.proofs.Common.{◌≡◌, ℕ, ◌+◌, ◌-◌, ◌*◌, ◌/◌, ◌%◌, ◌^◌, ◌<◌, ◌≤◌, Bool, true, false, not, List, [], ◌∷◌, ◌++◌, refl, sym, ap, ◌∙◌, arith, nat_eq}
+use Rattle.std.proofs.Common.{nat_le, if◌then◌else◌, ℤ, pos, negsuc, ◌+ℤ◌, ◌-ℤ◌, ◌<ℤ◌, ◌≤ℤ◌, nat_lt, add-zero, append_assoc, lit<}
 use Rattle.std.specs.Prelude.{unsigned_abs, IsTrue}
 use Rattle.std.specs.Int.Signed.{lt_z, le_z}
-use Rattle.std.proofs.Math.Nat.{mod-eq_of_lt, div-eq_of_lt, div-one, div-mul-le_self, mod-lt, mod-le, pow-le-pow_right, add-mul-div_right, add-mul-mod_self_right, mul-add, mul-le-mul_left}
+use Rattle.std.proofs.Math.Nat.{mod-eq_of_lt, div-eq_of_lt, div-one, div-mul-le_self, mod-lt, mod-le, pow-le-pow_right, add-mul-div_right}
+use Rattle.std.proofs.Math.Nat.{add-mul-mod_self_right, mul-add, mul-le-mul_left}
 use Rattle.std.proofs.lemmas.Nat.{div-add-mod', le-div}
 use Rattle.std.proofs.lemmas.Int.{ints}
 use Rattle.std.proofs.lemmas.Bool.{and_parts, lt-leb, le-leb, le-ltb}
@@ -11,7 +13,9 @@ use Rattle.gimli_core.specs.Numbers.{is_address_size}
 use Rattle.gimli_core.specs.declared.common.Encoding.{Encoding}
 use Rattle.gimli_core.specs.declared.common.LineEncoding.{LineEncoding}
 use Rattle.gimli_line.specs.declared.run.row.LineRow.{LineRow as ReadRow}
-use Rattle.gimli_line.specs.declared.run.instruction.LineInstruction.TheVariants.{Special, Copy, AdvancePc, AdvanceLine, SetFile, SetColumn, NegateStatement, SetBasicBlock, ConstAddPc, SetPrologueEnd, SetEpilogueBegin, SetIsa, EndSequence, SetAddress, SetDiscriminator}
+use Rattle.gimli_line.specs.declared.run.instruction.LineInstruction.TheVariants.{Special, Copy, AdvancePc, AdvanceLine, SetFile, SetColumn, NegateStatement}
+use Rattle.gimli_line.specs.declared.run.instruction.LineInstruction.TheVariants.{SetBasicBlock, ConstAddPc, SetPrologueEnd, SetEpilogueBegin, SetIsa}
+use Rattle.gimli_line.specs.declared.run.instruction.LineInstruction.TheVariants.{EndSequence, SetAddress, SetDiscriminator}
 use Rattle.gimli_line.specs.header.Parameters.{Parameters}
 use Rattle.gimli_line.specs.run.Instruction.{Ins}
 use Rattle.gimli_line.specs.run.Registers.{advanced_line}
@@ -21,7 +25,8 @@ use Rattle.gimli_line.specs.run.Machine.{run, initial, reset_row, pointer_of, at
 use Rattle.gimli_build.specs.declared.built.row.LineRow.{LineRow}
 use Rattle.gimli_build.specs.Advance.{CanEncode, IsPosition, CanFollow, operations}
 use Rattle.gimli_build.specs.Due.{when}
-use Rattle.gimli_build.specs.Encode.{marks, changes, differ, line_part, line_opcode, is_special_advance, operation_part, row_instructions, row_maker, still_opcode, constant_advance, end_instructions}
+use Rattle.gimli_build.specs.Encode.{marks, changes, differ, line_part, line_opcode, is_special_advance, operation_part, row_instructions, row_maker}
+use Rattle.gimli_build.specs.Encode.{still_opcode, constant_advance, end_instructions}
 use Rattle.gimli_build.specs.FileNumber.{file_number}
 use Rattle.gimli_build.specs.Rows.{initial_row}
 use Rattle.gimli_build.specs.SameRow.{built_rules, read_row, registers_after_row, read_end}
@@ -49,11 +54,14 @@ more_operations e n p = record {
 pub record HasRoom (parameters : Parameters) (p : OperationPointer) (n : ℕ) : Type 0 where
   pub within : p.op_index < parameters.line_encoding.maximum_operations_per_instruction
   pub count : p.op_index + n < 2 ^ 64
-  pub address : p.address + parameters.line_encoding.minimum_instruction_length * ((p.op_index + n) / parameters.line_encoding.maximum_operations_per_instruction) < address_limit parameters
+  pub address : p.address
+      + parameters.line_encoding.minimum_instruction_length * ((p.op_index + n) / parameters.line_encoding.maximum_operations_per_instruction)
+      < address_limit parameters
   pub limit : address_limit parameters ≤ 2 ^ 64
 
 -- the machine's pointer is this one there
-pub on-ahead : (parameters : Parameters) (p : OperationPointer) (n : ℕ) → HasRoom parameters p n → advanced_by parameters n p ≡ ahead parameters.line_encoding n p
+pub on-ahead : (parameters : Parameters) (p : OperationPointer) (n : ℕ) → HasRoom parameters p n
+    → advanced_by parameters n p ≡ ahead parameters.line_encoding n p
 on-ahead parameters p n room = by (nat_eq parameters.line_encoding.maximum_operations_per_instruction 1) refl
   where
     by : (b : Bool) → nat_eq parameters.line_encoding.maximum_operations_per_instruction 1 ≡ b
@@ -76,7 +84,8 @@ on-ahead parameters p n room = by (nat_eq parameters.line_encoding.maximum_opera
         λ j. record { address = p.address + a j; op_index = whole j % k }
 
 -- an address holds it
-pub not_exceeding : (parameters : Parameters) (p : OperationPointer) (n : ℕ) → HasRoom parameters p n → is_too_large parameters (ahead parameters.line_encoding n p) ≡ false
+pub not_exceeding : (parameters : Parameters) (p : OperationPointer) (n : ℕ) → HasRoom parameters p n
+    → is_too_large parameters (ahead parameters.line_encoding n p) ≡ false
 not_exceeding parameters p n room = lt-leb (address_limit parameters) (ahead parameters.line_encoding n p).address room.address
 
 -- one advance after the other
@@ -88,7 +97,8 @@ ahead-ahead e p q n pk =
     let split : p.op_index + (q + n) ≡ x % k + n + x / k * k = (let h = div-add-mod' x k in omega (arith, h)) in
     let division : (p.op_index + (q + n)) / k ≡ (x % k + n) / k + x / k = rw split (add-mul-div_right (x % k + n) (x / k) (omega arith)) in
     let rest : (p.op_index + (q + n)) % k ≡ (x % k + n) % k = rw split (add-mul-mod_self_right (x % k + n) (x / k) k) in
-    let address : p.address + m * (x / k) + m * ((x % k + n) / k) ≡ p.address + m * ((p.op_index + (q + n)) / k) = rw division (let h = mul-add m ((x % k + n) / k) (x / k) in omega (arith, h)) in
+    let address : p.address + m * (x / k) + m * ((x % k + n) / k)
+    ≡ p.address + m * ((p.op_index + (q + n)) / k) = rw division (let h = mul-add m ((x % k + n) / k) (x / k) in omega (arith, h)) in
     λ j. record { address = address j; op_index = sym rest j }
 
 -- no operations
@@ -105,7 +115,8 @@ less_room parameters p q n le room =
     let k = parameters.line_encoding.maximum_operations_per_instruction in
     let m = parameters.line_encoding.minimum_instruction_length in
     let below = div-mul-le_self (p.op_index + q) k in
-    let up : (p.op_index + q) / k ≤ (p.op_index + n) / k = le-div ((p.op_index + q) / k) (p.op_index + n) k (omega (arith, room.within)) (omega (arith, below)) in
+    let up : (p.op_index + q) / k
+    ≤ (p.op_index + n) / k = le-div ((p.op_index + q) / k) (p.op_index + n) k (omega (arith, room.within)) (omega (arith, below)) in
     let wide = mul-le-mul_left m up in
     record {
       within = room.within;
@@ -115,12 +126,15 @@ less_room parameters p q n le room =
     }
 
 -- the rest of the operations has its room
-pub rest_room : (parameters : Parameters) (p : OperationPointer) (q n : ℕ) → q ≤ n → HasRoom parameters p n → HasRoom parameters (ahead parameters.line_encoding q p) (n - q)
+pub rest_room : (parameters : Parameters) (p : OperationPointer) (q n : ℕ) → q ≤ n → HasRoom parameters p n
+    → HasRoom parameters (ahead parameters.line_encoding q p) (n - q)
 rest_room parameters p q n le room =
     let k = parameters.line_encoding.maximum_operations_per_instruction in
     let pk : 1 ≤ k = omega (arith, room.within) in
     let back : q + (n - q) ≡ n = omega arith in
-    let there : ahead parameters.line_encoding (n - q) (ahead parameters.line_encoding q p) ≡ ahead parameters.line_encoding n p = ahead-ahead parameters.line_encoding p q (n - q) pk ∙ ap (λ (x : ℕ). ahead parameters.line_encoding x p) back in
+    let there : ahead parameters.line_encoding (n - q) (ahead parameters.line_encoding q p)
+    ≡ ahead parameters.line_encoding n p = ahead-ahead parameters.line_encoding p q (n - q) pk
+    ∙ ap (λ (x : ℕ). ahead parameters.line_encoding x p) back in
     let same = ap (λ (x : OperationPointer). x.address) there in
     let small = mod-lt (p.op_index + q) pk in
     let le_sum = mod-le (p.op_index + q) k in
@@ -174,7 +188,9 @@ module _ (encoding : Encoding) (e : LineEncoding) where
 
   -- what stands for one row alone
   goes-marks : (r : ReadRow) (built : LineRow) → r.discriminator ≡ 0 → r.basic_block ≡ false → r.prologue_end ≡ false → r.epilogue_begin ≡ false
-      → Goes r (marks built) (record r { discriminator = built.discriminator; basic_block = built.basic_block; prologue_end = built.prologue_end; epilogue_begin = built.epilogue_begin })
+      → Goes r (marks built)
+      (record
+      r { discriminator = built.discriminator; basic_block = built.basic_block; prologue_end = built.prologue_end; epilogue_begin = built.epilogue_begin })
   goes-marks r built d0 b0 p0 e0 =
       let r1 : ReadRow = record r { discriminator = built.discriminator } in
       let r2 : ReadRow = record r1 { basic_block = built.basic_block } in
@@ -198,8 +214,10 @@ module _ (encoding : Encoding) (e : LineEncoding) where
       goes_then r r3 r4 (w1 ++ w2 ++ w3) w4 (goes_then r r2 r3 (w1 ++ w2) w3 (goes_then r r1 r2 w1 w2 s1 s2) s3) s4
 
   -- what lasts from row to row
-  goes-changes : (r : ReadRow) (version : ℕ) (previous built : LineRow) → r.is_stmt ≡ previous.is_statement → r.file ≡ file_number version previous.file → r.column ≡ previous.column → r.isa ≡ previous.isa
-      → Goes r (changes version previous built) (record r { is_stmt = built.is_statement; file = file_number version built.file; column = built.column; isa = built.isa })
+  goes-changes : (r : ReadRow) (version : ℕ) (previous built : LineRow) → r.is_stmt ≡ previous.is_statement → r.file ≡ file_number version previous.file
+      → r.column ≡ previous.column → r.isa ≡ previous.isa
+      → Goes r (changes version previous built)
+      (record r { is_stmt = built.is_statement; file = file_number version built.file; column = built.column; isa = built.isa })
   goes-changes r version previous built hs hf hc hi =
       let r1 : ReadRow = record r { is_stmt = built.is_statement } in
       let r2 : ReadRow = record r1 { file = file_number version built.file } in
@@ -225,8 +243,10 @@ module _ (encoding : Encoding) (e : LineEncoding) where
   goes-advance : (r : ReadRow) (n : ℕ) → r.tombstone ≡ false → HasRoom parameters (pointer_of r) n → Goes r (AdvancePc n ∷ []) (moved_on e n r)
   goes-advance r n shown room list = rw (on-ahead parameters (pointer_of r) n room, not_exceeding parameters (pointer_of r) n room, shown) refl
 
-  goes-constant : (r : ReadRow) → r.tombstone ≡ false → HasRoom parameters (pointer_of r) (constant_advance e) → Goes r (ConstAddPc ∷ []) (moved_on e (constant_advance e) r)
-  goes-constant r shown room list = rw (on-ahead parameters (pointer_of r) (constant_advance e) room, not_exceeding parameters (pointer_of r) (constant_advance e) room, shown) refl
+  goes-constant : (r : ReadRow) → r.tombstone ≡ false → HasRoom parameters (pointer_of r) (constant_advance e)
+      → Goes r (ConstAddPc ∷ []) (moved_on e (constant_advance e) r)
+  goes-constant r shown room list =
+      rw (on-ahead parameters (pointer_of r) (constant_advance e) room, not_exceeding parameters (pointer_of r) (constant_advance e) room, shown) refl
 
   -- a special opcode of this line advance above the base, and of so many operations
   makes-special : (r : ReadRow) (u n : ℕ) → 1 ≤ e.line_range → u < e.line_range → r.tombstone ≡ false → HasRoom parameters (pointer_of r) n
@@ -253,7 +273,8 @@ module _ (encoding : Encoding) (e : LineEncoding) where
   makes-row r u n can lt shown small room list = by (nat_eq (13 + u + n * e.line_range) (still_opcode e)) refl
     where
       by : (b : Bool) → nat_eq (13 + u + n * e.line_range) (still_opcode e) ≡ b
-          → run parameters r ((if b then Copy else Special (13 + u + n * e.line_range)) ∷ list) ≡ row (made u n r) ∷ run parameters (reset_row parameters (made u n r)) list
+          → run parameters r ((if b then Copy else Special (13 + u + n * e.line_range)) ∷ list)
+          ≡ row (made u n r) ∷ run parameters (reset_row parameters (made u n r)) list
       by false t = makes-special r u n (omega (arith, lt)) lt shown room list
       by true t =
           let g = e.line_range in
@@ -275,7 +296,8 @@ module _ (encoding : Encoding) (e : LineEncoding) where
     where
       by : (b : Bool) → nat_le (13 + u + n * e.line_range) 255 ≡ b → (c : Bool)
           → run parameters r ((if b then row_maker e (13 + u + n * e.line_range) ∷ []
-          else (if c then ConstAddPc ∷ row_maker e (13 + u + (n - constant_advance e) * e.line_range) ∷ [] else AdvancePc n ∷ row_maker e (13 + u) ∷ [])) ++ list)
+          else (if c then ConstAddPc ∷ row_maker e (13 + u + (n - constant_advance e) * e.line_range) ∷ [] else AdvancePc n ∷ row_maker e (13 + u) ∷ []))
+          ++ list)
           ≡ row (made u n r) ∷ run parameters (reset_row parameters (made u n r)) list
       by true h c = makes-row r u n can lt shown small room list
       by false h true =
@@ -285,7 +307,8 @@ module _ (encoding : Encoding) (e : LineEncoding) where
           let some : 1 ≤ g = omega (arith, lt) in
           let enough : q ≤ n = enough_of g u n q some lt over (div-mul-le_self 242 g) in
           let back : q + (n - q) ≡ n = omega arith in
-          let there : ahead e (n - q) (ahead e q (pointer_of r)) ≡ ahead e n (pointer_of r) = ahead-ahead e (pointer_of r) q (n - q) can.operations ∙ ap (λ (x : ℕ). ahead e x (pointer_of r)) back in
+          let there : ahead e (n - q) (ahead e q (pointer_of r)) ≡ ahead e n (pointer_of r) = ahead-ahead e (pointer_of r) q (n - q) can.operations
+          ∙ ap (λ (x : ℕ). ahead e x (pointer_of r)) back in
           let s : ReadRow = moved_on e q r in
           let same : made u (n - q) s ≡ made u n r = λ j. record (at_pointer (there j) r) { line = advanced_line (e.line_base +ℤ pos u) r.line } in
           let first = goes-constant r shown (less_room parameters (pointer_of r) q n enough room) (row_maker e (13 + u + (n - q) * g) ∷ list) in
@@ -301,15 +324,18 @@ module _ (encoding : Encoding) (e : LineEncoding) where
           let same : made u 0 s ≡ made u n r = λ j. record (at_pointer (there j) r) { line = advanced_line (e.line_base +ℤ pos u) r.line } in
           let first = goes-advance r n shown room (row_maker e (13 + u) ∷ list) in
           let second = makes-row s u 0 can lt shown small room0 list in
-          first ∙ ap (λ (x : ℕ). run parameters s (row_maker e x ∷ list)) keeps_bytes ∙ second ∙ ap (λ (x : ReadRow). row x ∷ run parameters (reset_row parameters x) list) same
+          first ∙ ap (λ (x : ℕ). run parameters s (row_maker e x ∷ list)) keeps_bytes ∙ second
+          ∙ ap (λ (x : ReadRow). row x ∷ run parameters (reset_row parameters x) list) same
 
   -- the line and the operations of a row, and the row
-  makes-move : (r : ReadRow) (d : ℤ) (n to : ℕ) → CanEncode e → r.tombstone ≡ false → r.line < 2 ^ 64 → to < 2 ^ 64 → pos to ≡ pos r.line +ℤ d → HasRoom parameters (pointer_of r) n
+  makes-move : (r : ReadRow) (d : ℤ) (n to : ℕ) → CanEncode e → r.tombstone ≡ false → r.line < 2 ^ 64 → to < 2 ^ 64 → pos to ≡ pos r.line +ℤ d
+      → HasRoom parameters (pointer_of r) n
       → Makes r (line_part e d ++ operation_part e (line_opcode e d) n) (record (moved_on e n r) { line = to })
   makes-move r d n to can shown small small' there room list = by (is_special_advance e d) refl
     where
       by : (b : Bool) → is_special_advance e d ≡ b
-          → run parameters r (((if b then [] else AdvanceLine d ∷ []) ++ operation_part e (if b then 13 + unsigned_abs (d -ℤ e.line_base) else still_opcode e) n) ++ list)
+          → run parameters r
+          (((if b then [] else AdvanceLine d ∷ []) ++ operation_part e (if b then 13 + unsigned_abs (d -ℤ e.line_base) else still_opcode e) n) ++ list)
           ≡ row (record (moved_on e n r) { line = to }) ∷ run parameters (reset_row parameters (record (moved_on e n r) { line = to })) list
       by true t =
           let two = and_parts (le_z e.line_base d) (lt_z d (e.line_base +ℤ pos e.line_range)) t in
@@ -346,7 +372,8 @@ module _ (encoding : Encoding) (e : LineEncoding) where
     room : HasRoom parameters (record { address = base + p; op_index = j }) (operations e p j o i)
     there : ahead e (operations e p j o i) (record { address = base + p; op_index = j }) ≡ record { address = base + o; op_index = i }
 
-  reaches : (base p j o i : ℕ) → IsTrue (is_address_size encoding.address_size) → CanEncode e → IsPosition e p j → CanFollow e p j o i → base + o < 2 ^ (8 * encoding.address_size) → Reaches base p j o i
+  reaches : (base p j o i : ℕ) → IsTrue (is_address_size encoding.address_size) → CanEncode e → IsPosition e p j → CanFollow e p j o i
+      → base + o < 2 ^ (8 * encoding.address_size) → Reaches base p j o i
   reaches base p j o i known can position follows held =
       let k = e.maximum_operations_per_instruction in
       let m = e.minimum_instruction_length in
@@ -370,15 +397,22 @@ module _ (encoding : Encoding) (e : LineEncoding) where
       }
 
   -- the instructions of a row make the row, from the registers after the row before it
-  pub row-runs : (base : ℕ) (previous built : LineRow) → IsTrue (is_address_size encoding.address_size) → CanEncode e → IsPosition e previous.address_offset previous.op_index
-      → CanFollow e previous.address_offset previous.op_index built.address_offset built.op_index → previous.line < 2 ^ 63 → built.line < 2 ^ 63 → base + built.address_offset < 2 ^ (8 * encoding.address_size)
+  pub row-runs : (base : ℕ) (previous built : LineRow) → IsTrue (is_address_size encoding.address_size) → CanEncode e
+      → IsPosition e previous.address_offset previous.op_index
+      → CanFollow e previous.address_offset previous.op_index built.address_offset built.op_index → previous.line < 2 ^ 63 → built.line < 2 ^ 63
+      → base + built.address_offset < 2 ^ (8 * encoding.address_size)
       → Makes (registers_after_row encoding.version base previous) (row_instructions encoding.version e previous built) (read_row encoding.version base built)
   row-runs base previous built known can position follows from to held =
       let version = encoding.version in
       let r0 : ReadRow = registers_after_row version base previous in
       let d = pos built.line -ℤ pos previous.line in
       let n = operations e previous.address_offset previous.op_index built.address_offset built.op_index in
-      let r1 : ReadRow = record r0 { discriminator = built.discriminator; basic_block = built.basic_block; prologue_end = built.prologue_end; epilogue_begin = built.epilogue_begin } in
+      let r1 : ReadRow = record r0 {
+        discriminator = built.discriminator;
+        basic_block = built.basic_block;
+        prologue_end = built.prologue_end;
+        epilogue_begin = built.epilogue_begin;
+      } in
       let r2 : ReadRow = record r1 { is_stmt = built.is_statement; file = file_number version built.file; column = built.column; isa = built.isa } in
       let s1 = goes-marks r0 built refl refl refl refl in
       let s2 = goes-changes r1 version previous built refl refl refl refl in
@@ -386,13 +420,22 @@ module _ (encoding : Encoding) (e : LineEncoding) where
       let ends = reaches base previous.address_offset previous.op_index built.address_offset built.op_index known can position follows held in
       let s3 = makes-move r2 d n built.line can refl (omega arith) (omega arith) apart ends.room in
       let s4 : Makes r2 (line_part e d ++ operation_part e (line_opcode e d) n) (read_row version base built) =
-      λ list. s3 list ∙ ap (λ (p : OperationPointer). row (record (at_pointer p r2) { line = built.line }) ∷ run parameters (reset_row parameters (record (at_pointer p r2) { line = built.line })) list) ends.there in
+      λ list.
+      s3 list
+      ∙ ap
+      (λ (p : OperationPointer). row (record (at_pointer p r2) { line = built.line })
+      ∷ run parameters (reset_row parameters (record (at_pointer p r2) { line = built.line })) list)
+      ends.there in
       let s12 = goes_then r0 r1 r2 (marks built) (changes version previous built) s1 s2 in
-      λ list. ap (λ (is : List Ins). run parameters r0 (is ++ list)) (append_assoc (marks built ++ changes version previous built) (line_part e d) (operation_part e (line_opcode e d) n))
-      ∙ makes_then r0 r2 (read_row version base built) (marks built ++ changes version previous built) (line_part e d ++ operation_part e (line_opcode e d) n) s12 s4 list
+      λ list.
+      ap (λ (is : List Ins). run parameters r0 (is ++ list))
+      (append_assoc (marks built ++ changes version previous built) (line_part e d) (operation_part e (line_opcode e d) n))
+      ∙ makes_then r0 r2 (read_row version base built) (marks built ++ changes version previous built) (line_part e d ++ operation_part e (line_opcode e d) n)
+      s12 s4 list
 
   -- the instructions of an end make the end
-  pub end-runs : (base : ℕ) (previous : LineRow) (o i : ℕ) → IsTrue (is_address_size encoding.address_size) → CanEncode e → IsPosition e previous.address_offset previous.op_index
+  pub end-runs : (base : ℕ) (previous : LineRow) (o i : ℕ) → IsTrue (is_address_size encoding.address_size) → CanEncode e
+      → IsPosition e previous.address_offset previous.op_index
       → CanFollow e previous.address_offset previous.op_index o i → base + o < 2 ^ (8 * encoding.address_size)
       → Makes (registers_after_row encoding.version base previous) (end_instructions e previous o i) (read_end encoding.version base previous o i)
   end-runs base previous o i known can position follows held =
@@ -403,23 +446,32 @@ module _ (encoding : Encoding) (e : LineEncoding) where
       let first : Goes r (when (not (nat_eq n 0)) (AdvancePc n)) s = keep r s (not (nat_eq n 0)) (AdvancePc n)
       (λ h list. goes-advance r n refl ends.room list ∙ ap (λ (p : OperationPointer). run parameters (at_pointer p r) list) ends.there)
       (λ h. let idle : n ≡ 0 = same_from_test n 0 h in
-      let there : pointer_of r ≡ record { address = base + o; op_index = i } = sym (ahead-none e (pointer_of r) position.within) ∙ ap (λ (x : ℕ). ahead e x (pointer_of r)) (sym idle) ∙ ends.there in
+      let there : pointer_of r ≡ record { address = base + o; op_index = i } = sym (ahead-none e (pointer_of r) position.within)
+      ∙ ap (λ (x : ℕ). ahead e x (pointer_of r)) (sym idle) ∙ ends.there in
       λ j. at_pointer (there j) r) in
       makes_then r s (read_end encoding.version base previous o i) (when (not (nat_eq n 0)) (AdvancePc n)) (EndSequence ∷ []) first (λ list. refl)
 
   -- a set address that doesn't go back moves the registers there
   pub set-address-runs : (base a : ℕ) (previous : LineRow) → base + previous.address_offset ≤ a → a < 2 ^ (8 * encoding.address_size) - 2
-      → Goes (registers_after_row encoding.version base previous) (SetAddress a ∷ []) (registers_after_row encoding.version a (record previous { address_offset = 0; op_index = 0 }))
+      → Goes (registers_after_row encoding.version base previous) (SetAddress a ∷ [])
+      (registers_after_row encoding.version a (record previous { address_offset = 0; op_index = 0 }))
   set-address-runs base a previous le lt list =
       let low : nat_lt a (base + previous.address_offset) ≡ false = le-ltb a (base + previous.address_offset) le in
       let high : nat_le (2 ^ (8 * encoding.address_size) - 2) a ≡ false = lt-leb (2 ^ (8 * encoding.address_size) - 2) a lt in
       let from : a ≡ a + 0 = sym (add-zero a) in
-      rw (low, high) (ap (λ (x : ℕ). run parameters (at_pointer (record { address = x; op_index = 0 }) (registers_after_row encoding.version base previous)) list) from)
+      rw (low, high)
+      (ap (λ (x : ℕ). run parameters (at_pointer (record { address = x; op_index = 0 }) (registers_after_row encoding.version base previous)) list) from)
 
   -- a sequence starts after its initial row
   pub start-is : encoding.version ≤ 5 → initial parameters ≡ registers_after_row encoding.version 0 (initial_row encoding.version e.default_is_stmt)
   start-is le = by (nat_eq encoding.version 5) refl
     where
-      by : (b : Bool) → nat_eq encoding.version 5 ≡ b → initial parameters ≡ registers_after_row encoding.version 0 (record (initial_row encoding.version e.default_is_stmt) { file = if b then 1 else 0 })
-      by true h = let over : nat_le encoding.version 4 ≡ false = lt-leb encoding.version 4 (let five : encoding.version ≡ 5 = grind (arith, nat_tests) in omega (arith, five)) in rw over refl
-      by false h = let below : nat_le encoding.version 4 ≡ true = le-leb encoding.version 4 (let other : encoding.version ≤ 4 = grind (arith, nat_tests) in other) in rw below refl
+      by : (b : Bool) → nat_eq encoding.version 5 ≡ b
+          → initial parameters ≡ registers_after_row encoding.version 0 (record (initial_row encoding.version e.default_is_stmt) { file = if b then 1 else 0 })
+      by true h =
+          let over : nat_le encoding.version 4
+          ≡ false = lt-leb encoding.version 4 (let five : encoding.version ≡ 5 = grind (arith, nat_tests) in omega (arith, five)) in
+          rw over refl
+      by false h =
+          let below : nat_le encoding.version 4 ≡ true = le-leb encoding.version 4 (let other : encoding.version ≤ 4 = grind (arith, nat_tests) in other) in
+          rw below refl

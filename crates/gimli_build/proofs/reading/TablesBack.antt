@@ -1,5 +1,6 @@
 -- The tables of a written unit: their bytes spell them, and what is read of them stands for what was built.
-use Rattle.std.proofs.Common.{◌≡◌, ℕ, ◌<◌, ◌^◌, Bool, true, false, List, [], ◌∷◌, ◌++◌, length, drop, map, option_map, Option, None, slice_get, if◌then◌else◌, Ok, refl, sym, ap, ◌∙◌, arith, length-append}
+use Rattle.std.proofs.Common.{◌≡◌, ℕ, ◌<◌, ◌^◌, Bool, true, false, List, [], ◌∷◌, ◌++◌, length, drop, map, option_map, Option, None, slice_get, if◌then◌else◌}
+use Rattle.std.proofs.Common.{Ok, refl, sym, ap, ◌∙◌, arith, length-append}
 use Rattle.std.specs.Prelude.{Result, nat_le, replicate}
 use Rattle.std.specs.Option.{option_to_list}
 use Rattle.std.proofs.lemmas.Bool.{leb-true}
@@ -32,11 +33,13 @@ use Rattle.gimli_build.proofs.spellings.EncodingSpellings.{first-chosen, second-
 use Rattle.gimli_build.proofs.spellings.FormatForms.{read_format}
 use Rattle.gimli_build.proofs.reading.ReadyTexts.{AreReady}
 use Rattle.gimli_build.proofs.reading.HeldOffsets.{AreHeld}
-use Rattle.gimli_build.proofs.spellings.Version5TableSpellings.{directory_entry, file_entry, new-directories-spelled, new-files-spelled, new-directories-back, new-files-back}
+use Rattle.gimli_build.proofs.spellings.Version5TableSpellings.{directory_entry, file_entry, new-directories-spelled, new-files-spelled, new-directories-back}
+use Rattle.gimli_build.proofs.spellings.Version5TableSpellings.{new-files-back}
 
 -- the directories from index 0 on: up to version 4 the one that was handed is the first
 abbrev from_zero : Built → UnitEntry → List Value → List Value
-from_zero p unit_entry directories = if nat_le p.encoding.version 4 then option_to_list (option_map String (handed_value p.encoding unit_entry.directory)) ++ directories else directories
+from_zero p unit_entry directories =
+    if nat_le p.encoding.version 4 then option_to_list (option_map String (handed_value p.encoding unit_entry.directory)) ++ directories else directories
 
 abbrev formats_of_directories : Built → List (ℕ × ℕ)
 formats_of_directories p = directory_formats p
@@ -79,7 +82,8 @@ module _ (sections : Sections) (texts : StringTables) where
   handed_back (d ∷ ds) some = (refl, texts_back ds)
 
   -- what a file keeps
-  stored_old : (p : Built) (d : Details) → nat_le p.encoding.version 4 ≡ true → stored_details p texts d ≡ record { timestamp = d.timestamp; size = d.size; md5 = replicate 16 0; source = None }
+  stored_old : (p : Built) (d : Details) → nat_le p.encoding.version 4 ≡ true
+      → stored_details p texts d ≡ record { timestamp = d.timestamp; size = d.size; md5 = replicate 16 0; source = None }
   stored_old p d old = rw old refl
 
   file_back : (p : Built) (f : File) → nat_le p.encoding.version 4 ≡ true → IsFile sections p texts (read_file texts f) f
@@ -105,11 +109,13 @@ module _ (notation : Notation) (unit_entry : UnitEntry) (sections : Sections) (p
     old_directories_spelled bytes is =
         let clean = All-drop HasNoZero 1 p.directories built.tables.directories_end in
         let spelled = directories-spelled texts p.directories bytes (built.is.directories_not_empty (leb-true p.encoding.version 4 old)) clean is in
-        first-chosen (nat_le p.encoding.version 4) _ _ bytes _ old (map (bytes_in texts) (drop 1 p.directories), bytes, [], sym (append-nil bytes), spelled, (refl, refl))
+        first-chosen (nat_le p.encoding.version 4) _ _ bytes _ old
+        (map (bytes_in texts) (drop 1 p.directories), bytes, [], sym (append-nil bytes), spelled, (refl, refl))
 
     old_files_spelled : (bytes : List ℕ) → files_bytes p.files ≡ Ok bytes → (file_table notation p.encoding).Spells bytes ([], map (read_file texts) p.files)
     old_files_spelled bytes is =
-        let spelled = files-spelled texts p.files bytes (built.is.paths_not_empty (leb-true p.encoding.version 4 old)) built.tables.paths_end built.files_fit is in
+        let spelled =
+        files-spelled texts p.files bytes (built.is.paths_not_empty (leb-true p.encoding.version 4 old)) built.tables.paths_end built.files_fit is in
         first-chosen (nat_le p.encoding.version 4) _ _ bytes _ old (map (read_file texts) p.files, bytes, [], sym (append-nil bytes), spelled, (refl, refl))
 
     old_back : unit_entry.directory ≡ option_map (bytes_in texts) (slice_get p.directories 0)
@@ -138,22 +144,26 @@ module _ (notation : Notation) (unit_entry : UnitEntry) (sections : Sections) (p
 
   -- ---- version 5
 
-  module _ (new : nat_le p.encoding.version 4 ≡ false) (ready : AreReady p texts) (strings_are : sections.strings ≡ table_bytes texts.strings) (line_strings_are : sections.line_strings ≡ table_bytes texts.line_strings)
-      (are_texts : AreTexts texts.strings) (are_line_texts : AreTexts texts.line_strings) (strings_short : length (table_bytes texts.strings) < 2 ^ 64) (line_strings_short : length (table_bytes texts.line_strings) < 2 ^ 64)
+  module _ (new : nat_le p.encoding.version 4 ≡ false) (ready : AreReady p texts) (strings_are : sections.strings ≡ table_bytes texts.strings)
+      (line_strings_are : sections.line_strings ≡ table_bytes texts.line_strings)
+      (are_texts : AreTexts texts.strings) (are_line_texts : AreTexts texts.line_strings) (strings_short : length (table_bytes texts.strings) < 2 ^ 64)
+      (line_strings_short : length (table_bytes texts.line_strings) < 2 ^ 64)
       (held : p.encoding.format ≡ Dwarf64 → AreHeld notation.limit p texts) where
     new_directories_spelled : (bytes : List ℕ) → directory_table_bytes notation.big p.encoding.format texts p ≡ Ok bytes → length bytes < 2 ^ 64
         → (directory_table notation p.encoding).Spells bytes (map read_format (directory_formats p), map path_of (map (directory_entry texts) p.directories))
     new_directories_spelled bytes is small =
         let entries = map (directory_entry texts) p.directories in
         let spelled = new-directories-spelled notation p texts ready strings_short line_strings_short held bytes is small in
-        second-chosen (nat_le p.encoding.version 4) _ _ bytes _ new ((map read_format (directory_formats p), entries), bytes, [], sym (append-nil bytes), spelled, (refl, refl))
+        second-chosen (nat_le p.encoding.version 4) _ _ bytes _ new
+        ((map read_format (directory_formats p), entries), bytes, [], sym (append-nil bytes), spelled, (refl, refl))
 
     new_files_spelled : (bytes : List ℕ) → file_table_bytes notation.big p.encoding.format texts p ≡ Ok bytes → length bytes < 2 ^ 64
         → (file_table notation p.encoding).Spells bytes (map read_format (file_formats p), map file_of_entry (map (file_entry p texts) p.files))
     new_files_spelled bytes is small =
         let entries = map (file_entry p texts) p.files in
         let spelled = new-files-spelled notation p texts ready strings_short line_strings_short held bytes is small in
-        second-chosen (nat_le p.encoding.version 4) _ _ bytes _ new ((map read_format (file_formats p), entries), bytes, [], sym (append-nil bytes), spelled, (refl, refl))
+        second-chosen (nat_le p.encoding.version 4) _ _ bytes _ new
+        ((map read_format (file_formats p), entries), bytes, [], sym (append-nil bytes), spelled, (refl, refl))
 
     new_back : OneByOne (IsDirectory sections texts) (from_zero p unit_entry (map path_of (map (directory_entry texts) p.directories))) p.directories
     new_back = rw new (new-directories-back sections p texts strings_are line_strings_are are_texts are_line_texts p.directories ready.directories)
@@ -162,7 +172,8 @@ module _ (notation : Notation) (unit_entry : UnitEntry) (sections : Sections) (p
         → result_append (directory_table_bytes notation.big p.encoding.format texts p) (file_table_bytes notation.big p.encoding.format texts p) ≡ Ok bytes
         → TablesBack notation unit_entry sections p texts bytes
     new_tables bytes small is =
-        let b = both_written (directory_table_bytes notation.big p.encoding.format texts p) (file_table_bytes notation.big p.encoding.format texts p) bytes is in
+        let b =
+        both_written (directory_table_bytes notation.big p.encoding.format texts p) (file_table_bytes notation.big p.encoding.format texts p) bytes is in
         let whole = ap length b.whole ∙ length-append b.first b.rest in
         record {
           directory_formats = map read_format (directory_formats p);
@@ -194,14 +205,17 @@ module _ (notation : Notation) (unit_entry : UnitEntry) (sections : Sections) (p
     pub line_strings_short : length (table_bytes texts.line_strings) < 2 ^ 64
     pub held : nat_le p.encoding.version 4 ≡ false → p.encoding.format ≡ Dwarf64 → AreHeld notation.limit p texts
 
-  pub tables-back : (bytes : List ℕ) → AreReadWell → length bytes < 2 ^ 64 → tables_bytes notation.big p texts ≡ Ok bytes → TablesBack notation unit_entry sections p texts bytes
+  pub tables-back : (bytes : List ℕ) → AreReadWell → length bytes < 2 ^ 64 → tables_bytes notation.big p texts ≡ Ok bytes
+      → TablesBack notation unit_entry sections p texts bytes
   tables-back bytes well small is =
       by (nat_le p.encoding.version 4) refl (result_append (directories_bytes p.directories) (files_bytes p.files))
       (result_append (directory_table_bytes notation.big p.encoding.format texts p) (file_table_bytes notation.big p.encoding.format texts p)) refl refl is
     where
-      by : (b : Bool) → nat_le p.encoding.version 4 ≡ b → (r s : Result (List ℕ) Error) → r ≡ result_append (directories_bytes p.directories) (files_bytes p.files)
+      by : (b : Bool) → nat_le p.encoding.version 4 ≡ b → (r s : Result (List ℕ) Error)
+          → r ≡ result_append (directories_bytes p.directories) (files_bytes p.files)
           → s ≡ result_append (directory_table_bytes notation.big p.encoding.format texts p) (file_table_bytes notation.big p.encoding.format texts p)
           → (if b then r else s) ≡ Ok bytes → TablesBack notation unit_entry sections p texts bytes
       by true old r s first second is = old_tables old bytes (well.directory old) (sym first ∙ is)
       by false new r s first second is =
-          new_tables new (well.ready new) well.strings_are well.line_strings_are well.are_texts well.are_line_texts well.strings_short well.line_strings_short (well.held new) bytes small (sym second ∙ is)
+          new_tables new (well.ready new) well.strings_are well.line_strings_are well.are_texts well.are_line_texts well.strings_short well.line_strings_short
+          (well.held new) bytes small (sym second ∙ is)

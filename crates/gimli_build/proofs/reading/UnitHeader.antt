@@ -35,18 +35,22 @@ pub record HeaderBack (notation : Notation) (unit_entry : UnitEntry) (sections :
   pub program : program_bytes notation.big p ≡ Ok header.program
 
 -- a unit that is written is written whole
-pub whole_written : (big : Bool) (unit_encoding : Encoding) (p : Built) (old_texts : StringTables) (unit : List ℕ) → unit_bytes big unit_encoding p old_texts ≡ Ok unit
+pub whole_written : (big : Bool) (unit_encoding : Encoding) (p : Built) (old_texts : StringTables) (unit : List ℕ)
+    → unit_bytes big unit_encoding p old_texts ≡ Ok unit
     → whole_bytes big p (texts_after p old_texts) ≡ Ok unit
 whole_written big unit_encoding p old_texts unit is =
     by (is_incompatible unit_encoding p.encoding) (whole_bytes big p (texts_after p old_texts)) is
   where
-    by : (b : Bool) (r : Result (List ℕ) Error) → (let s : Result (List ℕ) Error = if b then Err IncompatibleLineProgramEncoding else r in s) ≡ Ok unit → r ≡ Ok unit
+    by : (b : Bool) (r : Result (List ℕ) Error) → (let s : Result (List ℕ) Error = if b then Err IncompatibleLineProgramEncoding else r in s) ≡ Ok unit
+        → r ≡ Ok unit
     by true r is = absurd cc
     by false r is = is
 
 module _ (notation : Notation) (unit_entry : UnitEntry) (sections : Sections) (p : Built) (built : IsBuilt p) where
-  whole_back : (texts : StringTables) (unit : List ℕ) → AreReadWell notation unit_entry sections p texts built → unit_entry.address_size ≡ p.encoding.address_size
-      → (p.encoding.format ≡ Dwarf64 → length unit - 12 < notation.limit) → length unit < 2 ^ 64 → UnitWritten notation.big p texts unit → HeaderBack notation unit_entry sections p texts unit
+  whole_back : (texts : StringTables) (unit : List ℕ) → AreReadWell notation unit_entry sections p texts built
+      → unit_entry.address_size ≡ p.encoding.address_size
+      → (p.encoding.format ≡ Dwarf64 → length unit - 12 < notation.limit) → length unit < 2 ^ 64 → UnitWritten notation.big p texts unit
+      → HeaderBack notation unit_entry sections p texts unit
   whole_back texts unit well same holds small w =
       let v = fields_written notation.big p texts w.fields w.fields_are in
       let inside = inside-short notation.big p texts unit w in
@@ -65,7 +69,8 @@ module _ (notation : Notation) (unit_entry : UnitEntry) (sections : Sections) (p
       }
 
   -- how the unit is read, the tables are
-  read_well : (old_texts : StringTables) (unit : List ℕ) → CanWrite p old_texts → AreTexts (texts_after p old_texts).strings → AreTexts (texts_after p old_texts).line_strings
+  read_well : (old_texts : StringTables) (unit : List ℕ) → CanWrite p old_texts → AreTexts (texts_after p old_texts).strings
+      → AreTexts (texts_after p old_texts).line_strings
       → byte_count (texts_after p old_texts).strings < 2 ^ 64 → byte_count (texts_after p old_texts).line_strings < 2 ^ 64
       → IsReadWell notation unit_entry sections notation.big p (texts_after p old_texts) unit
       → AreReadWell notation unit_entry sections p (texts_after p old_texts) built
@@ -83,7 +88,8 @@ module _ (notation : Notation) (unit_entry : UnitEntry) (sections : Sections) (p
   }
 
 -- a unit whose length 64 bits hold
-pub header-back : (notation : Notation) (unit_entry : UnitEntry) (sections : Sections) (big : Bool) (unit_encoding : Encoding) (p : Built) (old_texts : StringTables) (unit : List ℕ)
+pub header-back : (notation : Notation) (unit_entry : UnitEntry) (sections : Sections) (big : Bool) (unit_encoding : Encoding) (p : Built)
+    (old_texts : StringTables) (unit : List ℕ)
     → length unit < 2 ^ 64 → IsBuilt p → CanWrite p old_texts → AreTexts (texts_after p old_texts).strings → AreTexts (texts_after p old_texts).line_strings
     → byte_count (texts_after p old_texts).strings < 2 ^ 64 → byte_count (texts_after p old_texts).line_strings < 2 ^ 64
     → unit_bytes big unit_encoding p old_texts ≡ Ok unit → IsReadWell notation unit_entry sections big p (texts_after p old_texts) unit
@@ -102,5 +108,6 @@ header-back notation unit_entry sections big unit_encoding p old_texts unit smal
       length_held = well.length_held;
       texts_held = well.texts_held;
     } in
-    whole_back notation unit_entry sections p built texts unit (read_well notation unit_entry sections p built old_texts unit can are_texts are_line_texts short line_short same)
+    whole_back notation unit_entry sections p built texts unit
+    (read_well notation unit_entry sections p built old_texts unit can are_texts are_line_texts short line_short same)
     same.address_size same.length_held small (unit_written notation.big p texts unit whole)

@@ -1,5 +1,6 @@
 -- The first cause of a program is what its bytes are refused for.
-use Rattle.std.proofs.Common.{◌≡◌, ℕ, ◌+◌, Bool, true, false, not, List, [], ◌∷◌, ◌++◌, length, map, Ok, Err, refl, sym, ap, ◌∙◌, if◌then◌else◌, nat_le, nat_eq, ◌⊎◌, inl, inr}
+use Rattle.std.proofs.Common.{◌≡◌, ℕ, ◌+◌, Bool, true, false, not, List, [], ◌∷◌, ◌++◌, length, map, Ok, Err, refl, sym, ap, ◌∙◌, if◌then◌else◌, nat_le, nat_eq}
+use Rattle.std.proofs.Common.{◌⊎◌, inl, inr}
 use Rattle.std.specs.Prelude.{IsTrue, Option, Some, None, Result, ◌&&◌, nat_lt}
 use Rattle.gimli_core.specs.Numbers.{number_bytes, is_address_size}
 use Rattle.gimli_core.specs.Reading.{result_map}
@@ -21,9 +22,12 @@ use Rattle.gimli_build.specs.Joined.{result_append}
 use Rattle.gimli_build.specs.inside.Joined.{RefusesFor}
 use Rattle.gimli_build.specs.Items.{item_bytes, items_bytes, next_previous}
 use Rattle.gimli_build.specs.Version5Tables.{texts_after}
-use Rattle.gimli_build.specs.Unit.{version_bytes, opening_bytes, operations_bytes, line_encoding_bytes, flag_byte, base_byte, opcode_bytes, tables_bytes, fields_bytes, header_bytes, program_bytes, inside_bytes, escape_bytes, whole_bytes, is_incompatible, unit_bytes}
-use Rattle.gimli_build.specs.Cause.{cause_if, first_of, text_cause, item_cause, word_cause, unit_length_cause, header_length, unit_length, emitted_texts, first_cause}
-use Rattle.gimli_build.proofs.refusals.Refusals.{refusal, or_first, first_before_none, first_apart, joined-refusal, after-refusal, tested-refusal, barred-refusal, seven_causes}
+use Rattle.gimli_build.specs.Unit.{version_bytes, opening_bytes, operations_bytes, line_encoding_bytes, flag_byte, base_byte, opcode_bytes, tables_bytes}
+use Rattle.gimli_build.specs.Unit.{fields_bytes, header_bytes, program_bytes, inside_bytes, escape_bytes, whole_bytes, is_incompatible, unit_bytes}
+use Rattle.gimli_build.specs.Cause.{cause_if, first_of, text_cause, item_cause, word_cause, unit_length_cause, header_length, unit_length, emitted_texts}
+use Rattle.gimli_build.specs.Cause.{first_cause}
+use Rattle.gimli_build.proofs.refusals.Refusals.{refusal, or_first, first_before_none, first_apart, joined-refusal, after-refusal, tested-refusal}
+use Rattle.gimli_build.proofs.refusals.Refusals.{barred-refusal, seven_causes}
 use Rattle.gimli_build.proofs.refusals.NumberRefusals.{not_below, word-refusal, length-refusal, address-refusal}
 use Rattle.gimli_build.proofs.refusals.TableRefusals.{tables-refusal}
 use Rattle.gimli_build.proofs.writing.Joined.{appended_bytes}
@@ -69,7 +73,8 @@ operations-refusal version operations =
     by (nat_le 4 version) (nat_eq operations 1)
     ∙ ap (λ (b : Bool). cause_if (b && not (nat_eq operations 1)) (NeedVersion 4)) (sym below)
   where
-    by : (fourth one : Bool) → refusal (if fourth then Ok (operations ∷ []) else (if one then Ok [] else Err (NeedVersion 4))) ≡ cause_if (not fourth && not one) (NeedVersion 4)
+    by : (fourth one : Bool)
+        → refusal (if fourth then Ok (operations ∷ []) else (if one then Ok [] else Err (NeedVersion 4))) ≡ cause_if (not fourth && not one) (NeedVersion 4)
     by true one = refl
     by false true = refl
     by false false = refl
@@ -81,7 +86,8 @@ operations-refusal version operations =
     below : nat_lt version 4 ≡ not (nat_le 4 version)
     below = twice (nat_lt version 4) (nat_le 4 version) (not_below version 4)
 
-line_encoding-refusal : (version : ℕ) (e : LineEncoding) → refusal (line_encoding_bytes version e) ≡ operations_cause version e.maximum_operations_per_instruction
+line_encoding-refusal : (version : ℕ) (e : LineEncoding)
+    → refusal (line_encoding_bytes version e) ≡ operations_cause version e.maximum_operations_per_instruction
 line_encoding-refusal version e =
     let operations = operations_bytes version e.maximum_operations_per_instruction in
     let numbers = flag_byte e.default_is_stmt ∷ base_byte e.line_base ∷ e.line_range ∷ [] in
@@ -99,12 +105,14 @@ seen-refusal view (Err e) = refl
 item-refusal : (big : Bool) (encoding : Encoding) (e : LineEncoding) (previous : LineRow) → IsTrue (is_address_size encoding.address_size)
     → (item : BuiltItem) → refusal (item_bytes big encoding e previous item) ≡ item_cause encoding.address_size item
 item-refusal big encoding e previous known (SetAddress (Constant a)) =
-    seen-refusal (λ operand. 0 ∷ uleb (encoding.address_size + 1) ++ 0x02 ∷ operand) (udata big a encoding.address_size) ∙ address-refusal big a encoding.address_size known
+    seen-refusal (λ operand. 0 ∷ uleb (encoding.address_size + 1) ++ 0x02 ∷ operand) (udata big a encoding.address_size)
+    ∙ address-refusal big a encoding.address_size known
 item-refusal big encoding e previous known (SetAddress (Symbol symbol addend)) = refl
 item-refusal big encoding e previous known (Row r) = refl
 item-refusal big encoding e previous known (End offset op_index) = refl
 
-items-refusal : (big : Bool) (encoding : Encoding) (e : LineEncoding) → IsTrue (is_address_size encoding.address_size) → (previous : LineRow) (items : List BuiltItem)
+items-refusal : (big : Bool) (encoding : Encoding) (e : LineEncoding) → IsTrue (is_address_size encoding.address_size)
+    → (previous : LineRow) (items : List BuiltItem)
     → refusal (items_bytes big encoding e previous items) ≡ first_of (map (item_cause encoding.address_size) items)
 items-refusal big encoding e known previous [] = refl
 items-refusal big encoding e known previous (item ∷ items) =

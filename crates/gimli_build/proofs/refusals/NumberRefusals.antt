@@ -52,7 +52,8 @@ known_size false false false four eight h = h
 
 pub address-refusal : (big : Bool) (a size : ℕ) → IsTrue (is_address_size size) → refusal (udata big a size) ≡ cause_if (nat_le (256 ^ size) a) ValueTooLarge
 address-refusal big a size known =
-    ap (λ (b : Bool). refusal (if b then (if nat_lt a (256 ^ size) then Ok (number_bytes big size a) else Err ValueTooLarge) else Err (UnsupportedWordSize size)))
+    ap (λ (b : Bool).
+    refusal (if b then (if nat_lt a (256 ^ size) then Ok (number_bytes big size a) else Err ValueTooLarge) else Err (UnsupportedWordSize size)))
     (known_size (nat_eq size 1) (nat_eq size 2) (nat_eq size 3) (nat_eq size 4) (nat_eq size 8) known)
     ∙ tested-refusal (nat_lt a (256 ^ size)) (number_bytes big size a) ValueTooLarge
     ∙ ap (λ (b : Bool). cause_if b ValueTooLarge) (not_below a (256 ^ size))

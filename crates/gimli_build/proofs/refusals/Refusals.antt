@@ -95,7 +95,8 @@ tested-refusal true bytes e = refl
 tested-refusal false bytes e = refl
 
 -- bytes that are refused where a test holds
-pub barred-refusal : (test : Bool) (e : Error) (rest : Result (List ℕ) Error) → refusal (if test then Err e else rest) ≡ or_first (cause_if test e) (refusal rest)
+pub barred-refusal : (test : Bool) (e : Error) (rest : Result (List ℕ) Error)
+    → refusal (if test then Err e else rest) ≡ or_first (cause_if test e) (refusal rest)
 barred-refusal true e rest = refl
 barred-refusal false e rest = refl
 

@@ -1,5 +1,6 @@
 -- What the tables of a unit are refused for.
-use Rattle.std.proofs.Common.{◌≡◌, ℕ, Bool, true, false, not, List, [], ◌∷◌, ◌++◌, length, drop, map, Ok, Err, refl, sym, ap, ◌∙◌, if◌then◌else◌, nat_le, nat_eq}
+use Rattle.std.proofs.Common.{◌≡◌, ℕ, Bool, true, false, not, List, [], ◌∷◌, ◌++◌, length, drop, map, Ok, Err, refl, sym, ap, ◌∙◌, if◌then◌else◌, nat_le}
+use Rattle.std.proofs.Common.{nat_eq}
 use Rattle.std.specs.Prelude.{Option, Result, flat_map, unwrap_or}
 use Rattle.gimli_core.specs.declared.common.Format.{Format}
 use Rattle.gimli_bytes.specs.Number.{uleb}
@@ -11,10 +12,12 @@ use Rattle.gimli_build.specs.Tables.{File}
 use Rattle.gimli_build.specs.Built.{Built}
 use Rattle.gimli_build.specs.Joined.{result_append, result_concat}
 use Rattle.gimli_build.specs.Version4Tables.{name_bytes, directories_bytes, file_bytes, files_bytes}
-use Rattle.gimli_build.specs.Version5Tables.{text_form, first_form, path_texts, sources, empty_text, directory_formats, file_formats, formats_bytes, detail_bytes, text_bytes, text_in_form, directory_table_bytes, source_bytes, file_entry_bytes, file_table_bytes}
+use Rattle.gimli_build.specs.Version5Tables.{text_form, first_form, path_texts, sources, empty_text, directory_formats, file_formats, formats_bytes}
+use Rattle.gimli_build.specs.Version5Tables.{detail_bytes, text_bytes, text_in_form, directory_table_bytes, source_bytes, file_entry_bytes, file_table_bytes}
 use Rattle.gimli_build.specs.Unit.{tables_bytes}
 use Rattle.gimli_build.specs.Cause.{cause_if, first_of, offset_cause, text_cause, file_texts, emitted_texts}
-use Rattle.gimli_build.proofs.refusals.Refusals.{refusal, or_first, first_before_none, first_apart, first_alone, causes_append, causes_map, causes_flat, joined-refusal, parts-refusal}
+use Rattle.gimli_build.proofs.refusals.Refusals.{refusal, or_first, first_before_none, first_apart, first_alone, causes_append, causes_map, causes_flat}
+use Rattle.gimli_build.proofs.refusals.Refusals.{joined-refusal, parts-refusal}
 use Rattle.gimli_build.proofs.refusals.NumberRefusals.{word-refusal}
 
 module _ (format : Format) (texts : StringTables) where

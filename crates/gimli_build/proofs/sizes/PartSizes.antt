@@ -73,5 +73,6 @@ number_size false size n = low_size size 0 n
 -- a word of a format
 pub format_word_size : (big : Bool) (format : Format) (n : ℕ) → HasSize (format_word big format n) (word_size format)
 format_word_size big Dwarf32 n =
-    size_as (format_word big Dwarf32 n) (length (number_bytes big 4 n)) 4 (number_size big 4 n) (size_tested (nat_lt n (2 ^ 32)) (number_bytes big 4 n) ValueTooLarge)
+    size_as (format_word big Dwarf32 n) (length (number_bytes big 4 n)) 4 (number_size big 4 n)
+    (size_tested (nat_lt n (2 ^ 32)) (number_bytes big 4 n) ValueTooLarge)
 format_word_size big Dwarf64 n = size_as (format_word big Dwarf64 n) (length (number_bytes big 8 n)) 8 (number_size big 8 n) (size_of_ok (number_bytes big 8 n))

@@ -1,5 +1,6 @@
 -- How many instructions and bytes a row has.
-use Rattle.std.proofs.Common.{◌≡◌, ℕ, ◌+◌, ◌-◌, ◌*◌, ◌/◌, ◌%◌, ◌<◌, ◌≤◌, Bool, true, false, not, List, [], ◌∷◌, ◌++◌, length, refl, sym, ap, ◌∙◌, arith, lit≤, nat_eq, nat_le, if◌then◌else◌, ℤ, pos, ◌+ℤ◌, ◌-ℤ◌, ◌≤ℤ◌, ◌<ℤ◌, Some}
+use Rattle.std.proofs.Common.{◌≡◌, ℕ, ◌+◌, ◌-◌, ◌*◌, ◌/◌, ◌%◌, ◌<◌, ◌≤◌, Bool, true, false, not, List, [], ◌∷◌, ◌++◌, length, refl, sym, ap, ◌∙◌, arith, lit≤}
+use Rattle.std.proofs.Common.{nat_eq, nat_le, if◌then◌else◌, ℤ, pos, ◌+ℤ◌, ◌-ℤ◌, ◌≤ℤ◌, ◌<ℤ◌, Some}
 use Rattle.std.specs.Prelude.{unsigned_abs, int_le, int_lt}
 use Rattle.std.proofs.Math.Nat.{mod-lt, div-add-mod'}
 use Rattle.std.proofs.lemmas.List.{length-append}
@@ -8,14 +9,17 @@ use Rattle.std.proofs.lemmas.Bool.{le-leb}
 use Rattle.std.proofs.lemmas.Bool.Decides.{nat_tests}
 use Rattle.gimli_core.specs.declared.common.Encoding.{Encoding}
 use Rattle.gimli_core.specs.declared.common.LineEncoding.{LineEncoding}
-use Rattle.gimli_line.specs.declared.run.instruction.LineInstruction.TheVariants.{Special, Copy, AdvancePc, AdvanceLine, SetFile, SetColumn, NegateStatement, SetBasicBlock, ConstAddPc, SetPrologueEnd, SetEpilogueBegin, SetIsa, SetDiscriminator}
+use Rattle.gimli_line.specs.declared.run.instruction.LineInstruction.TheVariants.{Special, Copy, AdvancePc, AdvanceLine, SetFile, SetColumn, NegateStatement}
+use Rattle.gimli_line.specs.declared.run.instruction.LineInstruction.TheVariants.{SetBasicBlock, ConstAddPc, SetPrologueEnd, SetEpilogueBegin, SetIsa}
+use Rattle.gimli_line.specs.declared.run.instruction.LineInstruction.TheVariants.{SetDiscriminator}
 use Rattle.gimli_line.specs.run.Instruction.{Ins}
 use Rattle.gimli_line.specs.run.OperationPointer.{operation_advance}
 use Rattle.gimli_build.specs.declared.built.row.LineRow.{LineRow}
 use Rattle.gimli_build.specs.FileNumber.{file_number}
 use Rattle.gimli_build.specs.Advance.{CanEncode, operations}
 use Rattle.gimli_build.specs.Due.{when}
-use Rattle.gimli_build.specs.Encode.{marks, changes, differ, line_part, line_opcode, is_special_advance, still_opcode, row_maker, constant_advance, operation_part, row_instructions}
+use Rattle.gimli_build.specs.Encode.{marks, changes, differ, line_part, line_opcode, is_special_advance, still_opcode, row_maker, constant_advance}
+use Rattle.gimli_build.specs.Encode.{operation_part, row_instructions}
 use Rattle.gimli_build.specs.InstructionBytes.{instruction_bytes, instructions_bytes}
 use Rattle.gimli_build.specs.SameRow.{built_rules}
 use Rattle.gimli_build.specs.Sizes.{HasSpecial, OnlyMoves}
@@ -54,10 +58,19 @@ row_short version e previous built =
     let c = changes version previous built in
     let l = line_part e d in
     let o = operation_part e (line_opcode e d) n in
-    let hm : length m ≤ 4 = four_short (when (not (nat_eq built.discriminator 0)) (SetDiscriminator built.discriminator)) (when built.basic_block SetBasicBlock) (when built.prologue_end SetPrologueEnd) (when built.epilogue_begin SetEpilogueBegin)
-    (when_short (not (nat_eq built.discriminator 0)) (SetDiscriminator built.discriminator)) (when_short built.basic_block SetBasicBlock) (when_short built.prologue_end SetPrologueEnd) (when_short built.epilogue_begin SetEpilogueBegin) in
-    let hc : length c ≤ 4 = four_short (when (differ built.is_statement previous.is_statement) NegateStatement) (when (not (nat_eq built.file previous.file)) (SetFile (file_number version built.file))) (when (not (nat_eq built.column previous.column)) (SetColumn built.column)) (when (not (nat_eq built.isa previous.isa)) (SetIsa built.isa))
-    (when_short (differ built.is_statement previous.is_statement) NegateStatement) (when_short (not (nat_eq built.file previous.file)) (SetFile (file_number version built.file))) (when_short (not (nat_eq built.column previous.column)) (SetColumn built.column)) (when_short (not (nat_eq built.isa previous.isa)) (SetIsa built.isa)) in
+    let hm : length m
+    ≤ 4 = four_short (when (not (nat_eq built.discriminator 0)) (SetDiscriminator built.discriminator)) (when built.basic_block SetBasicBlock)
+    (when built.prologue_end SetPrologueEnd) (when built.epilogue_begin SetEpilogueBegin)
+    (when_short (not (nat_eq built.discriminator 0)) (SetDiscriminator built.discriminator)) (when_short built.basic_block SetBasicBlock)
+    (when_short built.prologue_end SetPrologueEnd) (when_short built.epilogue_begin SetEpilogueBegin) in
+    let hc : length c
+    ≤ 4 = four_short (when (differ built.is_statement previous.is_statement) NegateStatement)
+    (when (not (nat_eq built.file previous.file)) (SetFile (file_number version built.file)))
+    (when (not (nat_eq built.column previous.column)) (SetColumn built.column)) (when (not (nat_eq built.isa previous.isa)) (SetIsa built.isa))
+    (when_short (differ built.is_statement previous.is_statement) NegateStatement)
+    (when_short (not (nat_eq built.file previous.file)) (SetFile (file_number version built.file)))
+    (when_short (not (nat_eq built.column previous.column)) (SetColumn built.column))
+    (when_short (not (nat_eq built.isa previous.isa)) (SetIsa built.isa)) in
     let hl = line_short e d in
     let ho = operations_short e (line_opcode e d) n in
     omega (arith, hm, hc, hl, ho, length-append (m ++ c ++ l) o, length-append (m ++ c) l, length-append m c)
@@ -132,7 +145,8 @@ module _ (encoding : Encoding) (e : LineEncoding) (previous built : LineRow) (ca
   count = operations e previous.address_offset previous.op_index built.address_offset built.op_index
 
   -- what is left of the row's instructions
-  left : (u : ℕ) → is_special_advance e advance ≡ true → u ≡ unsigned_abs (advance -ℤ e.line_base) → row_instructions encoding.version e previous built ≡ operation_part e (13 + u) count
+  left : (u : ℕ) → is_special_advance e advance ≡ true → u ≡ unsigned_abs (advance -ℤ e.line_base)
+      → row_instructions encoding.version e previous built ≡ operation_part e (13 + u) count
   left u t same =
       ap (λ (is : List Ins). is ++ line_part e advance ++ operation_part e (line_opcode e advance) count) (silent encoding.version previous built only)
       ∙ rw (t, same) refl
@@ -151,13 +165,15 @@ module _ (encoding : Encoding) (e : LineEncoding) (previous built : LineRow) (ca
       one_maker : (s : ℕ) → length (instructions_bytes (row_maker e s ∷ [])) ≡ 1
       one_maker s = omega (arith, length-append (instruction_bytes (row_maker e s)) [], maker_bytes e s)
 
-  pub two_bytes : (q : ℕ) → operation_advance (built_rules encoding e) ConstAddPc ≡ Some q → HasSpecial (built_rules encoding e) advance (count - q) → length (instructions_bytes (row_instructions encoding.version e previous built)) ≤ 2
+  pub two_bytes : (q : ℕ) → operation_advance (built_rules encoding e) ConstAddPc ≡ Some q → HasSpecial (built_rules encoding e) advance (count - q)
+      → length (instructions_bytes (row_instructions encoding.version e previous built)) ≤ 2
   two_bytes q is has =
       let constant : constant_advance e ≡ q = some_same (constant_advance e) q is in
       let p = parts_of encoding e advance (count - q) can has in
       let whole = left p.above (special_line e advance (count - q) p) (above_is (count - q) p) in
       let fits : 13 + p.above + (count - constant_advance e) * e.line_range ≤ 255 = rw constant p.fits in
-      let room : nat_le (13 + p.above + (count - constant_advance e) * e.line_range) 255 ≡ true = le-leb (13 + p.above + (count - constant_advance e) * e.line_range) 255 fits in
+      let room : nat_le (13 + p.above + (count - constant_advance e) * e.line_range) 255
+      ≡ true = le-leb (13 + p.above + (count - constant_advance e) * e.line_range) 255 fits in
       rw whole (by p.above room (nat_le (13 + p.above + count * e.line_range) 255))
     where
       one_maker : (s : ℕ) → length (instructions_bytes (row_maker e s ∷ [])) ≤ 1
@@ -165,6 +181,8 @@ module _ (encoding : Encoding) (e : LineEncoding) (previous built : LineRow) (ca
 
       by : (u : ℕ) → nat_le (13 + u + (count - constant_advance e) * e.line_range) 255 ≡ true → (b : Bool)
           → length (instructions_bytes (if b then row_maker e (13 + u + count * e.line_range) ∷ []
-          else (if nat_le (13 + u + (count - constant_advance e) * e.line_range) 255 then ConstAddPc ∷ row_maker e (13 + u + (count - constant_advance e) * e.line_range) ∷ [] else AdvancePc count ∷ row_maker e (13 + u) ∷ []))) ≤ 2
+          else (if nat_le (13 + u + (count - constant_advance e) * e.line_range) 255
+          then ConstAddPc ∷ row_maker e (13 + u + (count - constant_advance e) * e.line_range) ∷ [] else AdvancePc count ∷ row_maker e (13 + u) ∷ [])))
+          ≤ 2
       by u room true = let one = one_maker (13 + u + count * e.line_range) in omega (arith, one)
       by u room false = rw room (let one = one_maker (13 + u + (count - constant_advance e) * e.line_range) in omega (arith, one))

@@ -1,6 +1,7 @@
 -- How many operations one position is after another.
 use Rattle.std.proofs.Common.{◌≡◌, ℕ, zero, suc, ◌+◌, ◌-◌, ◌*◌, ◌/◌, ◌%◌, ◌<◌, ◌≤◌, arith, ap, ◌∙◌, inl, inr, refl}
-use Rattle.std.proofs.Math.Nat.{mul-le-mul_right, mod-eq_of_lt, div-eq_of_lt, mul-div_cancel, add-mul-div_right, add-mul-mod_self_right, add-mul, mul_comm, div-mul-le_self}
+use Rattle.std.proofs.Math.Nat.{mul-le-mul_right, mod-eq_of_lt, div-eq_of_lt, mul-div_cancel, add-mul-div_right, add-mul-mod_self_right, add-mul, mul_comm}
+use Rattle.std.proofs.Math.Nat.{div-mul-le_self}
 use Rattle.std.proofs.lemmas.Nat.{div-add-mod', le-div}
 use Rattle.std.proofs.lemmas.Bool.{cases_lt}
 
@@ -43,8 +44,10 @@ whole_steps m p o pm hp ho le =
 -- the operations of whole instructions and a part of one, taken apart again
 pub taken_apart : (k t i : ℕ) → i < k → ((t * k + i) / k ≡ t) × ((t * k + i) % k ≡ i)
 taken_apart k t i lt =
-    let turned : t * k + i ≡ i + t * k = omega arith in
-    (rw turned (add-mul-div_right i t (omega arith) ∙ (let z = div-eq_of_lt lt in omega (arith, z))), rw turned (add-mul-mod_self_right i t k ∙ mod-eq_of_lt lt))
+    let turned : t * k + i ≡ i + t * k = omega arith in (
+      rw turned (add-mul-div_right i t (omega arith) ∙ (let z = div-eq_of_lt lt in omega (arith, z))),
+      rw turned (add-mul-mod_self_right i t k ∙ mod-eq_of_lt lt),
+    )
 
 -- a special opcode by its parts
 pub special_parts : (g u n : ℕ) → 1 ≤ g → u < g → ((13 + u + n * g - 13) % g ≡ u) × ((13 + u + n * g - 13) / g ≡ n)

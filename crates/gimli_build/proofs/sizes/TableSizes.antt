@@ -14,7 +14,8 @@ use Rattle.gimli_build.specs.Tables.{File}
 use Rattle.gimli_build.specs.Built.{Built}
 use Rattle.gimli_build.specs.Joined.{result_append, result_concat}
 use Rattle.gimli_build.specs.Version4Tables.{name_bytes, directories_bytes, file_bytes, files_bytes}
-use Rattle.gimli_build.specs.Version5Tables.{text_form, first_form, path_texts, sources, empty_text, directory_formats, file_formats, formats_bytes, detail_bytes, text_bytes, text_in_form, directory_table_bytes, source_bytes, file_entry_bytes, file_table_bytes}
+use Rattle.gimli_build.specs.Version5Tables.{text_form, first_form, path_texts, sources, empty_text, directory_formats, file_formats, formats_bytes}
+use Rattle.gimli_build.specs.Version5Tables.{detail_bytes, text_bytes, text_in_form, directory_table_bytes, source_bytes, file_entry_bytes, file_table_bytes}
 use Rattle.gimli_build.specs.Unit.{tables_bytes}
 use Rattle.gimli_build.specs.Cause.{text_size, file_size, entry_size, tables_size}
 use Rattle.gimli_build.proofs.sizes.PartSizes.{HasSize, size_of_ok, size_of_none, size_as, size_either, size_joined, size_parts, format_word_size}
@@ -27,7 +28,8 @@ name_size format (Inline text) =
 name_size format (InStrings i) = size_of_none LineStringFormMismatch (word_size format)
 name_size format (InLineStrings i) = size_of_none LineStringFormMismatch (word_size format)
 
-directories_size : (format : Format) (directories : List LineText) → HasSize (directories_bytes directories) (sum_by (text_size format) (drop 1 directories) + 1)
+directories_size : (format : Format) (directories : List LineText)
+    → HasSize (directories_bytes directories) (sum_by (text_size format) (drop 1 directories) + 1)
 directories_size format directories =
     size_joined (result_concat name_bytes (drop 1 directories)) (Ok (0 ∷ [])) (sum_by (text_size format) (drop 1 directories)) 1
     (size_parts name_bytes (text_size format) (name_size format) (drop 1 directories)) (size_of_ok (0 ∷ []))
@@ -71,7 +73,8 @@ module _ (big : Bool) (format : Format) (texts : StringTables) where
 
   -- a source that is written, or none
   source_size : (has : Bool) (form : ℕ) (t : LineText)
-      → HasSize (if has then text_in_form big format texts form t else Ok []) (sum_by (λ (s : ℕ × LineText). text_size format s.1) (if has then (form, t) ∷ [] else []))
+      → HasSize (if has then text_in_form big format texts form t else Ok [])
+      (sum_by (λ (s : ℕ × LineText). text_size format s.1) (if has then (form, t) ∷ [] else []))
   source_size true form t =
       let size = text_size format t in
       size_as (text_in_form big format texts form t) size (0 + size) (nothing_first size) (formed_size form t)
@@ -103,7 +106,8 @@ module _ (big : Bool) (p : Built) (texts : StringTables) where
       let written = source_bytes big format texts p f in
       size_as (file_entry_bytes big format texts p f) (path + (details + sum_by sized last)) (entry_size p texts f)
       (path_first path details (sum_by sized last) ∙ ap (λ (k : ℕ). k + details) (sym (sum_by-cons sized (first_form (path_texts p.files), f.0.0) last)))
-      (size_joined (text_in_form big format texts (first_form (path_texts p.files)) f.0.0) (result_append (Ok (detail_bytes p f)) written) path (details + sum_by sized last)
+      (size_joined (text_in_form big format texts (first_form (path_texts p.files)) f.0.0) (result_append (Ok (detail_bytes p f)) written) path
+      (details + sum_by sized last)
       (formed_size big format texts (first_form (path_texts p.files)) f.0.0)
       (size_joined (Ok (detail_bytes p f)) written details (sum_by sized last) (size_of_ok (detail_bytes p f))
       (source_size big format texts p.file_has_source form source)))
@@ -136,7 +140,9 @@ module _ (big : Bool) (p : Built) (texts : StringTables) where
       let files = length (formats_bytes (file_formats p)) + length (uleb (length p.files)) + sum_by (entry_size p texts) p.files in
       let directory_table = directory_table_bytes big format texts p in
       let file_table = file_table_bytes big format texts p in
-      size_either (nat_le p.encoding.version 4) (result_append (directories_bytes p.directories) (files_bytes p.files)) (result_append directory_table file_table)
+      size_either (nat_le p.encoding.version 4) (result_append (directories_bytes p.directories) (files_bytes p.files))
+      (result_append directory_table file_table)
       (old_directories + old_files) (directories + files)
-      (size_joined (directories_bytes p.directories) (files_bytes p.files) old_directories old_files (directories_size format p.directories) (files_size format p.files))
+      (size_joined (directories_bytes p.directories) (files_bytes p.files) old_directories old_files (directories_size format p.directories)
+      (files_size format p.files))
       (size_joined directory_table file_table directories files directory_table_size file_table_size)

@@ -10,7 +10,8 @@ use Rattle.gimli_bytes.specs.Texts.{StringTables}
 use Rattle.gimli_build.specs.Built.{Built}
 use Rattle.gimli_build.specs.FormatWord.{format_word}
 use Rattle.gimli_build.specs.Joined.{result_append}
-use Rattle.gimli_build.specs.Unit.{version_bytes, opening_bytes, operations_bytes, line_encoding_bytes, flag_byte, base_byte, opcode_bytes, tables_bytes, fields_bytes, header_bytes, program_bytes, inside_bytes}
+use Rattle.gimli_build.specs.Unit.{version_bytes, opening_bytes, operations_bytes, line_encoding_bytes, flag_byte, base_byte, opcode_bytes, tables_bytes}
+use Rattle.gimli_build.specs.Unit.{fields_bytes, header_bytes, program_bytes, inside_bytes}
 use Rattle.gimli_build.specs.Cause.{tables_size, header_length, size_of, unit_length}
 use Rattle.gimli_build.proofs.sizes.PartSizes.{HasSize, size_of_ok, size_of_none, size_as, size_tested, size_joined, size_after, number_size, format_word_size}
 use Rattle.gimli_build.proofs.sizes.TableSizes.{tables-size}
@@ -28,7 +29,8 @@ opened_size true version address_size size = size_joined version (Ok []) 2 0 siz
 opened_size false version address_size size = size_joined version (Ok (address_size ∷ 0 ∷ [])) 2 2 size (size_of_ok (address_size ∷ 0 ∷ []))
 
 opening_size : (big : Bool) (encoding : Encoding) → HasSize (opening_bytes big encoding) (if nat_le encoding.version 4 then 2 else 4)
-opening_size big encoding = opened_size (nat_le encoding.version 4) (version_bytes big encoding.version) encoding.address_size (version_size big encoding.version)
+opening_size big encoding =
+    opened_size (nat_le encoding.version 4) (version_bytes big encoding.version) encoding.address_size (version_size big encoding.version)
 
 -- ---- what the header length counts
 

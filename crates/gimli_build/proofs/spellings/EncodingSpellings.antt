@@ -13,7 +13,8 @@ use Rattle.gimli_core.specs.declared.common.LineEncoding.{LineEncoding}
 use Rattle.gimli_core.specs.declared.common.Format.{Format}
 use Rattle.gimli_core.specs.declared.common.Format.TheVariants.{Dwarf32, Dwarf64}
 use Rattle.gimli_core.specs.declared.error.Error.{Error as ReadError}
-use Rattle.gimli_core.specs.declared.error.Error.TheVariants.{UnsupportedAddressSize, UnsupportedSegmentSize, MinimumInstructionLengthZero, MaximumOperationsPerInstructionZero, LineRangeZero}
+use Rattle.gimli_core.specs.declared.error.Error.TheVariants.{UnsupportedAddressSize, UnsupportedSegmentSize, MinimumInstructionLengthZero}
+use Rattle.gimli_core.specs.declared.error.Error.TheVariants.{MaximumOperationsPerInstructionZero, LineRangeZero}
 use Rattle.gimli_core.proofs.Written.{number_spelled}
 use Rattle.gimli_bytes.specs.Number.{length_word}
 use Rattle.gimli_bytes.specs.declared.error.Error.{Error}
@@ -67,7 +68,8 @@ rest_line minimum maximum = do
   })
 
 rest_spelled : (e : LineEncoding) → CanEncode e
-    → (rest_line e.minimum_instruction_length e.maximum_operations_per_instruction).Spells (flag_byte e.default_is_stmt ∷ base_byte e.line_base ∷ e.line_range ∷ []) e
+    → (rest_line e.minimum_instruction_length e.maximum_operations_per_instruction).Spells
+    (flag_byte e.default_is_stmt ∷ base_byte e.line_base ∷ e.line_range ∷ []) e
 rest_spelled e can =
     let some : 0 < e.line_range = omega (arith, ints, can.base, can.above) in
     let fits : FitsSigned w8 e.line_base = search (rules, ints) in
@@ -108,7 +110,8 @@ operations_spelled : (version n : ℕ) (bytes : List ℕ) → 0 < n → operatio
 operations_spelled version n bytes some is = by (nat_le 4 version) refl (nat_eq n 1) refl is
   where
     by : (b : Bool) → nat_le 4 version ≡ b → (one : Bool) → nat_eq n 1 ≡ one
-        → (let r : Result (List ℕ) Error = if b then Ok (n ∷ []) else (if one then Ok [] else Err (NeedVersion 4)) in r) ≡ Ok bytes → (operations_line version).Spells bytes n
+        → (let r : Result (List ℕ) Error = if b then Ok (n ∷ []) else (if one then Ok [] else Err (NeedVersion 4)) in r) ≡ Ok bytes
+        → (operations_line version).Spells bytes n
     by true high one t is =
         let above : 4 ≤ version = leb-true 4 version high in
         let over : nat_le version 3 ≡ false = lt-leb version 3 (omega (arith, above)) in
@@ -116,17 +119,26 @@ operations_spelled version n bytes some is = by (nat_le 4 version) refl (nat_eq 
     by false low true t is =
         let below : version < 4 = leb-false 4 version low in
         let only : n ≡ 1 = eqb-true n 1 t in
-        first-chosen (nat_le version 3) (done 1) (positive MaximumOperationsPerInstructionZero) bytes n (le-leb version 3 (omega (arith, below))) (same_written [] bytes is, only)
+        first-chosen (nat_le version 3) (done 1) (positive MaximumOperationsPerInstructionZero) bytes n (le-leb version 3 (omega (arith, below)))
+        (same_written [] bytes is, only)
     by false low false t is = absurd cc
 
-pub encoding-spelled : (version : ℕ) (e : LineEncoding) (bytes : List ℕ) → CanEncode e → line_encoding_bytes version e ≡ Ok bytes → (line_encoding_production version).Spells bytes e
+pub encoding-spelled : (version : ℕ) (e : LineEncoding) (bytes : List ℕ) → CanEncode e → line_encoding_bytes version e ≡ Ok bytes
+    → (line_encoding_production version).Spells bytes e
 encoding-spelled version e bytes can is =
     let last = flag_byte e.default_is_stmt ∷ base_byte e.line_base ∷ e.line_range ∷ [] in
-    let a = after_written (e.minimum_instruction_length ∷ []) (result_append (operations_bytes version e.maximum_operations_per_instruction) (Ok last)) bytes is in
+    let a =
+    after_written (e.minimum_instruction_length ∷ []) (result_append (operations_bytes version e.maximum_operations_per_instruction) (Ok last)) bytes is in
     let b = before_written (operations_bytes version e.maximum_operations_per_instruction) last a.rest a.rest_is in
     let minimum = positive-spelled e.minimum_instruction_length MinimumInstructionLengthZero can.instruction_length in
-    let operations = operations_spelled version e.maximum_operations_per_instruction b.front can.operations b.front_is in
-    (e.minimum_instruction_length, e.minimum_instruction_length ∷ [], a.rest, a.whole, minimum, (e.maximum_operations_per_instruction, b.front, last, b.whole, operations, rest_spelled e can))
+    let operations = operations_spelled version e.maximum_operations_per_instruction b.front can.operations b.front_is in (
+      e.minimum_instruction_length,
+      e.minimum_instruction_length ∷ [],
+      a.rest,
+      a.whole,
+      minimum,
+      (e.maximum_operations_per_instruction, b.front, last, b.whole, operations, rest_spelled e can),
+    )
 
 -- ---- the version
 
@@ -143,7 +155,9 @@ pub record VersionWritten (big : Bool) (version : ℕ) (bytes : List ℕ) : Type
 version_written : (big : Bool) (version : ℕ) (bytes : List ℕ) → version_bytes big version ≡ Ok bytes → VersionWritten big version bytes
 version_written big version bytes is = by (nat_le 2 version && nat_le version 5) refl is
   where
-    by : (b : Bool) → (nat_le 2 version && nat_le version 5) ≡ b → (let r : Result (List ℕ) Error = if b then Ok (number_bytes big 2 version) else Err (UnsupportedVersion version) in r) ≡ Ok bytes → VersionWritten big version bytes
+    by : (b : Bool) → (nat_le 2 version && nat_le version 5) ≡ b
+        → (let r : Result (List ℕ) Error = if b then Ok (number_bytes big 2 version) else Err (UnsupportedVersion version) in r) ≡ Ok bytes
+        → VersionWritten big version bytes
     by true t is = record { bytes_are = same_written (number_bytes big 2 version) bytes is; known = t }
     by false t is = absurd cc
 
@@ -174,7 +188,14 @@ address-spelled version handed size same known = by (nat_le version 4)
 
     by : (b : Bool) → (choose b (done handed) own).Spells (if b then [] else size ∷ 0 ∷ []) size
     by true = (refl, sym same)
-    by false = (size, size ∷ [], 0 ∷ [], refl, refl, (tt, [], 0 ∷ [], refl, (refl, known), (0, 0 ∷ [], [], refl, refl, (tt, [], [], refl, (refl, refl), (refl, refl)))))
+    by false = (
+      size,
+      size ∷ [],
+      0 ∷ [],
+      refl,
+      refl,
+      (tt, [], 0 ∷ [], refl, (refl, known), (0, 0 ∷ [], [], refl, refl, (tt, [], [], refl, (refl, refl), (refl, refl)))),
+    )
 
 -- ---- lengths
 
@@ -184,10 +205,12 @@ held notation Dwarf32 n lt = refl
 held notation Dwarf64 n lt = lt-ltb n notation.limit (lt refl)
 
 -- eight bytes hold any number of the 64-bit format, which is told by no test
-word_spelled : (big : Bool) (format : Format) (n : ℕ) (bytes : List ℕ) → n < 2 ^ 64 → format_word big format n ≡ Ok bytes → SpellsNumber big (word_size format) bytes n
+word_spelled : (big : Bool) (format : Format) (n : ℕ) (bytes : List ℕ) → n < 2 ^ 64 → format_word big format n ≡ Ok bytes
+    → SpellsNumber big (word_size format) bytes n
 word_spelled big Dwarf32 n bytes small is = by (nat_lt n (2 ^ 32)) refl is
   where
-    by : (b : Bool) → nat_lt n (2 ^ 32) ≡ b → (let r : Result (List ℕ) Error = if b then Ok (number_bytes big 4 n) else Err ValueTooLarge in r) ≡ Ok bytes → SpellsNumber big 4 bytes n
+    by : (b : Bool) → nat_lt n (2 ^ 32) ≡ b → (let r : Result (List ℕ) Error = if b then Ok (number_bytes big 4 n) else Err ValueTooLarge in r) ≡ Ok bytes
+        → SpellsNumber big 4 bytes n
     by true t is = rw (same_written (number_bytes big 4 n) bytes is) (number_spelled big 4 n (ltb-true n (2 ^ 32) t))
     by false t is = absurd cc
 word_spelled big Dwarf64 n bytes small is = rw (same_written (number_bytes big 8 n) bytes is) (number_spelled big 8 n (omega (arith, small)))
@@ -203,16 +226,25 @@ word-long big format n bytes is =
     word_some Dwarf32 = lit< tt
     word_some Dwarf64 = lit< tt
 
-pub offset-spelled : (notation : Notation) (format : Format) (n : ℕ) (bytes : List ℕ) → (format ≡ Dwarf64 → n < notation.limit) → n < 2 ^ 64 → format_word notation.big format n ≡ Ok bytes
+pub offset-spelled : (notation : Notation) (format : Format) (n : ℕ) (bytes : List ℕ) → (format ≡ Dwarf64 → n < notation.limit) → n < 2 ^ 64
+    → format_word notation.big format n ≡ Ok bytes
     → (offset_word notation format).Spells bytes n
-offset-spelled notation format n bytes lt small is =
-    (n, bytes, [], sym (append-nil bytes), word_spelled notation.big format n bytes small is, (tt, [], [], refl, (refl, held notation format n lt), (refl, refl)))
+offset-spelled notation format n bytes lt small is = (
+  n,
+  bytes,
+  [],
+  sym (append-nil bytes),
+  word_spelled notation.big format n bytes small is,
+  (tt, [], [], refl, (refl, held notation format n lt), (refl, refl)),
+)
 
 -- eight bytes hold any length of the 64-bit format, which is told by no test
-initial_spelled : (big : Bool) (format : Format) (n : ℕ) (word : List ℕ) → n < 2 ^ 64 → length_word big format n ≡ Ok word → SpellsInitialLength big (escape_bytes big format ++ word) format n
+initial_spelled : (big : Bool) (format : Format) (n : ℕ) (word : List ℕ) → n < 2 ^ 64 → length_word big format n ≡ Ok word
+    → SpellsInitialLength big (escape_bytes big format ++ word) format n
 initial_spelled big Dwarf32 n word small is = by (nat_lt n 0xffff_fff0) refl (nat_lt n (2 ^ 32)) is
   where
-    by : (b : Bool) → nat_lt n 0xffff_fff0 ≡ b → (c : Bool) → (let r : Result (List ℕ) Error = if b then Ok (number_bytes big 4 n) else (if c then Err InitialLengthOverflow else Err ValueTooLarge) in r) ≡ Ok word
+    by : (b : Bool) → nat_lt n 0xffff_fff0 ≡ b → (c : Bool)
+        → (let r : Result (List ℕ) Error = if b then Ok (number_bytes big 4 n) else (if c then Err InitialLengthOverflow else Err ValueTooLarge) in r) ≡ Ok word
         → SpellsNumber big 4 word n × (n < 0xffff_fff0)
     by true t c is =
         let lt : n < 0xffff_fff0 = ltb-true n 0xffff_fff0 t in
@@ -227,8 +259,15 @@ initial_spelled big Dwarf64 n word small is = (
   rw (same_written (number_bytes big 8 n) word is) (number_spelled big 8 n (omega (arith, small))),
 )
 
-pub length-spelled : (notation : Notation) (format : Format) (n : ℕ) (word : List ℕ) → (format ≡ Dwarf64 → n < notation.limit) → n < 2 ^ 64 → length_word notation.big format n ≡ Ok word
+pub length-spelled : (notation : Notation) (format : Format) (n : ℕ) (word : List ℕ) → (format ≡ Dwarf64 → n < notation.limit) → n < 2 ^ 64
+    → length_word notation.big format n ≡ Ok word
     → (unit_length notation).Spells (escape_bytes notation.big format ++ word) (n, format)
 length-spelled notation format n word lt small is =
-    let bytes = escape_bytes notation.big format ++ word in
-    ((n, format), bytes, [], sym (append-nil bytes), initial_spelled notation.big format n word small is, (tt, [], [], refl, (refl, held notation format n lt), (refl, refl)))
+    let bytes = escape_bytes notation.big format ++ word in (
+      (n, format),
+      bytes,
+      [],
+      sym (append-nil bytes),
+      initial_spelled notation.big format n word small is,
+      (tt, [], [], refl, (refl, held notation format n lt), (refl, refl)),
+    )

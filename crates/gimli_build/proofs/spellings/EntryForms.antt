@@ -1,5 +1,6 @@
 -- An entry of the files of version 5: its bytes spell it, and a file is read of it.
-use Rattle.std.proofs.Common.{◌≡◌, ℕ, ◌<◌, ◌^◌, Bool, true, false, List, [], ◌∷◌, ◌++◌, length, map, Option, Some, None, refl, sym, ap, ◌∙◌, subst, append_assoc, if◌then◌else◌}
+use Rattle.std.proofs.Common.{◌≡◌, ℕ, ◌<◌, ◌^◌, Bool, true, false, List, [], ◌∷◌, ◌++◌, length, map, Option, Some, None, refl, sym, ap, ◌∙◌, subst}
+use Rattle.std.proofs.Common.{append_assoc, if◌then◌else◌}
 use Rattle.std.specs.Prelude.{nat_eq, replicate}
 use Rattle.std.proofs.lemmas.List.{append-nil}
 use Rattle.gimli_core.specs.Notation.{Notation}
@@ -36,25 +37,35 @@ file_with time size has_digest source path directory timestamp bytes md5 text = 
 digest_read : (md5 : List ℕ) → length md5 ≡ 16 → digest (Block md5) ≡ Some md5
 digest_read md5 whole = ap (λ (n : ℕ). if nat_eq n 16 then Some md5 else None) whole
 
-with_digest : (o : Option (List ℕ)) (md5 : List ℕ) (f : ReadFile) → o ≡ Some md5 → record f { md5 = elim o [ Some x ↦ x | None ↦ replicate 16 0 ] } ≡ record f { md5 = md5 }
+with_digest : (o : Option (List ℕ)) (md5 : List ℕ) (f : ReadFile) → o ≡ Some md5
+    → record f { md5 = elim o [ Some x ↦ x | None ↦ replicate 16 0 ] } ≡ record f { md5 = md5 }
 with_digest o md5 f is = ap (λ (x : Option (List ℕ)). record f { md5 = elim x [ Some y ↦ y | None ↦ replicate 16 0 ] }) is
 
 pub file-read : (time size has_digest source : Bool) (path : Value) (directory timestamp bytes : ℕ) (md5 : List ℕ) (text : Value) → length md5 ≡ 16
-    → file_of_entry (entry_of time size has_digest source path directory timestamp bytes md5 text) ≡ file_with time size has_digest source path directory timestamp bytes md5 text
-file-read true true true true path directory timestamp bytes md5 text whole = with_digest (digest (Block md5)) md5 (file_with true true true true path directory timestamp bytes md5 text) (digest_read md5 whole)
-file-read true true true false path directory timestamp bytes md5 text whole = with_digest (digest (Block md5)) md5 (file_with true true true false path directory timestamp bytes md5 text) (digest_read md5 whole)
+    → file_of_entry (entry_of time size has_digest source path directory timestamp bytes md5 text)
+    ≡ file_with time size has_digest source path directory timestamp bytes md5 text
+file-read true true true true path directory timestamp bytes md5 text whole =
+    with_digest (digest (Block md5)) md5 (file_with true true true true path directory timestamp bytes md5 text) (digest_read md5 whole)
+file-read true true true false path directory timestamp bytes md5 text whole =
+    with_digest (digest (Block md5)) md5 (file_with true true true false path directory timestamp bytes md5 text) (digest_read md5 whole)
 file-read true true false true path directory timestamp bytes md5 text whole = refl
 file-read true true false false path directory timestamp bytes md5 text whole = refl
-file-read true false true true path directory timestamp bytes md5 text whole = with_digest (digest (Block md5)) md5 (file_with true false true true path directory timestamp bytes md5 text) (digest_read md5 whole)
-file-read true false true false path directory timestamp bytes md5 text whole = with_digest (digest (Block md5)) md5 (file_with true false true false path directory timestamp bytes md5 text) (digest_read md5 whole)
+file-read true false true true path directory timestamp bytes md5 text whole =
+    with_digest (digest (Block md5)) md5 (file_with true false true true path directory timestamp bytes md5 text) (digest_read md5 whole)
+file-read true false true false path directory timestamp bytes md5 text whole =
+    with_digest (digest (Block md5)) md5 (file_with true false true false path directory timestamp bytes md5 text) (digest_read md5 whole)
 file-read true false false true path directory timestamp bytes md5 text whole = refl
 file-read true false false false path directory timestamp bytes md5 text whole = refl
-file-read false true true true path directory timestamp bytes md5 text whole = with_digest (digest (Block md5)) md5 (file_with false true true true path directory timestamp bytes md5 text) (digest_read md5 whole)
-file-read false true true false path directory timestamp bytes md5 text whole = with_digest (digest (Block md5)) md5 (file_with false true true false path directory timestamp bytes md5 text) (digest_read md5 whole)
+file-read false true true true path directory timestamp bytes md5 text whole =
+    with_digest (digest (Block md5)) md5 (file_with false true true true path directory timestamp bytes md5 text) (digest_read md5 whole)
+file-read false true true false path directory timestamp bytes md5 text whole =
+    with_digest (digest (Block md5)) md5 (file_with false true true false path directory timestamp bytes md5 text) (digest_read md5 whole)
 file-read false true false true path directory timestamp bytes md5 text whole = refl
 file-read false true false false path directory timestamp bytes md5 text whole = refl
-file-read false false true true path directory timestamp bytes md5 text whole = with_digest (digest (Block md5)) md5 (file_with false false true true path directory timestamp bytes md5 text) (digest_read md5 whole)
-file-read false false true false path directory timestamp bytes md5 text whole = with_digest (digest (Block md5)) md5 (file_with false false true false path directory timestamp bytes md5 text) (digest_read md5 whole)
+file-read false false true true path directory timestamp bytes md5 text whole =
+    with_digest (digest (Block md5)) md5 (file_with false false true true path directory timestamp bytes md5 text) (digest_read md5 whole)
+file-read false false true false path directory timestamp bytes md5 text whole =
+    with_digest (digest (Block md5)) md5 (file_with false false true false path directory timestamp bytes md5 text) (digest_read md5 whole)
 file-read false false false true path directory timestamp bytes md5 text whole = refl
 file-read false false false false path directory timestamp bytes md5 text whole = refl
 
@@ -87,7 +98,8 @@ module _ (notation : Notation) (format : Format) where
   when_spelled false content form bytes v formats rest entry own after = after
 
   -- a value alone
-  pub last-spelled : (content form : ℕ) (bytes : List ℕ) (v : Value) → SpellsForm notation format form bytes v → IsSpelled ((content, form) ∷ []) bytes ((content, v) ∷ [])
+  pub last-spelled : (content form : ℕ) (bytes : List ℕ) (v : Value) → SpellsForm notation format form bytes v
+      → IsSpelled ((content, form) ∷ []) bytes ((content, v) ∷ [])
   last-spelled content form bytes v own = (v, bytes, [], sym (append-nil bytes), own, ([], [], [], refl, (refl, refl), (refl, refl)))
 
   source_spelled : (due : Bool) (form : ℕ) (bytes : List ℕ) (v : Value) → (due ≡ true → SpellsForm notation format form bytes v) → (due ≡ false → bytes ≡ [])
@@ -95,13 +107,17 @@ module _ (notation : Notation) (format : Format) where
   source_spelled true form bytes v own none = last-spelled 0x2001 form bytes v (own refl)
   source_spelled false form bytes v own none = (none refl, refl)
 
-  pub entry-spelled : (time size has_digest source : Bool) (path_form source_form : ℕ) (path : Value) (directory timestamp count : ℕ) (md5 : List ℕ) (text : Value) (path_bytes source_bytes : List ℕ)
+  pub entry-spelled : (time size has_digest source : Bool) (path_form source_form : ℕ) (path : Value) (directory timestamp count : ℕ) (md5 : List ℕ)
+      (text : Value) (path_bytes source_bytes : List ℕ)
       → SpellsForm notation format path_form path_bytes path → directory < 2 ^ 64 → timestamp < 2 ^ 64 → count < 2 ^ 64 → length md5 ≡ 16
       → (source ≡ true → SpellsForm notation format source_form source_bytes text) → (source ≡ false → source_bytes ≡ [])
       → IsSpelled (formats_of time size has_digest source path_form source_form)
-      (path_bytes ++ ((uleb directory ++ (if time then uleb timestamp else []) ++ (if size then uleb count else []) ++ (if has_digest then md5 else [])) ++ source_bytes))
+      (path_bytes
+      ++ ((uleb directory ++ (if time then uleb timestamp else []) ++ (if size then uleb count else []) ++ (if has_digest then md5 else []))
+      ++ source_bytes))
       (entry_of time size has_digest source path directory timestamp count md5 text)
-  entry-spelled time size has_digest source path_form source_form path directory timestamp count md5 text path_bytes source_bytes path_own d t s m source_own source_none =
+  entry-spelled time size has_digest source path_form source_form path directory timestamp count md5 text path_bytes source_bytes path_own d t s m source_own
+      source_none =
       let fourth_formats = when source (0x2001, source_form) in
       let third_formats = when has_digest (0x0005, 0x1e) ++ fourth_formats in
       let second_formats = when size (0x0004, 0x0f) ++ third_formats in
@@ -116,8 +132,14 @@ module _ (notation : Notation) (format : Format) where
       let fourth = source_spelled source source_form source_bytes text source_own source_none in
       let third = when_spelled has_digest 0x0005 0x1e md5 (Block md5) fourth_formats source_bytes fourth_entry (digest_spelled md5 m) fourth in
       let second = when_spelled size 0x0004 0x0f (uleb count) (Udata count) third_formats third_bytes third_entry (udata_spelled count s) third in
-      let first = when_spelled time 0x0003 0x0f (uleb timestamp) (Udata timestamp) second_formats second_bytes second_entry (udata_spelled timestamp t) second in
+      let first =
+      when_spelled time 0x0003 0x0f (uleb timestamp) (Udata timestamp) second_formats second_bytes second_entry (udata_spelled timestamp t) second in
       let index = value-spelled 0x0002 0x0f (uleb directory) (Udata directory) first_formats first_bytes first_entry (udata_spelled directory d) first in
-      let whole = value-spelled 0x0001 path_form path_bytes path ((0x0002, 0x0f) ∷ first_formats) (uleb directory ++ first_bytes) ((0x0002, Udata directory) ∷ first_entry) path_own index in
-      subst (λ (l : List ℕ). IsSpelled (formats_of time size has_digest source path_form source_form) (path_bytes ++ l) (entry_of time size has_digest source path directory timestamp count md5 text))
-      (sym (regrouped (uleb directory) (if time then uleb timestamp else []) (if size then uleb count else []) (if has_digest then md5 else []) source_bytes)) whole
+      let whole =
+      value-spelled 0x0001 path_form path_bytes path ((0x0002, 0x0f) ∷ first_formats) (uleb directory ++ first_bytes)
+      ((0x0002, Udata directory) ∷ first_entry) path_own index in
+      subst (λ (l : List ℕ).
+      IsSpelled (formats_of time size has_digest source path_form source_form) (path_bytes ++ l)
+      (entry_of time size has_digest source path directory timestamp count md5 text))
+      (sym (regrouped (uleb directory) (if time then uleb timestamp else []) (if size then uleb count else []) (if has_digest then md5 else []) source_bytes))
+      whole

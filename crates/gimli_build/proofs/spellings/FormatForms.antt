@@ -40,8 +40,14 @@ abbrev one_bytes : ℕ × ℕ → List ℕ
 one_bytes f = uleb f.0 ++ uleb f.1
 
 one_spelled : (f : ℕ × ℕ) → IsFormat f → format_production.Spells (one_bytes f) (read_format f)
-one_spelled f is =
-    (f.0, uleb f.0, uleb f.1, refl, (uleb_shortest f.0 is.fits).spells, (f.1, uleb f.1, [], sym (append-nil (uleb f.1)), small_spelled f.1 is.form, (refl, whole f.0 (min f.0 0xffff) is.content)))
+one_spelled f is = (
+  f.0,
+  uleb f.0,
+  uleb f.1,
+  refl,
+  (uleb_shortest f.0 is.fits).spells,
+  (f.1, uleb f.1, [], sym (append-nil (uleb f.1)), small_spelled f.1 is.form, (refl, whole f.0 (min f.0 0xffff) is.content)),
+)
   where
     whole : (content least : ℕ) → least ≡ content → read_format (content, f.1) ≡ record { content_type = record { 0 = least }; form = record { 0 = f.1 } }
     whole content least same = rw same refl
@@ -65,11 +71,18 @@ last_spelled true f is = more_spelled f [] is (refl, refl)
 last_spelled false f is = (refl, refl)
 
 -- formats one of which is a path, after their number
-formats_spelled : (formats : List (ℕ × ℕ)) → AreSpelled formats → count_by (is_content 0x0001) (map read_format formats) ≡ 1 → SpellsFormats (formats_bytes formats) (map read_format formats)
+formats_spelled : (formats : List (ℕ × ℕ)) → AreSpelled formats → count_by (is_content 0x0001) (map read_format formats) ≡ 1
+    → SpellsFormats (formats_bytes formats) (map read_format formats)
 formats_spelled formats spelled one =
     let bytes = flat_map one_bytes formats in
-    let list = map read_format formats in
-    (length formats, length formats ∷ [], bytes, refl, refl, (list, bytes, [], sym (append-nil bytes), spelled, (tt, [], [], refl, (refl, rw one refl), (refl, refl))))
+    let list = map read_format formats in (
+      length formats,
+      length formats ∷ [],
+      bytes,
+      refl,
+      refl,
+      (list, bytes, [], sym (append-nil bytes), spelled, (tt, [], [], refl, (refl, rw one refl), (refl, refl))),
+    )
 
 -- ---- the tables
 
@@ -93,19 +106,24 @@ directory-formats p =
 -- the formats of files, where the flags are these
 abbrev pub formats_of : (time size digest source : Bool) (path_form source_form : ℕ) → List (ℕ × ℕ)
 formats_of time size digest source path_form source_form =
-    (0x0001, path_form) ∷ (0x0002, 0x0f) ∷ (when time (0x0003, 0x0f) ++ (when size (0x0004, 0x0f) ++ (when digest (0x0005, 0x1e) ++ when source (0x2001, source_form))))
+    (0x0001, path_form) ∷ (0x0002, 0x0f)
+    ∷ (when time (0x0003, 0x0f) ++ (when size (0x0004, 0x0f) ++ (when digest (0x0005, 0x1e) ++ when source (0x2001, source_form))))
 
 -- four parts one after the other
 pub nested : {A : Type 0} (a b c d : List A) → a ++ b ++ c ++ d ≡ a ++ (b ++ (c ++ d))
 nested a b c d = append_assoc (a ++ b) c d ∙ append_assoc a b (c ++ d)
 
 pub formats-same : (p : Built)
-    → file_formats p ≡ formats_of p.file_has_timestamp p.file_has_size p.file_has_md5 p.file_has_source (first_form (path_texts p.files)) (first_form (sources p.files))
+    → file_formats p
+    ≡ formats_of p.file_has_timestamp p.file_has_size p.file_has_md5 p.file_has_source (first_form (path_texts p.files)) (first_form (sources p.files))
 formats-same p =
-    let parts = nested (when p.file_has_timestamp (0x0003, 0x0f)) (when p.file_has_size (0x0004, 0x0f)) (when p.file_has_md5 (0x0005, 0x1e)) (when p.file_has_source (0x2001, first_form (sources p.files))) in
+    let parts =
+    nested (when p.file_has_timestamp (0x0003, 0x0f)) (when p.file_has_size (0x0004, 0x0f)) (when p.file_has_md5 (0x0005, 0x1e))
+    (when p.file_has_source (0x2001, first_form (sources p.files))) in
     ap (λ (l : List (ℕ × ℕ)). (0x0001, first_form (path_texts p.files)) ∷ (0x0002, 0x0f) ∷ l) parts
 
-one_path : (time size digest source : Bool) (path_form source_form : ℕ) → count_by (is_content 0x0001) (map read_format (formats_of time size digest source path_form source_form)) ≡ 1
+one_path : (time size digest source : Bool) (path_form source_form : ℕ)
+    → count_by (is_content 0x0001) (map read_format (formats_of time size digest source path_form source_form)) ≡ 1
 one_path true true true true a b = refl
 one_path true true true false a b = refl
 one_path true true false true a b = refl
@@ -123,7 +141,8 @@ one_path false false true false a b = refl
 one_path false false false true a b = refl
 one_path false false false false a b = refl
 
-of_spelled : (time size digest source : Bool) (path_form source_form : ℕ) → path_form < 128 → source_form < 128 → AreSpelled (formats_of time size digest source path_form source_form)
+of_spelled : (time size digest source : Bool) (path_form source_form : ℕ) → path_form < 128 → source_form < 128
+    → AreSpelled (formats_of time size digest source path_form source_form)
 of_spelled time size digest source path_form source_form path_small source_small =
     let sources = when source (0x2001, source_form) in
     let digests = when digest (0x0005, 0x1e) ++ sources in
@@ -143,5 +162,6 @@ file-formats p =
     let list = formats_of p.file_has_timestamp p.file_has_size p.file_has_md5 p.file_has_source path_form source_form in
     subst (λ (l : List (ℕ × ℕ)). SpellsFormats (formats_bytes l) (map read_format l)) (sym (formats-same p))
     (formats_spelled list
-    (of_spelled p.file_has_timestamp p.file_has_size p.file_has_md5 p.file_has_source path_form source_form (first_form_small (path_texts p.files)) (first_form_small (sources p.files)))
+    (of_spelled p.file_has_timestamp p.file_has_size p.file_has_md5 p.file_has_source path_form source_form (first_form_small (path_texts p.files))
+    (first_form_small (sources p.files)))
     (one_path p.file_has_timestamp p.file_has_size p.file_has_md5 p.file_has_source path_form source_form))

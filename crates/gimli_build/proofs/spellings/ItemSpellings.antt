@@ -25,7 +25,8 @@ use Rattle.gimli_build.specs.Items.{item_bytes, items_bytes, items_instructions,
 use Rattle.gimli_build.proofs.spellings.Spellings.{each-spelled, all_row, all_end, address-spelled}
 
 -- both parts were written
-joined_ok : (r s : Result (List ℕ) Error) (bytes : List ℕ) → result_append r s ≡ Ok bytes → (a : List ℕ) × (b : List ℕ) × (r ≡ Ok a) × (s ≡ Ok b) × (bytes ≡ a ++ b)
+joined_ok : (r s : Result (List ℕ) Error) (bytes : List ℕ) → result_append r s ≡ Ok bytes
+    → (a : List ℕ) × (b : List ℕ) × (r ≡ Ok a) × (s ≡ Ok b) × (bytes ≡ a ++ b)
 joined_ok (Ok a) (Ok b) bytes e = let p : a ++ b ≡ bytes = cc in (a, b, refl, refl, sym p)
 joined_ok (Ok a) (Err d) bytes e = absurd cc
 joined_ok (Err d) s bytes e = absurd cc
@@ -44,35 +45,47 @@ module _ (notation : Notation) (h : Header) (base : h.parameters.opcode_base ≡
   same_bytes : (a b : List ℕ) → ◌≡◌ {A = Result (List ℕ) Error} (Ok a) (Ok b) → b ≡ a
   same_bytes a b e = let p : a ≡ b = cc in sym p
 
-  pub items-spelled : (previous : LineRow) (items : List BuiltItem) (bytes : List ℕ) → previous.line < 2 ^ 63 → AreBuilt e (previous.address_offset, previous.op_index) items → AreFit h.parameters.encoding.version items
-      → items_bytes notation.big h.parameters.encoding e previous items ≡ Ok bytes → Spelled bytes (items_instructions h.parameters.encoding.version e previous items)
+  pub items-spelled : (previous : LineRow) (items : List BuiltItem) (bytes : List ℕ) → previous.line < 2 ^ 63
+      → AreBuilt e (previous.address_offset, previous.op_index) items → AreFit h.parameters.encoding.version items
+      → items_bytes notation.big h.parameters.encoding e previous items ≡ Ok bytes
+      → Spelled bytes (items_instructions h.parameters.encoding.version e previous items)
   items-spelled previous [] bytes line built fit is = same_bytes [] bytes is
   items-spelled previous (SetAddress (Constant a) ∷ items) bytes line built fit is =
       let next : LineRow = record previous { address_offset = 0; op_index = 0 } in
-      let p = joined_ok (item_bytes notation.big h.parameters.encoding e previous (SetAddress (Constant a))) (items_bytes notation.big h.parameters.encoding e next items) bytes is in
+      let p =
+      joined_ok (item_bytes notation.big h.parameters.encoding e previous (SetAddress (Constant a)))
+      (items_bytes notation.big h.parameters.encoding e next items) bytes is in
       each_joined p.0 p.1 bytes (read.SetAddress a ∷ []) (items_instructions h.parameters.encoding.version e next items) p.4
       (p.0, [], sym (append-nil p.0), address-spelled notation h base wide a p.0 p.2, refl) (items-spelled next items p.1 line built.1 fit.1 p.3)
   items-spelled previous (SetAddress (Symbol s d) ∷ items) bytes line built fit is = absurd cc
   items-spelled previous (Row r ∷ items) bytes line built fit is =
       let version = h.parameters.encoding.version in
-      let p = joined_ok (item_bytes notation.big h.parameters.encoding e previous (Row r)) (items_bytes notation.big h.parameters.encoding e r items) bytes is in
+      let p =
+      joined_ok (item_bytes notation.big h.parameters.encoding e previous (Row r)) (items_bytes notation.big h.parameters.encoding e r items) bytes is in
       let own = each-spelled notation h base wide (row_instructions version e previous r) (all_row version e previous r can built.0.0 line fit.0) in
       each_joined p.0 p.1 bytes (row_instructions version e previous r) (items_instructions version e r items) p.4
       (rw (same_bytes (instructions_bytes (row_instructions version e previous r)) p.0 p.2) own) (items-spelled r items p.1 built.0.1 built.1 fit.1 p.3)
   items-spelled previous (End o i ∷ items) bytes line built fit is =
       let version = h.parameters.encoding.version in
       let next : LineRow = initial_row version e.default_is_stmt in
-      let p = joined_ok (item_bytes notation.big h.parameters.encoding e previous (End o i)) (items_bytes notation.big h.parameters.encoding e next items) bytes is in
+      let p =
+      joined_ok (item_bytes notation.big h.parameters.encoding e previous (End o i)) (items_bytes notation.big h.parameters.encoding e next items) bytes
+      is in
       let own = each-spelled notation h base wide (end_instructions e previous o i) (all_end e previous o i built.0) in
       each_joined p.0 p.1 bytes (end_instructions e previous o i) (items_instructions version e next items) p.4
       (rw (same_bytes (instructions_bytes (end_instructions e previous o i)) p.0 p.2) own) (items-spelled next items p.1 (lit< tt) built.1 fit.1 p.3)
 
 -- the same where the header has this encoding
-pub items-spelled-under : (notation : Notation) (h : Header) (encoding : Encoding) (e : LineEncoding) (previous : LineRow) (items : List BuiltItem) (bytes : List ℕ)
-    → h.parameters.encoding ≡ encoding → h.parameters.opcode_base ≡ 13 → 11 < notation.limit → CanEncode e → previous.line < 2 ^ 63 → AreBuilt e (previous.address_offset, previous.op_index) items
-    → AreFit encoding.version items → items_bytes notation.big encoding e previous items ≡ Ok bytes → Each (SpellsInstruction notation h) bytes (items_instructions encoding.version e previous items)
+pub items-spelled-under : (notation : Notation) (h : Header) (encoding : Encoding) (e : LineEncoding) (previous : LineRow) (items : List BuiltItem)
+    (bytes : List ℕ)
+    → h.parameters.encoding ≡ encoding → h.parameters.opcode_base ≡ 13 → 11 < notation.limit → CanEncode e → previous.line < 2 ^ 63
+    → AreBuilt e (previous.address_offset, previous.op_index) items
+    → AreFit encoding.version items → items_bytes notation.big encoding e previous items ≡ Ok bytes
+    → Each (SpellsInstruction notation h) bytes (items_instructions encoding.version e previous items)
 items-spelled-under notation h encoding e previous items bytes same base wide can line built fit written =
-    subst (λ (x : Encoding). AreFit x.version items → items_bytes notation.big x e previous items ≡ Ok bytes → Each (SpellsInstruction notation h) bytes (items_instructions x.version e previous items))
+    subst (λ (x : Encoding).
+    AreFit x.version items → items_bytes notation.big x e previous items ≡ Ok bytes
+    → Each (SpellsInstruction notation h) bytes (items_instructions x.version e previous items))
     same (items-spelled notation h base wide e can previous items bytes line built) fit written
 
 -- what is true of bytes wherever they are written

@@ -1,6 +1,7 @@
 -- The bytes of an instruction spell it.
 use Rattle.std.proofs.Common.{◌≡◌, ℕ, ◌+◌, ◌-◌, ◌*◌, ◌^◌, ◌<◌, ◌≤◌, Bool, true, false, List, [], ◌∷◌, ◌++◌, length, refl, sym, ap, arith, lit<, Ok}
-use Rattle.std.specs.Prelude.{nat_lt, nat_eq, nat_le, ◌||◌, not, if◌then◌else◌, Result, Err, ℤ, pos, ◌+ℤ◌, ◌-ℤ◌, ◌≤ℤ◌, ◌<ℤ◌, unsigned_abs, int_le, int_lt, FitsSigned}
+use Rattle.std.specs.Prelude.{nat_lt, nat_eq, nat_le, ◌||◌, not, if◌then◌else◌, Result, Err, ℤ, pos, ◌+ℤ◌, ◌-ℤ◌, ◌≤ℤ◌, ◌<ℤ◌, unsigned_abs, int_le, int_lt}
+use Rattle.std.specs.Prelude.{FitsSigned}
 use Rattle.std.specs.Int.{w64}
 use Rattle.std.proofs.Common.{rules}
 use Rattle.std.proofs.lemmas.Int.{ints}
@@ -24,12 +25,15 @@ use Rattle.gimli_bytes.proofs.ShortestSleb.{sleb_shortest}
 use Rattle.gimli_line.specs.header.Header.{Header}
 use Rattle.gimli_line.specs.run.Instruction.{Ins}
 use Rattle.gimli_line.specs.run.InstructionGrammar.{standard_production, extended_operands, SpellsInstruction}
-use Rattle.gimli_line.specs.declared.run.instruction.LineInstruction.TheVariants.{Special, Copy, AdvancePc, AdvanceLine, SetFile, SetColumn, NegateStatement, SetBasicBlock, ConstAddPc, SetPrologueEnd, SetEpilogueBegin, SetIsa, EndSequence, SetAddress, SetDiscriminator}
+use Rattle.gimli_line.specs.declared.run.instruction.LineInstruction.TheVariants.{Special, Copy, AdvancePc, AdvanceLine, SetFile, SetColumn, NegateStatement}
+use Rattle.gimli_line.specs.declared.run.instruction.LineInstruction.TheVariants.{SetBasicBlock, ConstAddPc, SetPrologueEnd, SetEpilogueBegin, SetIsa}
+use Rattle.gimli_line.specs.declared.run.instruction.LineInstruction.TheVariants.{EndSequence, SetAddress, SetDiscriminator}
 use Rattle.gimli_build.specs.declared.built.row.LineRow.{LineRow}
 use Rattle.gimli_build.specs.FileNumber.{file_number}
 use Rattle.gimli_build.specs.Advance.{CanEncode, CanFollow, operations}
 use Rattle.gimli_build.specs.Due.{when}
-use Rattle.gimli_build.specs.Encode.{marks, changes, differ, line_part, line_opcode, is_special_advance, still_opcode, row_maker, constant_advance, operation_part, row_instructions, end_instructions}
+use Rattle.gimli_build.specs.Encode.{marks, changes, differ, line_part, line_opcode, is_special_advance, still_opcode, row_maker, constant_advance}
+use Rattle.gimli_build.specs.Encode.{operation_part, row_instructions, end_instructions}
 use Rattle.gimli_build.specs.InstructionBytes.{instruction_bytes, instructions_bytes, set_address_bytes, IsWritten, FitsInstructions}
 
 module _ (notation : Notation) (h : Header) (base : h.parameters.opcode_base ≡ 13) (wide : 11 < notation.limit) where
@@ -83,37 +87,65 @@ module _ (notation : Notation) (h : Header) (base : h.parameters.opcode_base ≡
       let above : nat_le h.parameters.opcode_base o ≡ true = le-leb h.parameters.opcode_base o (omega (arith, base, w.0)) in
       (o, o ∷ [], [], refl, refl, rw (opened, above) (refl, refl))
   instruction-spelled Copy w = standard 1 [] Copy (lit< tt) (lit< tt) (refl, refl)
-  instruction-spelled (AdvancePc n) w = standard 2 (uleb n) (AdvancePc n) (lit< tt) (lit< tt) (n, uleb n, [], sym (append-nil (uleb n)), unsigned_spelled n w, (refl, refl))
-  instruction-spelled (AdvanceLine z) w = standard 3 (sleb z) (AdvanceLine z) (lit< tt) (lit< tt) (z, sleb z, [], sym (append-nil (sleb z)), (sleb_shortest z w).spells, (refl, refl))
-  instruction-spelled (SetFile n) w = standard 4 (uleb n) (SetFile n) (lit< tt) (lit< tt) (n, uleb n, [], sym (append-nil (uleb n)), unsigned_spelled n w, (refl, refl))
-  instruction-spelled (SetColumn n) w = standard 5 (uleb n) (SetColumn n) (lit< tt) (lit< tt) (n, uleb n, [], sym (append-nil (uleb n)), unsigned_spelled n w, (refl, refl))
+  instruction-spelled (AdvancePc n) w =
+      standard 2 (uleb n) (AdvancePc n) (lit< tt) (lit< tt) (n, uleb n, [], sym (append-nil (uleb n)), unsigned_spelled n w, (refl, refl))
+  instruction-spelled (AdvanceLine z) w =
+      standard 3 (sleb z) (AdvanceLine z) (lit< tt) (lit< tt) (z, sleb z, [], sym (append-nil (sleb z)), (sleb_shortest z w).spells, (refl, refl))
+  instruction-spelled (SetFile n) w =
+      standard 4 (uleb n) (SetFile n) (lit< tt) (lit< tt) (n, uleb n, [], sym (append-nil (uleb n)), unsigned_spelled n w, (refl, refl))
+  instruction-spelled (SetColumn n) w =
+      standard 5 (uleb n) (SetColumn n) (lit< tt) (lit< tt) (n, uleb n, [], sym (append-nil (uleb n)), unsigned_spelled n w, (refl, refl))
   instruction-spelled NegateStatement w = standard 6 [] NegateStatement (lit< tt) (lit< tt) (refl, refl)
   instruction-spelled SetBasicBlock w = standard 7 [] SetBasicBlock (lit< tt) (lit< tt) (refl, refl)
   instruction-spelled ConstAddPc w = standard 8 [] ConstAddPc (lit< tt) (lit< tt) (refl, refl)
   instruction-spelled SetPrologueEnd w = standard 10 [] SetPrologueEnd (lit< tt) (lit< tt) (refl, refl)
   instruction-spelled SetEpilogueBegin w = standard 11 [] SetEpilogueBegin (lit< tt) (lit< tt) (refl, refl)
-  instruction-spelled (SetIsa n) w = standard 12 (uleb n) (SetIsa n) (lit< tt) (lit< tt) (n, uleb n, [], sym (append-nil (uleb n)), unsigned_spelled n w, (refl, refl))
+  instruction-spelled (SetIsa n) w =
+      standard 12 (uleb n) (SetIsa n) (lit< tt) (lit< tt) (n, uleb n, [], sym (append-nil (uleb n)), unsigned_spelled n w, (refl, refl))
   instruction-spelled EndSequence w =
       extended (1 ∷ []) 1 [] EndSequence (record { groups = (lit< tt, refl); short = lit< tt; fits = lit< tt }) (omega (arith, wide))
       ((EndSequence, []), [], [], refl, (refl, ([], refl, (refl, refl))), (refl, refl))
   instruction-spelled (SetDiscriminator n) w =
       let short = unsigned_short n w in
-      extended (uleb (length (uleb n) + 1)) 4 (uleb n) (SetDiscriminator n) (unsigned_spelled (length (uleb n) + 1) (omega (arith, short))) (omega (arith, short, wide))
-      ((SetDiscriminator n, []), [], [], refl, (refl, (uleb n, sym (append-nil (uleb n)), (n, uleb n, [], sym (append-nil (uleb n)), unsigned_spelled n w, (refl, refl)))), (refl, refl))
+      extended (uleb (length (uleb n) + 1)) 4 (uleb n) (SetDiscriminator n) (unsigned_spelled (length (uleb n) + 1) (omega (arith, short)))
+      (omega (arith, short, wide)) (
+        (SetDiscriminator n, []),
+        [],
+        [],
+        refl,
+        (refl, (uleb n, sym (append-nil (uleb n)), (n, uleb n, [], sym (append-nil (uleb n)), unsigned_spelled n w, (refl, refl)))),
+        (refl, refl),
+      )
   instruction-spelled i w = absurd w
 
   -- the operand of a set address, where there is one, is the number
   abbrev Operand : ℕ → List ℕ → Type 0
-  Operand a bytes = (size : ℕ) × (h.parameters.encoding.address_size ≡ size) × (size ≤ 8) × (a < 256 ^ size) × (bytes ≡ 0 ∷ uleb (size + 1) ++ 2 ∷ number_bytes notation.big size a)
+  Operand a bytes =
+      (size : ℕ) × (h.parameters.encoding.address_size ≡ size) × (size ≤ 8) × (a < 256 ^ size)
+      × (bytes ≡ 0 ∷ uleb (size + 1) ++ 2 ∷ number_bytes notation.big size a)
 
   address_written : (a : ℕ) (bytes : List ℕ) → Operand a bytes → SpellsInstruction notation h bytes (SetAddress a)
   address_written a bytes (size, is, small, fits, written) =
       let operand : SpellsNumber notation.big size (number_bytes notation.big size a) a = number_spelled notation.big size a fits in
       let counted : length (number_bytes notation.big size a) + 1 ≡ size + 1 = ap (λ (n : ℕ). n + 1) operand.size_is in
       let held : SpellsNumber notation.big h.parameters.encoding.address_size (number_bytes notation.big size a) a = rw is operand in
-      let number : SpellsUleb128 64 (uleb (size + 1)) (length (number_bytes notation.big size a) + 1) = rw counted (unsigned_spelled (size + 1) (omega (arith, small))) in
-      rw written (extended (uleb (size + 1)) 2 (number_bytes notation.big size a) (SetAddress a) number (omega (arith, counted, small, wide))
-      ((SetAddress a, []), [], [], refl, (refl, (number_bytes notation.big size a, sym (append-nil (number_bytes notation.big size a)), (a, number_bytes notation.big size a, [], sym (append-nil (number_bytes notation.big size a)), held, (refl, refl)))), (refl, refl)))
+      let number : SpellsUleb128 64 (uleb (size + 1)) (length (number_bytes notation.big size a) + 1) =
+      rw counted (unsigned_spelled (size + 1) (omega (arith, small))) in
+      rw written (extended (uleb (size + 1)) 2 (number_bytes notation.big size a) (SetAddress a) number (omega (arith, counted, small, wide)) (
+        (SetAddress a, []),
+        [],
+        [],
+        refl,
+        (
+          refl,
+          (
+            number_bytes notation.big size a,
+            sym (append-nil (number_bytes notation.big size a)),
+            (a, number_bytes notation.big size a, [], sym (append-nil (number_bytes notation.big size a)), held, (refl, refl)),
+          ),
+        ),
+        (refl, refl),
+      ))
 
   -- a set address that is written
   address_operand : (a : ℕ) (bytes : List ℕ) → set_address_bytes notation.big (Constant a) h.parameters.encoding.address_size ≡ Ok bytes → Operand a bytes
@@ -122,8 +154,13 @@ module _ (notation : Notation) (h : Header) (base : h.parameters.opcode_base ≡
       sized : (size : ℕ) → (nat_eq size 1 || nat_eq size 2 || nat_eq size 3 || nat_eq size 4 || nat_eq size 8) ≡ true → size ≤ 8
       sized size t = grind (arith, nat_tests)
 
-      tested : (size : ℕ) → h.parameters.encoding.address_size ≡ size → (b c : Bool) → (nat_eq size 1 || nat_eq size 2 || nat_eq size 3 || nat_eq size 4 || nat_eq size 8) ≡ b → nat_lt a (256 ^ size) ≡ c
-          → (let r : Result (List ℕ) Error = if b then (if c then Ok (number_bytes notation.big size a) else Err ValueTooLarge) else Err (UnsupportedWordSize size) in result_map (λ operand. 0 ∷ uleb (size + 1) ++ 2 ∷ operand) r) ≡ Ok bytes → Operand a bytes
+      tested : (size : ℕ) → h.parameters.encoding.address_size ≡ size → (b c : Bool)
+          → (nat_eq size 1 || nat_eq size 2 || nat_eq size 3 || nat_eq size 4 || nat_eq size 8) ≡ b → nat_lt a (256 ^ size) ≡ c
+          → (let r : Result (List ℕ) Error = if b then (if c then Ok (number_bytes notation.big size a) else Err ValueTooLarge)
+          else Err (UnsupportedWordSize size) in
+          result_map (λ operand. 0 ∷ uleb (size + 1) ++ 2 ∷ operand) r)
+          ≡ Ok bytes
+          → Operand a bytes
       tested size same true true t u is =
           let written : 0 ∷ uleb (size + 1) ++ 2 ∷ number_bytes notation.big size a ≡ bytes = cc in
           (size, same, sized size t, ltb-true a (256 ^ size) u, sym written)
@@ -131,10 +168,12 @@ module _ (notation : Notation) (h : Header) (base : h.parameters.opcode_base ≡
       tested size same false c t u is = absurd cc
 
       by : (size : ℕ) → h.parameters.encoding.address_size ≡ size → set_address_bytes notation.big (Constant a) size ≡ Ok bytes → Operand a bytes
-      by size same is = tested size same (nat_eq size 1 || nat_eq size 2 || nat_eq size 3 || nat_eq size 4 || nat_eq size 8) (nat_lt a (256 ^ size)) refl refl is
+      by size same is =
+          tested size same (nat_eq size 1 || nat_eq size 2 || nat_eq size 3 || nat_eq size 4 || nat_eq size 8) (nat_lt a (256 ^ size)) refl refl is
 
   -- a set address that is written spells it
-  pub address-spelled : (a : ℕ) (bytes : List ℕ) → set_address_bytes notation.big (Constant a) h.parameters.encoding.address_size ≡ Ok bytes → SpellsInstruction notation h bytes (SetAddress a)
+  pub address-spelled : (a : ℕ) (bytes : List ℕ) → set_address_bytes notation.big (Constant a) h.parameters.encoding.address_size ≡ Ok bytes
+      → SpellsInstruction notation h bytes (SetAddress a)
   address-spelled a bytes is = address_written a bytes (address_operand a bytes is)
 
   -- instructions one after the other
@@ -194,7 +233,9 @@ all_line e d fits = by (is_special_advance e d)
 line_opcode_is : (e : LineEncoding) (d : ℤ) → CanEncode e → (13 ≤ line_opcode e d) × (line_opcode e d ≤ 255)
 line_opcode_is e d can = by (is_special_advance e d) refl
   where
-    by : (b : Bool) → is_special_advance e d ≡ b → (13 ≤ (if b then 13 + unsigned_abs (d -ℤ e.line_base) else still_opcode e)) × ((if b then 13 + unsigned_abs (d -ℤ e.line_base) else still_opcode e) ≤ 255)
+    by : (b : Bool) → is_special_advance e d ≡ b
+        → (13 ≤ (if b then 13 + unsigned_abs (d -ℤ e.line_base) else still_opcode e))
+        × ((if b then 13 + unsigned_abs (d -ℤ e.line_base) else still_opcode e) ≤ 255)
     by true t =
         let two = and_parts (int_le e.line_base d) (int_lt d (e.line_base +ℤ pos e.line_range)) t in
         let low : e.line_base ≤ℤ d = grind (arith, ints) in
@@ -212,14 +253,17 @@ all_operations e s n low high fits = by (nat_le (s + n * e.line_range) 255) refl
         → AllByRecursion IsWritten (if b then row_maker e (s + n * e.line_range) ∷ []
         else (if c then ConstAddPc ∷ row_maker e (s + (n - constant_advance e) * e.line_range) ∷ [] else AdvancePc n ∷ row_maker e s ∷ []))
     by true t c u = let le : s + n * e.line_range ≤ 255 = grind (arith, nat_tests) in (maker_written e (s + n * e.line_range) (omega arith) le, tt)
-    by false t true u = let le : s + (n - constant_advance e) * e.line_range ≤ 255 = grind (arith, nat_tests) in (tt, (maker_written e (s + (n - constant_advance e) * e.line_range) (omega arith) le, tt))
+    by false t true u =
+        let le : s + (n - constant_advance e) * e.line_range ≤ 255 = grind (arith, nat_tests) in
+        (tt, (maker_written e (s + (n - constant_advance e) * e.line_range) (omega arith) le, tt))
     by false t false u = (fits, (maker_written e s low high, tt))
 
 -- the operations to a position that can follow are fewer than 2 ^ 64
 operations_fit : (e : LineEncoding) (p j o i : ℕ) → CanFollow e p j o i → operations e p j o i < 2 ^ 64
 operations_fit e p j o i follows = omega (arith, follows.fits)
 
-pub all_row : (version : ℕ) (e : LineEncoding) (previous built : LineRow) → CanEncode e → CanFollow e previous.address_offset previous.op_index built.address_offset built.op_index → previous.line < 2 ^ 63 → FitsInstructions version built
+pub all_row : (version : ℕ) (e : LineEncoding) (previous built : LineRow) → CanEncode e
+    → CanFollow e previous.address_offset previous.op_index built.address_offset built.op_index → previous.line < 2 ^ 63 → FitsInstructions version built
     → AllByRecursion IsWritten (row_instructions version e previous built)
 all_row version e previous built can follows from fits =
     let d = pos built.line -ℤ pos previous.line in
@@ -231,7 +275,9 @@ all_row version e previous built can follows from fits =
     all_append (marks built ++ changes version previous built ++ line_part e d) (operation_part e (line_opcode e d) n) a123
     (all_operations e (line_opcode e d) n s.0 s.1 (operations_fit e previous.address_offset previous.op_index built.address_offset built.op_index follows))
 
-pub all_end : (e : LineEncoding) (previous : LineRow) (o i : ℕ) → CanFollow e previous.address_offset previous.op_index o i → AllByRecursion IsWritten (end_instructions e previous o i)
+pub all_end : (e : LineEncoding) (previous : LineRow) (o i : ℕ) → CanFollow e previous.address_offset previous.op_index o i
+    → AllByRecursion IsWritten (end_instructions e previous o i)
 all_end e previous o i follows =
     let n = operations e previous.address_offset previous.op_index o i in
-    all_append (when (not (nat_eq n 0)) (AdvancePc n)) (EndSequence ∷ []) (all_when (not (nat_eq n 0)) (AdvancePc n) (operations_fit e previous.address_offset previous.op_index o i follows)) (tt, tt)
+    all_append (when (not (nat_eq n 0)) (AdvancePc n)) (EndSequence ∷ [])
+    (all_when (not (nat_eq n 0)) (AdvancePc n) (operations_fit e previous.address_offset previous.op_index o i follows)) (tt, tt)

@@ -32,7 +32,8 @@ module _ (texts : StringTables) where
 
   -- ---- directories
 
-  names_spelled : (ts : List LineText) (bytes : List ℕ) → All IsNotEmpty ts → All HasNoZero ts → result_concat name_bytes ts ≡ Ok bytes → Each name.Spells bytes (map (bytes_in texts) ts)
+  names_spelled : (ts : List LineText) (bytes : List ℕ) → All IsNotEmpty ts → All HasNoZero ts → result_concat name_bytes ts ≡ Ok bytes
+      → Each name.Spells bytes (map (bytes_in texts) ts)
   names_spelled [] bytes some clean is = same_written [] bytes is
   names_spelled (t ∷ ts) bytes some clean is =
       let b = both_written (name_bytes t) (result_concat name_bytes ts) bytes is in
@@ -73,23 +74,30 @@ module _ (texts : StringTables) where
     ),
   )
 
-  file_spelled : (f : File) (bytes : List ℕ) → IsNotEmpty f.0.0 → HasNoZero f.0.0 → FitsFile f → file_bytes f ≡ Ok bytes → entry_production.Spells bytes (read_file f)
+  file_spelled : (f : File) (bytes : List ℕ) → IsNotEmpty f.0.0 → HasNoZero f.0.0 → FitsFile f → file_bytes f ≡ Ok bytes
+      → entry_production.Spells bytes (read_file f)
   file_spelled f bytes some clean fits is =
       let b = before_written (name_bytes f.0.0) (uleb f.0.1 ++ uleb f.1.timestamp ++ uleb f.1.size) bytes is in
       let path = bytes_in texts f.0.0 in
       let numbers = numbers_spelled path f.0.1 f.1.timestamp f.1.size fits.directory fits.timestamp fits.size in
       (path, b.front, uleb f.0.1 ++ uleb f.1.timestamp ++ uleb f.1.size, b.whole, name_spelled f.0.0 b.front some clean b.front_is, numbers)
 
-  each_file_spelled : (fs : List File) (bytes : List ℕ) → All (λ k. IsNotEmpty k.0) (keys_of fs) → All (λ k. HasNoZero k.0) (keys_of fs) → All FitsFile fs → result_concat file_bytes fs ≡ Ok bytes
+  each_file_spelled : (fs : List File) (bytes : List ℕ) → All (λ k. IsNotEmpty k.0) (keys_of fs) → All (λ k. HasNoZero k.0) (keys_of fs) → All FitsFile fs
+      → result_concat file_bytes fs ≡ Ok bytes
       → Each entry_production.Spells bytes (map read_file fs)
   each_file_spelled [] bytes some clean fits is = same_written [] bytes is
   each_file_spelled (f ∷ fs) bytes some clean fits is =
       let b = both_written (file_bytes f) (result_concat file_bytes fs) bytes is in
-      let own = file_spelled f b.first (All-head (λ k. IsNotEmpty k.0) f.0 (keys_of fs) some) (All-head (λ k. HasNoZero k.0) f.0 (keys_of fs) clean) (All-head FitsFile f fs fits) b.first_is in
-      let rest = each_file_spelled fs b.rest (All-tail (λ k. IsNotEmpty k.0) f.0 (keys_of fs) some) (All-tail (λ k. HasNoZero k.0) f.0 (keys_of fs) clean) (All-tail FitsFile f fs fits) b.rest_is in
+      let own =
+      file_spelled f b.first (All-head (λ k. IsNotEmpty k.0) f.0 (keys_of fs) some) (All-head (λ k. HasNoZero k.0) f.0 (keys_of fs) clean)
+      (All-head FitsFile f fs fits) b.first_is in
+      let rest =
+      each_file_spelled fs b.rest (All-tail (λ k. IsNotEmpty k.0) f.0 (keys_of fs) some) (All-tail (λ k. HasNoZero k.0) f.0 (keys_of fs) clean)
+      (All-tail FitsFile f fs fits) b.rest_is in
       (b.first, b.rest, b.whole, own, rest)
 
-  pub files-spelled : (fs : List File) (bytes : List ℕ) → All (λ k. IsNotEmpty k.0) (keys_of fs) → All (λ k. HasNoZero k.0) (keys_of fs) → All FitsFile fs → files_bytes fs ≡ Ok bytes
+  pub files-spelled : (fs : List File) (bytes : List ℕ) → All (λ k. IsNotEmpty k.0) (keys_of fs) → All (λ k. HasNoZero k.0) (keys_of fs) → All FitsFile fs
+      → files_bytes fs ≡ Ok bytes
       → SpellsFiles bytes (map read_file fs)
   files-spelled fs bytes some clean fits is =
       let b = before_written (result_concat file_bytes fs) (0 ∷ []) bytes is in

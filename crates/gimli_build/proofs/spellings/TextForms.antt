@@ -1,5 +1,6 @@
 -- The texts of a table of version 5 as values: their bytes spell these, and these stand for the texts.
-use Rattle.std.proofs.Common.{◌≡◌, ◌≢◌, ℕ, ◌+◌, ◌<◌, ◌^◌, Bool, true, false, List, [], ◌∷◌, ◌++◌, length, drop, get_or, Some, Ok, refl, sym, ap, ◌∙◌, subst, arith, if◌then◌else◌, length-append}
+use Rattle.std.proofs.Common.{◌≡◌, ◌≢◌, ℕ, ◌+◌, ◌<◌, ◌^◌, Bool, true, false, List, [], ◌∷◌, ◌++◌, length, drop, get_or, Some, Ok, refl, sym, ap, ◌∙◌, subst}
+use Rattle.std.proofs.Common.{arith, if◌then◌else◌, length-append}
 use Rattle.std.specs.Prelude.{Result, Err, nat_eq, slice_get, unwrap_or}
 use Rattle.std.proofs.lemmas.Bool.{eqb-true}
 use Rattle.std.proofs.lemmas.List.{append-nil, length-drop}
@@ -35,7 +36,8 @@ offset_short texts i within =
     omega (arith, there, more, left)
 
 -- a text stands in the section of its table
-text_there : (section : List ℕ) (texts : List (List ℕ)) (i : ℕ) → section ≡ table_bytes texts → AreTexts texts → i < length texts → IsTextAt section (offset_of texts i) (unwrap_or (slice_get texts i) [])
+text_there : (section : List ℕ) (texts : List (List ℕ)) (i : ℕ) → section ≡ table_bytes texts → AreTexts texts → i < length texts
+    → IsTextAt section (offset_of texts i) (unwrap_or (slice_get texts i) [])
 text_there section texts i same are within =
     let text = get_or texts i [] in
     let found : slice_get texts i ≡ Some text = slice_get-get_or texts i [] within in
@@ -65,11 +67,23 @@ module _ (notation : Notation) (format : Format) (texts : StringTables)
   text_spelled (Inline text) bytes clean within held is =
       (text, bytes, [], sym (append-nil bytes), (recursion_from_All (λ b. b ≢ 0) text clean, same_written (text ++ 0 ∷ []) bytes is), (refl, refl))
   text_spelled (InStrings i) bytes clean within held is =
-      let short = offset_short texts.strings i within in
-      (offset_of texts.strings i, bytes, [], sym (append-nil bytes), offset-spelled notation format (offset_of texts.strings i) bytes held (omega (arith, short, strings_short)) is, (refl, refl))
+      let short = offset_short texts.strings i within in (
+        offset_of texts.strings i,
+        bytes,
+        [],
+        sym (append-nil bytes),
+        offset-spelled notation format (offset_of texts.strings i) bytes held (omega (arith, short, strings_short)) is,
+        (refl, refl),
+      )
   text_spelled (InLineStrings i) bytes clean within held is =
-      let short = offset_short texts.line_strings i within in
-      (offset_of texts.line_strings i, bytes, [], sym (append-nil bytes), offset-spelled notation format (offset_of texts.line_strings i) bytes held (omega (arith, short, line_strings_short)) is, (refl, refl))
+      let short = offset_short texts.line_strings i within in (
+        offset_of texts.line_strings i,
+        bytes,
+        [],
+        sym (append-nil bytes),
+        offset-spelled notation format (offset_of texts.line_strings i) bytes held (omega (arith, short, line_strings_short)) is,
+        (refl, refl),
+      )
 
   -- a text that has the form of its table
   pub text-spelled : (form : ℕ) (t : LineText) (bytes : List ℕ) → IsReady texts t → (format ≡ Dwarf64 → IsOffsetHeld notation.limit texts t)
@@ -93,18 +107,23 @@ text_long big format texts (Inline text) bytes is =
 text_long big format texts (InStrings i) bytes is = word-long big format (offset_of texts.strings i) bytes is
 text_long big format texts (InLineStrings i) bytes is = word-long big format (offset_of texts.line_strings i) bytes is
 
-pub text-long : (big : Bool) (format : Format) (texts : StringTables) (form : ℕ) (t : LineText) (bytes : List ℕ) → text_in_form big format texts form t ≡ Ok bytes → 0 < length bytes
+pub text-long : (big : Bool) (format : Format) (texts : StringTables) (form : ℕ) (t : LineText) (bytes : List ℕ)
+    → text_in_form big format texts form t ≡ Ok bytes → 0 < length bytes
 text-long big format texts form t bytes is = by (nat_eq (text_form t) form) is
   where
-    by : (b : Bool) → (let r : Result (List ℕ) Error = if b then text_bytes big format texts t else Err LineStringFormMismatch in r) ≡ Ok bytes → 0 < length bytes
+    by : (b : Bool) → (let r : Result (List ℕ) Error = if b then text_bytes big format texts t else Err LineStringFormMismatch in r) ≡ Ok bytes
+        → 0 < length bytes
     by true is = text_long big format texts t bytes is
     by false is = absurd cc
 
 -- ---- back
 
 -- what is read of a text stands for it, with the sections of the tables
-pub text-back : (sections : Sections) (texts : StringTables) → sections.strings ≡ table_bytes texts.strings → sections.line_strings ≡ table_bytes texts.line_strings → AreTexts texts.strings → AreTexts texts.line_strings
+pub text-back : (sections : Sections) (texts : StringTables) → sections.strings ≡ table_bytes texts.strings
+    → sections.line_strings ≡ table_bytes texts.line_strings → AreTexts texts.strings → AreTexts texts.line_strings
     → (t : LineText) → IsWithin texts t → IsText sections (read_text texts t) (bytes_in texts t)
 text-back sections texts strings_are line_strings_are are_texts are_line_texts (Inline text) within = refl
-text-back sections texts strings_are line_strings_are are_texts are_line_texts (InStrings i) within = text_there sections.strings texts.strings i strings_are are_texts within
-text-back sections texts strings_are line_strings_are are_texts are_line_texts (InLineStrings i) within = text_there sections.line_strings texts.line_strings i line_strings_are are_line_texts within
+text-back sections texts strings_are line_strings_are are_texts are_line_texts (InStrings i) within =
+    text_there sections.strings texts.strings i strings_are are_texts within
+text-back sections texts strings_are line_strings_are are_texts are_line_texts (InLineStrings i) within =
+    text_there sections.line_strings texts.line_strings i line_strings_are are_line_texts within

@@ -1,5 +1,6 @@
 -- The bytes of a unit spell a header.
-use Rattle.std.proofs.Common.{◌≡◌, ℕ, ◌+◌, ◌-◌, ◌<◌, ◌≤◌, ◌^◌, Bool, List, [], ◌∷◌, ◌++◌, length, option_map, Ok, if◌then◌else◌, refl, sym, ap, ◌∙◌, arith, append_assoc}
+use Rattle.std.proofs.Common.{◌≡◌, ℕ, ◌+◌, ◌-◌, ◌<◌, ◌≤◌, ◌^◌, Bool, List, [], ◌∷◌, ◌++◌, length, option_map, Ok, if◌then◌else◌, refl, sym, ap, ◌∙◌, arith}
+use Rattle.std.proofs.Common.{append_assoc}
 use Rattle.std.specs.Prelude.{Result, nat_le}
 use Rattle.std.proofs.lemmas.List.{append-nil, length-append}
 use Rattle.gimli_core.specs.Notation.{Notation}
@@ -19,7 +20,8 @@ use Rattle.gimli_build.specs.SameRow.{built_rules}
 use Rattle.gimli_build.specs.ReadsBack.{IsUnit}
 use Rattle.gimli_build.specs.FormatWord.{format_word}
 use Rattle.gimli_build.specs.Joined.{result_append}
-use Rattle.gimli_build.specs.Unit.{version_bytes, opening_bytes, line_encoding_bytes, operand_counts, opcode_bytes, tables_bytes, fields_bytes, header_bytes, program_bytes, inside_bytes, escape_bytes, whole_bytes}
+use Rattle.gimli_build.specs.Unit.{version_bytes, opening_bytes, line_encoding_bytes, operand_counts, opcode_bytes, tables_bytes, fields_bytes, header_bytes}
+use Rattle.gimli_build.specs.Unit.{program_bytes, inside_bytes, escape_bytes, whole_bytes}
 use Rattle.gimli_build.proofs.writing.Frames.{size_4, size_8}
 use Rattle.gimli_build.proofs.writing.WrittenParts.{same_written, both_written, after_written, before_written, counted_written}
 use Rattle.gimli_build.proofs.spellings.EncodingSpellings.{positive-spelled, encoding-spelled, version-spelled, address-spelled, offset-spelled, length-spelled}
@@ -47,7 +49,8 @@ front_in_two : (whole front rest first second : List ℕ) → whole ≡ front ++
 front_in_two whole front rest first second is parts = is ∙ ap (λ (l : List ℕ). l ++ rest) parts
 
 -- a rest in three parts
-rest_in_three : (whole first rest header size fields last : List ℕ) → whole ≡ first ++ rest → rest ≡ header ++ last → header ≡ size ++ fields → whole ≡ first ++ ((size ++ fields) ++ last)
+rest_in_three : (whole first rest header size fields last : List ℕ) → whole ≡ first ++ rest → rest ≡ header ++ last → header ≡ size ++ fields
+    → whole ≡ first ++ ((size ++ fields) ++ last)
 rest_in_three whole first rest header size fields last is parts inner = is ∙ ap (λ (l : List ℕ). first ++ l) (parts ∙ ap (λ (l : List ℕ). l ++ last) inner)
 
 pub unit_written : (big : Bool) (p : Built) (texts : StringTables) (unit : List ℕ) → whole_bytes big p texts ≡ Ok unit → UnitWritten big p texts unit
@@ -102,7 +105,8 @@ inside-short big p texts unit w =
     omega (arith, whole, length-append (escape_bytes big p.encoding.format ++ w.length_bytes) w.inside)
 
 -- in the 64-bit format twelve bytes stand before what the unit length counts
-length_wide : (big : Bool) (format : Format) (n : ℕ) (word : List ℕ) → format ≡ Dwarf64 → length_word big format n ≡ Ok word → length (escape_bytes big format ++ word) ≡ 12
+length_wide : (big : Bool) (format : Format) (n : ℕ) (word : List ℕ) → format ≡ Dwarf64 → length_word big format n ≡ Ok word
+    → length (escape_bytes big format ++ word) ≡ 12
 length_wide big Dwarf32 n word wide is = absurd cc
 length_wide big Dwarf64 n word wide is =
     let whole = length-append (escape_bytes big Dwarf64) word in
@@ -110,7 +114,8 @@ length_wide big Dwarf64 n word wide is =
     let eight = ap length (same_written (number_bytes big 8 n) word is) ∙ size_8 big n in
     omega (arith, whole, escape, eight)
 
-inside-wide : (big : Bool) (p : Built) (texts : StringTables) (unit : List ℕ) (w : UnitWritten big p texts unit) → p.encoding.format ≡ Dwarf64 → length w.inside + 12 ≡ length unit
+inside-wide : (big : Bool) (p : Built) (texts : StringTables) (unit : List ℕ) (w : UnitWritten big p texts unit) → p.encoding.format ≡ Dwarf64
+    → length w.inside + 12 ≡ length unit
 inside-wide big p texts unit w wide =
     let whole = ap (λ (l : List ℕ). length l) w.whole in
     let front = length_wide big p.encoding.format (length w.inside) w.length_bytes wide w.length_is in
@@ -119,7 +124,8 @@ inside-wide big p texts unit w wide =
 pub fields-short : (big : Bool) (p : Built) (texts : StringTables) (unit : List ℕ) (w : UnitWritten big p texts unit) → length w.fields ≤ length w.inside
 fields-short big p texts unit w =
     let whole = ap (λ (l : List ℕ). length l) w.inside_is in
-    omega (arith, whole, length-append w.opening ((w.size ++ w.fields) ++ w.program), length-append (w.size ++ w.fields) w.program, length-append w.size w.fields)
+    omega
+    (arith, whole, length-append w.opening ((w.size ++ w.fields) ++ w.program), length-append (w.size ++ w.fields) w.program, length-append w.size w.fields)
 
 -- the tables are no longer than the fields
 pub tables-short : (big : Bool) (p : Built) (texts : StringTables) (fields : List ℕ) (w : FieldsWritten big p texts fields) → length w.tables ≤ length fields
@@ -151,9 +157,16 @@ module _ (notation : Notation) (unit_entry : UnitEntry) (sections : Sections) (p
   abbrev opening_of : List ℕ → Opening
   opening_of fields = record { encoding = p.encoding; header_length = length fields; fields = fields }
 
-  rules_spelled : (bytes : List ℕ) → line_encoding_bytes p.encoding.version p.line_encoding ≡ Ok bytes → (parameters_production p.encoding).Spells (bytes ++ 13 ∷ []) (built_rules p.encoding p.line_encoding)
-  rules_spelled bytes is =
-      (p.line_encoding, bytes, 13 ∷ [], refl, encoding-spelled p.encoding.version p.line_encoding bytes built.is.lines is, (13, 13 ∷ [], [], refl, positive-spelled 13 OpcodeBaseZero (omega arith), (refl, refl)))
+  rules_spelled : (bytes : List ℕ) → line_encoding_bytes p.encoding.version p.line_encoding ≡ Ok bytes
+      → (parameters_production p.encoding).Spells (bytes ++ 13 ∷ []) (built_rules p.encoding p.line_encoding)
+  rules_spelled bytes is = (
+    p.line_encoding,
+    bytes,
+    13 ∷ [],
+    refl,
+    encoding-spelled p.encoding.version p.line_encoding bytes built.is.lines is,
+    (13, 13 ∷ [], [], refl, positive-spelled 13 OpcodeBaseZero (omega arith), (refl, refl)),
+  )
 
   fields_spelled : (unit_size : ℕ) (fields program : List ℕ) (w : FieldsWritten notation.big p texts fields) (t : Tables w.tables)
       → (fields_production notation unit_entry unit_size (opening_of fields) program).Spells fields (header_of w.tables t unit_size (length fields) program)
@@ -181,7 +194,8 @@ module _ (notation : Notation) (unit_entry : UnitEntry) (sections : Sections) (p
   )
 
   -- the fields in front of those, read with the address size of the program
-  opening_spelled : (opening size fields : List ℕ) → unit_entry.address_size ≡ p.encoding.address_size → (p.encoding.format ≡ Dwarf64 → length fields < notation.limit) → length fields < 2 ^ 64
+  opening_spelled : (opening size fields : List ℕ) → unit_entry.address_size ≡ p.encoding.address_size
+      → (p.encoding.format ≡ Dwarf64 → length fields < notation.limit) → length fields < 2 ^ 64
       → opening_bytes notation.big p.encoding ≡ Ok opening → format_word notation.big p.encoding.format (length fields) ≡ Ok size
       → (opening_production notation unit_entry.address_size p.encoding.format).Spells (opening ++ (size ++ fields)) (opening_of fields)
   opening_spelled opening size fields same holds small opening_is size_is =
@@ -210,7 +224,8 @@ module _ (notation : Notation) (unit_entry : UnitEntry) (sections : Sections) (p
       )
 
   module _ (unit : List ℕ) (w : UnitWritten notation.big p texts unit) (v : FieldsWritten notation.big p texts w.fields) (t : Tables v.tables)
-      (same : unit_entry.address_size ≡ p.encoding.address_size) (holds : p.encoding.format ≡ Dwarf64 → length unit - 12 < notation.limit) (small : length unit < 2 ^ 64) where
+      (same : unit_entry.address_size ≡ p.encoding.address_size) (holds : p.encoding.format ≡ Dwarf64 → length unit - 12 < notation.limit)
+      (small : length unit < 2 ^ 64) where
     abbrev header : Header
     header = header_of v.tables t (length w.inside) (length w.fields) w.program
 
@@ -221,11 +236,14 @@ module _ (notation : Notation) (unit_entry : UnitEntry) (sections : Sections) (p
     unit_spelled =
         let inside = inside-short notation.big p texts unit w in
         let fields = fields-short notation.big p texts unit w in
-        let inside_held : p.encoding.format ≡ Dwarf64 → length w.inside < notation.limit = λ wide. (let rest = inside-wide notation.big p texts unit w wide in let lt = holds wide in omega (arith, rest, lt)) in
+        let inside_held : p.encoding.format ≡ Dwarf64 → length w.inside < notation.limit = λ wide.
+        (let rest = inside-wide notation.big p texts unit w wide in let lt = holds wide in omega (arith, rest, lt)) in
         let fields_held : p.encoding.format ≡ Dwarf64 → length w.fields < notation.limit = λ wide. (let lt = inside_held wide in omega (arith, fields, lt)) in
-        let length_spelled = length-spelled notation p.encoding.format (length w.inside) w.length_bytes inside_held (omega (arith, inside, small)) w.length_is in
+        let length_spelled =
+        length-spelled notation p.encoding.format (length w.inside) w.length_bytes inside_held (omega (arith, inside, small)) w.length_is in
         let opened = opening_spelled w.opening w.size w.fields same fields_held (omega (arith, inside, fields, small)) w.opening_is w.size_is in
-        let parted : w.inside ≡ (w.opening ++ (w.size ++ w.fields)) ++ w.program = w.inside_is ∙ sym (append_assoc w.opening (w.size ++ w.fields) w.program) in (
+        let parted : w.inside ≡ (w.opening ++ (w.size ++ w.fields)) ++ w.program = w.inside_is
+        ∙ sym (append_assoc w.opening (w.size ++ w.fields) w.program) in (
           (length w.inside, p.encoding.format),
           escape_bytes notation.big p.encoding.format ++ w.length_bytes,
           w.inside,
@@ -252,7 +270,8 @@ module _ (notation : Notation) (unit_entry : UnitEntry) (sections : Sections) (p
     unit_parts =
         let front = escape_bytes notation.big p.encoding.format ++ w.length_bytes in
         let inner : w.inside ≡ ((w.opening ++ w.size) ++ w.fields) ++ w.program =
-        w.inside_is ∙ sym (append_assoc w.opening (w.size ++ w.fields) w.program) ∙ ap (λ (l : List ℕ). l ++ w.program) (sym (append_assoc w.opening w.size w.fields)) in
+        w.inside_is ∙ sym (append_assoc w.opening (w.size ++ w.fields) w.program)
+        ∙ ap (λ (l : List ℕ). l ++ w.program) (sym (append_assoc w.opening w.size w.fields)) in
         w.whole
         ∙ ap (λ (l : List ℕ). front ++ l) inner
         ∙ sym (append_assoc front ((w.opening ++ w.size) ++ w.fields) w.program)

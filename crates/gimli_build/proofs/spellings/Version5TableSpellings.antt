@@ -1,5 +1,6 @@
 -- The bytes of the tables of version 5 spell them, and what is read of them stands for what was built.
-use Rattle.std.proofs.Common.{◌≡◌, ℕ, ◌<◌, ◌≤◌, ◌^◌, Bool, true, false, List, [], ◌∷◌, ◌++◌, length, map, Some, None, Ok, refl, sym, ap, ◌∙◌, subst, append_assoc, arith, if◌then◌else◌, length-append}
+use Rattle.std.proofs.Common.{◌≡◌, ℕ, ◌<◌, ◌≤◌, ◌^◌, Bool, true, false, List, [], ◌∷◌, ◌++◌, length, map, Some, None, Ok, refl, sym, ap, ◌∙◌, subst}
+use Rattle.std.proofs.Common.{append_assoc, arith, if◌then◌else◌, length-append}
 use Rattle.std.specs.Prelude.{Result, nat_le, replicate, All}
 use Rattle.std.specs.Option.{option_map_or}
 use Rattle.std.proofs.lemmas.List.{append-nil}
@@ -23,7 +24,8 @@ use Rattle.gimli_build.specs.Stored.{Stored, stored_details}
 use Rattle.gimli_build.specs.Joined.{result_append, result_concat}
 use Rattle.gimli_build.specs.Built.{Built}
 use Rattle.gimli_build.specs.ReadsBack.{IsDirectory, IsFile}
-use Rattle.gimli_build.specs.Version5Tables.{first_form, path_texts, sources, formats_bytes, directory_formats, file_formats, detail_bytes, text_in_form, directory_table_bytes, source_bytes, file_entry_bytes, file_table_bytes}
+use Rattle.gimli_build.specs.Version5Tables.{first_form, path_texts, sources, formats_bytes, directory_formats, file_formats, detail_bytes, text_in_form}
+use Rattle.gimli_build.specs.Version5Tables.{directory_table_bytes, source_bytes, file_entry_bytes, file_table_bytes}
 use Rattle.gimli_build.proofs.writing.WrittenParts.{same_written, both_written, after_written}
 use Rattle.gimli_build.proofs.spellings.TextForms.{read_text, IsReady, text-spelled, text-long, text-back}
 use Rattle.gimli_build.proofs.spellings.FormatForms.{read_format, formats_of, formats-same, directory-formats, file-formats}
@@ -34,13 +36,21 @@ use Rattle.gimli_build.proofs.reading.HeldOffsets.{IsHeld, IsFileHeld, AreHeld}
 -- ---- a table of entries
 
 module _ (notation : Notation) (format : Format) {X : Type 0} (formats : List (ℕ × ℕ)) (P : X → Type 0) (part : X → Result (List ℕ) Error) (entry : X → Entry)
-    (spelled : (x : X) (bytes : List ℕ) → P x → part x ≡ Ok bytes → IsSpelled notation format formats bytes (entry x)) (long : (x : X) (bytes : List ℕ) → part x ≡ Ok bytes → 0 < length bytes) where
-  each_spelled : (xs : List X) (bytes : List ℕ) → All P xs → result_concat part xs ≡ Ok bytes → (times (length xs) (entry_production notation format (map read_format formats))).Spells bytes (map entry xs)
+    (spelled : (x : X) (bytes : List ℕ) → P x → part x ≡ Ok bytes → IsSpelled notation format formats bytes (entry x))
+    (long : (x : X) (bytes : List ℕ) → part x ≡ Ok bytes → 0 < length bytes) where
+  each_spelled : (xs : List X) (bytes : List ℕ) → All P xs → result_concat part xs ≡ Ok bytes
+      → (times (length xs) (entry_production notation format (map read_format formats))).Spells bytes (map entry xs)
   each_spelled [] bytes all is = (same_written [] bytes is, refl)
   each_spelled (x ∷ xs) bytes all is =
       let b = both_written (part x) (result_concat part xs) bytes is in
-      let rest = each_spelled xs b.rest (All-tail P x xs all) b.rest_is in
-      (entry x, b.first, b.rest, b.whole, spelled x b.first (All-head P x xs all) b.first_is, (map entry xs, b.rest, [], sym (append-nil b.rest), rest, (refl, refl)))
+      let rest = each_spelled xs b.rest (All-tail P x xs all) b.rest_is in (
+        entry x,
+        b.first,
+        b.rest,
+        b.whole,
+        spelled x b.first (All-head P x xs all) b.first_is,
+        (map entry xs, b.rest, [], sym (append-nil b.rest), rest, (refl, refl)),
+      )
 
   -- there are no more entries than bytes
   few : (xs : List X) (bytes : List ℕ) → result_concat part xs ≡ Ok bytes → length xs ≤ length bytes
@@ -109,7 +119,8 @@ module _ (notation : Notation) (p : Built) (texts : StringTables) (ready : AreRe
       → (p.file_has_source ≡ true → text_written (first_form (sources p.files)) (source_of p texts f) ≡ Ok bytes) × (p.file_has_source ≡ false → bytes ≡ [])
   source_written f bytes is = by p.file_has_source (text_written (first_form (sources p.files)) (source_of p texts f)) is
     where
-      by : (b : Bool) (r : Result (List ℕ) Error) → (let s : Result (List ℕ) Error = if b then r else Ok [] in s) ≡ Ok bytes → (b ≡ true → r ≡ Ok bytes) × (b ≡ false → bytes ≡ [])
+      by : (b : Bool) (r : Result (List ℕ) Error) → (let s : Result (List ℕ) Error = if b then r else Ok [] in s) ≡ Ok bytes
+          → (b ≡ true → r ≡ Ok bytes) × (b ≡ false → bytes ≡ [])
       by true r is = (λ same. is, λ same. absurd cc)
       by false r is = (λ same. absurd cc, λ same. same_written [] bytes is)
 
@@ -132,7 +143,8 @@ module _ (notation : Notation) (p : Built) (texts : StringTables) (ready : AreRe
       (read_text texts f.0.0) f.0.1 f.1.timestamp f.1.size f.1.md5 (read_text texts text) a.first b.rest
       (spell path_form f.0.0 a.first own.0.path (λ wide. (own.1 wide).path) a.first_is) own.0.fits.directory own.0.fits.timestamp own.0.fits.size own.0.fits.md5
       (λ flag. spell source_form text b.rest (own.0.source flag) (λ wide. (own.1 wide).source flag) (s.0 flag)) s.1 in
-      let same : IsSpelled notation p.encoding.format list bytes entry = subst (λ (l : List ℕ). IsSpelled notation p.encoding.format list l entry) (sym whole) spelled in
+      let same : IsSpelled notation p.encoding.format list bytes entry =
+      subst (λ (l : List ℕ). IsSpelled notation p.encoding.format list l entry) (sym whole) spelled in
       subst (λ (l : List (ℕ × ℕ)). IsSpelled notation p.encoding.format l bytes entry) (sym (formats-same p)) same
 
   file_long : (f : File) (bytes : List ℕ) → file_entry_bytes notation.big p.encoding.format texts p f ≡ Ok bytes → 0 < length bytes
@@ -151,12 +163,14 @@ module _ (notation : Notation) (p : Built) (texts : StringTables) (ready : AreRe
 
 -- ---- what is read stands for what was built
 
-module _ (sections : Sections) (p : Built) (texts : StringTables) (strings_are : sections.strings ≡ table_bytes texts.strings) (line_strings_are : sections.line_strings ≡ table_bytes texts.line_strings)
+module _ (sections : Sections) (p : Built) (texts : StringTables) (strings_are : sections.strings ≡ table_bytes texts.strings)
+    (line_strings_are : sections.line_strings ≡ table_bytes texts.line_strings)
     (are_texts : AreTexts texts.strings) (are_line_texts : AreTexts texts.line_strings) where
   text_back : (t : LineText) → IsReady texts t → IsText sections (read_text texts t) (bytes_in texts t)
   text_back t ready = text-back sections texts strings_are line_strings_are are_texts are_line_texts t ready.within
 
-  pub new-directories-back : (ts : List LineText) → All (IsReady texts) ts → OneByOne (IsDirectory sections texts) (map path_of (map (directory_entry texts) ts)) ts
+  pub new-directories-back : (ts : List LineText) → All (IsReady texts) ts
+      → OneByOne (IsDirectory sections texts) (map path_of (map (directory_entry texts) ts)) ts
   new-directories-back [] all = tt
   new-directories-back (t ∷ ts) all =
       (text_back t (All-head (IsReady texts) t ts all), new-directories-back ts (All-tail (IsReady texts) t ts all))
@@ -170,7 +184,8 @@ module _ (sections : Sections) (p : Built) (texts : StringTables) (strings_are :
   }
   stored_new d new = rw new refl
 
-  source_back : (due : Bool) (v : Value) (text : List ℕ) → (due ≡ true → IsText sections v text) → IsOptionalText sections (if due then Some v else None) (if due then Some text else None)
+  source_back : (due : Bool) (v : Value) (text : List ℕ) → (due ≡ true → IsText sections v text)
+      → IsOptionalText sections (if due then Some v else None) (if due then Some text else None)
   source_back true v text own = own refl
   source_back false v text own = tt
 
@@ -188,7 +203,9 @@ module _ (sections : Sections) (p : Built) (texts : StringTables) (strings_are :
         timestamp = sym (ap (λ (s : Stored). s.timestamp) same);
         size = sym (ap (λ (s : Stored). s.size) same);
         md5 = sym (ap (λ (s : Stored). s.md5) same);
-        source = rw (ap (λ (s : Stored). s.source) same) (source_back p.file_has_source (read_text texts (source_of p texts f)) (option_map_or (bytes_in texts) f.1.source [])
+        source =
+            rw (ap (λ (s : Stored). s.source) same)
+            (source_back p.file_has_source (read_text texts (source_of p texts f)) (option_map_or (bytes_in texts) f.1.source [])
             (λ flag. rw (← own.source_bytes flag) (text_back (source_of p texts f) (own.source flag))));
       }
 

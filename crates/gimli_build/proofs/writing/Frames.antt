@@ -1,5 +1,6 @@
 -- A length that is written once what it counts is there.
-use Rattle.std.proofs.Common.{◌≡◌, ℕ, ◌+◌, ◌-◌, ◌<◌, ◌^◌, Bool, true, false, List, [], ◌++◌, length, take, drop, refl, sym, ap, ◌∙◌, arith, append_assoc, length-append, nat_lt, if◌then◌else◌, Ok, Err, inl, inr}
+use Rattle.std.proofs.Common.{◌≡◌, ℕ, ◌+◌, ◌-◌, ◌<◌, ◌^◌, Bool, true, false, List, [], ◌++◌, length, take, drop, refl, sym, ap, ◌∙◌, arith, append_assoc}
+use Rattle.std.proofs.Common.{length-append, nat_lt, if◌then◌else◌, Ok, Err, inl, inr}
 use Rattle.std.proofs.lemmas.Bool.{le-ltb, lt-ltb}
 use Rattle.std.proofs.lemmas.List.{take_at, drop_at}
 use Rattle.std.specs.Prelude.{Result}
@@ -20,9 +21,11 @@ patched_middle : (a b other c : List ℕ) (at : ℕ) → length other ≡ length
 patched_middle a b other c at same position =
     let whole : length (a ++ b ++ c) ≡ length a + length b + length c = length-append (a ++ b) c ∙ ap (λ (x : ℕ). x + length c) (length-append a b) in
     let first : nat_lt (length (a ++ b ++ c)) at ≡ false = le-ltb (length (a ++ b ++ c)) at (omega (arith, whole, position)) in
-    let second : nat_lt (length (a ++ b ++ c)) (at + length other) ≡ false = le-ltb (length (a ++ b ++ c)) (at + length other) (omega (arith, whole, position, same)) in
+    let second : nat_lt (length (a ++ b ++ c)) (at + length other)
+    ≡ false = le-ltb (length (a ++ b ++ c)) (at + length other) (omega (arith, whole, position, same)) in
     let front : take at (a ++ b ++ c) ≡ a = ap (take at) (append_assoc a b c) ∙ take_at a (b ++ c) at position in
-    let back : drop (at + length other) (a ++ b ++ c) ≡ c = drop_at (a ++ b) c (at + length other) (let l = length-append a b in omega (arith, l, same, position)) in
+    let back : drop (at + length other) (a ++ b ++ c)
+    ≡ c = drop_at (a ++ b) c (at + length other) (let l = length-append a b in omega (arith, l, same, position)) in
     rw (first, second, front, back) refl
 
 same_ok : (xs ys : List ℕ) → (let r : Result (List ℕ) Error = Ok xs in r) ≡ Ok ys → xs ≡ ys
@@ -56,11 +59,13 @@ module _ (full length_of : ℕ → Result (List ℕ) Error) (escape blank old c1
   pub framed : patch (length_of n) c2 position ≡ Ok new → Appends (after_length full body) old new
   framed h = by body refl (length_of n) refl h
     where
-      by : (b : Result (List ℕ) Error) → body ≡ b → (w : Result (List ℕ) Error) → length_of n ≡ w → patch w c2 position ≡ Ok new → Appends (after_length full body) old new
+      by : (b : Result (List ℕ) Error) → body ≡ b → (w : Result (List ℕ) Error) → length_of n ≡ w → patch w c2 position ≡ Ok new
+          → Appends (after_length full body) old new
       by (Err e) is w so h = absurd (rw is at written)
       by (Ok bytes) is (Err e) so h = cc
       by (Ok bytes) is (Ok word) so h =
-          let shape : after_length full body ≡ Ok ((escape ++ word) ++ bytes) = known bytes is ∙ ap (λ (r : Result (List ℕ) Error). result_append (result_append (Ok escape) r) (Ok bytes)) so in
+          let shape : after_length full body ≡ Ok ((escape ++ word) ++ bytes) = known bytes is
+          ∙ ap (λ (r : Result (List ℕ) Error). result_append (result_append (Ok escape) r) (Ok bytes)) so in
           let same : new ≡ (old ++ escape) ++ word ++ bytes = sym (same_ok ((old ++ escape) ++ word ++ bytes) new (sym (put bytes word is so) ∙ h)) in
           rw shape (same ∙ ap (λ (l : List ℕ). l ++ bytes) (append_assoc old escape word) ∙ append_assoc old (escape ++ word) bytes)
 
@@ -104,14 +109,16 @@ ok_if : (b : Bool) (xs ys : List ℕ) (e : Error) → (let r : Result (List ℕ)
 ok_if true xs ys e h = cc
 ok_if false xs ys e h = cc
 
-ok_if_if : (b c : Bool) (xs ys : List ℕ) (d e : Error) → (let r : Result (List ℕ) Error = if b then Ok xs else (if c then Err d else Err e) in r) ≡ Ok ys → ys ≡ xs
+ok_if_if : (b c : Bool) (xs ys : List ℕ) (d e : Error) → (let r : Result (List ℕ) Error = if b then Ok xs else (if c then Err d else Err e) in r) ≡ Ok ys
+    → ys ≡ xs
 ok_if_if true c xs ys d e h = cc
 ok_if_if false true xs ys d e h = cc
 ok_if_if false false xs ys d e h = cc
 
 pub length_word_long : (big : Bool) (format : Format) (n : ℕ) (word : List ℕ) → length_word big format n ≡ Ok word → length word ≡ length (open_word big format)
 length_word_long big Dwarf32 n word h =
-    ap length (ok_if_if (nat_lt n 0xffff_fff0) (nat_lt n (2 ^ 32)) (number_bytes big 4 n) word InitialLengthOverflow ValueTooLarge h) ∙ size_4 big n ∙ sym (size_4 big 0)
+    ap length (ok_if_if (nat_lt n 0xffff_fff0) (nat_lt n (2 ^ 32)) (number_bytes big 4 n) word InitialLengthOverflow ValueTooLarge h) ∙ size_4 big n
+    ∙ sym (size_4 big 0)
 length_word_long big Dwarf64 n word h = ap length (sym (same_ok (number_bytes big 8 n) word h)) ∙ size_8 big n ∙ sym (size_8 big 0)
 
 pub header_word_long : (big : Bool) (format : Format) (n : ℕ) (word : List ℕ) → format_word big format n ≡ Ok word → length word ≡ length (open_word big format)

@@ -18,13 +18,15 @@ use Rattle.gimli_build.proofs.reading.ItemRuns.{start_position}
 use Rattle.gimli_build.proofs.writing.Joined.{appended_bytes, joined-joined}
 
 -- these bytes stand for the items so far, and those are left
-pub record Standing (big : Bool) (encoding : Encoding) (e : LineEncoding) (whole : Result (List ℕ) Error) (old new : List ℕ) (previous : LineRow) (left : List BuiltItem) : Type 0 where
+pub record Standing (big : Bool) (encoding : Encoding) (e : LineEncoding) (whole : Result (List ℕ) Error) (old new : List ℕ) (previous : LineRow)
+    (left : List BuiltItem) : Type 0 where
   pub done : List ℕ
   pub written : new ≡ old ++ done
   pub parts : whole ≡ result_append (Ok done) (items_bytes big encoding e previous left)
 
 -- one item more
-pub standing_more : (big : Bool) (encoding : Encoding) (e : LineEncoding) (whole : Result (List ℕ) Error) (old new newer : List ℕ) (previous : LineRow) (item : BuiltItem) (left : List BuiltItem)
+pub standing_more : (big : Bool) (encoding : Encoding) (e : LineEncoding) (whole : Result (List ℕ) Error) (old new newer : List ℕ) (previous : LineRow)
+    (item : BuiltItem) (left : List BuiltItem)
     → Standing big encoding e whole old new previous (item ∷ left) → Appends (item_bytes big encoding e previous item) new newer
     → Standing big encoding e whole old newer (next_previous encoding.version e.default_is_stmt previous item) left
 standing_more big encoding e whole old new newer previous item left so more =
@@ -37,10 +39,15 @@ standing_more big encoding e whole old new newer previous item left so more =
     }
 
 -- a refused item is what refuses
-pub standing_refused : (big : Bool) (encoding : Encoding) (e : LineEncoding) (whole : Result (List ℕ) Error) (old new : List ℕ) (previous : LineRow) (item : BuiltItem) (left : List BuiltItem) (d : Error)
+pub standing_refused : (big : Bool) (encoding : Encoding) (e : LineEncoding) (whole : Result (List ℕ) Error) (old new : List ℕ) (previous : LineRow)
+    (item : BuiltItem) (left : List BuiltItem) (d : Error)
     → Standing big encoding e whole old new previous (item ∷ left) → item_bytes big encoding e previous item ≡ Err d → whole ≡ Err d
 standing_refused big encoding e whole old new previous item left d so refused =
-    so.parts ∙ ap (λ (r : Result (List ℕ) Error). result_append (Ok so.done) (result_append r (items_bytes big encoding e (next_previous encoding.version e.default_is_stmt previous item) left))) refused
+    so.parts
+    ∙ ap
+    (λ (r : Result (List ℕ) Error). result_append (Ok so.done)
+    (result_append r (items_bytes big encoding e (next_previous encoding.version e.default_is_stmt previous item) left)))
+    refused
 
 -- all of them
 pub standing_end : (big : Bool) (encoding : Encoding) (e : LineEncoding) (whole : Result (List ℕ) Error) (old new : List ℕ) (previous : LineRow)
@@ -51,7 +58,11 @@ standing_end big encoding e whole old new previous so =
 
 pub standing_start : (big : Bool) (encoding : Encoding) (e : LineEncoding) (old : List ℕ) (previous : LineRow) (items : List BuiltItem)
     → Standing big encoding e (items_bytes big encoding e previous items) old old previous items
-standing_start big encoding e old previous items = record { done = []; written = sym (append-nil old); parts = nothing (items_bytes big encoding e previous items) }
+standing_start big encoding e old previous items = record {
+  done = [];
+  written = sym (append-nil old);
+  parts = nothing (items_bytes big encoding e previous items);
+}
   where
     nothing : (r : Result (List ℕ) Error) → r ≡ result_append (Ok []) r
     nothing (Ok bytes) = refl
@@ -63,7 +74,8 @@ pub record OnTheWay (e : LineEncoding) (previous : LineRow) (left : List BuiltIt
   pub line : previous.line < 2 ^ 63
   pub built : AreBuilt e (previous.address_offset, previous.op_index) left
 
-pub way_on : (version : ℕ) (e : LineEncoding) (can : CanEncode e) (previous : LineRow) (item : BuiltItem) (left : List BuiltItem) → OnTheWay e previous (item ∷ left) → OnTheWay e (next_previous version e.default_is_stmt previous item) left
+pub way_on : (version : ℕ) (e : LineEncoding) (can : CanEncode e) (previous : LineRow) (item : BuiltItem) (left : List BuiltItem)
+    → OnTheWay e previous (item ∷ left) → OnTheWay e (next_previous version e.default_is_stmt previous item) left
 way_on version e can previous (SetAddress a) left way = record { position = start_position e can; line = way.line; built = way.built.1 }
 way_on version e can previous (Row r) left way = record { position = way.built.0.0.position; line = way.built.0.1; built = way.built.1 }
 way_on version e can previous (End o i) left way = record { position = start_position e can; line = lit< tt; built = way.built.1 }

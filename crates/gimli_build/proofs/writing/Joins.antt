@@ -1,5 +1,6 @@
 -- Instructions written one after the other.
-use Rattle.std.proofs.Common.{◌≡◌, ℕ, ◌+◌, ◌-◌, ◌*◌, Bool, true, false, if◌then◌else◌, List, [], ◌∷◌, ◌++◌, Some, None, nat_le, append_assoc, sym, ap, ◌∙◌, refl}
+use Rattle.std.proofs.Common.{◌≡◌, ℕ, ◌+◌, ◌-◌, ◌*◌, Bool, true, false, if◌then◌else◌, List, [], ◌∷◌, ◌++◌, Some, None, nat_le, append_assoc, sym, ap, ◌∙◌}
+use Rattle.std.proofs.Common.{refl}
 use Rattle.std.proofs.lemmas.Option.{none-some}
 use Rattle.std.proofs.lemmas.List.Concat.{flat_map-append}
 use Rattle.gimli_core.specs.declared.common.LineEncoding.{LineEncoding}

@@ -1,4 +1,5 @@
--- Bytes that are written one part after the other, where each part may be refused: the first refusal counts.
+-- Bytes that are written one part after the other, where each part may be refused: the first
+-- refusal counts.
 use Rattle.std.specs.Prelude.{◌≡◌, ◌⊎◌, ℕ, List, Result, Err}
 use Rattle.gimli_bytes.specs.declared.error.Error.{Error}
 use Rattle.gimli_bytes.specs.declared.error.Error.TheVariants.{OutOfMemory}

@@ -9,4 +9,6 @@ use Rattle.gimli_build.specs.contracts.built.files.FileInfo.{the_row as info_row
 
 -- the tables end with the details that were last written through r
 abbrev pub lends_details : MutBor Tables → ℕ → MutBor FileInfo → Fml
-lends_details t i r = Lends the_row info_row t r (λ info. record t.now { files = with_details t.now.files i (details info) })
+lends_details t i r =
+    Lends the_row info_row t r (λ info.
+    record t.now { files = with_details t.now.files i (details info) })

@@ -2,7 +2,22 @@
 use Rattle.gimli_line.specs.declared.run.instruction.LineInstruction.TheVariants as read
 use Rattle.gimli_line.specs.run.Instruction.{Ins}
 use Rattle.gimli_build.specs.declared.rows.instruction.LineInstruction.{LineInstruction}
-use Rattle.gimli_build.specs.declared.rows.instruction.LineInstruction.TheVariants.{Special, Copy, AdvancePc, AdvanceLine, SetFile, SetColumn, NegateStatement, SetBasicBlock, ConstAddPc, SetPrologueEnd, SetEpilogueBegin, SetIsa, EndSequence, SetDiscriminator}
+use Rattle.gimli_build.specs.declared.rows.instruction.LineInstruction.TheVariants.{
+  Special,
+  Copy,
+  AdvancePc,
+  AdvanceLine,
+  SetFile,
+  SetColumn,
+  NegateStatement,
+  SetBasicBlock,
+  ConstAddPc,
+  SetPrologueEnd,
+  SetEpilogueBegin,
+  SetIsa,
+  EndSequence,
+  SetDiscriminator,
+}
 
 abbrev pub read_as : LineInstruction → Ins
 read_as (Special o) = read.Special o

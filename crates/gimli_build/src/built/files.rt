@@ -1,6 +1,8 @@
-//! The directories and files that are built: two tables of distinct keys (DWARF 5, 6.2.4, entries 13 to 20).
+//! The directories and files that are built: two tables of distinct keys (DWARF 5, 6.2.4, entries
+//! 13 to 20).
 
-ghost use Rattle.std.specs.Prelude.{◌≡◌, ℕ, ◌<◌, List, [], length, map, replicate, option_map, IfOk, IfErr, OnOk, OnErr, IfSome, Some, None, slice_get};
+ghost use Rattle.std.specs.Prelude.{◌≡◌, ℕ, ◌<◌, List, [], length, map, replicate, option_map};
+ghost use Rattle.std.specs.Prelude.{IfOk, IfErr, OnOk, OnErr, IfSome, Some, None, slice_get};
 ghost use Rattle.gimli_build.specs.FileNumber.{file_number, initial_file};
 
 use crate::built::line_string::LineString;
@@ -10,6 +12,13 @@ use std::alloc::{AllocError, Global};
 use std::marker::Model;
 
 /// The index of a directory in its line program, from 0 on.
+///
+/// <!-- part of crates/checks_writing/src/builder.rt -->
+/// ```rust
+/// let other = program.add_directory(LineString::String(b"/i".to_vec(alloc)?))?;
+/// let last = program.add_file(name, other, None)?;
+/// let mut listed = None;
+/// ```
 #[derive(Clone, Copy, Debug, PartialEq, Eq, Hash)]
 pub struct DirectoryId(usize);
 
@@ -40,6 +49,18 @@ impl DirectoryId {
 }
 
 /// The index of a file in its line program, from 0 on.
+///
+/// <!-- part of crates/uses/src/make_unit.rt -->
+/// ```rust
+/// let Some((file, _, _)) = program.files().next() else {
+///     bail!("the program has no file");
+/// };
+/// program.set_address(Address::Constant(0x1000))?;
+/// for (offset, line) in [(0, 3), (4, 4)] {
+///     let row = program.row();
+///     row.file = file;
+///     row.address_offset = offset;
+/// ```
 #[derive(Clone, Copy, Debug, PartialEq, Eq, Hash)]
 pub struct FileId(usize);
 
@@ -56,16 +77,17 @@ impl Model for FileId {
 }
 
 impl FileId {
-    /// The file that rows are read with before any is set, whose number is 1: the first up to version 4,
-    /// and the second in version 5. A later version, which is never written, has the first.
+    /// The file that rows are read with before any is set, whose number is 1: the first up to
+    /// version 4, and the second in version 5. A later version, which is never written, has the
+    /// first.
     pub(crate) fn initial(version: u16) -> FileId
         ensures { result ≡ initial_file version }
     {
         FileId(if version == 5 { 1 } else { 0 })
     }
 
-    /// The file's number in the rows of a program of this version: from 1 on up to version 4, and from 0
-    /// on in the later ones.
+    /// The file's number in the rows of a program of this version: from 1 on up to version 4, and
+    /// from 0 on in the later ones.
     pub fn raw(self, version: u16) -> u64
         ensures { result ≡ file_number version self }
     {
@@ -78,9 +100,20 @@ impl FileId {
 }
 
 /// What is known of a file beside its path and its directory.
+///
+/// <!-- part of crates/rows_writing/src/builder.rt -->
+/// ```rust
+/// Ok(Some(FileInfo {
+///     timestamp: details.timestamp,
+///     size: details.size,
+///     md5: details.md5,
+///     source: self.optional_text(&details.source, encoding)?,
+/// }))
+/// ```
 #[derive(Debug, PartialEq, Eq, Drop)]
 pub struct FileInfo {
-    /// When the file was last changed, in the producer's own way to count time; 0 where it isn't known.
+    /// When the file was last changed, in the producer's own way to count time; 0 where it isn't
+    /// known.
     pub timestamp: u64,
     /// The number of bytes of the file; 0 where it isn't known.
     pub size: u64,
@@ -149,7 +182,8 @@ impl Model for FileTable {
 impl FileTable {
     ghost use Rattle.std.specs.Borrow.{sem};
     ghost use Rattle.gimli_build.specs.LineText.{line_text, HasNoZero};
-    ghost use Rattle.gimli_build.specs.Tables.{AreTables, with_directory, index_of_directory, with_file, index_of_file, with_indexes, keys_of};
+    ghost use Rattle.gimli_build.specs.Tables.{AreTables, with_directory, index_of_directory};
+    ghost use Rattle.gimli_build.specs.Tables.{with_file, index_of_file, with_indexes, keys_of};
     ghost use Rattle.gimli_build.specs.TableFields.{details};
     ghost use Rattle.gimli_build.specs.FirstTables.{first_tables};
     ghost use Rattle.gimli_build.specs.inside.LentDetails.{lends_details};
@@ -227,7 +261,8 @@ impl FileTable {
         ensures ok { OnOk result (self.new ≡ record self.old {
           directories = with_directory self.old.directories (line_text directory);
         }) }
-        ensures id { IfOk result (λ id. id ≡ index_of_directory self.old.directories (line_text directory)) }
+        ensures id { IfOk result (λ id.
+            id ≡ index_of_directory self.old.directories (line_text directory)) }
         ensures err { OnErr result (self.new ≡ self.old) }
         ensures memory { IfErr result (λ e. e ≡ Error.OutOfMemory) }
     {
@@ -263,7 +298,8 @@ impl FileTable {
         ensures ok { OnOk result (self.new ≡ record self.old {
           files = with_file self.old.files (line_text path, directory) (Some (details info));
         }) }
-        ensures id { IfOk result (λ id. id ≡ index_of_file self.old.files (line_text path, directory)) }
+        ensures id { IfOk result (λ id.
+            id ≡ index_of_file self.old.files (line_text path, directory)) }
         ensures err { OnErr result (self.new ≡ self.old) }
         ensures memory { IfErr result (λ e. e ≡ Error.OutOfMemory) }
     {
@@ -281,7 +317,8 @@ impl FileTable {
         ensures ok { OnOk result (self.new ≡ record self.old {
           files = with_file self.old.files (line_text path, directory) None;
         }) }
-        ensures id { IfOk result (λ id. id ≡ index_of_file self.old.files (line_text path, directory)) }
+        ensures id { IfOk result (λ id.
+            id ≡ index_of_file self.old.files (line_text path, directory)) }
         ensures err { OnErr result (self.new ≡ self.old) }
         ensures memory { IfErr result (λ e. e ≡ Error.OutOfMemory) }
     {
@@ -308,7 +345,8 @@ impl FileTable {
         ensures ok { OnOk result (self.new ≡ record self.old {
           files = with_file self.old.files (line_text path, directory) (option_map details info);
         }) }
-        ensures id { IfOk result (λ id. id ≡ index_of_file self.old.files (line_text path, directory)) }
+        ensures id { IfOk result (λ id.
+            id ≡ index_of_file self.old.files (line_text path, directory)) }
         ensures err { OnErr result (self.new ≡ self.old) }
         ensures memory { IfErr result (λ e. e ≡ Error.OutOfMemory) }
     {
@@ -323,7 +361,8 @@ impl FileTable {
         ensures files { result ≡ with_indexes 0 self.now.files }
         ensures tables { AreTables self.now.directories (keys_of self.now.files) }
     {
-        // For the prover alone: what is true of the tables is known once a field is read (`tables`).
+        // For the prover alone: what is true of the tables is known once a field is read
+        // (`tables`).
         let _files = &self.files;
         Files {
             table: self,
@@ -371,7 +410,8 @@ impl FileTable {
     pub(crate) fn get_file_info_mut(&mut self, id: FileId) -> &mut FileInfo
         requires { id < length self.old.files }
         ensures* lends { sem 𝓛 (lends_details self.entry id result) }
-        ensures value { option_map (λ f. f.1) (slice_get self.old.files id) ≡ Some (details result.now) }
+        ensures value { option_map (λ f. f.1) (slice_get self.old.files id)
+            ≡ Some (details result.now) }
     {
         self.files.get_index_mut(id.0).unwrap()
     }
@@ -391,6 +431,13 @@ impl Clone for FileTable {
 }
 
 /// The files of a line program in order, each with its id, its path and its directory.
+///
+/// <!-- part of crates/uses/src/make_unit.rt -->
+/// ```rust
+/// let Some((file, _, _)) = program.files().next() else {
+///     bail!("the program has no file");
+/// };
+/// ```
 #[derive(Debug, Drop)]
 pub struct Files<'a> {
     table: &'a FileTable,

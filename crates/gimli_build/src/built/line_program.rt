@@ -1,6 +1,8 @@
 //! A line program that is built: gimli's `LineProgram`, its tables, its rows and its flags.
 
-ghost use Rattle.std.specs.Prelude.{◌≡◌, ◌≢◌, ℕ, ◌+◌, ◌/◌, ◌%◌, ◌<◌, ◌≤◌, true, false, nat_eq, [], length, option_map, slice_get, IfOk, IfErr, OnOk, OnErr, IfSome, Some, None, IsTrue, ◌↔◌};
+ghost use Rattle.std.specs.Prelude.{◌≡◌, ◌≢◌, ℕ, ◌+◌, ◌/◌, ◌%◌, ◌<◌, ◌≤◌, true, false, nat_eq, []};
+ghost use Rattle.std.specs.Prelude.{length, option_map, slice_get, IfOk, IfErr, OnOk, OnErr};
+ghost use Rattle.std.specs.Prelude.{IfSome, Some, None, IsTrue, ◌↔◌};
 ghost use Rattle.gimli_core.specs.Numbers.{is_address_size};
 ghost use Rattle.gimli_build.specs.Advance.{CanEncode, IsPosition, CanFollow};
 
@@ -15,8 +17,17 @@ use std::marker::Model;
 
 /// A line program that is built.
 ///
-/// It keeps what was built as it was given: directories and files, set addresses, rows and ends. Nothing of
-/// it is encoded before it is written.
+/// It keeps what was built as it was given: directories and files, set addresses, rows and ends.
+/// Nothing of it is encoded before it is written.
+///
+/// <!-- part of crates/uses/src/make_unit.rt -->
+/// ```rust
+/// let directory = LineString::new(b"/w", encoding, line_strings)?;
+/// let path = LineString::new(b"a.c", encoding, line_strings)?;
+/// let lines = LineEncoding::default();
+/// let program = LineProgram::new(alloc, encoding, lines, directory, None, path, None)?;
+/// Ok(program)
+/// ```
 #[derive(Debug, Drop)]
 pub struct LineProgram {
     none: bool,
@@ -55,8 +66,8 @@ impl LineProgram {
     ghost use Rattle.gimli_build.specs.FirstTables.{first_tables};
     ghost use Rattle.gimli_build.specs.Conditions.{Accepts};
 
-    /// Whether a program may have these encodings: addresses of 1, 2, 4 or 8 bytes, and numbers by which
-    /// rows can be encoded.
+    /// Whether a program may have these encodings: addresses of 1, 2, 4 or 8 bytes, and numbers by
+    /// which rows can be encoded.
     pub fn accepts(encoding: Encoding, line_encoding: LineEncoding) -> bool
         ensures { IsTrue result ↔ Accepts encoding line_encoding }
     {
@@ -180,7 +191,8 @@ impl LineProgram {
 impl LineProgram {
     ghost use Rattle.std.specs.Borrow.{sem};
     ghost use Rattle.gimli_build.specs.LineText.{line_text, HasNoZero, IsNotEmpty};
-    ghost use Rattle.gimli_build.specs.Tables.{index_of_directory, index_of_file, with_indexes, keys_of, Keeps, AreTables};
+    ghost use Rattle.gimli_build.specs.Tables.{index_of_directory, index_of_file, with_indexes};
+    ghost use Rattle.gimli_build.specs.Tables.{keys_of, Keeps, AreTables};
     ghost use Rattle.gimli_build.specs.TableFields.{details};
     ghost use Rattle.gimli_build.specs.Calls.{after_directory, after_file};
     ghost use Rattle.gimli_build.specs.LentRow.{lends_info};
@@ -190,7 +202,8 @@ impl LineProgram {
         ensures id { result ≡ 0 }
         ensures there { self.now.is_none ≡ false → 0 < length self.now.directories }
     {
-        // For the prover alone: what is true of every program is known once a field is read (`there`).
+        // For the prover alone: what is true of every program is known once a field is read
+        // (`there`).
         let _items = &self.items;
         DirectoryId::working()
     }
@@ -302,7 +315,8 @@ impl LineProgram {
 impl LineProgram {
     ghost use Rattle.std.specs.Borrow.{sem};
     ghost use Rattle.gimli_build.specs.Calls.{after_begin, after_address, after_row, after_end};
-    ghost use Rattle.gimli_build.specs.Conditions.{CanGenerateRow, CanEndSequence, AreBuilt, IsProgram};
+    ghost use Rattle.gimli_build.specs.Conditions.{CanGenerateRow, CanEndSequence, AreBuilt};
+    ghost use Rattle.gimli_build.specs.Conditions.{IsProgram};
     ghost use Rattle.gimli_build.specs.Tables.{keys_of, AreTables};
     ghost use Rattle.gimli_build.specs.LentRow.{lends_row};
 
@@ -349,9 +363,9 @@ impl LineProgram {
         &mut self.row
     }
 
-    /// Whether the current row can be generated: its offset is a whole number of shortest instructions and
-    /// its op_index one of their operations, it isn't before the previous row, the operations between them
-    /// fit 64 bits, and its line fits 63.
+    /// Whether the current row can be generated: its offset is a whole number of shortest
+    /// instructions and its op_index one of their operations, it isn't before the previous row, the
+    /// operations between them fit 64 bits, and its line fits 63.
     pub fn can_generate_row(&self) -> bool
         ensures { IsTrue result ↔ CanGenerateRow self.now }
     {
@@ -523,8 +537,8 @@ fn can_follow(
             <= (u64::MAX - op_index) / operations
 }
 
-/// Whether each byte can begin an instruction, and each instruction is one operation. Both are asked without a branch
-/// between.
+/// Whether each byte can begin an instruction, and each instruction is one operation. Both are
+/// asked without a branch between.
 fn is_plain(line_encoding: LineEncoding) -> bool
     ensures { IsTrue result ↔ (line_encoding.minimum_instruction_length ≡ 1)
         × (line_encoding.maximum_operations_per_instruction ≡ 1) }
@@ -542,7 +556,8 @@ fn is_whole(line_encoding: LineEncoding, offset: u64) -> bool
     length == 1 || offset.is_multiple_of(u64::from(length))
 }
 
-/// How many shortest instructions so many bytes are. Where they have one byte each, nothing is divided.
+/// How many shortest instructions so many bytes are. Where they have one byte each, nothing is
+/// divided.
 pub(crate) fn instruction_count(line_encoding: LineEncoding, bytes: u64) -> u64
     requires { CanEncode line_encoding }
     ensures { result ≡ bytes / line_encoding.minimum_instruction_length }

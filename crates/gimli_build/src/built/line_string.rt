@@ -1,4 +1,5 @@
-//! Texts of directories and files: in the table itself, or references to `.debug_str` and `.debug_line_str`.
+//! Texts of directories and files: in the table itself, or references to `.debug_str` and
+//! `.debug_line_str`.
 
 ghost use Rattle.std.specs.Prelude.{◌≡◌, ◌≢◌, ℕ, List, IfOk, IfErr, OnOk, OnErr, All};
 
@@ -7,6 +8,15 @@ use gimli_core::{DwForm, Encoding, constants};
 use std::alloc::AllocError;
 
 /// A text of a line program: the name of a directory or a file, or a file's source.
+///
+/// <!-- part of crates/uses/src/make_unit.rt -->
+/// ```rust
+/// let directory = LineString::new(b"/w", encoding, line_strings)?;
+/// let path = LineString::new(b"a.c", encoding, line_strings)?;
+/// let lines = LineEncoding::default();
+/// let program = LineProgram::new(alloc, encoding, lines, directory, None, path, None)?;
+/// Ok(program)
+/// ```
 #[derive(Debug, PartialEq, Eq, Hash, Drop)]
 pub enum LineString {
     /// A text in the line program itself.
@@ -18,7 +28,8 @@ pub enum LineString {
 }
 
 impl LineString {
-    ghost use Rattle.gimli_build.specs.LineText.{line_text, made_text, made_table, IsWithin, bytes_in, HasNoZero};
+    ghost use Rattle.gimli_build.specs.LineText.{line_text, made_text, made_table, IsWithin};
+    ghost use Rattle.gimli_build.specs.LineText.{bytes_in, HasNoZero};
     ghost use Rattle.gimli_bytes.specs.Texts.{KeepsTexts, texts_in};
     ghost use Rattle.gimli_build.specs.Version5Tables.{text_form};
 

@@ -7,10 +7,22 @@ use crate::built::files::FileId;
 use gimli_core::{Encoding, LineEncoding};
 
 /// A row of a line program that is built.
+///
+/// <!-- part of crates/uses/src/make_unit.rt -->
+/// ```rust
+/// let row = program.row();
+/// row.file = file;
+/// row.address_offset = offset;
+/// row.line = line;
+/// if !program.can_generate_row() {
+///     bail!("line {line} can't be built");
+/// }
+/// program.generate_row()?;
+/// ```
 #[derive(Clone, Copy, Debug, PartialEq, Eq)]
 pub struct LineRow {
-    /// How many bytes the machine instruction is after the address that was last set in the sequence, or
-    /// after 0 where none was.
+    /// How many bytes the machine instruction is after the address that was last set in the
+    /// sequence, or after 0 where none was.
     pub address_offset: u64,
     /// Which operation of the machine instruction, from 0 on.
     pub op_index: u64,

@@ -1,18 +1,24 @@
 //! Rows and ends as instructions. Each instruction is written at once; none is kept.
 
-ghost use Rattle.std.specs.Prelude.{◌≡◌, ℕ, Bool, not, nat_eq, nat_le, if◌then◌else◌, [], ◌∷◌, ◌++◌, ◌+◌, ◌*◌, ◌<◌, ◌≤◌, ◌^◌, Some, None, IfOk, OnOk, Ok, pos, ◌-ℤ◌, unsigned_abs};
+ghost use Rattle.std.specs.Prelude.{◌≡◌, ℕ, Bool, not, nat_eq, nat_le, if◌then◌else◌, [], ◌∷◌};
+ghost use Rattle.std.specs.Prelude.{◌++◌, ◌+◌, ◌*◌, ◌<◌, ◌≤◌, ◌^◌, Some, None, IfOk, OnOk, Ok, pos};
+ghost use Rattle.std.specs.Prelude.{◌-ℤ◌, unsigned_abs};
 ghost use Rattle.gimli_build.specs.Conditions.{CanBuild, AreBuilt};
 ghost use Rattle.gimli_build.specs.Items.{next_previous, item_bytes, items_bytes, FitsItem, AreFit};
 ghost use Rattle.gimli_build.specs.Built.{position_after};
 ghost use Rattle.gimli_build.specs.Rows.{initial_row, at_position};
 ghost use Rattle.gimli_build.specs.Advance.{CanEncode, IsPosition, CanFollow, operations};
 ghost use Rattle.gimli_build.specs.Due.{when};
-ghost use Rattle.gimli_build.specs.Encode.{marks, changes, is_special_advance, line_opcode, line_part, row_maker, operation_part, row_instructions};
+ghost use Rattle.gimli_build.specs.Encode.{marks, changes, is_special_advance, line_opcode};
+ghost use Rattle.gimli_build.specs.Encode.{line_part, row_maker, operation_part, row_instructions};
 ghost use Rattle.gimli_build.specs.InstructionBytes.{instructions_bytes, FitsInstructions};
 ghost use Rattle.gimli_build.specs.FileNumber.{file_number};
 ghost use Rattle.gimli_build.specs.inside.ReadAs.{read_as};
 ghost use Rattle.gimli_build.specs.inside.Writes.{Writes};
-ghost use Rattle.gimli_line.specs.declared.run.instruction.LineInstruction.TheVariants.{AdvancePc, EndSequence};
+ghost use Rattle.gimli_line.specs.declared.run.instruction.LineInstruction.TheVariants.{
+  AdvancePc,
+  EndSequence,
+};
 
 use crate::built::items::BuiltItem;
 use crate::built::line_program::instruction_count;
@@ -24,8 +30,9 @@ use gimli_core::{Encoding, LineEncoding};
 /// The first special opcode: as many standard opcodes as DWARF names stand below it.
 pub(crate) const OPCODE_BASE: u8 = 13;
 
-/// Appends the instructions of a program's items, each at once. A refusal is that of the first set address that
-/// has one, or the writer's. It stands apart, so that the loop has the registers to itself.
+/// Appends the instructions of a program's items, each at once. A refusal is that of the first set
+/// address that has one, or the writer's. It stands apart, so that the loop has the registers to
+/// itself.
 #[inline(never)]
 pub(crate) fn write_items<W: Writer>(
     w: &mut W,
@@ -56,7 +63,8 @@ pub(crate) fn write_items<W: Writer>(
 /// The row that the next item follows, but for its position: what was built isn't copied.
 #[inline(always)]
 fn next_row<'a>(initial: &'a LineRow, previous: &'a LineRow, item: &'a BuiltItem) -> &'a LineRow
-    ensures { (version : ℕ) (is_stmt : Bool) (position : ℕ × ℕ) → initial.now ≡ initial_row version is_stmt →
+    ensures { (version : ℕ) (is_stmt : Bool) (position : ℕ × ℕ)
+        → initial.now ≡ initial_row version is_stmt →
         at_position (position_after item.now) result.now
         ≡ next_previous version is_stmt (at_position position previous.now) item.now }
 {
@@ -67,7 +75,8 @@ fn next_row<'a>(initial: &'a LineRow, previous: &'a LineRow, item: &'a BuiltItem
     }
 }
 
-/// Appends the instructions of one item that follows `previous`, whose offset and op_index are `position`.
+/// Appends the instructions of one item that follows `previous`, whose offset and op_index are
+/// `position`.
 #[inline(always)]
 fn write_item<W: Writer>(
     w: &mut W,
@@ -82,7 +91,8 @@ fn write_item<W: Writer>(
     requires previous_line { previous.now.line < 2 ^ 63 }
     requires built { CanBuild line_encoding position item.now }
     ensures writes { Writes W.Sink w.old w.new result
-        (item_bytes (W.big w.old) encoding line_encoding (at_position position previous.now) item.now) }
+        (item_bytes (W.big w.old) encoding line_encoding (at_position position previous.now)
+        item.now) }
     ensures fit { OnOk result (FitsItem encoding.version item.now) }
 {
     match item {
@@ -98,8 +108,8 @@ fn write_item<W: Writer>(
     }
 }
 
-/// Appends the instructions of a row that follows `previous`, whose offset and op_index are `position`. At the start
-/// of a sequence, and after a set address in one, both are 0.
+/// Appends the instructions of a row that follows `previous`, whose offset and op_index are
+/// `position`. At the start of a sequence, and after a set address in one, both are 0.
 #[inline(always)]
 pub(crate) fn write_row<W: Writer>(
     w: &mut W,
@@ -117,7 +127,8 @@ pub(crate) fn write_row<W: Writer>(
     requires line { row.now.line < 2 ^ 63 }
     ensures writes { Writes W.Sink w.old w.new result
         (Ok (instructions_bytes
-        (row_instructions encoding.version line_encoding (at_position position previous.now) row.now))) }
+        (row_instructions encoding.version line_encoding (at_position position previous.now)
+        row.now))) }
     ensures fit { OnOk result (FitsInstructions encoding.version row.now) }
 {
     write_marks(w, row)?;
@@ -128,8 +139,8 @@ pub(crate) fn write_row<W: Writer>(
     Ok(())
 }
 
-/// Appends the instructions of an end that is `count` operations after the row before. Ends are few, so it stands apart
-/// from rows.
+/// Appends the instructions of an end that is `count` operations after the row before. Ends are
+/// few, so it stands apart from rows.
 #[inline(never)]
 pub(crate) fn write_end<W: Writer>(w: &mut W, count: u64) -> Result<()>
     ensures { Writes W.Sink w.old w.new result (Ok (instructions_bytes
@@ -180,8 +191,8 @@ fn write_changes<W: Writer>(
     Ok(())
 }
 
-/// Appends the line advance where no special opcode has it, and returns the special opcode that is due
-/// for the line.
+/// Appends the line advance where no special opcode has it, and returns the special opcode that is
+/// due for the line.
 fn write_line_advance<W: Writer>(
     w: &mut W,
     line_encoding: &LineEncoding,
@@ -207,8 +218,8 @@ fn has_special(line_encoding: &LineEncoding, advance: i64) -> bool
     base <= advance && advance < base + i64::from(line_encoding.line_range)
 }
 
-/// Appends what advances by `count` operations and makes the row, where the special opcode `opcode` is
-/// due for the line.
+/// Appends what advances by `count` operations and makes the row, where the special opcode `opcode`
+/// is due for the line.
 fn write_operation_advance<W: Writer>(
     w: &mut W,
     line_encoding: &LineEncoding,
@@ -233,12 +244,13 @@ fn write_operation_advance<W: Writer>(
     Ok(())
 }
 
-/// The special opcode that advances by `count` operations more than `opcode` does; none where no byte has it. More than
-/// 255 are too many for each line range, so the product stays small.
+/// The special opcode that advances by `count` operations more than `opcode` does; none where no
+/// byte has it. More than 255 are too many for each line range, so the product stays small.
 fn special_opcode(opcode: u8, count: u64, range: u64) -> Option<u8>
     requires some { 1 ≤ range }
     requires few { range ≤ 127 }
-    ensures { result ≡ (if nat_le (opcode + count * range) 255 then Some (opcode + count * range) else None) }
+    ensures { result
+        ≡ (if nat_le (opcode + count * range) 255 then Some (opcode + count * range) else None) }
 {
     if count > u64::from(u8::MAX) {
         return None;

@@ -1,12 +1,19 @@
 //! Instructions, one at a time.
 
 ghost use Rattle.std.specs.Prelude.{◌≡◌, ◌+◌, ◌∷◌, Ok};
-ghost use Rattle.gimli_bytes.specs.Number.{uleb, sleb, low_bits as low_bits_of, has_seven_bits as holds_seven_bits};
-ghost use Rattle.gimli_build.specs.InstructionBytes.{instruction_bytes, instructions_bytes, set_address_bytes};
+ghost use Rattle.gimli_bytes.specs.Number.{uleb, sleb, low_bits as low_bits_of};
+ghost use Rattle.gimli_bytes.specs.Number.{has_seven_bits as holds_seven_bits};
+ghost use Rattle.gimli_build.specs.InstructionBytes.{
+  instruction_bytes,
+  instructions_bytes,
+  set_address_bytes,
+};
 ghost use Rattle.gimli_build.specs.Due.{when};
 ghost use Rattle.gimli_build.specs.inside.ReadAs.{read_as};
 ghost use Rattle.gimli_build.specs.inside.Writes.{Writes};
-ghost use Rattle.gimli_line.specs.declared.run.instruction.LineInstruction.TheVariants.{SetDiscriminator};
+ghost use Rattle.gimli_line.specs.declared.run.instruction.LineInstruction.TheVariants.{
+  SetDiscriminator,
+};
 
 use crate::bytes::write_byte;
 use gimli_bytes::{Address, Leb128, Result, Writer};

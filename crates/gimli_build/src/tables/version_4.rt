@@ -6,7 +6,8 @@ ghost use Rattle.gimli_build.specs.LineText.{Inline, line_text};
 ghost use Rattle.gimli_build.specs.inside.Tables.{FitsFile};
 ghost use Rattle.gimli_build.specs.TableFields.{details};
 ghost use Rattle.gimli_build.specs.Joined.{result_append, result_concat};
-ghost use Rattle.gimli_build.specs.Version4Tables.{name_bytes, directories_bytes, file_bytes, files_bytes};
+ghost use Rattle.gimli_build.specs.Version4Tables.{name_bytes, directories_bytes, file_bytes};
+ghost use Rattle.gimli_build.specs.Version4Tables.{files_bytes};
 ghost use Rattle.gimli_build.specs.inside.Writes.{Writes};
 
 use crate::built::files::{DirectoryId, FileInfo, FileTable};
@@ -44,7 +45,8 @@ fn others(directories: &[LineString]) -> &[LineString]
 
 /// Appends names one after the other.
 fn write_names<W: Writer>(w: &mut W, names: &[LineString]) -> Result<()>
-    ensures { Writes W.Sink w.old w.new result (result_concat name_bytes (map line_text names.now)) }
+    ensures { Writes W.Sink w.old w.new result
+        (result_concat name_bytes (map line_text names.now)) }
 {
     for name in names {
         write_name(w, name)?;

@@ -1,6 +1,9 @@
-//! The tables of a unit of version 5: each stands after the formats of its entries and their number.
+//! The tables of a unit of version 5: each stands after the formats of its entries and their
+//! number.
 
-ghost use Rattle.std.specs.Prelude.{◌≡◌, ◌<◌, ◌≤◌, ◌^◌, true, [], ◌∷◌, ◌++◌, length, map, if◌then◌else◌, nat_eq, IfOk, IfErr, IfSome, OnOk, OnErr, Ok, Err, Some, None, All, unwrap_or};
+ghost use Rattle.std.specs.Prelude.{◌≡◌, ◌<◌, ◌≤◌, ◌^◌, true, [], ◌∷◌, ◌++◌, length, map};
+ghost use Rattle.std.specs.Prelude.{if◌then◌else◌, nat_eq, IfOk, IfErr, IfSome, OnOk, OnErr, Ok};
+ghost use Rattle.std.specs.Prelude.{Err, Some, None, All, unwrap_or};
 ghost use Rattle.std.specs.Option.{is_none};
 ghost use Rattle.std.specs.List.{list_any};
 ghost use Rattle.gimli_bytes.specs.Number.{uleb};
@@ -11,7 +14,11 @@ ghost use Rattle.gimli_build.specs.inside.Tables.{FitsFile};
 ghost use Rattle.gimli_build.specs.TableFields.{details};
 ghost use Rattle.gimli_build.specs.Conditions.{CanWrite};
 ghost use Rattle.gimli_build.specs.Joined.{result_append, result_concat};
-ghost use Rattle.gimli_build.specs.Version5Tables.{first_form, path_texts, sources, needs_empty, empty_text, formats_bytes, file_formats, text_in_form, directory_table_bytes, source_bytes, file_entry_bytes, file_table_bytes};
+ghost use Rattle.gimli_build.specs.Version5Tables.{first_form, path_texts, sources, needs_empty};
+ghost use Rattle.gimli_build.specs.Version5Tables.{empty_text, formats_bytes, file_formats};
+ghost use Rattle.gimli_build.specs.Version5Tables.{text_in_form, directory_table_bytes};
+ghost use Rattle.gimli_build.specs.Version5Tables.{source_bytes, file_entry_bytes};
+ghost use Rattle.gimli_build.specs.Version5Tables.{file_table_bytes};
 ghost use Rattle.gimli_build.specs.WrittenTables.{HaveEmptySource};
 ghost use Rattle.gimli_build.specs.inside.EmptySource.{IsEmptySource, StandsForNone};
 ghost use Rattle.gimli_build.specs.inside.Writes.{Writes};
@@ -51,7 +58,8 @@ pub(crate) fn add_empty_source(
 
 /// The form of the empty text, which is in the program itself where it isn't needed.
 fn empty_form(program: &LineProgram) -> DwForm
-    ensures { result.0 ≡ (if needs_empty program.now then first_form (sources program.now.files) else 0x08) }
+    ensures { result.0
+        ≡ (if needs_empty program.now then first_form (sources program.now.files) else 0x08) }
 {
     if needs_empty(program) {
         source_form(program.tables())
@@ -228,7 +236,8 @@ fn write_texts<W: Writer>(
     Ok(())
 }
 
-/// Appends a text, which has to have this form: itself and a zero byte, or its offset in the section of its table.
+/// Appends a text, which has to have this form: itself and a zero byte, or its offset in the
+/// section of its table.
 fn write_line_string<W: Writer>(
     w: &mut W,
     format: Format,
@@ -305,7 +314,8 @@ fn write_file_formats<W: Writer>(
 fn write_key_formats<W: Writer>(w: &mut W, program: &LineProgram) -> Result<()>
     ensures { Writes W.Sink w.old w.new result
         (Ok (length (file_formats program.now)
-        ∷ (uleb 0x0001 ++ uleb (first_form (path_texts program.now.files))) ++ uleb 0x0002 ++ uleb 0x0f)) }
+        ∷ (uleb 0x0001 ++ uleb (first_form (path_texts program.now.files))) ++ uleb 0x0002
+        ++ uleb 0x0f)) }
 {
     write_byte(w, format_count(program))?;
     write_format(w, constants::DW_LNCT_path, path_form(program.tables()))?;
@@ -403,7 +413,8 @@ fn write_file_entry<W: Writer>(
         (file_entry_bytes (W.big w.old) program.now.encoding.format
         (texts_in strings.now line_strings.now) program.now
         ((line_text file.entry.0.now, file.entry.1), details file.entry.2.now)) }
-    ensures fit { OnOk result (FitsFile ((line_text file.entry.0.now, file.entry.1), details file.entry.2.now)) }
+    ensures fit { OnOk result
+        (FitsFile ((line_text file.entry.0.now, file.entry.1), details file.entry.2.now)) }
 {
     let form = path_form(program.tables());
     write_line_string(w, program.format(), form, file.0, line_strings, strings)?;
@@ -419,7 +430,8 @@ fn write_file_entry<W: Writer>(
     )
 }
 
-/// Appends a file's directory, timestamp, size and digest, the last three where the program's flags say so.
+/// Appends a file's directory, timestamp, size and digest, the last three where the program's flags
+/// say so.
 fn write_details<W: Writer>(
     w: &mut W,
     program: &LineProgram,

@@ -6,7 +6,8 @@ ghost use Rattle.gimli_build.specs.LineText.{line_text};
 ghost use Rattle.gimli_build.specs.inside.Tables.{FitsFile};
 ghost use Rattle.gimli_build.specs.Conditions.{CanWrite};
 ghost use Rattle.gimli_build.specs.inside.EmptySource.{StandsForNone};
-ghost use Rattle.gimli_build.specs.Unit.{operations_bytes, line_encoding_bytes, tables_bytes, fields_bytes, header_bytes};
+ghost use Rattle.gimli_build.specs.Unit.{operations_bytes, line_encoding_bytes, tables_bytes};
+ghost use Rattle.gimli_build.specs.Unit.{fields_bytes, header_bytes};
 ghost use Rattle.gimli_build.specs.inside.Writes.{Writes};
 
 use crate::built::line_program::LineProgram;

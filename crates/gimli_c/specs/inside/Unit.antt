@@ -9,7 +9,8 @@ use Rattle.gimli_c.specs.declared.unit.GimliUnit.{GimliUnit}
 use Rattle.gimli_c.specs.Unit.{unit_seen}
 
 -- what is read of a program, wherever it stands
-pub record IsReadUnit (offset : ℕ) (h : Header) (notation : Notation) (unit : GimliUnit) : Type 0 where
+pub record IsReadUnit (offset : ℕ) (h : Header) (notation : Notation) (unit : GimliUnit)
+    : Type 0 where
   pub events : List Event
   pub given : Events notation h h.program events
   pub files : List File

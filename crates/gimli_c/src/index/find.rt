@@ -24,7 +24,8 @@ pub struct GimliPlace {
     pub unit: u64,
 }
 
-/// The place of an address that no row covers: all its numbers are 0. That of one that is covered ends above the address.
+/// The place of an address that no row covers: all its numbers are 0. That of one that is covered
+/// ends above the address.
 const NO_PLACE: GimliPlace = GimliPlace {
     row: GimliRow {
         address: 0,
@@ -53,10 +54,11 @@ fn place_in(index: &SectionIndex, address: u64) -> Option<GimliPlace>
     })
 }
 
-/// Looks an address up in all units. `place` is the row that it belongs to, the address up to which that holds, and its unit:
-/// the first two adjacent rows of one sequence of which the first has an address at most the one that is looked up, and the
-/// second one above it, in the order of the units and of their sequences. `NOT_FOUND` where there are none, and `CLOSED` where
-/// the handle is. Where another number than 0 is returned, `place` stays as it was. Takes no memory.
+/// Looks an address up in all units. `place` is the row that it belongs to, the address up to which
+/// that holds, and its unit: the first two adjacent rows of one sequence of which the first has an
+/// address at most the one that is looked up, and the second one above it, in the order of the
+/// units and of their sequences. `NOT_FOUND` where there are none, and `CLOSED` where the handle
+/// is. Where another number than 0 is returned, `place` stays as it was. Takes no memory.
 #[unsafe(no_mangle)]
 pub extern "C" fn gimli_line_index_find(
     alloc: Global,
@@ -107,9 +109,10 @@ fn answer_all(index: &SectionIndex, addresses: &[u64], places: &mut [GimliPlace]
     }
 }
 
-/// Looks many addresses up, each as `gimli_line_index_find` does. The place of the first goes into `places[0]` and so on, as far as
-/// there is room. Where no row covers an address, all numbers of its place are 0; else the `end` of a place is above the address,
-/// and so isn't 0. `CLOSED` where the handle is; then `places` stays as it was. Takes no memory.
+/// Looks many addresses up, each as `gimli_line_index_find` does. The place of the first goes into
+/// `places[0]` and so on, as far as there is room. Where no row covers an address, all numbers of
+/// its place are 0; else the `end` of a place is above the address, and so isn't 0. `CLOSED` where
+/// the handle is; then `places` stays as it was. Takes no memory.
 #[unsafe(no_mangle)]
 pub extern "C" fn gimli_line_index_find_all(
     alloc: Global,

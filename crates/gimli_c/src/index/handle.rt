@@ -10,7 +10,8 @@ use std::marker::Model;
 use std::mem::replace;
 use std::ptr::null_mut;
 
-/// The handle of an index. It owns the index that stands at its pointer; a closed one is null, and owns nothing.
+/// The handle of an index. It owns the index that stands at its pointer; a closed one is null, and
+/// owns nothing.
 #[repr(C)]
 pub struct GimliLineIndex {
     at: *mut u8,

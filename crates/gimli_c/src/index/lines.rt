@@ -3,7 +3,8 @@
 ghost use Rattle.std.specs.Prelude.{◌≡◌, ◌≢◌, ◌⊎◌, false, IfErr, IfOk, IfSome, None};
 ghost use Rattle.gimli_core.specs.Numbers.{is_address_size};
 ghost use Rattle.gimli_lookup.specs.Strings.{strings};
-ghost use Rattle.gimli_c.specs.Indexed.{strings_in, AreUnitsIn, GivesAddressesOf, HasNoAddressOf, WritesAddressesOf};
+ghost use Rattle.gimli_c.specs.Indexed.{strings_in, AreUnitsIn, GivesAddressesOf, HasNoAddressOf};
+ghost use Rattle.gimli_c.specs.Indexed.{WritesAddressesOf};
 
 use crate::index::handle::GimliLineIndex;
 use crate::index::kept::SectionIndex;
@@ -70,10 +71,11 @@ fn addresses_in(
     }
 }
 
-/// Tells the addresses for a breakpoint at a line of a path, over all units: as `gimli_line_index_addresses` does, of the files that
-/// have this whole path, without the directory of the compilation where the unit doesn't have it, as up to version 4. The headers
-/// of all units are read and their programs are run for each call. `NOT_FOUND` where no line from it on has any; `CLOSED` where the
-/// handle is. Where another number than 0 is returned, nothing is written.
+/// Tells the addresses for a breakpoint at a line of a path, over all units: as
+/// `gimli_line_index_addresses` does, of the files that have this whole path, without the directory
+/// of the compilation where the unit doesn't have it, as up to version 4. The headers of all units
+/// are read and their programs are run for each call. `NOT_FOUND` where no line from it on has any;
+/// `CLOSED` where the handle is. Where another number than 0 is returned, nothing is written.
 #[unsafe(no_mangle)]
 pub extern "C" fn gimli_line_index_addresses_of(
     alloc: Global,

@@ -107,7 +107,8 @@ pub extern "C" fn gimli_line_index_path(
     ensures found { result ≡ OK → IfSome index.old.index
         (λ i. WritesPath i unit file comp_dir.now path.old path.new size.new) }
     ensures closed { index.old.index ≡ None → result ≡ CLOSED }
-    ensures refused { result ≢ OK → result ≢ CLOSED → result ≢ OUT_OF_MEMORY → IfSome index.old.index
+    ensures refused { result ≢ OK → result ≢ CLOSED → result ≢ OUT_OF_MEMORY
+        → IfSome index.old.index
         (λ i. HasNoPath i unit file comp_dir.now result) }
     ensures kept { result ≢ OK → (path.new ≡ path.old) × (size.new ≡ size.old) }
     ensures same { index.new.index ≡ index.old.index }

@@ -1,7 +1,8 @@
 //! The files and the directories of the units of an index.
 
 ghost use Rattle.std.specs.Prelude.{◌≡◌, ◌≢◌, IfSome, None};
-ghost use Rattle.gimli_c.specs.Indexed.{GivesDirectoryOf, GivesFileOf, HasNoDirectory, HasNoFile, UnitRefused};
+ghost use Rattle.gimli_c.specs.Indexed.{GivesDirectoryOf, GivesFileOf, HasNoDirectory, HasNoFile};
+ghost use Rattle.gimli_c.specs.Indexed.{UnitRefused};
 
 use crate::directory::gimli_line_directory;
 use crate::file::{GimliFile, GimliText, gimli_line_file};
@@ -45,9 +46,10 @@ fn file_in(
     )
 }
 
-/// Reads the file of an index of a unit, as `gimli_line_file` does, by the index's copy of the section. `NOT_FOUND` where there is
-/// no such unit, or the unit has no such file, and `CLOSED` where the handle is; the number of the refusal where the unit can't be
-/// read. Where another number than 0 is returned, nothing is written.
+/// Reads the file of an index of a unit, as `gimli_line_file` does, by the index's copy of the
+/// section. `NOT_FOUND` where there is no such unit, or the unit has no such file, and `CLOSED`
+/// where the handle is; the number of the refusal where the unit can't be read. Where another
+/// number than 0 is returned, nothing is written.
 #[unsafe(no_mangle)]
 pub extern "C" fn gimli_line_index_file(
     alloc: Global,
@@ -108,8 +110,8 @@ fn directory_in(
     )
 }
 
-/// Reads the directory of an index of a unit, as `gimli_line_directory` does, by the index's copy of the section. Returns else as
-/// `gimli_line_index_file` does.
+/// Reads the directory of an index of a unit, as `gimli_line_directory` does, by the index's copy
+/// of the section. Returns else as `gimli_line_index_file` does.
 #[unsafe(no_mangle)]
 pub extern "C" fn gimli_line_index_directory(
     alloc: Global,

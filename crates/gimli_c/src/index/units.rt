@@ -1,7 +1,9 @@
 //! The units of an index.
 
-ghost use Rattle.std.specs.Prelude.{◌≡◌, ◌≢◌, ◌⊎◌, ◌<◌, IfErr, IfOk, IfSome, None, length, slice_get};
-ghost use Rattle.gimli_c.specs.Indexed.{GivesAddresses, GivesIndexUnit, HasNoAddress, IsUnit, WritesAddresses};
+ghost use Rattle.std.specs.Prelude.{◌≡◌, ◌≢◌, ◌⊎◌, ◌<◌, IfErr, IfOk, IfSome, None, length};
+ghost use Rattle.std.specs.Prelude.{slice_get};
+ghost use Rattle.gimli_c.specs.Indexed.{GivesAddresses, GivesIndexUnit, HasNoAddress, IsUnit};
+ghost use Rattle.gimli_c.specs.Indexed.{WritesAddresses};
 ghost use Rattle.gimli_c.specs.Written.{slots_with};
 
 use crate::index::handle::GimliLineIndex;
@@ -92,8 +94,8 @@ fn unit_in(index: &SectionIndex, unit: u64) -> Result<GimliIndexUnit, u32>
     })
 }
 
-/// Tells where a unit stands, and what is wrong with it. `NOT_FOUND` where there is no such unit, and `CLOSED` where the handle
-/// is; then nothing is written.
+/// Tells where a unit stands, and what is wrong with it. `NOT_FOUND` where there is no such unit,
+/// and `CLOSED` where the handle is; then nothing is written.
 #[unsafe(no_mangle)]
 pub extern "C" fn gimli_line_index_unit(
     alloc: Global,
@@ -136,7 +138,8 @@ pub(crate) fn copy_addresses(addresses: &[u64], room: &mut [u64])
 
 /// The addresses of a line of a file of a unit, or the number of a refusal.
 fn addresses_in(index: &SectionIndex, unit: u64, file: u64, line: u64) -> Result<Addresses, u32>
-    ensures ok { IfOk result (λ a. GivesAddresses index.now unit file line a.line a.addresses.items) }
+    ensures ok { IfOk result (λ a.
+        GivesAddresses index.now unit file line a.line a.addresses.items) }
     ensures err { IfErr result (λ s. (s ≡ OUT_OF_MEMORY)
         ⊎ ((s ≡ NOT_FOUND) × HasNoAddress index.now unit file line)) }
 {
@@ -151,11 +154,12 @@ fn addresses_in(index: &SectionIndex, unit: u64, file: u64, line: u64) -> Result
     }
 }
 
-/// Tells the addresses for a breakpoint at a line of a file of one unit: of each run of rows of that line that stand
-/// side by side in a sequence, that of the first with `IS_STMT`. Where the line has none, those of the next line that
-/// has; `found_line` is that line. The addresses go into `addresses`, as far as there is room; `count` is how many
-/// there are. `NOT_FOUND` where there is no such unit, or no line from it on has any; `CLOSED` where the handle is.
-/// Where another number than 0 is returned, nothing is written.
+/// Tells the addresses for a breakpoint at a line of a file of one unit: of each run of rows of
+/// that line that stand side by side in a sequence, that of the first with `IS_STMT`. Where the
+/// line has none, those of the next line that has; `found_line` is that line. The addresses go into
+/// `addresses`, as far as there is room; `count` is how many there are. `NOT_FOUND` where there is
+/// no such unit, or no line from it on has any; `CLOSED` where the handle is. Where another number
+/// than 0 is returned, nothing is written.
 #[unsafe(no_mangle)]
 pub extern "C" fn gimli_line_index_addresses(
     alloc: Global,
@@ -168,11 +172,13 @@ pub extern "C" fn gimli_line_index_addresses(
     count: &mut u64,
 ) -> u32
     ensures found { result ≡ OK → IfSome index.old.index
-        (λ i. WritesAddresses i unit file line found_line.new addresses.old addresses.new count.new) }
+        (λ i. WritesAddresses i unit file line found_line.new addresses.old addresses.new
+        count.new) }
     ensures none { result ≡ NOT_FOUND →
         IfSome index.old.index (λ i. HasNoAddress i unit file line) }
     ensures closed { index.old.index ≡ None → result ≡ CLOSED }
-    ensures number { result ≢ OK → (result ≡ CLOSED) ⊎ (result ≡ NOT_FOUND) ⊎ (result ≡ OUT_OF_MEMORY) }
+    ensures number { result ≢ OK
+        → (result ≡ CLOSED) ⊎ (result ≡ NOT_FOUND) ⊎ (result ≡ OUT_OF_MEMORY) }
     ensures kept { result ≢ OK → (found_line.new ≡ found_line.old) × (addresses.new ≡ addresses.old)
         × (count.new ≡ count.old) }
     ensures same { index.new.index ≡ index.old.index }

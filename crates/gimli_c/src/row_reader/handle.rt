@@ -10,7 +10,8 @@ use std::marker::Model;
 use std::mem::replace;
 use std::ptr::null_mut;
 
-/// The handle of a reader of rows. It owns the rows that stand at its pointer; a closed one is null, and owns nothing.
+/// The handle of a reader of rows. It owns the rows that stand at its pointer; a closed one is
+/// null, and owns nothing.
 #[repr(C)]
 pub struct GimliRowReader {
     at: *mut u8,

@@ -3,7 +3,8 @@
 use gimli_core::Error;
 use gimli_line::RowList;
 
-/// What a reader of rows keeps: the rows of a unit up to its program's first fault. It borrows nothing of a caller.
+/// What a reader of rows keeps: the rows of a unit up to its program's first fault. It borrows
+/// nothing of a caller.
 #[derive(Drop)]
 pub struct UnitRows {
     /// The rows.

@@ -1,6 +1,7 @@
 //! The rows to come.
 
-ghost use Rattle.std.specs.Prelude.{◌≡◌, ◌<◌, ◌+◌, ◌^◌, if◌then◌else◌, IfSome, None, Some, length, map, min, nat_lt, slice_get};
+ghost use Rattle.std.specs.Prelude.{◌≡◌, ◌<◌, ◌+◌, ◌^◌, if◌then◌else◌, IfSome, None, Some, length};
+ghost use Rattle.std.specs.Prelude.{map, min, nat_lt, slice_get};
 ghost use Rattle.gimli_c.specs.Reader.{after_rows, rows_left, GivesNextRows};
 ghost use Rattle.gimli_c.specs.Seen.{row_seen};
 ghost use Rattle.gimli_c.specs.Status.{fault_status};
@@ -42,8 +43,8 @@ impl UnitRows {
         }
     }
 
-    /// Goes on by the rows that an array has room for, and returns how many these are, and the number that is told with
-    /// them.
+    /// Goes on by the rows that an array has room for, and returns how many these are, and the
+    /// number that is told with them.
     fn advance(&mut self, room: usize) -> (usize, u32)
         ensures rows { self.new ≡ after_rows result.0 self.old }
         ensures count { result.0 ≡ min (length (rows_left self.old)) room }
@@ -61,10 +62,10 @@ impl UnitRows {
     }
 }
 
-/// Gives the rows to come, as far as `rows` has room for them; `count` is how many they are. The next call goes on after them.
-/// Where `count` is less than `rows` has room for, the rows are at their end, and the number of the program's first fault is
-/// answered, or 0 where it has none; such a call may come again. `CLOSED` where the handle is; then nothing is written. Takes
-/// no memory.
+/// Gives the rows to come, as far as `rows` has room for them; `count` is how many they are. The
+/// next call goes on after them. Where `count` is less than `rows` has room for, the rows are at
+/// their end, and the number of the program's first fault is answered, or 0 where it has none; such
+/// a call may come again. `CLOSED` where the handle is; then nothing is written. Takes no memory.
 #[unsafe(no_mangle)]
 pub extern "C" fn gimli_line_rows_next(
     alloc: Global,

@@ -10,7 +10,9 @@ use Rattle.gimli_compilation.specs.inside.FormReading.{form_at}
 
 module _ (notation : Notation) (encoding : Encoding) where
   -- a value for each specification, after those that stand before
-  unfoldable pub attributes_at : Attributes (List ℕ) → List Specification → List ℕ → Read (Attributes (List ℕ))
+  unfoldable pub attributes_at : Attributes (List ℕ) → List Specification → List ℕ
+      → Read (Attributes (List ℕ))
   attributes_at before [] bytes = (Ok before, bytes)
   attributes_at before (s ∷ specifications) bytes =
-      form_at notation encoding s.form.0 bytes >>= λ value rest. attributes_at (attributes_with before s.name.0 value) specifications rest
+      form_at notation encoding s.form.0 bytes >>= λ value rest.
+      attributes_at (attributes_with before s.name.0 value) specifications rest

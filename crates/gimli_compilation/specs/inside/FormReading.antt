@@ -1,13 +1,17 @@
 -- What is taken of the values of attributes, and what is left.
 use Rattle.std.specs.Prelude.{ℕ, ◌≤◌, List, Some, None, Ok, Err, nat_eq, if◌then◌else◌}
 use Rattle.gimli_core.specs.Notation.{Notation}
-use Rattle.gimli_core.specs.Reading.{Read, ◌>>=◌, split_at, text_at, number_at, unsigned_at, unsigned_16_at, signed_at, offset_of}
+use Rattle.gimli_core.specs.Reading.{Read, ◌>>=◌, split_at, text_at, number_at, unsigned_at}
+use Rattle.gimli_core.specs.Reading.{unsigned_16_at, signed_at, offset_of}
 use Rattle.gimli_core.specs.declared.common.Encoding.{Encoding}
 use Rattle.gimli_core.specs.declared.error.Error.TheVariants.{UnknownForm}
 use Rattle.gimli_compilation.specs.declared.form.Value.{Value}
 use Rattle.gimli_compilation.specs.declared.form.Value.TheVariants.{Number, Text, Passed}
 use Rattle.gimli_compilation.specs.declared.form.Shape.{Shape}
-use Rattle.gimli_compilation.specs.declared.form.Shape.TheVariants.{Fixed, Unsigned, Signed, Block, Counted, UnsignedCounted, String}
+use Rattle.gimli_compilation.specs.declared.form.Shape.TheVariants.{Fixed, Unsigned, Signed, Block}
+use Rattle.gimli_compilation.specs.declared.form.Shape.TheVariants.{Counted, UnsignedCounted}
+use Rattle.gimli_compilation.specs.declared.form.Shape.TheVariants.{String}
+use Rattle.gimli_compilation.specs.DwarfNumbers.{DW_FORM_indirect, DW_FORM_implicit_const}
 use Rattle.gimli_compilation.specs.Form.{shape_among, shapes}
 
 -- a number of this shape is one that `read_uint` takes
@@ -18,11 +22,14 @@ IsReadable shape = Unit {0}
 
 -- that many bytes go
 abbrev pub passed_at : ℕ → ℕ → List ℕ → Read (Value (List ℕ))
-passed_at limit n bytes = (offset_of limit n, bytes) >>= λ count rest. split_at count rest >>= λ passed left. (Ok Passed, left)
+passed_at limit n bytes =
+    (offset_of limit n, bytes) >>= λ count rest. split_at count rest >>= λ passed left.
+    (Ok Passed, left)
 
 module _ (notation : Notation) where
   abbrev pub shape_at : Shape → List ℕ → Read (Value (List ℕ))
-  shape_at (Fixed size kind) bytes = number_at notation.big size bytes >>= λ n rest. (Ok (Number kind n), rest)
+  shape_at (Fixed size kind) bytes =
+      number_at notation.big size bytes >>= λ n rest. (Ok (Number kind n), rest)
   shape_at (Unsigned kind) bytes = unsigned_at bytes >>= λ n rest. (Ok (Number kind n), rest)
   shape_at Signed bytes = signed_at bytes >>= λ z rest. (Ok Passed, rest)
   shape_at (Block size) bytes = passed_at notation.limit size bytes
@@ -41,5 +48,6 @@ module _ (notation : Notation) where
     -- a value in a form
     unfoldable pub form_at : ℕ → List ℕ → Read (Value (List ℕ))
     form_at form bytes =
-        if nat_eq form 0x21 then (Ok Passed, bytes)
-        else (if nat_eq form 0x16 then (unsigned_16_at bytes >>= known_form_at) else known_form_at form bytes)
+        if nat_eq form DW_FORM_implicit_const then (Ok Passed, bytes)
+        else (if nat_eq form DW_FORM_indirect then (unsigned_16_at bytes >>= known_form_at)
+        else known_form_at form bytes)

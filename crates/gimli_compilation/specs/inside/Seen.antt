@@ -7,7 +7,8 @@ use Rattle.gimli_compilation.specs.declared.header.UnitHeader.{UnitHeader}
 abbrev pub frame_seen : {R : Type 0} → (R → List ℕ) → R × Format → List ℕ × Format
 frame_seen bytes unit = (bytes unit.0, unit.1)
 
-abbrev pub header_seen : {R Endian Offset : Type 0} → (Offset → ℕ) → UnitHeader R Endian Offset → Header
+abbrev pub header_seen : {R Endian Offset : Type 0} → (Offset → ℕ) → UnitHeader R Endian Offset
+    → Header
 header_seen number header = record {
   encoding = header.encoding;
   unit_type = header.unit_type.0;

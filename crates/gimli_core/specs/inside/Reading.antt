@@ -1,5 +1,6 @@
 -- What readers take from the front of a list of bytes, and what they leave.
-use Rattle.std.specs.Prelude.{ℕ, ◌^◌, Bool, List, Result, Ok, Err, nat_eq, if◌then◌else◌, ℤ, pos, ◌-ℤ◌}
+use Rattle.std.specs.Prelude.{ℕ, ◌^◌, Bool, List, Result, Ok, Err, nat_eq, if◌then◌else◌, ℤ, pos}
+use Rattle.std.specs.Prelude.{◌-ℤ◌}
 use Rattle.gimli_core.specs.declared.error.Error.{Error}
 use Rattle.gimli_core.specs.declared.error.Error.TheVariants.{BadSignedLeb128}
 use Rattle.gimli_core.specs.Reading.{Read, ◌>>=◌, offset_of}
@@ -14,4 +15,6 @@ below_at limit read bytes = read bytes >>= λ n rest. (offset_of limit n, rest)
 
 -- nine groups that are n as an unsigned number, and the tenth byte, which only repeats the sign
 abbrev pub tenth_at : ℕ → ℕ → Result ℤ Error
-tenth_at n b = if nat_eq b 0 then Ok (pos n) else (if nat_eq b 127 then Ok (pos n -ℤ pos (2 ^ 63)) else Err BadSignedLeb128)
+tenth_at n b =
+    if nat_eq b 0 then Ok (pos n)
+    else (if nat_eq b 127 then Ok (pos n -ℤ pos (2 ^ 63)) else Err BadSignedLeb128)

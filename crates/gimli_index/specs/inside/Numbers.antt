@@ -5,4 +5,5 @@ use Rattle.gimli_index.specs.Meaning.{start_number}
 
 -- each is above those before it
 abbrev pub NumbersAscend : Index → Type 0
-NumbersAscend index = (i j : ℕ) → i < j → j < index.starts → start_number index i < start_number index j
+NumbersAscend index =
+    (i j : ℕ) → i < j → j < index.starts → start_number index i < start_number index j

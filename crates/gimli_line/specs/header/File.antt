@@ -32,6 +32,7 @@ module _ {R Offset Endian : Type 0} (big : R → Bool) where
   file_orders f = (value_order big f.path_name, option_map (value_order big) f.source)
 
 -- a file, its readers seen by bytes and order, and its offsets by number
-module _ {R Offset Endian : Type 0} (bytes : R → List ℕ) (big : R → Bool) (number : Offset → ℕ) where
+module _ {R Offset Endian : Type 0} (bytes : R → List ℕ) (big : R → Bool)
+    (number : Offset → ℕ) where
   abbrev pub file_by : FileEntry R Offset Endian → File × FileOrders
   file_by f = (file_seen bytes number f, file_orders big f)

@@ -1,5 +1,6 @@
 -- A header: what it says, and how contracts see it.
-use Rattle.std.specs.Prelude.{◌≡◌, ℕ, zero, suc, Bool, List, [], ◌∷◌, ◌++◌, Option, None, option_map, replicate, nat_le, nat_eq, if◌then◌else◌, slice_get}
+use Rattle.std.specs.Prelude.{◌≡◌, ℕ, zero, suc, Bool, List, [], ◌∷◌, ◌++◌, Option, None}
+use Rattle.std.specs.Prelude.{option_map, replicate, nat_le, nat_eq, if◌then◌else◌, slice_get}
 use Rattle.std.specs.List.{list_any, All}
 use Rattle.std.specs.declared.vec.Vec.{Vec}
 use Rattle.std.specs.declared.alloc.Global.{Global}
@@ -61,13 +62,15 @@ abbrev pub from_one : {A : Type 0} → Option A → List A → ℕ → Option A
 from_one first entries zero = first
 from_one first entries (suc i) = slice_get entries i
 
--- the entry of an index in a table of this version: up to version 4 the table begins at 1, and what was handed in stands
--- at 0; in version 5 it begins at 0
+-- the entry of an index in a table of this version: up to version 4 the table begins at 1, and what
+-- was handed in stands at 0; in version 5 it begins at 0
 abbrev pub entry_of : {A : Type 0} → ℕ → Option A → List A → ℕ → Option A
-entry_of version handed entries i = if nat_le version 4 then from_one handed entries i else slice_get entries i
+entry_of version handed entries i =
+    if nat_le version 4 then from_one handed entries i else slice_get entries i
 
 abbrev pub directory_of : Header → ℕ → Option Value
-directory_of h i = entry_of h.parameters.encoding.version (option_map String h.comp_dir) h.directories i
+directory_of h i =
+    entry_of h.parameters.encoding.version (option_map String h.comp_dir) h.directories i
 
 abbrev pub file_of : Header → ℕ → Option File
 file_of h i = entry_of h.parameters.encoding.version h.comp_file h.files i
@@ -115,15 +118,19 @@ pub record SeenHeader (R Offset Endian : Type 0) : Type 0 where
 
 -- the directory and the file of an index, with their readers as they are
 module _ {R Offset Endian : Type 0} where
-  abbrev pub own_directory_of : SeenHeader R Offset Endian → ℕ → Option (AttributeValue R Offset Endian)
-  own_directory_of h i = entry_of h.meaning.parameters.encoding.version (option_map String h.comp_dir) h.include_directories.items i
+  abbrev pub own_directory_of : SeenHeader R Offset Endian → ℕ
+      → Option (AttributeValue R Offset Endian)
+  own_directory_of h i =
+      entry_of h.meaning.parameters.encoding.version (option_map String h.comp_dir)
+      h.include_directories.items i
 
   abbrev pub own_file_of : SeenHeader R Offset Endian → ℕ → Option (FileEntry R Offset Endian)
   own_file_of h i = entry_of h.meaning.parameters.encoding.version h.comp_file h.file_names.items i
 
 -- ---- the order of bytes of a header's readers
 
--- the readers that were taken from the section, in the operand counts and both tables, have the order of the program
+-- the readers that were taken from the section, in the operand counts and both tables, have the
+-- order of the program
 module _ {R Offset Endian : Type 0} (big : R → Bool) where
   pub record HasOneOrder (h : SeenHeader R Offset Endian) : Type 0 where
     pub operand_counts : big h.standard_opcode_lengths ≡ h.notation.big

@@ -1,17 +1,29 @@
--- How the header of a unit is spelled, production by production, and which refusal comes where a production isn't there
--- (DWARF 5, section 6.2.4; DWARF 4, section 6.2.4).
-use Rattle.std.specs.Prelude.{◌≡◌, ℕ, ◌-◌, ◌≤◌, List, [], ◌∷◌, ◌++◌, length, map, replicate, min, count_by, Bool, not, ◌&&◌, nat_eq, nat_le, if◌then◌else◌, Option, Some, None, option_map}
+-- How the header of a unit is spelled, production by production, and which refusal comes where a
+-- production isn't there (DWARF 5, section 6.2.4; DWARF 4, section 6.2.4).
+use Rattle.std.specs.Prelude.{◌≡◌, ℕ, ◌-◌, ◌≤◌, List, [], ◌∷◌, ◌++◌, length, map, replicate, min}
+use Rattle.std.specs.Prelude.{count_by, Bool, not, ◌&&◌, nat_eq, nat_le, if◌then◌else◌, Option}
+use Rattle.std.specs.Prelude.{Some, None, option_map}
 use Rattle.std.specs.Int.{w8, cast_signed}
 use Rattle.gimli_core.specs.Numbers.{is_address_size, SpellsUleb128}
 use Rattle.gimli_core.specs.Values.{Value, udata_value}
-use Rattle.gimli_core.specs.Production.{Production, ◌>>=◌, done, check, choose, times, list_to_zero, within, byte, number, some_bytes, unsigned, unsigned_16, offset_word, unit_length}
+use Rattle.gimli_core.specs.Production.{Production, ◌>>=◌, done, check, choose, times, list_to_zero}
+use Rattle.gimli_core.specs.Production.{within, byte, number, some_bytes, unsigned, unsigned_16}
+use Rattle.gimli_core.specs.Production.{offset_word, unit_length}
 use Rattle.gimli_core.specs.Form.{form_production}
 use Rattle.gimli_core.specs.declared.common.Encoding.{Encoding}
 use Rattle.gimli_core.specs.declared.common.LineEncoding.{LineEncoding}
 use Rattle.gimli_core.specs.declared.common.Format.{Format}
 use Rattle.gimli_core.specs.declared.attribute_value.AttributeValue.TheVariants.{Block, String}
 use Rattle.gimli_core.specs.declared.error.Error.{Error}
-use Rattle.gimli_core.specs.declared.error.Error.TheVariants.{UnknownVersion, UnsupportedAddressSize, UnsupportedSegmentSize, MinimumInstructionLengthZero, MaximumOperationsPerInstructionZero, LineRangeZero, OpcodeBaseZero, MissingFileEntryFormatPath}
+use Rattle.gimli_core.specs.declared.error.Error.TheVariants.{
+  UnknownVersion,
+  UnsupportedAddressSize,
+}
+use Rattle.gimli_core.specs.declared.error.Error.TheVariants.{UnsupportedSegmentSize}
+use Rattle.gimli_core.specs.declared.error.Error.TheVariants.{MinimumInstructionLengthZero}
+use Rattle.gimli_core.specs.declared.error.Error.TheVariants.{MaximumOperationsPerInstructionZero}
+use Rattle.gimli_core.specs.declared.error.Error.TheVariants.{LineRangeZero, OpcodeBaseZero}
+use Rattle.gimli_core.specs.declared.error.Error.TheVariants.{MissingFileEntryFormatPath}
 use Rattle.gimli_core.specs.Notation.{Notation}
 use Rattle.gimli_line.specs.header.Parameters.{Parameters}
 use Rattle.gimli_line.specs.header.File.{File}
@@ -90,7 +102,8 @@ module _ (notation : Notation) (format : Format) where
 abbrev pub last_value : {A : Type 0} → ℕ → (Value → Option A) → A → Entry → A
 last_value content pick first [] = first
 last_value content pick first (v ∷ entry) =
-    elim (if nat_eq v.0 content then pick v.1 else None) [ Some x ↦ last_value content pick x entry | None ↦ last_value content pick first entry ]
+    elim (if nat_eq v.0 content then pick v.1 else None)
+    [ Some x ↦ last_value content pick x entry | None ↦ last_value content pick first entry ]
 
 -- the bytes of an MD5 digest: a block of exactly sixteen bytes
 abbrev pub digest : Value → Option (List ℕ)
@@ -119,7 +132,8 @@ version_production big = do
   known ← check (nat_le 2 version && nat_le version 5) (UnknownVersion version)
   done version
 
--- up to version 4 the handed address size; in version 5 the unit's own, and after it a segment selector size of 0
+-- up to version 4 the handed address size; in version 5 the unit's own, and after it a segment
+-- selector size of 0
 abbrev pub address_size_production : ℕ → ℕ → Production ℕ
 address_size_production version handed =
     choose (nat_le version 4) (done handed) (do
@@ -214,13 +228,15 @@ fields_production notation unit_entry unit opening program = do
     files = files.1;
     program = program;
     comp_dir = handed_value opening.encoding unit_entry.directory;
-    comp_file = handed_value opening.encoding (option_map (λ path. plain_file path 0 0 0) unit_entry.name);
+    comp_file =
+        handed_value opening.encoding (option_map (λ path. plain_file path 0 0 0) unit_entry.name);
   })
 
 -- ---- the header
 
--- a unit: its length, and that many bytes. At their front stand the version and so on, up to the fields that the
--- header length counts, with slack after the last of these; after them stands the program
+-- a unit: its length, and that many bytes. At their front stand the version and so on, up to the
+-- fields that the header length counts, with slack after the last of these; after them stands the
+-- program
 abbrev pub header_production : Notation → UnitEntry → Production Header
 header_production notation unit_entry = do
   unit ← unit_length notation
@@ -231,7 +247,9 @@ header_production notation unit_entry = do
 
 -- the bytes begin with a unit that has this header, whatever follows
 abbrev pub SpellsUnit : Notation → UnitEntry → List ℕ → Header → Type 0
-SpellsUnit notation unit_entry bytes h = (unit : List ℕ) × (after : List ℕ) × (bytes ≡ unit ++ after) × (header_production notation unit_entry).Spells unit h
+SpellsUnit notation unit_entry bytes h =
+    (unit : List ℕ) × (after : List ℕ) × (bytes ≡ unit ++ after)
+    × (header_production notation unit_entry).Spells unit h
 
 -- the bytes begin with no unit, and this is the refusal
 abbrev pub HasHeaderFault : Notation → UnitEntry → List ℕ → Error → Type 0
@@ -253,9 +271,12 @@ SpellsEntries notation format formats = (entries_production notation format form
 
 -- the bytes begin with a count, which spells n, and at least n bytes stand after it
 abbrev pub HoldsCount : List ℕ → ℕ → Type 0
-HoldsCount bytes n = (count : List ℕ) × (after : List ℕ) × (bytes ≡ count ++ after) × SpellsUleb128 64 count n × (n ≤ length after)
+HoldsCount bytes n =
+    (count : List ℕ) × (after : List ℕ) × (bytes ≡ count ++ after) × SpellsUleb128 64 count n
+    × (n ≤ length after)
 
 -- whatever entries of these formats bytes spell, the bytes hold their count
 abbrev pub HaveCountedEntries : Notation → Format → List FileEntryFormat → Type 0
 HaveCountedEntries notation format formats =
-    (bytes : List ℕ) (entries : List Entry) → SpellsEntries notation format formats bytes entries → HoldsCount bytes (length entries)
+    (bytes : List ℕ) (entries : List Entry) → SpellsEntries notation format formats bytes entries
+    → HoldsCount bytes (length entries)

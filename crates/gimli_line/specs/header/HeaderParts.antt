@@ -10,8 +10,8 @@ use Rattle.gimli_line.specs.header.Parameters.{Parameters}
 use Rattle.gimli_line.specs.declared.header.file_entry.FileEntry.{FileEntry}
 use Rattle.gimli_line.specs.declared.header.file_entry.FileEntryFormat.{FileEntryFormat}
 
--- all that a header holds, wherever in memory its lists stand: its readers, offsets, directories and files
--- are of these types
+-- all that a header holds, wherever in memory its lists stand: its readers, offsets, directories
+-- and files are of these types
 pub record HeaderParts (R Offset Directory File : Type 0) : Type 0 where
   pub parameters : Parameters
   pub offset : DebugLineOffset Offset
@@ -28,7 +28,8 @@ pub record HeaderParts (R Offset Directory File : Type 0) : Type 0 where
 
 -- the parts as they are
 abbrev pub OwnParts : (R Offset Endian : Type 0) → Type 0
-OwnParts R Offset Endian = HeaderParts R Offset (AttributeValue R Offset Endian) (FileEntry R Offset Endian)
+OwnParts R Offset Endian =
+    HeaderParts R Offset (AttributeValue R Offset Endian) (FileEntry R Offset Endian)
 
 -- the parts as they are seen: readers by bytes and order, offsets by number
 abbrev pub SeenParts : Type 0
@@ -52,11 +53,13 @@ module _ {R Offset Endian : Type 0} where
   }
 
   -- an equality of headers holds exactly where the two agree in all their parts
-  abbrev pub ComparesParts : (SeenHeader R Offset Endian → SeenHeader R Offset Endian → Bool) → Type 0
+  abbrev pub ComparesParts : (SeenHeader R Offset Endian → SeenHeader R Offset Endian → Bool)
+      → Type 0
   ComparesParts eq = (x y : SeenHeader R Offset Endian) → Decides (eq x y) (parts_of x ≡ parts_of y)
 
 -- a header by its parts as they are seen
-module _ {R Offset Endian : Type 0} (bytes : R → List ℕ) (big : R → Bool) (number : Offset → ℕ) where
+module _ {R Offset Endian : Type 0} (bytes : R → List ℕ) (big : R → Bool)
+    (number : Offset → ℕ) where
   abbrev pub header_by : SeenHeader R Offset Endian → SeenParts
   header_by h = record {
     parameters = h.parameters;
@@ -74,7 +77,8 @@ module _ {R Offset Endian : Type 0} (bytes : R → List ℕ) (big : R → Bool) 
   }
 
   -- an equality of headers holds exactly where the two agree in all their parts as they are seen
-  abbrev pub ComparesSeen : (SeenHeader R Offset Endian → SeenHeader R Offset Endian → Bool) → Type 0
+  abbrev pub ComparesSeen : (SeenHeader R Offset Endian → SeenHeader R Offset Endian → Bool)
+      → Type 0
   ComparesSeen = ComparesBy header_by
 
 -- the entries of both tables together

@@ -9,7 +9,8 @@ use Rattle.gimli_line.specs.header.Header.{plain_file}
 -- what stands after the path of a file
 unfoldable pub plain_file_at : List ℕ → List ℕ → Read File
 plain_file_at path bytes =
-    unsigned_at bytes >>= λ directory rest. unsigned_at rest >>= λ time rest. unsigned_at rest >>= λ size rest. (Ok (plain_file path directory time size), rest)
+    unsigned_at bytes >>= λ directory rest. unsigned_at rest >>= λ time rest.
+    unsigned_at rest >>= λ size rest. (Ok (plain_file path directory time size), rest)
 
 -- ---- tables of version 5
 

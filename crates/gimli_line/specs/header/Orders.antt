@@ -4,12 +4,13 @@ use Rattle.gimli_core.specs.Values.{value_order}
 use Rattle.gimli_line.specs.header.File.{FileOrders, file_orders}
 use Rattle.gimli_line.specs.header.Header.{SeenHeader}
 
--- those of the directory and of the name that a caller handed in, where there are any: such readers keep their own order
+-- those of the directory and of the name that a caller handed in, where there are any: such readers
+-- keep their own order
 abbrev pub HandedOrders : Type 0
 HandedOrders = Option Bool × Option FileOrders
 
--- those of the operand counts, of each directory and of each file, where it has a text or a block; and those that were
--- handed in
+-- those of the operand counts, of each directory and of each file, where it has a text or a block;
+-- and those that were handed in
 pub record HeaderOrders : Type 0 where
   pub operand_counts : Bool
   pub directories : List (Option Bool)

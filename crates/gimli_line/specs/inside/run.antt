@@ -1,4 +1,3 @@
-pub mod Execution
 pub mod InstructionReading
 pub mod Rows
 pub mod SequenceSplit

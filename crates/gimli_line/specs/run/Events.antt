@@ -1,5 +1,6 @@
 -- What a program gives: its rows and faults in order.
-use Rattle.std.specs.Prelude.{◌≡◌, Bool, true, false, not, ◌&&◌, if◌then◌else◌, List, [], ◌∷◌, ◌++◌, ℕ, Option, Some, None}
+use Rattle.std.specs.Prelude.{◌≡◌, Bool, true, false, not, ◌&&◌, if◌then◌else◌, List, [], ◌∷◌, ◌++◌}
+use Rattle.std.specs.Prelude.{ℕ, Option, Some, None}
 use Rattle.std.specs.List.{list_any}
 use Rattle.gimli_core.specs.declared.error.Error.{Error}
 use Rattle.gimli_core.specs.declared.error.Error.TheVariants.{AddressOverflow}
@@ -11,8 +12,11 @@ use Rattle.gimli_line.specs.run.Instruction.{Ins, is_end, makes_row}
 use Rattle.gimli_line.specs.header.File.{File}
 use Rattle.gimli_line.specs.header.Header.{Header}
 use Rattle.gimli_line.specs.run.InstructionGrammar.{Decodes}
-use Rattle.gimli_line.specs.run.Registers.{file_at, column_at, isa_at, is_stmt_at, line_at, nearest, discriminator_operand, sets_basic_block, sets_prologue_end, sets_epilogue_begin}
-use Rattle.gimli_line.specs.run.OperationPointer.{pointer_at, is_under_tombstone, overflows, since_last_row}
+use Rattle.gimli_line.specs.run.Registers.{file_at, column_at, isa_at, is_stmt_at, line_at, nearest}
+use Rattle.gimli_line.specs.run.Registers.{discriminator_operand, sets_basic_block}
+use Rattle.gimli_line.specs.run.Registers.{sets_prologue_end, sets_epilogue_begin}
+use Rattle.gimli_line.specs.run.OperationPointer.{pointer_at, is_under_tombstone, overflows}
+use Rattle.gimli_line.specs.run.OperationPointer.{since_last_row}
 
 -- the row of a point; that of an end has the pointer before it, any other the one after it
 abbrev pub row_at : Parameters → List Ins → Ins → LineRow
@@ -39,11 +43,13 @@ pub data Event : Type 0 where
   row : LineRow → Event
   fault : Error → Event
 
--- what a point gives: a fault where it overflows, else a row where it makes one and isn't under a tombstone
+-- what a point gives: a fault where it overflows, else a row where it makes one and isn't under a
+-- tombstone
 abbrev pub events_at : Parameters → List Ins → Ins → List Event
 events_at parameters past i =
     if overflows parameters past i then fault AddressOverflow ∷ []
-    else (if makes_row i && not (is_under_tombstone parameters past) then row (row_at parameters past i) ∷ [] else [])
+    else (if makes_row i && not (is_under_tombstone parameters past)
+    then row (row_at parameters past i) ∷ [] else [])
 
 -- a point gives a row: its instruction makes one, and it isn't under a tombstone
 abbrev pub GivesRow : Parameters → List Ins → Ins → Type 0
@@ -52,7 +58,8 @@ GivesRow parameters past i = (makes_row i ≡ true) × (is_under_tombstone param
 -- what these instructions give after a past
 abbrev pub events_after : Parameters → List Ins → List Ins → List Event
 events_after parameters past [] = []
-events_after parameters past (i ∷ list) = events_at parameters past i ++ events_after parameters (i ∷ past) list
+events_after parameters past (i ∷ list) =
+    events_at parameters past i ++ events_after parameters (i ∷ past) list
 
 -- what the end of a program gives
 abbrev pub end_events : Option Error → List Event
@@ -64,7 +71,8 @@ abbrev pub program_events : Parameters → List Ins → Option Error → List Ev
 program_events parameters list end = events_after parameters [] list ++ end_events end
 
 -- the events of a program's bytes
-pub record Events (notation : Notation) (h : Header) (bytes : List ℕ) (events : List Event) : Type 0 where
+pub record Events (notation : Notation) (h : Header) (bytes : List ℕ) (events : List Event)
+    : Type 0 where
   pub list : List Ins
   pub end : Option Error
   pub decoding : Decodes notation h bytes list end
@@ -72,7 +80,8 @@ pub record Events (notation : Notation) (h : Header) (bytes : List ℕ) (events 
 
 -- ---- files and ends
 
--- the files at a point: those of the header, and then those that were defined before it, under a tombstone or not
+-- the files at a point: those of the header, and then those that were defined before it, under a
+-- tombstone or not
 abbrev pub defined_files : List File → List Ins → List File
 defined_files files [] = files
 defined_files files (DefineFile f ∷ past) = defined_files files past ++ f ∷ []
@@ -91,4 +100,5 @@ ends_sequence (fault e) = false
 -- the events through the last row that ends a sequence
 abbrev pub through_last_end : List Event → List Event
 through_last_end [] = []
-through_last_end (e ∷ events) = if list_any ends_sequence (e ∷ events) then e ∷ through_last_end events else []
+through_last_end (e ∷ events) =
+    if list_any ends_sequence (e ∷ events) then e ∷ through_last_end events else []

@@ -3,7 +3,29 @@ use Rattle.std.specs.Prelude.{◌≡◌, ℕ, List, Bool, true, false, Some, Non
 use Rattle.gimli_line.specs.header.File.{File, file_seen, FileHasOrder, FileOrders, file_orders}
 use Rattle.gimli_line.specs.header.Header.{Header, files_with}
 use Rattle.gimli_line.specs.declared.run.instruction.LineInstruction.{LineInstruction}
-use Rattle.gimli_line.specs.declared.run.instruction.LineInstruction.TheVariants.{Special, Copy, AdvancePc, AdvanceLine, SetFile, SetColumn, NegateStatement, SetBasicBlock, ConstAddPc, FixedAddPc, SetPrologueEnd, SetEpilogueBegin, SetIsa, UnknownStandard0, UnknownStandard1, UnknownStandardN, EndSequence, SetAddress, DefineFile, SetDiscriminator, UnknownExtended}
+use Rattle.gimli_line.specs.declared.run.instruction.LineInstruction.TheVariants.{
+  Special,
+  Copy,
+  AdvancePc,
+  AdvanceLine,
+  SetFile,
+  SetColumn,
+  NegateStatement,
+  SetBasicBlock,
+  ConstAddPc,
+  FixedAddPc,
+  SetPrologueEnd,
+  SetEpilogueBegin,
+  SetIsa,
+  UnknownStandard0,
+  UnknownStandard1,
+  UnknownStandardN,
+  EndSequence,
+  SetAddress,
+  DefineFile,
+  SetDiscriminator,
+  UnknownExtended,
+}
 
 abbrev pub Ins : Type 0
 Ins = LineInstruction (List ℕ) ℕ (Unit {0})
@@ -42,7 +64,8 @@ module _ {R Offset Endian : Type 0} (big : R → Bool) (order : Bool) where
   InsHasOrder (DefineFile f) = FileHasOrder big order f
   InsHasOrder i = Unit {0}
 
--- the orders of bytes of an instruction's readers: of its operands or its file's path, and of its file's source
+-- the orders of bytes of an instruction's readers: of its operands or its file's path, and of its
+-- file's source
 module _ {R Offset Endian : Type 0} (big : R → Bool) where
   abbrev pub ins_orders : LineInstruction R Offset Endian → FileOrders
   ins_orders (UnknownStandardN o r) = (Some (big r), None)
@@ -51,7 +74,8 @@ module _ {R Offset Endian : Type 0} (big : R → Bool) where
   ins_orders i = (None, None)
 
 -- an instruction, its readers seen by bytes and order, and its offsets by number
-module _ {R Offset Endian : Type 0} (bytes : R → List ℕ) (big : R → Bool) (number : Offset → ℕ) where
+module _ {R Offset Endian : Type 0} (bytes : R → List ℕ) (big : R → Bool)
+    (number : Offset → ℕ) where
   abbrev pub ins_by : LineInstruction R Offset Endian → Ins × FileOrders
   ins_by i = (ins_seen bytes number i, ins_orders big i)
 

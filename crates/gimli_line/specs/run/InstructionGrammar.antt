@@ -1,9 +1,36 @@
--- How instructions are spelled, and how a program is decoded into them (DWARF 5, sections 6.2.3 and 6.2.5).
-use Rattle.std.specs.Prelude.{◌≡◌, ◌≢◌, ◌<◌, ◌^◌, ℕ, zero, suc, ◌-◌, List, [], ◌∷◌, ◌++◌, nat_eq, nat_le, if◌then◌else◌, Option, Some, None, ℤ, slice_index}
-use Rattle.gimli_core.specs.Production.{Production, ◌>>=◌, done, choose, times, within, byte, number, some_bytes, text, unsigned, signed, below_limit, Each}
+-- How instructions are spelled, and how a program is decoded into them (DWARF 5, sections 6.2.3 and
+-- 6.2.5).
+use Rattle.std.specs.Prelude.{◌≡◌, ◌≢◌, ◌<◌, ◌^◌, ℕ, zero, suc, ◌-◌, List, [], ◌∷◌, ◌++◌}
+use Rattle.std.specs.Prelude.{nat_eq, nat_le, if◌then◌else◌, Option, Some, None, ℤ, slice_index}
+use Rattle.gimli_core.specs.Production.{Production, ◌>>=◌, done, choose, times, within, byte}
+use Rattle.gimli_core.specs.Production.{number, some_bytes, text, unsigned, signed, below_limit}
+use Rattle.gimli_core.specs.Production.{Each}
 use Rattle.gimli_core.specs.declared.error.Error.{Error}
-use Rattle.gimli_core.specs.declared.error.Error.TheVariants.{UnexpectedEof, BadUnsignedLeb128, BadSignedLeb128, UnsupportedOffset}
-use Rattle.gimli_line.specs.declared.run.instruction.LineInstruction.TheVariants.{Special, Copy, AdvancePc, AdvanceLine, SetFile, SetColumn, NegateStatement, SetBasicBlock, ConstAddPc, FixedAddPc, SetPrologueEnd, SetEpilogueBegin, SetIsa, UnknownStandard0, UnknownStandard1, UnknownStandardN, EndSequence, SetAddress, DefineFile, SetDiscriminator, UnknownExtended}
+use Rattle.gimli_core.specs.declared.error.Error.TheVariants.{UnexpectedEof, BadUnsignedLeb128}
+use Rattle.gimli_core.specs.declared.error.Error.TheVariants.{BadSignedLeb128, UnsupportedOffset}
+use Rattle.gimli_line.specs.declared.run.instruction.LineInstruction.TheVariants.{
+  Special,
+  Copy,
+  AdvancePc,
+  AdvanceLine,
+  SetFile,
+  SetColumn,
+  NegateStatement,
+  SetBasicBlock,
+  ConstAddPc,
+  FixedAddPc,
+  SetPrologueEnd,
+  SetEpilogueBegin,
+  SetIsa,
+  UnknownStandard0,
+  UnknownStandard1,
+  UnknownStandardN,
+  EndSequence,
+  SetAddress,
+  DefineFile,
+  SetDiscriminator,
+  UnknownExtended,
+}
 use Rattle.gimli_core.specs.Notation.{Notation}
 use Rattle.gimli_line.specs.run.Instruction.{Ins}
 use Rattle.gimli_line.specs.header.File.{File}
@@ -30,11 +57,14 @@ pub data Operand : Type 0 where
 -- the standard opcodes (DWARF 5, section 6.2.5.2)
 abbrev pub standard_opcodes : List (ℕ × Operand)
 standard_opcodes =
-    (0x01, none Copy) ∷ (0x02, uleb AdvancePc) ∷ (0x03, sleb AdvanceLine) ∷ (0x04, uleb SetFile) ∷ (0x05, uleb SetColumn)
-    ∷ (0x06, none NegateStatement) ∷ (0x07, none SetBasicBlock) ∷ (0x08, none ConstAddPc) ∷ (0x09, half FixedAddPc)
+    (0x01, none Copy) ∷ (0x02, uleb AdvancePc) ∷ (0x03, sleb AdvanceLine) ∷ (0x04, uleb SetFile)
+    ∷ (0x05, uleb SetColumn)
+    ∷ (0x06, none NegateStatement) ∷ (0x07, none SetBasicBlock) ∷ (0x08, none ConstAddPc)
+    ∷ (0x09, half FixedAddPc)
     ∷ (0x0a, none SetPrologueEnd) ∷ (0x0b, none SetEpilogueBegin) ∷ (0x0c, uleb SetIsa) ∷ []
 
--- the extended opcodes (DWARF 5, section 6.2.5.3; DWARF 4, section 6.2.5.3); files are defined up to version 4
+-- the extended opcodes (DWARF 5, section 6.2.5.3; DWARF 4, section 6.2.5.3); files are defined up
+-- to version 4
 abbrev pub extended_opcodes : ℕ → List (ℕ × Operand)
 extended_opcodes version =
     (0x01, none EndSequence) ∷ (0x02, address SetAddress) ∷ (0x04, uleb SetDiscriminator)
@@ -79,10 +109,11 @@ module _ (notation : Notation) (h : Header) where
 
   -- an extended opcode, and the bytes after it within its instruction; surplus ones are skipped
   abbrev pub extended_operands : ℕ → List ℕ → Production Ins
-  extended_operands opcode operands = elim (among opcode (extended_opcodes h.parameters.encoding.version)) [
-    | Some operand ↦ within operands (operand_production operand) >>= λ read. done read.0
-    | None ↦ done (UnknownExtended (record { 0 = opcode }) operands)
-  ]
+  extended_operands opcode operands =
+      elim (among opcode (extended_opcodes h.parameters.encoding.version)) [
+        | Some operand ↦ within operands (operand_production operand) >>= λ read. done read.0
+        | None ↦ done (UnknownExtended (record { 0 = opcode }) operands)
+      ]
 
   -- after a zero byte: a length, and that many bytes, of which the first is the opcode
   abbrev pub extended_production : Production Ins
@@ -92,13 +123,14 @@ module _ (notation : Notation) (h : Header) where
     opened ← within inside byte
     extended_operands opened.0 opened.1
 
-  -- an instruction: a zero byte opens an extended one, a byte from the opcode base on is a special opcode, and any
-  -- other a standard opcode
+  -- an instruction: a zero byte opens an extended one, a byte from the opcode base on is a special
+  -- opcode, and any other a standard opcode
   abbrev pub instruction_production : Production Ins
   instruction_production = do
     opcode ← byte
     choose (nat_eq opcode 0) extended_production
-        (choose (nat_le h.parameters.opcode_base opcode) (done (Special opcode)) (standard_production opcode))
+        (choose (nat_le h.parameters.opcode_base opcode) (done (Special opcode))
+        (standard_production opcode))
 
   -- the bytes are a spelling of the instruction
   abbrev pub SpellsInstruction : List ℕ → Ins → Type 0
@@ -106,7 +138,8 @@ module _ (notation : Notation) (h : Header) where
 
   -- ---- a program
 
-  -- what is left after the last instruction: nothing, or bytes that begin with none, and this is the refusal
+  -- what is left after the last instruction: nothing, or bytes that begin with none, and this is
+  -- the refusal
   abbrev pub IsEnd : List ℕ → Option Error → Type 0
   IsEnd rest None = rest ≡ []
   IsEnd rest (Some e) = (rest ≢ []) × instruction_production.Fault rest e
@@ -122,12 +155,13 @@ module _ (notation : Notation) (h : Header) where
   -- the bytes are decoded in one way at most
   abbrev pub AreDecodedOnce : List ℕ → Type 0
   AreDecodedOnce bytes =
-      (list other : List Ins) (end finish : Option Error) → Decodes bytes list end → Decodes bytes other finish → (list ≡ other) × (end ≡ finish)
+      (list other : List Ins) (end finish : Option Error) → Decodes bytes list end
+      → Decodes bytes other finish → (list ≡ other) × (end ≡ finish)
 
 -- ---- refusals
 
--- the refusals that an instruction may have: bytes are missing, a LEB128 number is none of 64 bits, or a length is too
--- large for the reader's offsets, where these have less than 64 bits
+-- the refusals that an instruction may have: bytes are missing, a LEB128 number is none of 64 bits,
+-- or a length is too large for the reader's offsets, where these have less than 64 bits
 abbrev pub IsInstructionRefusal : Notation → Error → Type 0
 IsInstructionRefusal notation (UnexpectedEof point) = Unit {0}
 IsInstructionRefusal notation BadUnsignedLeb128 = Unit {0}

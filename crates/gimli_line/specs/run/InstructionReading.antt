@@ -1,15 +1,25 @@
 -- What is taken of instructions, and what is left; and the instructions of a whole program.
-use Rattle.std.specs.Prelude.{ℕ, zero, suc, ◌-◌, List, [], ◌∷◌, length, take, nat_eq, nat_le, if◌then◌else◌, Option, Some, None, Ok, Err, slice_index}
+use Rattle.std.specs.Prelude.{ℕ, zero, suc, ◌-◌, List, [], ◌∷◌, length, take}
+use Rattle.std.specs.Prelude.{nat_eq, nat_le, if◌then◌else◌, Option, Some, None, Ok, Err}
+use Rattle.std.specs.Prelude.{slice_index}
 use Rattle.gimli_core.specs.Notation.{Notation}
-use Rattle.gimli_core.specs.Reading.{Read, ◌>>=◌, byte_at, split_at, text_at, number_at, unsigned_at, signed_at, times_at, within_at}
+use Rattle.gimli_core.specs.Reading.{Read, ◌>>=◌, byte_at, split_at, text_at, number_at}
+use Rattle.gimli_core.specs.Reading.{unsigned_at, signed_at, times_at, within_at}
 use Rattle.gimli_core.specs.declared.error.Error.{Error}
-use Rattle.gimli_line.specs.declared.run.instruction.LineInstruction.TheVariants.{Special, UnknownStandard0, UnknownStandard1, UnknownStandardN, UnknownExtended}
+use Rattle.gimli_line.specs.declared.run.instruction.LineInstruction.TheVariants.{
+  Special,
+  UnknownStandard0,
+  UnknownStandard1,
+  UnknownStandardN,
+  UnknownExtended,
+}
 use Rattle.gimli_line.specs.run.Instruction.{Ins}
 use Rattle.gimli_line.specs.header.Header.{Header}
 use Rattle.gimli_line.specs.header.Productions.{among}
 use Rattle.gimli_line.specs.header.FormReading.{offset_at}
 use Rattle.gimli_line.specs.header.HeaderReading.{plain_file_at}
-use Rattle.gimli_line.specs.run.InstructionGrammar.{Operand, none, uleb, sleb, half, address, file, standard_opcodes, extended_opcodes}
+use Rattle.gimli_line.specs.run.InstructionGrammar.{Operand, none, uleb, sleb, half, address, file}
+use Rattle.gimli_line.specs.run.InstructionGrammar.{standard_opcodes, extended_opcodes}
 
 -- the bytes that are taken, in place of the value
 abbrev pub bytes_at : {A : Type 0} → (List ℕ → Read A) → List ℕ → Read (List ℕ)
@@ -21,15 +31,20 @@ module _ (notation : Notation) (h : Header) where
   operand_at (uleb make) bytes = unsigned_at bytes >>= λ n rest. (Ok (make n), rest)
   operand_at (sleb make) bytes = signed_at bytes >>= λ z rest. (Ok (make z), rest)
   operand_at (half make) bytes = number_at notation.big 2 bytes >>= λ n rest. (Ok (make n), rest)
-  operand_at (address make) bytes = number_at notation.big h.parameters.encoding.address_size bytes >>= λ a rest. (Ok (make a), rest)
-  operand_at (file make) bytes = text_at bytes >>= λ path rest. plain_file_at path rest >>= λ f rest. (Ok (make f), rest)
+  operand_at (address make) bytes =
+      number_at notation.big h.parameters.encoding.address_size bytes >>= λ a rest.
+      (Ok (make a), rest)
+  operand_at (file make) bytes =
+      text_at bytes >>= λ path rest. plain_file_at path rest >>= λ f rest. (Ok (make f), rest)
 
   -- after a standard opcode without a meaning here, with its number of operands
   unfoldable pub unknown_at : ℕ → ℕ → List ℕ → Read Ins
   unknown_at opcode zero bytes = (Ok (UnknownStandard0 (record { 0 = opcode })), bytes)
-  unknown_at opcode (suc zero) bytes = unsigned_at bytes >>= λ n rest. (Ok (UnknownStandard1 (record { 0 = opcode }) n), rest)
+  unknown_at opcode (suc zero) bytes =
+      unsigned_at bytes >>= λ n rest. (Ok (UnknownStandard1 (record { 0 = opcode }) n), rest)
   unknown_at opcode (suc (suc more)) bytes =
-      bytes_at (times_at (suc (suc more)) unsigned_at) bytes >>= λ operands rest. (Ok (UnknownStandardN (record { 0 = opcode }) operands), rest)
+      bytes_at (times_at (suc (suc more)) unsigned_at) bytes >>= λ operands rest.
+      (Ok (UnknownStandardN (record { 0 = opcode }) operands), rest)
 
   -- after an opcode below the opcode base
   unfoldable pub standard_at : ℕ → List ℕ → Read Ins
@@ -40,15 +55,18 @@ module _ (notation : Notation) (h : Header) where
 
   -- an extended opcode, with the bytes after it within its instruction
   unfoldable pub extended_operands_at : ℕ → List ℕ → List ℕ → Read Ins
-  extended_operands_at opcode operands bytes = elim (among opcode (extended_opcodes h.parameters.encoding.version)) [
-    | Some operand ↦ within_at operands (operand_at operand) bytes >>= λ read rest. (Ok read.0, rest)
-    | None ↦ (Ok (UnknownExtended (record { 0 = opcode }) operands), bytes)
-  ]
+  extended_operands_at opcode operands bytes =
+      elim (among opcode (extended_opcodes h.parameters.encoding.version)) [
+        | Some operand ↦
+            within_at operands (operand_at operand) bytes >>= λ read rest. (Ok read.0, rest)
+        | None ↦ (Ok (UnknownExtended (record { 0 = opcode }) operands), bytes)
+      ]
 
   -- after a zero byte
   unfoldable pub extended_at : List ℕ → Read Ins
   extended_at bytes =
-      offset_at notation.limit unsigned_at bytes >>= λ size rest. split_at size rest >>= λ inside rest.
+      offset_at notation.limit unsigned_at bytes >>= λ size rest.
+      split_at size rest >>= λ inside rest.
       within_at inside byte_at rest >>= λ opened rest. extended_operands_at opened.0 opened.1 rest
 
   -- an instruction
@@ -56,7 +74,8 @@ module _ (notation : Notation) (h : Header) where
   ins_at bytes =
       byte_at bytes >>= λ opcode rest.
       if nat_eq opcode 0 then extended_at rest
-      else (if nat_le h.parameters.opcode_base opcode then (Ok (Special opcode), rest) else standard_at opcode rest)
+      else (if nat_le h.parameters.opcode_base opcode then (Ok (Special opcode), rest)
+      else standard_at opcode rest)
 
   -- a program after what was read as its first instruction
   abbrev pub decoded_after : (List ℕ → List Ins × Option Error) → Read Ins → List Ins × Option Error

@@ -1,12 +1,31 @@
--- The line machine: one register record, and what an instruction does to it (DWARF 5, sections 6.2.2 and 6.2.5).
-use Rattle.std.specs.Prelude.{◌≤◌, Bool, true, false, not, ◌&&◌, if◌then◌else◌, List, [], ◌∷◌, ◌++◌, Some, None}
+-- The line machine: one register record, and what an instruction does to it (DWARF 5, sections
+-- 6.2.2 and 6.2.5).
+use Rattle.std.specs.Prelude.{◌≤◌, Bool, true, false, not, ◌&&◌, if◌then◌else◌, List, [], ◌∷◌, ◌++◌}
+use Rattle.std.specs.Prelude.{Some, None}
 use Rattle.gimli_core.specs.declared.error.Error.TheVariants.{AddressOverflow}
-use Rattle.gimli_line.specs.declared.run.instruction.LineInstruction.TheVariants.{Special, AdvancePc, AdvanceLine, SetFile, SetColumn, NegateStatement, SetBasicBlock, ConstAddPc, FixedAddPc, SetPrologueEnd, SetEpilogueBegin, SetIsa, EndSequence, SetAddress, SetDiscriminator}
+use Rattle.gimli_line.specs.declared.run.instruction.LineInstruction.TheVariants.{
+  Special,
+  AdvancePc,
+  AdvanceLine,
+  SetFile,
+  SetColumn,
+  NegateStatement,
+  SetBasicBlock,
+  ConstAddPc,
+  FixedAddPc,
+  SetPrologueEnd,
+  SetEpilogueBegin,
+  SetIsa,
+  EndSequence,
+  SetAddress,
+  SetDiscriminator,
+}
 use Rattle.gimli_line.specs.declared.run.row.LineRow.{LineRow}
 use Rattle.gimli_line.specs.header.Parameters.{Parameters}
 use Rattle.gimli_line.specs.run.Instruction.{Ins, makes_row}
 use Rattle.gimli_line.specs.run.Registers.{line_advance, advanced_line}
-use Rattle.gimli_line.specs.run.OperationPointer.{OperationPointer, next_pointer, target_pointer, is_too_large, is_tombstone}
+use Rattle.gimli_line.specs.run.OperationPointer.{OperationPointer, next_pointer, target_pointer}
+use Rattle.gimli_line.specs.run.OperationPointer.{is_too_large, is_tombstone}
 use Rattle.gimli_line.specs.run.Events.{Event, row, fault}
 
 -- the registers at the start of a sequence
@@ -31,7 +50,12 @@ initial parameters = record {
 abbrev pub reset_row : Parameters → LineRow → LineRow
 reset_row parameters r =
     if r.end_sequence then initial parameters
-    else record r { discriminator = 0; basic_block = false; prologue_end = false; epilogue_begin = false }
+    else record r {
+      discriminator = 0;
+      basic_block = false;
+      prologue_end = false;
+      epilogue_begin = false;
+    }
 
 -- the registers where addresses count from a set address
 abbrev pub rebase_of : LineRow → LineRow
@@ -68,22 +92,35 @@ with_register i r = r
 
 -- the registers after an instruction; at an end the pointer stays until the reset
 abbrev pub step_of : Parameters → Ins → LineRow → LineRow
-step_of parameters (Special o) r = record (move_of parameters (Special o) r) { line = elim (line_advance parameters (Special o)) [ Some v ↦ advanced_line v r.line | None ↦ r.line ] }
+step_of parameters (Special o) r =
+    record (move_of parameters (Special o) r) {
+      line = elim (line_advance parameters (Special o))
+          [ Some v ↦ advanced_line v r.line | None ↦ r.line ];
+    }
 step_of parameters (AdvancePc n) r = move_of parameters (AdvancePc n) r
 step_of parameters ConstAddPc r = move_of parameters ConstAddPc r
 step_of parameters (FixedAddPc n) r = move_of parameters (FixedAddPc n) r
-step_of parameters (SetAddress a) r = record (move_of parameters (SetAddress a) r) { tombstone = is_tombstone parameters a (pointer_of r) }
+step_of parameters (SetAddress a) r =
+    record (move_of parameters (SetAddress a) r) {
+      tombstone = is_tombstone parameters a
+          (pointer_of r);
+    }
 step_of parameters i r = with_register i r
 
 -- whether an instruction is refused by `AddressOverflow`
 abbrev pub is_refused : Parameters → Ins → LineRow → Bool
-is_refused parameters i r = (elim (target_pointer parameters i (pointer_of r)) [ Some to ↦ is_too_large parameters to | None ↦ false ]) && not r.tombstone
+is_refused parameters i r =
+    (elim (target_pointer parameters i (pointer_of r))
+    [ Some to ↦ is_too_large parameters to | None ↦ false ])
+    && not r.tombstone
 
 -- what a run gives from these registers on
 abbrev pub run : Parameters → LineRow → List Ins → List Event
 run parameters r [] = []
 run parameters r (i ∷ list) =
-    if is_refused parameters i r then fault AddressOverflow ∷ run parameters (reset_row parameters (step_of parameters i r)) list
+    if is_refused parameters i r
+    then fault AddressOverflow ∷ run parameters (reset_row parameters (step_of parameters i r)) list
     else (if makes_row i
-    then (if r.tombstone then [] else row (step_of parameters i r) ∷ []) ++ run parameters (reset_row parameters (step_of parameters i r)) list
+    then (if r.tombstone then [] else row (step_of parameters i r) ∷ [])
+    ++ run parameters (reset_row parameters (step_of parameters i r)) list
     else run parameters (step_of parameters i r) list)

@@ -1,7 +1,17 @@
--- The address and the op_index of each point, and which parts of a program are under a tombstone (DWARF 5, sections
--- 6.2.2 and 6.2.5). The past of a point is the list of the instructions before it, the nearest first.
-use Rattle.std.specs.Prelude.{◌≡◌, ℕ, ◌+◌, ◌-◌, ◌*◌, ◌/◌, ◌%◌, ◌^◌, Bool, false, not, ◌||◌, ◌&&◌, nat_lt, nat_le, nat_eq, if◌then◌else◌, List, [], ◌∷◌, zip, Option, Some, None, option_map}
-use Rattle.gimli_line.specs.declared.run.instruction.LineInstruction.TheVariants.{Special, AdvancePc, ConstAddPc, FixedAddPc, EndSequence, SetAddress}
+-- The address and the op_index of each point, and which parts of a program are under a tombstone
+-- (DWARF 5, sections 6.2.2 and 6.2.5). The past of a point is the list of the instructions before
+-- it, the nearest first.
+use Rattle.std.specs.Prelude.{◌≡◌, ℕ, ◌+◌, ◌-◌, ◌*◌, ◌/◌, ◌%◌, ◌^◌, Bool, false, not, ◌||◌, ◌&&◌}
+use Rattle.std.specs.Prelude.{nat_lt, nat_le, nat_eq, if◌then◌else◌, List, [], ◌∷◌, zip, Option}
+use Rattle.std.specs.Prelude.{Some, None, option_map}
+use Rattle.gimli_line.specs.declared.run.instruction.LineInstruction.TheVariants.{
+  Special,
+  AdvancePc,
+  ConstAddPc,
+  FixedAddPc,
+  EndSequence,
+  SetAddress,
+}
 use Rattle.gimli_line.specs.header.Parameters.{Parameters}
 use Rattle.gimli_line.specs.run.Instruction.{Ins, makes_row}
 
@@ -17,35 +27,46 @@ start = record { address = 0; op_index = 0 }
 abbrev pub address_limit : Parameters → ℕ
 address_limit parameters = 2 ^ (8 * parameters.encoding.address_size)
 
--- a set address is a tombstone: it is below the address before it, or one of the two greatest addresses,
--- which stand for nothing
+-- a set address is a tombstone: it is below the address before it, or one of the two greatest
+-- addresses, which stand for nothing
 abbrev pub is_tombstone : Parameters → ℕ → OperationPointer → Bool
-is_tombstone parameters a before = nat_lt a before.address || nat_le (address_limit parameters - 2) a
+is_tombstone parameters a before =
+    nat_lt a before.address || nat_le (address_limit parameters - 2) a
 
 -- ---- advances
 
 -- how many operations an instruction advances
 abbrev pub operation_advance : Parameters → Ins → Option ℕ
-operation_advance parameters (Special o) = Some ((o - parameters.opcode_base) / parameters.line_encoding.line_range)
+operation_advance parameters (Special o) =
+    Some ((o - parameters.opcode_base) / parameters.line_encoding.line_range)
 operation_advance parameters (AdvancePc n) = Some n
-operation_advance parameters ConstAddPc = Some ((255 - parameters.opcode_base) / parameters.line_encoding.line_range)
+operation_advance parameters ConstAddPc =
+    Some ((255 - parameters.opcode_base) / parameters.line_encoding.line_range)
 operation_advance parameters i = None
 
--- the pointer n operations further on, whatever an address holds; sums and products of operations are modulo 2 ^ 64
+-- the pointer n operations further on, whatever an address holds; sums and products of operations
+-- are modulo 2 ^ 64
 abbrev pub advanced_by : Parameters → ℕ → OperationPointer → OperationPointer
 advanced_by parameters n p =
     if nat_eq parameters.line_encoding.maximum_operations_per_instruction 1
-    then record { address = p.address + parameters.line_encoding.minimum_instruction_length * n % 2 ^ 64; op_index = 0 }
+    then record {
+      address = p.address + parameters.line_encoding.minimum_instruction_length * n % 2 ^ 64;
+      op_index = 0;
+    }
     else (let s = (p.op_index + n) % 2 ^ 64 in
     record {
-      address = p.address + parameters.line_encoding.minimum_instruction_length * (s / parameters.line_encoding.maximum_operations_per_instruction) % 2 ^ 64;
+      address =
+          p.address
+          + parameters.line_encoding.minimum_instruction_length
+          * (s / parameters.line_encoding.maximum_operations_per_instruction) % 2 ^ 64;
       op_index = s % parameters.line_encoding.maximum_operations_per_instruction;
     })
 
 -- where an instruction advances the pointer to, whatever an address holds
 abbrev pub target_pointer : Parameters → Ins → OperationPointer → Option OperationPointer
 target_pointer parameters (FixedAddPc n) p = Some (record { address = p.address + n; op_index = 0 })
-target_pointer parameters i p = option_map (λ n. advanced_by parameters n p) (operation_advance parameters i)
+target_pointer parameters i p =
+    option_map (λ n. advanced_by parameters n p) (operation_advance parameters i)
 
 -- an address doesn't hold it
 abbrev pub is_too_large : Parameters → OperationPointer → Bool
@@ -59,10 +80,13 @@ pointer_at_overflow i p to = record { address = p.address; op_index = to.op_inde
 -- the pointer after a point, which may be under a tombstone, from the one before it
 abbrev pub next_pointer : Parameters → Bool → Ins → OperationPointer → OperationPointer
 next_pointer parameters tombstone EndSequence p = start
-next_pointer parameters tombstone (SetAddress a) p = if is_tombstone parameters a p then p else record { address = a; op_index = 0 }
+next_pointer parameters tombstone (SetAddress a) p =
+    if is_tombstone parameters a p then p else record { address = a; op_index = 0 }
 next_pointer parameters tombstone i p = elim (target_pointer parameters i p) [
   | None ↦ p
-  | Some to ↦ if tombstone then p else (if is_too_large parameters to then pointer_at_overflow i p to else to)
+  | Some to ↦
+      if tombstone then p
+      else (if is_too_large parameters to then pointer_at_overflow i p to else to)
 ]
 
 -- ---- looking back
@@ -71,24 +95,29 @@ abbrev mutual
   -- the pointer after these instructions
   pub pointer_at : Parameters → List Ins → OperationPointer
   pointer_at parameters [] = start
-  pointer_at parameters (i ∷ past) = next_pointer parameters (is_under_tombstone parameters past) i (pointer_at parameters past)
+  pointer_at parameters (i ∷ past) =
+      next_pointer parameters (is_under_tombstone parameters past) i (pointer_at parameters past)
 
   -- whether a point is under a tombstone: the last set address of its sequence is a tombstone
   pub is_under_tombstone : Parameters → List Ins → Bool
   is_under_tombstone parameters [] = false
-  is_under_tombstone parameters (SetAddress a ∷ past) = is_tombstone parameters a (pointer_at parameters past)
+  is_under_tombstone parameters (SetAddress a ∷ past) =
+      is_tombstone parameters a (pointer_at parameters past)
   is_under_tombstone parameters (EndSequence ∷ past) = false
   is_under_tombstone parameters (i ∷ past) = is_under_tombstone parameters past
 
 -- whether the target of a point exceeds, and the point isn't under a tombstone
 abbrev pub overflows : Parameters → List Ins → Ins → Bool
 overflows parameters past i =
-    (elim (target_pointer parameters i (pointer_at parameters past)) [ Some to ↦ is_too_large parameters to | None ↦ false ]) && not (is_under_tombstone parameters past)
+    (elim (target_pointer parameters i (pointer_at parameters past))
+    [ Some to ↦ is_too_large parameters to | None ↦ false ])
+    && not (is_under_tombstone parameters past)
 
 -- what stands since the last point that made a row or overflowed
 abbrev pub since_last_row : Parameters → List Ins → List Ins
 since_last_row parameters [] = []
-since_last_row parameters (i ∷ past) = if makes_row i || overflows parameters past i then [] else i ∷ since_last_row parameters past
+since_last_row parameters (i ∷ past) =
+    if makes_row i || overflows parameters past i then [] else i ∷ since_last_row parameters past
 
 -- ---- the pointer list
 
@@ -101,18 +130,22 @@ pointers_before parameters (i ∷ past) = pointer_at parameters past ∷ pointer
 abbrev pub pointers : Parameters → List Ins → List OperationPointer
 pointers parameters past = pointer_at parameters past ∷ pointers_before parameters past
 
--- whether the last set address of the sequence is a tombstone, where the pointer before each instruction stands beside
--- it
+-- whether the last set address of the sequence is a tombstone, where the pointer before each
+-- instruction stands beside it
 abbrev pub is_trail_under_tombstone : Parameters → List (Ins × OperationPointer) → Bool
 is_trail_under_tombstone parameters [] = false
-is_trail_under_tombstone parameters ((SetAddress a, before) ∷ trail) = is_tombstone parameters a before
+is_trail_under_tombstone parameters ((SetAddress a, before) ∷ trail) =
+    is_tombstone parameters a before
 is_trail_under_tombstone parameters ((EndSequence, before) ∷ trail) = false
-is_trail_under_tombstone parameters ((i, before) ∷ trail) = is_trail_under_tombstone parameters trail
+is_trail_under_tombstone parameters ((i, before) ∷ trail) =
+    is_trail_under_tombstone parameters trail
 
--- pointers, one at the end of these instructions and one before each, the nearest first: the farthest is the start,
--- so is each after an end, and each other follows from the one before it
+-- pointers, one at the end of these instructions and one before each, the nearest first: the
+-- farthest is the start, so is each after an end, and each other follows from the one before it
 abbrev pub IsPointerList : Parameters → List Ins → List OperationPointer → Type 0
 IsPointerList parameters [] (p ∷ []) = p ≡ start
 IsPointerList parameters (i ∷ past) (after ∷ before ∷ pointers) =
-    (after ≡ next_pointer parameters (is_trail_under_tombstone parameters (zip past pointers)) i before) × IsPointerList parameters past (before ∷ pointers)
+    (after
+    ≡ next_pointer parameters (is_trail_under_tombstone parameters (zip past pointers)) i before)
+    × IsPointerList parameters past (before ∷ pointers)
 IsPointerList parameters past pointers = ⊥

@@ -15,11 +15,13 @@ use Rattle.gimli_line.specs.run.RunState.{RunState}
 -- what these instructions give from these registers on, and the registers after them
 abbrev pub events_from : Parameters → LineRow → List Ins → List Event
 events_from parameters r [] = []
-events_from parameters r (i ∷ list) = step_events parameters i r ++ events_from parameters (next_registers parameters i r) list
+events_from parameters r (i ∷ list) =
+    step_events parameters i r ++ events_from parameters (next_registers parameters i r) list
 
 abbrev pub registers_from : Parameters → LineRow → List Ins → LineRow
 registers_from parameters r [] = r
-registers_from parameters r (i ∷ list) = registers_from parameters (next_registers parameters i r) list
+registers_from parameters r (i ∷ list) =
+    registers_from parameters (next_registers parameters i r) list
 
 -- the files after them
 abbrev pub files_from : Bool → List File → List Ins → List File

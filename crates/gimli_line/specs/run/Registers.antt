@@ -1,7 +1,20 @@
--- What the registers are at a point of a program, each looked up by itself from the point backwards (DWARF 5,
--- sections 6.2.2 and 6.2.5). The past of a point is the list of the instructions before it, the nearest first.
-use Rattle.std.specs.Prelude.{ℕ, suc, ◌+◌, ◌-◌, ◌%◌, ◌^◌, Bool, true, false, not, if◌then◌else◌, List, [], ◌∷◌, Option, Some, None, ℤ, pos, negsuc, ◌+ℤ◌}
-use Rattle.gimli_line.specs.declared.run.instruction.LineInstruction.TheVariants.{Special, AdvanceLine, SetFile, SetColumn, NegateStatement, SetBasicBlock, SetPrologueEnd, SetEpilogueBegin, SetIsa, SetDiscriminator}
+-- What the registers are at a point of a program, each looked up by itself from the point backwards
+-- (DWARF 5, sections 6.2.2 and 6.2.5). The past of a point is the list of the instructions before
+-- it, the nearest first.
+use Rattle.std.specs.Prelude.{ℕ, suc, ◌+◌, ◌-◌, ◌%◌, ◌^◌, Bool, true, false, not, if◌then◌else◌}
+use Rattle.std.specs.Prelude.{List, [], ◌∷◌, Option, Some, None, ℤ, pos, negsuc, ◌+ℤ◌}
+use Rattle.gimli_line.specs.declared.run.instruction.LineInstruction.TheVariants.{
+  Special,
+  AdvanceLine,
+  SetFile,
+  SetColumn,
+  NegateStatement,
+  SetBasicBlock,
+  SetPrologueEnd,
+  SetEpilogueBegin,
+  SetIsa,
+  SetDiscriminator,
+}
 use Rattle.gimli_line.specs.header.Parameters.{Parameters}
 use Rattle.gimli_line.specs.run.Instruction.{Ins, is_end}
 
@@ -15,7 +28,8 @@ sequence (i ∷ past) = if is_end i then [] else i ∷ sequence past
 -- the operand of the nearest instruction that has one of this kind
 abbrev pub nearest : (Ins → Option ℕ) → ℕ → List Ins → ℕ
 nearest operand default [] = default
-nearest operand default (i ∷ past) = elim (operand i) [ Some n ↦ n | None ↦ nearest operand default past ]
+nearest operand default (i ∷ past) =
+    elim (operand i) [ Some n ↦ n | None ↦ nearest operand default past ]
 
 -- whether their number is odd
 abbrev pub is_odd : (Ins → Bool) → List Ins → Bool
@@ -68,14 +82,17 @@ isa_at past = nearest isa_operand 0 (sequence past)
 -- the default, turned where it was negated an odd number of times
 abbrev pub is_stmt_at : Parameters → List Ins → Bool
 is_stmt_at parameters past =
-    if is_odd negates_statement (sequence past) then not parameters.line_encoding.default_is_stmt else parameters.line_encoding.default_is_stmt
+    if is_odd negates_statement (sequence past) then not parameters.line_encoding.default_is_stmt
+    else parameters.line_encoding.default_is_stmt
 
 -- ---- the line
 
 -- how far an instruction moves the line
 abbrev pub line_advance : Parameters → Ins → Option ℤ
 line_advance parameters (AdvanceLine v) = Some v
-line_advance parameters (Special o) = Some (parameters.line_encoding.line_base +ℤ pos ((o - parameters.opcode_base) % parameters.line_encoding.line_range))
+line_advance parameters (Special o) =
+    Some (parameters.line_encoding.line_base
+    +ℤ pos ((o - parameters.opcode_base) % parameters.line_encoding.line_range))
 line_advance parameters i = None
 
 -- the line v further on, modulo 2 ^ 64; one that would go below 0 stops there
@@ -86,7 +103,9 @@ advanced_line (negsuc v) line = line - suc v
 -- 1, and the advances of these instructions, the nearest last
 abbrev pub line_after : Parameters → List Ins → ℕ
 line_after parameters [] = 1
-line_after parameters (i ∷ past) = elim (line_advance parameters i) [ Some v ↦ advanced_line v (line_after parameters past) | None ↦ line_after parameters past ]
+line_after parameters (i ∷ past) =
+    elim (line_advance parameters i)
+    [ Some v ↦ advanced_line v (line_after parameters past) | None ↦ line_after parameters past ]
 
 -- the line at a point with this instruction, whose own advance counts
 abbrev pub line_at : Parameters → List Ins → Ins → ℕ

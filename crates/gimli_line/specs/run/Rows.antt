@@ -1,5 +1,6 @@
 -- What a row iterator still gives.
-use Rattle.std.specs.Prelude.{◌≡◌, ◌≢◌, ◌⊎◌, ℕ, Bool, true, false, List, [], ◌∷◌, ◌++◌, All, Option, Some, None, Result, Ok, Err}
+use Rattle.std.specs.Prelude.{◌≡◌, ◌≢◌, ◌⊎◌, ℕ, Bool, true, false, List, [], ◌∷◌, ◌++◌, All, Option}
+use Rattle.std.specs.Prelude.{Some, None, Result, Ok, Err}
 use Rattle.std.specs.Borrow.{Bor}
 use Rattle.gimli_core.specs.declared.error.Error.{Error}
 use Rattle.gimli_core.specs.declared.error.Error.TheVariants.{AddressOverflow, OutOfMemory}
@@ -20,7 +21,9 @@ use Rattle.gimli_line.specs.run.Progress.{with_reset_row, files_from, Progress}
 
 -- what is still to come where the registers were reset
 abbrev pub live_events : RunState → List EventWithFiles
-live_events a = let c = decoded_at a.unread.notation a.fixed a.unread.bytes in events_with_files_from a.appends a.fixed.parameters a.row a.files c.0 c.1
+live_events a =
+    let c = decoded_at a.unread.notation a.fixed a.unread.bytes in
+    events_with_files_from a.appends a.fixed.parameters a.row a.files c.0 c.1
 
 -- what is still to come: rows and faults, each with the files of the header at its point
 abbrev pub events_left : RunState → List EventWithFiles
@@ -28,7 +31,8 @@ events_left a = live_events (with_reset_row a)
 
 -- the files after the last instruction that is still to come
 abbrev pub files_at_end : RunState → List File
-files_at_end a = files_from a.appends a.files (decoded_at a.unread.notation a.fixed a.unread.bytes).0
+files_at_end a =
+    files_from a.appends a.files (decoded_at a.unread.notation a.fixed a.unread.bytes).0
 
 -- an event, and the files that the header has then
 abbrev pub event_of : Event → RunState → EventWithFiles
@@ -49,9 +53,11 @@ start_of_run appends h notation offset orders unread = record {
 
 -- rows of a whole program, from its start to its end
 abbrev pub whole_run : Header → Notation → ℕ → HeaderOrders → RunState
-whole_run h notation offset orders = start_of_run true h notation offset orders (whole_program h notation)
+whole_run h notation offset orders =
+    start_of_run true h notation offset orders (whole_program h notation)
 
--- the readers of the header have the order of its program, and so have the instructions to come, where files are added
+-- the readers of the header have the order of its program, and so have the instructions to come,
+-- where files are added
 pub record IsOfOneOrder (a : RunState) : Type 0 where
   pub readers : AreOneOrder a.notation.big a.orders
   pub unread : a.appends ≡ true → a.unread.notation.big ≡ a.notation.big
@@ -65,8 +71,8 @@ pub record GivesRowsAlone (a : RunState) : Type 0 where
   pub complete : a.appends ≡ false
   pub rows : All IsRow (events_left a)
 
--- the header is the same but for its files, whose readers keep the order of its program; readers that were handed in keep
--- theirs; and a run that is refused for nothing stays one
+-- the header is the same but for its files, whose readers keep the order of its program; readers
+-- that were handed in keep theirs; and a run that is refused for nothing stays one
 pub record KeepsHeader (old new : RunState) : Type 0 where
   pub order : IsOfOneOrder old → IsOfOneOrder new
   pub handed : new.orders.handed ≡ old.orders.handed
@@ -76,17 +82,21 @@ pub record KeepsHeader (old new : RunState) : Type 0 where
   pub notation : new.notation ≡ old.notation
   pub offset : new.offset ≡ old.offset
 
--- a row was the next to come, and these are the files of its point; those at the end are still the same
+-- a row was the next to come, and these are the files of its point; those at the end are still the
+-- same
 abbrev pub RowIs : RunState → RunState → LineRow → List File → Type 0
 RowIs old new r files =
-    (events_left old ≡ record { event = row r; files = files } ∷ events_left new) × (new.files ≡ files) × (files_at_end new ≡ files_at_end old)
+    (events_left old ≡ record { event = row r; files = files } ∷ events_left new)
+    × (new.files ≡ files) × (files_at_end new ≡ files_at_end old)
 
 -- nothing was to come; no bytes are left, and the files are those at the end
 abbrev pub EndIs : RunState → RunState → Type 0
-EndIs old new = (events_left old ≡ []) × (events_left new ≡ []) × (new.unread.bytes ≡ []) × (new.files ≡ files_at_end old)
+EndIs old new =
+    (events_left old ≡ []) × (events_left new ≡ []) × (new.unread.bytes ≡ [])
+    × (new.files ≡ files_at_end old)
 
--- memory was missing for a file, whose definition comes after instructions that give nothing; the files are those of
--- its point, and nothing comes after it
+-- memory was missing for a file, whose definition comes after instructions that give nothing; the
+-- files are those of its point, and nothing comes after it
 pub record WantsMemory (old new : RunState) : Type 0 where
   pub point : RunState
   pub passed : Progress old point []
@@ -101,19 +111,21 @@ pub record WantsMemory (old new : RunState) : Type 0 where
   pub none : events_left new ≡ []
   pub empty : new.unread.bytes ≡ []
 
--- a fault was the next to come; the files at the end are still the same, and no bytes are left but where an address
--- overflows
+-- a fault was the next to come; the files at the end are still the same, and no bytes are left but
+-- where an address overflows
 abbrev pub FaultComes : RunState → RunState → Error → Type 0
 FaultComes old new e =
-    (live_events old ≡ event_of (fault e) new ∷ events_left new) × (files_at_end new ≡ files_at_end old) × (e ≢ AddressOverflow → new.unread.bytes ≡ [])
+    (live_events old ≡ event_of (fault e) new ∷ events_left new)
+    × (files_at_end new ≡ files_at_end old) × (e ≢ AddressOverflow → new.unread.bytes ≡ [])
 
 -- a refusal: `OutOfMemory` for a file, or a fault
 abbrev pub FaultIs : RunState → RunState → Error → Type 0
 FaultIs old new e = ((e ≡ OutOfMemory) × WantsMemory old new) ⊎ FaultComes old new e
 
--- an answer of `next_row` is what was next to come: the end, a row with a header that has the files of its point, or a
--- refusal
-abbrev pub NextIs : {R Offset Endian : Type 0} → RunState → RunState → Result (Option (Bor (SeenHeader R Offset Endian) × Bor LineRow)) Error → Type 0
+-- an answer of `next_row` is what was next to come: the end, a row with a header that has the files
+-- of its point, or a refusal
+abbrev pub NextIs : {R Offset Endian : Type 0} → RunState → RunState
+    → Result (Option (Bor (SeenHeader R Offset Endian) × Bor LineRow)) Error → Type 0
 NextIs old new (Ok None) = EndIs old new
 NextIs old new (Ok (Some found)) = RowIs old new found.1.now found.0.now.meaning.files
 NextIs old new (Err e) = FaultIs (with_reset_row old) new e

@@ -8,7 +8,8 @@ use Rattle.gimli_line.specs.declared.run.sequences.LineSequence.{LineSequence}
 use Rattle.gimli_line.specs.header.Header.{Header}
 use Rattle.gimli_line.specs.run.Instruction.{Ins}
 use Rattle.gimli_line.specs.run.InstructionGrammar.{Decodes}
-use Rattle.gimli_line.specs.run.Events.{Event, row, fault, Events, program_events, defined_files, past_at_end, through_last_end}
+use Rattle.gimli_line.specs.run.Events.{Event, row, fault, Events, program_events, defined_files}
+use Rattle.gimli_line.specs.run.Events.{past_at_end, through_last_end}
 use Rattle.gimli_line.specs.run.EventsWithFiles.{EventWithFiles}
 use Rattle.gimli_line.specs.run.Unread.{Unread}
 
@@ -30,7 +31,8 @@ abbrev pub first_address : List LineRow → ℕ
 first_address [] = 0
 first_address (r ∷ rows) = r.address
 
--- rows of one sequence: one end row, which is the last and has the end address; the first has the start address
+-- rows of one sequence: one end row, which is the last and has the end address; the first has the
+-- start address
 pub record IsSequence (events : List Event) (start end : ℕ) : Type 0 where
   pub rows : List LineRow
   pub last : LineRow
@@ -40,7 +42,8 @@ pub record IsSequence (events : List Event) (start end : ℕ) : Type 0 where
   pub start_is : start ≡ first_address rows
   pub end_is : end ≡ last.address
 
--- the run of a sequence over a header: what its bytes give as a program of their own, which is the rows of one sequence
+-- the run of a sequence over a header: what its bytes give as a program of their own, which is the
+-- rows of one sequence
 pub record HasRun (h : Header) (s : Part) (run : List Event) : Type 0 where
   pub given : Events s.unread.notation h s.unread.bytes run
   pub is : IsSequence run s.start s.end
@@ -51,13 +54,15 @@ HaveRuns h [] [] = Unit {0}
 HaveRuns h (s ∷ parts) (run ∷ runs) = HasRun h s run × HaveRuns h parts runs
 HaveRuns h parts runs = ⊥
 
--- the bytes of a sequence give rows alone over a header, so that a run of them is refused for nothing
+-- the bytes of a sequence give rows alone over a header, so that a run of them is refused for
+-- nothing
 pub record ResumesToRows (h : Header) (s : Part) : Type 0 where
   pub rows : List LineRow
   pub given : Events s.unread.notation h s.unread.bytes (map row rows)
 
--- the sequences of a program with the header h, over the complete header c: the program has no fault, c has its files,
--- each sequence has a run of its own, and all runs in order are that of the program through its last end
+-- the sequences of a program with the header h, over the complete header c: the program has no
+-- fault, c has its files, each sequence has a run of its own, and all runs in order are that of the
+-- program through its last end
 pub record AreSequences (notation : Notation) (h c : Header) (parts : List Part) : Type 0 where
   pub list : List Ins
   pub decoding : Decodes notation h h.program list None

@@ -10,7 +10,10 @@ pub record Unread : Type 0 where
 
 -- what a reader has left, by its bytes, its order and the limit of its offsets
 abbrev pub unread_of : {R : Type 0} → (R → List ℕ) → (R → Bool) → ℕ → R → Unread
-unread_of bytes big limit reader = record { bytes = bytes reader; notation = notation_of (big reader) limit }
+unread_of bytes big limit reader = record {
+  bytes = bytes reader;
+  notation = notation_of (big reader) limit;
+}
 
 -- the whole program of a header
 abbrev pub whole_program : Header → Notation → Unread

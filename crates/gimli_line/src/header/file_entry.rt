@@ -11,6 +11,15 @@ use gimli_core::{AttributeValue, DwForm, DwLnct, Reader, ReaderOffset, Result, c
 use std::alloc::AllocError;
 
 /// What a table of version 5 holds of each entry: a kind of value, and the form that it has.
+///
+/// <!-- part of crates/rows_reading/src/header_text.rt -->
+/// ```rust
+/// for format in formats {
+///     let content = format.content_type.0;
+///     let form = format.form.0;
+///     lines.put(format_args!("{word} {content:x} {form:x}"));
+/// }
+/// ```
 #[derive(Clone, Copy, Debug, PartialEq, Eq)]
 pub struct FileEntryFormat {
     /// The kind of value.
@@ -20,6 +29,17 @@ pub struct FileEntryFormat {
 }
 
 /// A source file.
+///
+/// <!-- part of crates/uses/src/reading.rt -->
+/// ```rust
+/// let Some(file) = row.file(header) else {
+///     return Ok(None);
+/// };
+/// match file.directory(header) {
+///     Some(directory) => Ok(Some(text(directory, sections)?)),
+///     None => Ok(None),
+/// }
+/// ```
 #[derive(Copy, Debug, PartialEq, Eq)]
 pub struct FileEntry<R, Offset = <R as Reader>::Offset>
 where
@@ -64,7 +84,8 @@ where
 
     /// A file of which the path alone is known.
     pub(crate) fn of_path(path_name: R) -> Self
-        ensures file { file_seen R.bytes Offset.number result ≡ plain_file (R.bytes path_name) 0 0 0 }
+        ensures file { file_seen R.bytes Offset.number result
+            ≡ plain_file (R.bytes path_name) 0 0 0 }
         ensures path { result.path_name ≡ String path_name }
         ensures order { FileHasOrder R.big (R.big path_name) result }
     {
@@ -100,13 +121,14 @@ where
         })
     }
 
-    /// Takes in a value of an entry of version 5. A value that isn't of use for its content type changes
-    /// nothing, and neither does an unknown content type.
+    /// Takes in a value of an entry of version 5. A value that isn't of use for its content type
+    /// changes nothing, and neither does an unknown content type.
     pub(crate) fn update(&mut self, content_type: DwLnct, value: AttributeValue<R, Offset>)
         ensures file { file_seen R.bytes Offset.number self.new
             ≡ file_with (file_seen R.bytes Offset.number self.old) content_type.0
             (value_seen R.bytes Offset.number value) }
-        ensures order { (order : Bool) → FileHasOrder R.big order self.old → ValueHasOrder R.big order value
+        ensures order { (order : Bool) → FileHasOrder R.big order self.old
+            → ValueHasOrder R.big order value
             → FileHasOrder R.big order self.new }
     {
         match content_type {
@@ -185,7 +207,8 @@ where
         &self.md5
     }
 
-    /// The text of the file, where the header's `file_has_source` holds. An empty one may stand for none.
+    /// The text of the file, where the header's `file_has_source` holds. An empty one may stand for
+    /// none.
     pub fn source(&self) -> Option<AttributeValue<R, Offset>>
         ensures { result ≡ self.now.source }
     {

@@ -5,7 +5,8 @@ ghost use Rattle.gimli_core.specs.Reading.{result_map, unsigned_at};
 ghost use Rattle.gimli_core.specs.Notation.{notation_of};
 ghost use Rattle.gimli_core.specs.Values.{value_seen, ValueHasOrder};
 ghost use Rattle.gimli_line.specs.header.FormReading.{offset_at};
-ghost use Rattle.gimli_line.specs.inside.header.FormReading.{form_at, number_form_at, word_form_at, index_form_at, block_at};
+ghost use Rattle.gimli_line.specs.inside.header.FormReading.{form_at, number_form_at, word_form_at};
+ghost use Rattle.gimli_line.specs.inside.header.FormReading.{index_form_at, block_at};
 
 use crate::run::leb128::read_uleb128;
 use gimli_core::{
@@ -51,7 +52,8 @@ pub(crate) fn parse_attribute<R: Reader>(
 #[tactic(auto, unfolding(crate::specs::inside::header::FormReading::number_form_at, crate::specs::inside::header::FormReading::word_form_at))]
 fn parse_number<R: Reader>(input: &mut R, format: Format, form: DwForm) -> Result<AttributeValue<R>>
     ensures read { (result_map (value_seen R.bytes R.Offset.number) result, R.bytes input.new)
-        ≡ number_form_at (notation_of (R.big input.old) R.Offset.limit) format form.0 (R.bytes input.old) }
+        ≡ number_form_at (notation_of (R.big input.old) R.Offset.limit) format form.0
+        (R.bytes input.old) }
     ensures order { R.big input.new ≡ R.big input.old }
     ensures part { IfOk result (ValueHasOrder R.big (R.big input.old)) }
 {
@@ -75,7 +77,8 @@ fn parse_word_or_text<R: Reader>(
     form: DwForm,
 ) -> Result<AttributeValue<R>>
     ensures read { (result_map (value_seen R.bytes R.Offset.number) result, R.bytes input.new)
-        ≡ word_form_at (notation_of (R.big input.old) R.Offset.limit) format form.0 (R.bytes input.old) }
+        ≡ word_form_at (notation_of (R.big input.old) R.Offset.limit) format form.0
+        (R.bytes input.old) }
     ensures order { R.big input.new ≡ R.big input.old }
     ensures part { IfOk result (ValueHasOrder R.big (R.big input.old)) }
 {
@@ -105,7 +108,8 @@ fn parse_word_or_text<R: Reader>(
 #[tactic(auto, unfolding(crate::specs::inside::header::FormReading::index_form_at))]
 fn parse_index<R: Reader>(input: &mut R, format: Format, form: DwForm) -> Result<AttributeValue<R>>
     ensures read { (result_map (value_seen R.bytes R.Offset.number) result, R.bytes input.new)
-        ≡ index_form_at (notation_of (R.big input.old) R.Offset.limit) format form.0 (R.bytes input.old) }
+        ≡ index_form_at (notation_of (R.big input.old) R.Offset.limit) format form.0
+        (R.bytes input.old) }
     ensures order { R.big input.new ≡ R.big input.old }
     ensures part { IfOk result (ValueHasOrder R.big (R.big input.old)) }
 {
@@ -131,8 +135,8 @@ fn parse_block<R: Reader>(input: &mut R, len: R::Offset) -> Result<AttributeValu
     Ok(AttributeValue::Block(block))
 }
 
-/// Takes an unsigned LEB128 number as an offset. Refused by `UnsupportedOffset` where the offset type is too
-/// narrow.
+/// Takes an unsigned LEB128 number as an offset. Refused by `UnsupportedOffset` where the offset
+/// type is too narrow.
 pub(crate) fn parse_offset<R: Reader>(input: &mut R) -> Result<R::Offset>
     ensures read { (result_map R.Offset.number result, R.bytes input.new)
         ≡ offset_at R.Offset.limit unsigned_at (R.bytes input.old) }

@@ -18,10 +18,24 @@ impl Model for Parameters {
 
     ghost Value = { Parameters };
 
-    ghost view = { λ a. record { encoding = a.encoding; line_encoding = a.line_encoding; opcode_base = a.opcode_base } };
+    ghost view = { λ a.
+        record {
+          encoding = a.encoding;
+          line_encoding = a.line_encoding;
+          opcode_base = a.opcode_base;
+        } };
 
-    ghost inverse = { λ v. record { encoding = v.encoding; line_encoding = v.line_encoding; opcode_base = v.opcode_base } };
+    ghost inverse = { λ v.
+        record {
+          encoding = v.encoding;
+          line_encoding = v.line_encoding;
+          opcode_base = v.opcode_base;
+        } };
 
     ghost invariant = { λ a. AreAllowed
-        (record { encoding = a.encoding; line_encoding = a.line_encoding; opcode_base = a.opcode_base }) };
+        (record {
+          encoding = a.encoding;
+          line_encoding = a.line_encoding;
+          opcode_base = a.opcode_base;
+        }) };
 }

@@ -1,10 +1,19 @@
-//! The header of a unit, part by part, in the order of its fields (DWARF 5, 6.2.4; DWARF 2 to 4, 6.2.4).
+//! The header of a unit, part by part, in the order of its fields (DWARF 5, 6.2.4; DWARF 2 to 4,
+//! 6.2.4).
 
 ghost use Rattle.std.specs.Prelude.{◌≡◌, ◌<◌, IfOk, IsTrue, option_map};
 ghost use Rattle.gimli_core.specs.Notation.{notation_of};
 ghost use Rattle.gimli_core.specs.Numbers.{is_address_size};
 ghost use Rattle.gimli_core.specs.Reading.{result_map};
-ghost use Rattle.gimli_line.specs.inside.header.HeaderReading.{positive_at, version_at, own_address_size_at, size_at, operations_at, line_encoding_at, parameters_at};
+ghost use Rattle.gimli_line.specs.inside.header.HeaderReading.{
+  positive_at,
+  version_at,
+  own_address_size_at,
+  size_at,
+  operations_at,
+  line_encoding_at,
+  parameters_at,
+};
 ghost use Rattle.gimli_line.specs.header.Parameters.{IsLineEncoding};
 
 use crate::header::file_entry::FileEntry;
@@ -30,8 +39,8 @@ fn parse_positive<R: Reader>(input: &mut R, error: Error) -> Result<u8>
     Ok(n)
 }
 
-/// Takes a version, from 2 to 5: the versions of the line table, which are those of DWARF (DWARF 5, appendix F).
-/// Refused by `UnknownVersion` at any other.
+/// Takes a version, from 2 to 5: the versions of the line table, which are those of DWARF (DWARF 5,
+/// appendix F). Refused by `UnknownVersion` at any other.
 #[tactic(auto, unfolding(crate::specs::inside::header::HeaderReading::version_at))]
 fn parse_version<R: Reader>(input: &mut R) -> Result<u16>
     ensures read { (result, R.bytes input.new) ≡ version_at (R.big input.old) (R.bytes input.old) }
@@ -44,8 +53,8 @@ fn parse_version<R: Reader>(input: &mut R) -> Result<u16>
     Ok(version)
 }
 
-/// The address size of a unit: the handed one up to version 4, else the unit's own, after which a segment
-/// selector size of 0 stands.
+/// The address size of a unit: the handed one up to version 4, else the unit's own, after which a
+/// segment selector size of 0 stands.
 #[tactic(auto, unfolding(crate::specs::inside::header::HeaderReading::own_address_size_at))]
 fn parse_address_size<R: Reader>(input: &mut R, version: u16, handed: u8) -> Result<u8>
     requires { IsTrue (is_address_size handed) }
@@ -85,8 +94,8 @@ fn parse_line_encoding<R: Reader>(input: &mut R, version: u16) -> Result<LineEnc
     })
 }
 
-/// The maximum of operations of an instruction: there from version 4 on, for machines whose instructions are bundles
-/// of operations.
+/// The maximum of operations of an instruction: there from version 4 on, for machines whose
+/// instructions are bundles of operations.
 fn parse_operations<R: Reader>(input: &mut R, version: u16) -> Result<u8>
     ensures read { (result, R.bytes input.new) ≡ operations_at version (R.bytes input.old) }
     ensures order { R.big input.new ≡ R.big input.old }
@@ -134,10 +143,12 @@ impl<R: Reader> Opening<R> {
     fn parse(input: &mut R, handed: u8, format: Format) -> Result<Self>
         requires { IsTrue (is_address_size handed) }
         ensures read { (result_map (opening_seen R.bytes R.Offset.number) result, R.bytes input.new)
-            ≡ opening_at (notation_of (R.big input.old) R.Offset.limit) handed format (R.bytes input.old) }
+            ≡ opening_at (notation_of (R.big input.old) R.Offset.limit) handed format
+            (R.bytes input.old) }
         ensures order { R.big input.new ≡ R.big input.old }
         ensures fields { IfOk result (λ opening. R.big opening.fields ≡ R.big input.old) }
-        ensures size { IfOk result (λ opening. IsTrue (is_address_size opening.encoding.address_size)) }
+        ensures size { IfOk result (λ opening.
+            IsTrue (is_address_size opening.encoding.address_size)) }
     {
         let version = parse_version(input)?;
         let address_size = parse_address_size(input, version, handed)?;
@@ -168,8 +179,9 @@ where
     ghost use Rattle.gimli_line.specs.inside.header.Opening.{opening_seen};
     ghost use Rattle.gimli_line.specs.header.File.{file_seen};
 
-    /// Takes the header of a unit, and its program. The unit length says where the unit ends, and the header length
-    /// where the program begins: what a later version appends to a header is passed over so.
+    /// Takes the header of a unit, and its program. The unit length says where the unit ends, and
+    /// the header length where the program begins: what a later version appends to a header is
+    /// passed over so.
     #[tactic(auto, unfolding(crate::specs::inside::header::HeaderReading::header_at))]
     pub(crate) fn parse(
         alloc: Global,
@@ -180,9 +192,11 @@ where
         comp_name: Option<R>,
     ) -> Result<Self>
         requires { IsTrue (is_address_size address_size) }
-        ensures read { IsAnswer (λ header. header.meaning) result (header_at (notation_of (R.big input.old) Offset.limit)
+        ensures read { IsAnswer (λ header. header.meaning) result
+            (header_at (notation_of (R.big input.old) Offset.limit)
             (unit_entry R.bytes address_size comp_dir comp_name) (R.bytes input.old)).0 }
-        ensures notation { IfOk result (λ header. header.notation ≡ notation_of (R.big input.old) Offset.limit) }
+        ensures notation { IfOk result (λ header.
+            header.notation ≡ notation_of (R.big input.old) Offset.limit) }
         ensures offset { IfOk result (λ header. header.offset ≡ offset) }
         ensures order { IfOk result (HasOneOrder R.big) }
         ensures directory { IfOk result (λ header. header.comp_dir
@@ -217,10 +231,14 @@ where
     ) -> Result<Self>
         requires size { IsTrue (is_address_size opening.encoding.address_size) }
         requires order { R.big opening.fields ≡ R.big program_buf }
-        ensures read { IsAnswer (λ header. header.meaning) result (fields_at (notation_of (R.big program_buf) Offset.limit)
-            (unit_entry R.bytes opening.encoding.address_size comp_dir comp_name) (Offset.number unit_length)
-            (opening_seen R.bytes Offset.number opening) (R.bytes program_buf) (R.bytes opening.fields)).0 }
-        ensures notation { IfOk result (λ header. header.notation ≡ notation_of (R.big program_buf) Offset.limit) }
+        ensures read { IsAnswer (λ header. header.meaning) result
+            (fields_at (notation_of (R.big program_buf) Offset.limit)
+            (unit_entry R.bytes opening.encoding.address_size comp_dir comp_name)
+            (Offset.number unit_length)
+            (opening_seen R.bytes Offset.number opening) (R.bytes program_buf)
+            (R.bytes opening.fields)).0 }
+        ensures notation { IfOk result (λ header.
+            header.notation ≡ notation_of (R.big program_buf) Offset.limit) }
         ensures offset { IfOk result (λ header. header.offset ≡ offset) }
         ensures order { IfOk result (HasOneOrder R.big) }
         ensures directory { IfOk result (λ header. header.comp_dir
@@ -254,7 +272,8 @@ where
 
     /// The handed directory, where the version takes it.
     fn comp_dir_of(encoding: Encoding, comp_dir: Option<R>) -> Option<R>
-        ensures bytes { option_map R.bytes result ≡ handed_value encoding (option_map R.bytes comp_dir) }
+        ensures bytes { option_map R.bytes result
+            ≡ handed_value encoding (option_map R.bytes comp_dir) }
         ensures own { result ≡ handed_value encoding comp_dir }
     {
         if encoding.version <= 4 {
@@ -267,8 +286,10 @@ where
     /// The file of the handed name, where the version takes it.
     fn comp_file_of(encoding: Encoding, comp_name: Option<R>) -> Option<FileEntry<R, Offset>>
         ensures file { option_map (file_seen R.bytes Offset.number) result
-            ≡ handed_value encoding (option_map (λ path. plain_file path 0 0 0) (option_map R.bytes comp_name)) }
-        ensures path { option_map (λ file. file.path_name) result ≡ handed_value encoding (option_map String comp_name) }
+            ≡ handed_value encoding
+            (option_map (λ path. plain_file path 0 0 0) (option_map R.bytes comp_name)) }
+        ensures path { option_map (λ file. file.path_name) result
+            ≡ handed_value encoding (option_map String comp_name) }
     {
         match comp_name {
             Some(name) if encoding.version <= 4 => Some(FileEntry::of_path(name)),

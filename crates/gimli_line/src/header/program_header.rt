@@ -1,6 +1,8 @@
 //! The header of a line program, and its tables by index.
 
-ghost use Rattle.std.specs.Prelude.{◌≡◌, Bool, ◌-◌, ◌^◌, ◌<◌, ◌≤◌, ◌↔◌, ◌||◌, ◌++◌, ◌∷◌, [], IfErr, IfOk, IfSome, IsNone, IsTrue, OnErr, OnOk, map, min, nat_le, option_map, slice_get, slice_index};
+ghost use Rattle.std.specs.Prelude.{◌≡◌, Bool, ◌-◌, ◌^◌, ◌<◌, ◌≤◌, ◌↔◌, ◌||◌, ◌++◌, ◌∷◌, [], IfErr};
+ghost use Rattle.std.specs.Prelude.{IfOk, IfSome, IsNone, IsTrue, OnErr, OnOk, map, min, nat_le};
+ghost use Rattle.std.specs.Prelude.{option_map, slice_get, slice_index};
 ghost use Rattle.gimli_core.specs.Numbers.{is_address_size};
 ghost use Rattle.gimli_core.specs.Values.{value_seen};
 ghost use Rattle.gimli_line.specs.header.Parameters.{IsLineEncoding};
@@ -16,6 +18,15 @@ use std::alloc::AllocError;
 use std::marker::Model;
 
 /// The header of a line program. Texts, blocks and the program are readers over the section.
+///
+/// <!-- part of crates/checks_reading/src/headers.rt -->
+/// ```rust
+/// for file in header.file_names() {
+///     check_equal(rt, (file.timestamp(), file.last_modification()), (7, 7));
+///     check_equal(rt, (file.size(), file.length()), (9, 9));
+///     check_equal(rt, file.directory(header).is_none(), true);
+/// }
+/// ```
 #[derive(Debug, PartialEq, Eq, Drop)]
 pub struct LineProgramHeader<R, Offset = <R as Reader>::Offset>
 where
@@ -118,13 +129,15 @@ where
     R: Reader<Offset = Offset>,
     Offset: ReaderOffset,
 {
-    ghost use Rattle.gimli_line.specs.header.Header.{directory_of, file_of, own_directory_of, own_file_of, has_content, with_file};
+    ghost use Rattle.gimli_line.specs.header.Header.{directory_of, file_of, own_directory_of};
+    ghost use Rattle.gimli_line.specs.header.Header.{own_file_of, has_content, with_file};
     ghost use Rattle.gimli_line.specs.header.HeaderParts.{parts_of};
     ghost use Rattle.gimli_line.specs.header.File.{file_seen, FileHasOrder};
     ghost use Rattle.gimli_line.specs.header.Orders.{AreOneOrder, header_orders};
     ghost use Rattle.gimli_line.specs.Units.{offset_after};
 
-    /// A copy, which agrees with the header in all its parts and says what it says. Refused by `OutOfMemory` alone.
+    /// A copy, which agrees with the header in all its parts and says what it says. Refused by
+    /// `OutOfMemory` alone.
     pub fn clone(&self) -> Result<Self>
         ensures parts { IfOk result (λ copy. parts_of copy ≡ parts_of self.now) }
         ensures meaning { IfOk result (λ copy. copy.meaning ≡ self.now.meaning) }
@@ -170,8 +183,9 @@ where
         self.unit_length
     }
 
-    /// The offset of what follows the unit in its section: the unit's own, the size of its length, and as many bytes as
-    /// that says (DWARF 5, section 7.4). None where it is too large for the reader's offsets, or for 64 bits.
+    /// The offset of what follows the unit in its section: the unit's own, the size of its length,
+    /// and as many bytes as that says (DWARF 5, section 7.4). None where it is too large for the
+    /// reader's offsets, or for 64 bits.
     pub fn next_unit_offset(&self) -> Option<DebugLineOffset<Offset>>
         ensures some { IfSome result (λ next. Offset.number next.0
             ≡ offset_after (Offset.number self.now.offset.0) self.now.meaning) }
@@ -377,8 +391,8 @@ where
             .any(|format| format.content_type == content_type)
     }
 
-    /// The table of files, and after them those that the program has defined so far. Up to version 4 it begins
-    /// with file 1.
+    /// The table of files, and after them those that the program has defined so far. Up to version
+    /// 4 it begins with file 1.
     pub fn file_names(&self) -> &[FileEntry<R, Offset>]
         ensures files { map (file_seen R.bytes Offset.number) result.now ≡ self.now.meaning.files }
         ensures own { result.now ≡ self.now.file_names.items }
@@ -410,8 +424,10 @@ where
         ensures notation { self.new.notation ≡ self.old.notation }
         ensures offset { self.new.offset ≡ self.old.offset }
         ensures order { (order : Bool) → FileHasOrder R.big order file
-            → AreOneOrder order (header_orders R.big self.old) → AreOneOrder order (header_orders R.big self.new) }
-        ensures handed { (header_orders R.big self.new).handed ≡ (header_orders R.big self.old).handed }
+            → AreOneOrder order (header_orders R.big self.old)
+            → AreOneOrder order (header_orders R.big self.new) }
+        ensures handed { (header_orders R.big self.new).handed
+            ≡ (header_orders R.big self.old).handed }
     {
         push(&mut self.file_names, file)
     }

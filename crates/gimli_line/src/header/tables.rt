@@ -6,8 +6,13 @@ ghost use Rattle.std.specs.List.{All};
 ghost use Rattle.gimli_core.specs.Notation.{notation_of};
 ghost use Rattle.gimli_core.specs.Values.{value_seen, ValueHasOrder};
 ghost use Rattle.gimli_core.specs.declared.attribute_value.AttributeValue.TheVariants.{String};
-ghost use Rattle.gimli_line.specs.inside.header.Outcome.{IsOutcome, IsListOutcome, IsTableOutcome, read_map};
-ghost use Rattle.gimli_line.specs.inside.header.HeaderReading.{format_at, formats_at, paths_at, files_at, directory_at, file_at, directory_entries_at, file_entries_at, directories_at, file_names_at};
+ghost use Rattle.gimli_line.specs.inside.header.Outcome.{IsOutcome, IsListOutcome, IsTableOutcome};
+ghost use Rattle.gimli_line.specs.inside.header.Outcome.{read_map};
+ghost use Rattle.gimli_line.specs.inside.header.HeaderReading.{format_at, formats_at, paths_at};
+ghost use Rattle.gimli_line.specs.inside.header.HeaderReading.{files_at, directory_at, file_at};
+ghost use Rattle.gimli_line.specs.inside.header.HeaderReading.{directory_entries_at};
+ghost use Rattle.gimli_line.specs.inside.header.HeaderReading.{file_entries_at, directories_at};
+ghost use Rattle.gimli_line.specs.inside.header.HeaderReading.{file_names_at};
 ghost use Rattle.gimli_line.specs.header.File.{file_seen, FileHasOrder};
 
 use crate::header::file_entry::{FileEntry, FileEntryFormat};
@@ -32,10 +37,12 @@ pub(crate) fn push<T: Drop>(list: &mut Vec<T>, item: T) -> Result<()>
 
 // ---- formats
 
-/// Takes the formats of a table. Refused by `MissingFileEntryFormatPath` where not exactly one of them is a path.
+/// Takes the formats of a table. Refused by `MissingFileEntryFormatPath` where not exactly one of
+/// them is a path.
 #[tactic(auto, unfolding(crate::specs::inside::header::HeaderReading::formats_at))]
 pub(crate) fn parse_formats<R: Reader>(alloc: Global, input: &mut R) -> Result<Vec<FileEntryFormat>>
-    ensures read { IsOutcome (λ formats. formats.items) result (R.bytes input.new) (formats_at (R.bytes input.old)) }
+    ensures read { IsOutcome (λ formats. formats.items) result (R.bytes input.new)
+        (formats_at (R.bytes input.old)) }
     ensures order { R.big input.new ≡ R.big input.old }
 {
     let count = input.read_u8()?;
@@ -89,7 +96,8 @@ fn parse_directories<R: Reader>(alloc: Global, input: &mut R) -> Result<Vec<Attr
     ensures read { IsListOutcome (value_seen R.bytes R.Offset.number) result (R.bytes input.new)
         (read_map (map String) (paths_at (R.bytes input.old))) }
     ensures order { R.big input.new ≡ R.big input.old }
-    ensures parts { IfOk result (λ directories. All (ValueHasOrder R.big (R.big input.old)) directories.items) }
+    ensures parts { IfOk result (λ directories.
+        All (ValueHasOrder R.big (R.big input.old)) directories.items) }
 {
     let mut directories = Vec::new(alloc);
     loop {
@@ -138,7 +146,8 @@ fn parse_directory_v5<R: Reader>(
     formats: &[FileEntryFormat],
 ) -> Result<AttributeValue<R>>
     ensures read { (result_map (value_seen R.bytes R.Offset.number) result, R.bytes input.new)
-        ≡ directory_at (notation_of (R.big input.old) R.Offset.limit) format formats.now (R.bytes input.old) }
+        ≡ directory_at (notation_of (R.big input.old) R.Offset.limit) format formats.now
+        (R.bytes input.old) }
     ensures order { R.big input.new ≡ R.big input.old }
     ensures part { IfOk result (ValueHasOrder R.big (R.big input.old)) }
 {
@@ -159,7 +168,8 @@ fn parse_file_v5<R: Reader>(
     formats: &[FileEntryFormat],
 ) -> Result<FileEntry<R>>
     ensures read { (result_map (file_seen R.bytes R.Offset.number) result, R.bytes input.new)
-        ≡ file_at (notation_of (R.big input.old) R.Offset.limit) format formats.now (R.bytes input.old) }
+        ≡ file_at (notation_of (R.big input.old) R.Offset.limit) format formats.now
+        (R.bytes input.old) }
     ensures order { R.big input.new ≡ R.big input.old }
     ensures part { IfOk result (FileHasOrder R.big (R.big input.old)) }
 {
@@ -180,9 +190,11 @@ fn parse_directories_v5<R: Reader>(
     formats: &[FileEntryFormat],
 ) -> Result<Vec<AttributeValue<R>>>
     ensures read { IsListOutcome (value_seen R.bytes R.Offset.number) result (R.bytes input.new)
-        (directory_entries_at (notation_of (R.big input.old) R.Offset.limit) format formats.now (R.bytes input.old)) }
+        (directory_entries_at (notation_of (R.big input.old) R.Offset.limit) format formats.now
+        (R.bytes input.old)) }
     ensures order { R.big input.new ≡ R.big input.old }
-    ensures parts { IfOk result (λ directories. All (ValueHasOrder R.big (R.big input.old)) directories.items) }
+    ensures parts { IfOk result (λ directories.
+        All (ValueHasOrder R.big (R.big input.old)) directories.items) }
 {
     let count = input.read_uleb128()?;
     let mut directories = Vec::new(alloc);
@@ -202,7 +214,8 @@ fn parse_files_v5<R: Reader>(
     formats: &[FileEntryFormat],
 ) -> Result<Vec<FileEntry<R>>>
     ensures read { IsListOutcome (file_seen R.bytes R.Offset.number) result (R.bytes input.new)
-        (file_entries_at (notation_of (R.big input.old) R.Offset.limit) format formats.now (R.bytes input.old)) }
+        (file_entries_at (notation_of (R.big input.old) R.Offset.limit) format formats.now
+        (R.bytes input.old)) }
     ensures order { R.big input.new ≡ R.big input.old }
     ensures parts { IfOk result (λ files. All (FileHasOrder R.big (R.big input.old)) files.items) }
 {
@@ -225,9 +238,11 @@ pub(crate) fn parse_directory_table<R: Reader>(
     encoding: Encoding,
 ) -> Result<(Vec<FileEntryFormat>, Vec<AttributeValue<R>>)>
     ensures read { IsTableOutcome (value_seen R.bytes R.Offset.number) result (R.bytes input.new)
-        (directories_at (notation_of (R.big input.old) R.Offset.limit) encoding (R.bytes input.old)) }
+        (directories_at (notation_of (R.big input.old) R.Offset.limit) encoding
+        (R.bytes input.old)) }
     ensures order { R.big input.new ≡ R.big input.old }
-    ensures parts { IfOk result (λ table. All (ValueHasOrder R.big (R.big input.old)) table.1.items) }
+    ensures parts { IfOk result (λ table.
+        All (ValueHasOrder R.big (R.big input.old)) table.1.items) }
 {
     if encoding.version <= 4 {
         let directories = parse_directories(alloc, input)?;
@@ -246,9 +261,11 @@ pub(crate) fn parse_file_table<R: Reader>(
     encoding: Encoding,
 ) -> Result<(Vec<FileEntryFormat>, Vec<FileEntry<R>>)>
     ensures read { IsTableOutcome (file_seen R.bytes R.Offset.number) result (R.bytes input.new)
-        (file_names_at (notation_of (R.big input.old) R.Offset.limit) encoding (R.bytes input.old)) }
+        (file_names_at (notation_of (R.big input.old) R.Offset.limit) encoding
+        (R.bytes input.old)) }
     ensures order { R.big input.new ≡ R.big input.old }
-    ensures parts { IfOk result (λ table. All (FileHasOrder R.big (R.big input.old)) table.1.items) }
+    ensures parts { IfOk result (λ table.
+        All (FileHasOrder R.big (R.big input.old)) table.1.items) }
 {
     if encoding.version <= 4 {
         let files = parse_files(alloc, input)?;

@@ -13,13 +13,21 @@ use std::alloc::AllocError;
 use std::marker::Model;
 
 /// An instruction of a line program.
+///
+/// <!-- part of crates/rows_reading/src/instruction_text.rt -->
+/// ```rust
+/// if let LineInstruction::DefineFile(file) = instruction {
+///     return print_definition(file, lines);
+/// }
+/// ```
 #[derive(Copy, Debug, PartialEq, Eq)]
 pub enum LineInstruction<R, Offset = <R as Reader>::Offset>
 where
     R: Reader<Offset = Offset>,
     Offset: ReaderOffset,
 {
-    /// An opcode from the opcode base on: advances address, op_index and line together, and makes a row (6.2.5.1).
+    /// An opcode from the opcode base on: advances address, op_index and line together, and makes a
+    /// row (6.2.5.1).
     Special(u8),
     /// Makes a row.
     Copy,
@@ -45,8 +53,9 @@ where
     SetEpilogueBegin,
     /// Sets the instruction set.
     SetIsa(u64),
-    /// A standard opcode that isn't known, without operands. The header counts the operands of each, so that a
-    /// reader can go past those of a later version (6.2.4, standard_opcode_lengths).
+    /// A standard opcode that isn't known, without operands. The header counts the operands of
+    /// each, so that a reader can go past those of a later version (6.2.4,
+    /// standard_opcode_lengths).
     UnknownStandard0(DwLns),
     /// A standard opcode that isn't known, with one operand.
     UnknownStandard1(DwLns, u64),
@@ -54,8 +63,8 @@ where
     UnknownStandardN(DwLns, R),
     /// Makes the last row of a sequence. All registers start anew after it.
     EndSequence,
-    /// Sets the address, and op_index to 0; or is a tombstone for the rows to come, where it lies below the address
-    /// before it or stands for nothing.
+    /// Sets the address, and op_index to 0; or is a tombstone for the rows to come, where it lies
+    /// below the address before it or stands for nothing.
     SetAddress(u64),
     /// Adds a file to the header's files, up to version 4.
     DefineFile(FileEntry<R, Offset>),
@@ -89,7 +98,13 @@ where
     ghost use Rattle.std.specs.Prelude.{◌≡◌, ◌<◌, ℕ, List, IfOk};
     ghost use Rattle.gimli_core.specs.Reading.{result_map};
     ghost use Rattle.gimli_line.specs.run.Instruction.{ins_seen, makes_row, InsHasOrder};
-    ghost use Rattle.gimli_line.specs.run.InstructionReading.{ins_at, extended_at, extended_operands_at, standard_at, unknown_at};
+    ghost use Rattle.gimli_line.specs.run.InstructionReading.{
+      ins_at,
+      extended_at,
+      extended_operands_at,
+      standard_at,
+      unknown_at,
+    };
     ghost use Rattle.gimli_line.specs.run.Machine.{IsAllowed};
 
     /// Whether it makes a row, under a tombstone or not.
@@ -108,7 +123,8 @@ where
     #[tactic(auto, unfolding(crate::specs::run::InstructionReading::ins_at))]
     pub(crate) fn parse(header: &LineProgramHeader<R, Offset>, input: &mut R) -> Result<Self>
         ensures read { (result_map (ins_seen R.bytes Offset.number) result, R.bytes input.new)
-            ≡ ins_at (record { big = R.big input.old; limit = Offset.limit }) header.now.meaning (R.bytes input.old) }
+            ≡ ins_at (record { big = R.big input.old; limit = Offset.limit }) header.now.meaning
+            (R.bytes input.old) }
         ensures order { R.big input.new ≡ R.big input.old }
         ensures allowed { IfOk result (λ i. IsAllowed header.now.meaning.parameters
             (ins_seen R.bytes Offset.number i)) }
@@ -124,12 +140,13 @@ where
         Self::parse_standard(header, DwLns(opcode), input)
     }
 
-    /// Takes what stands after the zero byte of an extended instruction (DWARF 5, 6.2.5.3): a length, the opcode, and
-    /// its operands. Surplus bytes within its length are skipped.
+    /// Takes what stands after the zero byte of an extended instruction (DWARF 5, 6.2.5.3): a
+    /// length, the opcode, and its operands. Surplus bytes within its length are skipped.
     #[tactic(auto, unfolding(crate::specs::run::InstructionReading::extended_at))]
     fn parse_extended(header: &LineProgramHeader<R, Offset>, input: &mut R) -> Result<Self>
         ensures read { (result_map (ins_seen R.bytes Offset.number) result, R.bytes input.new)
-            ≡ extended_at (record { big = R.big input.old; limit = Offset.limit }) header.now.meaning
+            ≡ extended_at (record { big = R.big input.old; limit = Offset.limit })
+            header.now.meaning
             (R.bytes input.old) }
         ensures order { R.big input.new ≡ R.big input.old }
         ensures allowed { IfOk result (λ i. IsAllowed header.now.meaning.parameters
@@ -149,7 +166,8 @@ where
         opcode: DwLne,
         operands: R,
     ) -> Result<Self>
-        ensures read { (after : List ℕ) → (result_map (ins_seen R.bytes Offset.number) result, after)
+        ensures read { (after : List ℕ)
+            → (result_map (ins_seen R.bytes Offset.number) result, after)
             ≡ extended_operands_at
             (record { big = R.big operands; limit = Offset.limit }) header.now.meaning opcode.0
             (R.bytes operands) after }
@@ -187,7 +205,8 @@ where
     ) -> Result<Self>
         requires { 0 < opcode.0 }
         ensures read { (result_map (ins_seen R.bytes Offset.number) result, R.bytes input.new)
-            ≡ standard_at (record { big = R.big input.old; limit = Offset.limit }) header.now.meaning opcode.0
+            ≡ standard_at (record { big = R.big input.old; limit = Offset.limit })
+            header.now.meaning opcode.0
             (R.bytes input.old) }
         ensures order { R.big input.new ≡ R.big input.old }
         ensures allowed { IfOk result (λ i. IsAllowed header.now.meaning.parameters
@@ -224,7 +243,8 @@ where
     ) -> Result<Self>
         requires { 0 < opcode.0 }
         ensures read { (result_map (ins_seen R.bytes Offset.number) result, R.bytes input.new)
-            ≡ unknown_at (record { big = R.big input.old; limit = Offset.limit }) header.now.meaning opcode.0
+            ≡ unknown_at (record { big = R.big input.old; limit = Offset.limit }) header.now.meaning
+            opcode.0
             (slice_index header.now.meaning.operand_counts (opcode.0 - 1)) (R.bytes input.old) }
         ensures order { R.big input.new ≡ R.big input.old }
         ensures allowed { IfOk result (λ i. IsAllowed header.now.meaning.parameters
@@ -258,7 +278,8 @@ fn parse_operands<R: Reader>(input: &mut R, count: u8) -> Result<R>
 
 /// Takes so many LEB128 numbers.
 fn skip_operands<R: Reader>(input: &mut R, count: u8) -> Result<()>
-    ensures read { (result, R.bytes input.new) ≡ without_value (times_at count unsigned_at (R.bytes input.old)) }
+    ensures read { (result, R.bytes input.new)
+        ≡ without_value (times_at count unsigned_at (R.bytes input.old)) }
     ensures order { R.big input.new ≡ R.big input.old }
 {
     for _ in 0..count {
@@ -268,6 +289,18 @@ fn skip_operands<R: Reader>(input: &mut R, count: u8) -> Result<()>
 }
 
 /// The instructions of a program that are still to come.
+///
+/// <!-- part of crates/rows_reading/src/instruction_text.rt -->
+/// ```rust
+/// let mut instructions = header.instructions();
+/// 'instructions: loop {
+///     match instructions.next_instruction(header) {
+///         Ok(Some(instruction)) => print_instruction(&instruction, lines),
+///         Ok(None) => return,
+///         Err(e) => return lines.put_refusal(e),
+///     }
+/// }
+/// ```
 #[derive(Clone, Debug, Drop)]
 pub struct LineInstructions<R: Reader> {
     pub(super) input: R,
@@ -278,7 +311,11 @@ impl<R: Reader> Model for LineInstructions<R> {
 
     ghost Value = { Unread };
 
-    ghost view = { λ a. record { bytes = R.bytes a.input; notation = record { big = R.big a.input; limit = R.Offset.limit } } };
+    ghost view = { λ a.
+        record {
+          bytes = R.bytes a.input;
+          notation = record { big = R.big a.input; limit = R.Offset.limit };
+        } };
 }
 
 impl<R: Reader> LineInstructions<R> {
@@ -322,10 +359,10 @@ impl<R: Reader> LineInstructions<R> {
         Ok(LineInstructions { input })
     }
 
-    /// Takes the next instruction, by the header of its program; None where no bytes are left. Refused as the
-    /// first part of it that isn't there says: `UnexpectedEof`, `BadUnsignedLeb128`, `BadSignedLeb128`, or
-    /// `UnsupportedOffset` where a length is too large for the reader's offsets. After a refusal there are no
-    /// more instructions.
+    /// Takes the next instruction, by the header of its program; None where no bytes are left.
+    /// Refused as the first part of it that isn't there says: `UnexpectedEof`, `BadUnsignedLeb128`,
+    /// `BadSignedLeb128`, or `UnsupportedOffset` where a length is too large for the reader's
+    /// offsets. After a refusal there are no more instructions.
     pub fn next_instruction(
         &mut self,
         header: &LineProgramHeader<R>,

@@ -5,7 +5,8 @@ ghost use Rattle.gimli_core.specs.Reading.{signed_at, unsigned_at};
 
 use gimli_core::{Reader, Result};
 
-/// Takes an unsigned LEB128 number, as `Reader::read_uleb128` does; one of one or two bytes, as most are, in line.
+/// Takes an unsigned LEB128 number, as `Reader::read_uleb128` does; one of one or two bytes, as
+/// most are, in line.
 #[inline(always)]
 pub(crate) fn read_uleb128<R: Reader>(input: &mut R) -> Result<u64>
     ensures read { (result, R.bytes input.new) ≡ unsigned_at (R.bytes input.old) }
@@ -19,11 +20,13 @@ pub(crate) fn read_uleb128<R: Reader>(input: &mut R) -> Result<u64>
     Ok(number)
 }
 
-/// Takes an unsigned LEB128 number of one or two bytes. None where it is longer, or isn't there as a whole.
+/// Takes an unsigned LEB128 number of one or two bytes. None where it is longer, or isn't there as
+/// a whole.
 #[inline(always)]
 #[tactic(auto, unfolding(gimli_core::specs::Reading::uleb_at))]
 pub(crate) fn read_short_uleb128<R: Reader>(input: &mut R) -> Option<u64>
-    ensures read { IfSome result (λ n. (Ok n, R.bytes input.new) ≡ unsigned_at (R.bytes input.old)) }
+    ensures read { IfSome result (λ n.
+        (Ok n, R.bytes input.new) ≡ unsigned_at (R.bytes input.old)) }
     ensures order { R.big input.new ≡ R.big input.old }
 {
     let Ok(first) = input.read_u8() else {
@@ -41,7 +44,8 @@ pub(crate) fn read_short_uleb128<R: Reader>(input: &mut R) -> Option<u64>
     Some(u64::from(first) - 128 + 128 * u64::from(second))
 }
 
-/// Takes a signed LEB128 number of one or two bytes. None where it is longer, or isn't there as a whole.
+/// Takes a signed LEB128 number of one or two bytes. None where it is longer, or isn't there as a
+/// whole.
 #[inline(always)]
 #[tactic(auto, unfolding(gimli_core::specs::Reading::sleb_at))]
 pub(crate) fn read_short_sleb128<R: Reader>(input: &mut R) -> Option<i64>

@@ -6,6 +6,18 @@ use gimli_core::{Error, Reader, ReaderOffset, Result};
 use std::marker::Model;
 
 /// What has the header of a line program, and takes the files that the program defines.
+///
+/// <!-- part of crates/linetool_commands/src/print.rt -->
+/// ```rust
+/// let mut rows = rows;
+/// 'rows: loop {
+///     let row = match rows.next_row() {
+///         Ok(Some((_, row))) => *row,
+///         Ok(None) => return Ok(()),
+///         Err(e) => return Err(Refusal::of_unit(e, Refusal::Rows)),
+///     };
+///     print_row(row, out)?;
+/// ```
 pub trait LineProgram<R: Reader> {
     ghost use Rattle.std.specs.Prelude.{◌≡◌, ℕ, Bool, true, OnOk, OnErr, IfErr};
     ghost use Rattle.gimli_core.specs.Notation.{Notation};
@@ -35,8 +47,8 @@ pub trait LineProgram<R: Reader> {
         ensures offset { R.Offset.number result.now.offset.0 ≡ offset self.now }
         ensures orders { header_orders R.big result.now ≡ orders self.now };
 
-    /// Adds a file that the program defines, where the list of files isn't complete. Refused by `OutOfMemory`
-    /// alone; nothing is changed then.
+    /// Adds a file that the program defines, where the list of files isn't complete. Refused by
+    /// `OutOfMemory` alone; nothing is changed then.
     fn add_file(&mut self, file: FileEntry<R>) -> Result<()>
         ensures ok { OnOk result (meaning self.new ≡ with_defined_file appends
             (file_seen R.bytes R.Offset.number file) (meaning self.old)) }
@@ -50,6 +62,13 @@ pub trait LineProgram<R: Reader> {
 }
 
 /// A line program that was not run yet, so that files may still be defined.
+///
+/// <!-- part of crates/uses/src/lookup.rt -->
+/// ```rust
+/// let program = section.program(alloc, offset, 8, None, None)?;
+/// let lookup = Lookup::new(program)?;
+/// Ok(row_at(&lookup, address))
+/// ```
 #[derive(Clone, Debug, PartialEq, Eq, Drop)]
 pub struct IncompleteLineProgram<R, Offset = <R as Reader>::Offset>
 where
@@ -81,7 +100,8 @@ where
     ghost use Rattle.std.specs.Prelude.{◌≡◌, IfErr, IfOk};
     ghost use Rattle.gimli_line.specs.header.HeaderParts.{parts_of};
 
-    /// A copy, which agrees with the program in all its parts and says what it says. Refused by `OutOfMemory` alone.
+    /// A copy, which agrees with the program in all its parts and says what it says. Refused by
+    /// `OutOfMemory` alone.
     pub fn clone(&self) -> Result<Self>
         ensures parts { IfOk result (λ copy. parts_of copy ≡ parts_of self.now) }
         ensures meaning { IfOk result (λ copy. copy.meaning ≡ self.now.meaning) }
@@ -130,14 +150,26 @@ impl<R: Reader> LineProgram<R> for IncompleteLineProgram<R> {
         ensures notation { self.new.notation ≡ self.old.notation }
         ensures offset { R.Offset.number self.new.offset.0 ≡ R.Offset.number self.old.offset.0 }
         ensures order { (order : Bool) → (true ≡ true → FileHasOrder R.big order file)
-            → AreOneOrder order (header_orders R.big self.old) → AreOneOrder order (header_orders R.big self.new) }
-        ensures handed { (header_orders R.big self.new).handed ≡ (header_orders R.big self.old).handed }
+            → AreOneOrder order (header_orders R.big self.old)
+            → AreOneOrder order (header_orders R.big self.new) }
+        ensures handed { (header_orders R.big self.new).handed
+            ≡ (header_orders R.big self.old).handed }
     {
         self.header.add_file(file)
     }
 }
 
 /// A line program of which all files are known, so that its sequences can be run one by one.
+///
+/// <!-- part of crates/checks_reading/src/headers.rt -->
+/// ```rust
+/// for sequence in sequences {
+///     match program.resume_from(sequence).next_row() {
+///         Ok(Some((_, row))) => check_equal(rt, row.address(), 0x1000),
+///         _ => check_equal(rt, true, false),
+///     }
+/// }
+/// ```
 #[derive(Clone, Debug, PartialEq, Eq, Drop)]
 pub struct CompleteLineProgram<R, Offset = <R as Reader>::Offset>
 where
@@ -169,7 +201,8 @@ where
     ghost use Rattle.std.specs.Prelude.{◌≡◌, IfErr, IfOk};
     ghost use Rattle.gimli_line.specs.header.HeaderParts.{parts_of};
 
-    /// A copy, which agrees with the program in all its parts and says what it says. Refused by `OutOfMemory` alone.
+    /// A copy, which agrees with the program in all its parts and says what it says. Refused by
+    /// `OutOfMemory` alone.
     pub fn clone(&self) -> Result<Self>
         ensures parts { IfOk result (λ copy. parts_of copy ≡ parts_of self.now) }
         ensures meaning { IfOk result (λ copy. copy.meaning ≡ self.now.meaning) }
@@ -218,8 +251,10 @@ impl<'program, R: Reader> LineProgram<R> for &'program CompleteLineProgram<R> {
         ensures offset { R.Offset.number self.new.now.offset.0
             ≡ R.Offset.number self.old.now.offset.0 }
         ensures order { (order : Bool) → (false ≡ true → FileHasOrder R.big order _file)
-            → AreOneOrder order (header_orders R.big self.old.now) → AreOneOrder order (header_orders R.big self.new.now) }
-        ensures handed { (header_orders R.big self.new.now).handed ≡ (header_orders R.big self.old.now).handed }
+            → AreOneOrder order (header_orders R.big self.old.now)
+            → AreOneOrder order (header_orders R.big self.new.now) }
+        ensures handed { (header_orders R.big self.new.now).handed
+            ≡ (header_orders R.big self.old.now).handed }
         ensures only { IsOk result }
     {
         Ok(())

@@ -1,6 +1,7 @@
 //! Rows, and what each instruction does to the registers: the state machine of DWARF 5, 6.2.2.
 
-ghost use Rattle.std.specs.Prelude.{◌≡◌, ◌<◌, ◌≤◌, ◌+◌, Bool, true, false, IfErr, IfOk, IfSome, IsNone, IsTrue, MatchOption, OnErr, OnOk, option_map};
+ghost use Rattle.std.specs.Prelude.{◌≡◌, ◌<◌, ◌≤◌, ◌+◌, Bool, true, false, IfErr, IfOk, IsTrue};
+ghost use Rattle.std.specs.Prelude.{MatchOption, OnErr, OnOk, option_map};
 ghost use Rattle.std.specs.Int.NonZero.{non_zero_u64_get};
 ghost use Rattle.gimli_core.specs.Numbers.{is_address_size};
 ghost use Rattle.gimli_core.specs.Reading.{result_map, sized_sum};
@@ -9,12 +10,19 @@ use crate::header::file_entry::FileEntry;
 use crate::header::parameters::Parameters;
 use crate::header::program_header::LineProgramHeader;
 use crate::run::instruction::LineInstruction;
-use crate::run::leb128::{read_short_sleb128, read_short_uleb128};
 use crate::run::program::LineProgram;
-use gimli_core::{DwLns, Error, Reader, ReaderAddress, ReaderOffset, Result, constants};
+use gimli_core::{Error, Reader, ReaderAddress, ReaderOffset, Result};
 use std::num::NonZeroU64;
 
 /// A row, or the registers on the way to one (DWARF 5, 6.2.2).
+///
+/// <!-- part of crates/uses/src/shift.rt -->
+/// ```rust
+/// let address = row.address();
+/// let file = row.file_index();
+/// let line = row.line().map_or(0, |line| line.get());
+/// let end = if row.end_sequence() { " end" } else { "" };
+/// ```
 #[derive(Clone, Copy, Debug, PartialEq, Eq)]
 pub struct LineRow {
     /// The last set address is a tombstone.
@@ -34,6 +42,14 @@ pub struct LineRow {
 }
 
 /// The column of a row. The left edge is below all columns.
+///
+/// <!-- part of crates/uses/src/where_is.rt -->
+/// ```rust
+/// match row.column() {
+///     ColumnType::LeftEdge => 0,
+///     ColumnType::Column(column) => column.get(),
+/// }
+/// ```
 #[derive(Clone, Copy, Debug, PartialEq, Eq, PartialOrd, Ord)]
 pub enum ColumnType {
     /// The left edge of the line.
@@ -42,7 +58,8 @@ pub enum ColumnType {
     Column(NonZeroU64),
 }
 
-/// The sum as an address of a size, as `add_sized` gives it; where the size is 8, nothing more is asked than that it fits.
+/// The sum as an address of a size, as `add_sized` gives it; where the size is 8, nothing more is
+/// asked than that it fits.
 #[inline(always)]
 fn sum_of_size(address: u64, length: u64, size: u8) -> Result<u64>
     requires { IsTrue (is_address_size size) }
@@ -56,21 +73,20 @@ fn sum_of_size(address: u64, length: u64, size: u8) -> Result<u64>
 }
 
 impl LineRow {
-    ghost use Rattle.gimli_core.specs.Notation.{Notation};
-    ghost use Rattle.gimli_line.specs.header.Header.{Header, file_of, own_file_of};
+    ghost use Rattle.gimli_line.specs.header.Header.{file_of, own_file_of};
     ghost use Rattle.gimli_line.specs.header.Orders.{AreOneOrder};
-    ghost use Rattle.gimli_line.specs.run.Instruction.{ins_seen, makes_row, header_after, InsHasOrder};
+    ghost use Rattle.gimli_line.specs.run.Instruction.{ins_seen, makes_row, header_after};
+    ghost use Rattle.gimli_line.specs.run.Instruction.{InsHasOrder};
     ghost use Rattle.gimli_line.specs.header.File.{file_seen};
-    ghost use Rattle.gimli_line.specs.run.Machine.{initial, reset_row, rebase_of, IsAllowed, is_refused, step_of, with_register};
+    ghost use Rattle.gimli_line.specs.run.Machine.{initial, reset_row, rebase_of, IsAllowed};
+    ghost use Rattle.gimli_line.specs.run.Machine.{is_refused, step_of, with_register};
     ghost use Rattle.gimli_line.specs.run.OperationPointer.{is_too_large};
     ghost use Rattle.gimli_line.specs.run.Execution.{OverflowIs, OtherRefusalIs};
-    ghost use Rattle.gimli_line.specs.inside.run.Execution.{ExecutedWell};
-    ghost use Rattle.gimli_line.specs.run.InstructionReading.{standard_at};
     ghost use Rattle.gimli_line.specs.run.Row.{column_number};
     ghost use Rattle.gimli_line.specs.run.Registers.{advanced_line};
 
-    /// The registers at the start of a sequence (DWARF 5, 6.2.2, table 6.4): file and line are 1, is_stmt is the
-    /// default of the header, all others are 0 or false.
+    /// The registers at the start of a sequence (DWARF 5, 6.2.2, table 6.4): file and line are 1,
+    /// is_stmt is the default of the header, all others are 0 or false.
     pub fn new<R: Reader>(header: &LineProgramHeader<R>) -> Self
         ensures { result ≡ initial header.now.meaning.parameters }
     {
@@ -157,7 +173,8 @@ impl LineRow {
         self.basic_block
     }
 
-    /// Whether this is the first byte after a sequence. Beside the place, what the row says means nothing then.
+    /// Whether this is the first byte after a sequence. Beside the place, what the row says means
+    /// nothing then.
     pub fn end_sequence(&self) -> bool
         ensures { result ≡ self.now.end_sequence }
     {
@@ -200,11 +217,12 @@ impl LineRow {
         self.tombstone
     }
 
-    /// Executes an instruction, and says whether it makes a row, which may be under a tombstone. A file that it
-    /// defines is added to the program. Refused by `AddressOverflow` where the address would pass the greatest one of
-    /// its size: the address stays then, and at a fixed advance op_index does too; else op_index goes on, and the line
-    /// does at a special opcode. Refused by `OutOfMemory` where a file can't be added; nothing is changed then.
-    /// Requires of a special opcode that it isn't below the opcode base of the program.
+    /// Executes an instruction, and says whether it makes a row, which may be under a tombstone. A
+    /// file that it defines is added to the program. Refused by `AddressOverflow` where the address
+    /// would pass the greatest one of its size: the address stays then, and at a fixed advance
+    /// op_index does too; else op_index goes on, and the line does at a special opcode. Refused by
+    /// `OutOfMemory` where a file can't be added; nothing is changed then. Requires of a special
+    /// opcode that it isn't below the opcode base of the program.
     pub fn execute<R: Reader, P: LineProgram<R>>(
         &mut self,
         instruction: LineInstruction<R>,
@@ -247,11 +265,14 @@ impl LineRow {
         parameters: &Parameters,
     ) -> Result<()>
         requires { IsAllowed parameters.now (ins_seen R.bytes R.Offset.number instruction) }
-        ensures step { self.new ≡ step_of parameters.now (ins_seen R.bytes R.Offset.number instruction) self.old }
+        ensures step { self.new
+            ≡ step_of parameters.now (ins_seen R.bytes R.Offset.number instruction) self.old }
         ensures fits { OnOk result
-            (is_refused parameters.now (ins_seen R.bytes R.Offset.number instruction) self.old ≡ false) }
+            (is_refused parameters.now (ins_seen R.bytes R.Offset.number instruction) self.old
+            ≡ false) }
         ensures overflow { IfErr result (λ e. (e ≡ Error.AddressOverflow)
-            × (is_refused parameters.now (ins_seen R.bytes R.Offset.number instruction) self.old ≡ true)) }
+            × (is_refused parameters.now (ins_seen R.bytes R.Offset.number instruction) self.old
+            ≡ true)) }
     {
         match instruction {
             LineInstruction::Special(opcode) => self.exec_special_opcode(opcode, parameters),
@@ -286,8 +307,10 @@ impl LineRow {
         }
     }
 
-    /// Executes an instruction that sets a register by its operand alone; any other changes nothing.
-    fn set_register<R: Reader>(&mut self, instruction: LineInstruction<R>)
+    /// Executes an instruction that sets a register by its operand alone; any other changes
+    /// nothing.
+    #[inline(always)]
+    pub(super) fn set_register<R: Reader>(&mut self, instruction: LineInstruction<R>)
         ensures { self.new ≡ with_register (ins_seen R.bytes R.Offset.number instruction) self.old }
     {
         match instruction {
@@ -305,50 +328,9 @@ impl LineRow {
         }
     }
 
-    /// Executes one of the standard opcodes that are met most, from the bytes after it, and says whether it makes a
-    /// row. None at another opcode, or where its operand isn't short; no register changes then.
-    #[inline(always)]
-    pub(crate) fn exec_common_opcode<R: Reader>(
-        &mut self,
-        opcode: DwLns,
-        input: &mut R,
-    ) -> Option<bool>
-        ensures executed { IfSome result (λ made. (n : Notation) → (h : Header) →
-            ExecutedWell h.parameters (standard_at n h opcode.0 (R.bytes input.old)) (R.bytes input.new)
-            self.old self.new made) }
-        ensures some { IfSome result (λ _. 0 < opcode.0) }
-        ensures none { IsNone result → self.new ≡ self.old }
-        ensures order { R.big input.new ≡ R.big input.old }
-    {
-        match opcode {
-            constants::DW_LNS_copy => return Some(true),
-            constants::DW_LNS_advance_line => {
-                let Some(line_advance) = read_short_sleb128(input) else {
-                    return None;
-                };
-                self.apply_line_advance(line_advance);
-            }
-            constants::DW_LNS_set_file => {
-                let Some(file) = read_short_uleb128(input) else {
-                    return None;
-                };
-                self.file = file;
-            }
-            constants::DW_LNS_set_column => {
-                let Some(column) = read_short_uleb128(input) else {
-                    return None;
-                };
-                self.column = column;
-            }
-            constants::DW_LNS_negate_stmt => self.is_stmt = !self.is_stmt,
-            _ => return None,
-        }
-        Some(false)
-    }
-
-    /// Makes the registers ready for what follows a row: discriminator, basic_block, prologue_end and epilogue_begin
-    /// are cleared (DWARF 5, 6.2.5.1 and `DW_LNS_copy` in 6.2.5.2), and after an end all start anew
-    /// (`DW_LNE_end_sequence` in 6.2.5.3).
+    /// Makes the registers ready for what follows a row: discriminator, basic_block, prologue_end
+    /// and epilogue_begin are cleared (DWARF 5, 6.2.5.1 and `DW_LNS_copy` in 6.2.5.2), and after an
+    /// end all start anew (`DW_LNE_end_sequence` in 6.2.5.3).
     pub fn reset<R: Reader>(&mut self, header: &LineProgramHeader<R>)
         ensures { self.new ≡ reset_row header.now.meaning.parameters self.old }
     {
@@ -362,8 +344,8 @@ impl LineRow {
         }
     }
 
-    /// Sets the address and op_index to 0, and the row is under no tombstone then, so that addresses count from a set
-    /// address. Nothing else changes.
+    /// Sets the address and op_index to 0, and the row is under no tombstone then, so that
+    /// addresses count from a set address. Nothing else changes.
     pub fn rebase(&mut self)
         ensures { self.new ≡ rebase_of self.old }
     {
@@ -372,8 +354,8 @@ impl LineRow {
         self.op_index = 0;
     }
 
-    /// Advances the line; one that would go below 0 stops there. The standard says nothing of such a line: gimli
-    /// and this port keep the row, and line 0 stands for no line.
+    /// Advances the line; one that would go below 0 stops there. The standard says nothing of such
+    /// a line: gimli and this port keep the row, and line 0 stands for no line.
     fn apply_line_advance(&mut self, line_advance: i64)
         ensures { self.new ≡ record self.old { line = advanced_line line_advance self.old.line } }
     {
@@ -384,18 +366,22 @@ impl LineRow {
         }
     }
 
-    /// Advances address and op_index by so many operations: the operation advance of DWARF 5, 6.2.5.1. Without
-    /// several operations in an instruction op_index is 0 and the address moves by whole instructions.
+    /// Advances address and op_index by so many operations: the operation advance of DWARF 5,
+    /// 6.2.5.1. Without several operations in an instruction op_index is 0 and the address moves by
+    /// whole instructions.
     pub(super) fn apply_operation_advance(
         &mut self,
         operation_advance: u64,
         parameters: &Parameters,
     ) -> Result<()>
-        ensures step { self.new ≡ step_of parameters.now (LineInstruction.AdvancePc operation_advance) self.old }
+        ensures step { self.new
+            ≡ step_of parameters.now (LineInstruction.AdvancePc operation_advance) self.old }
         ensures fits { OnOk result
-            (is_refused parameters.now (LineInstruction.AdvancePc operation_advance) self.old ≡ false) }
+            (is_refused parameters.now (LineInstruction.AdvancePc operation_advance) self.old
+            ≡ false) }
         ensures overflow { IfErr result (λ e. (e ≡ Error.AddressOverflow)
-            × (is_refused parameters.now (LineInstruction.AdvancePc operation_advance) self.old ≡ true)) }
+            × (is_refused parameters.now (LineInstruction.AdvancePc operation_advance) self.old
+            ≡ true)) }
     {
         if self.tombstone {
             return Ok(());
@@ -428,11 +414,14 @@ impl LineRow {
         Ok(())
     }
 
-    /// Adds bytes to the address, from operation 0 on (`DW_LNS_fixed_advance_pc` in DWARF 5, 6.2.5.2). The minimum
-    /// instruction length has no part in it: it is for assemblers that can't know the lengths of instructions.
+    /// Adds bytes to the address, from operation 0 on (`DW_LNS_fixed_advance_pc` in DWARF 5,
+    /// 6.2.5.2). The minimum instruction length has no part in it: it is for assemblers that can't
+    /// know the lengths of instructions.
     fn exec_fixed_add_pc(&mut self, advance: u16, parameters: &Parameters) -> Result<()>
-        ensures step { self.new ≡ step_of parameters.now (LineInstruction.FixedAddPc advance) self.old }
-        ensures fits { OnOk result (is_refused parameters.now (LineInstruction.FixedAddPc advance) self.old ≡ false) }
+        ensures step { self.new
+            ≡ step_of parameters.now (LineInstruction.FixedAddPc advance) self.old }
+        ensures fits { OnOk result
+            (is_refused parameters.now (LineInstruction.FixedAddPc advance) self.old ≡ false) }
         ensures overflow { IfErr result (λ e. (e ≡ Error.AddressOverflow)
             × (is_refused parameters.now (LineInstruction.FixedAddPc advance) self.old ≡ true)) }
     {
@@ -444,10 +433,12 @@ impl LineRow {
         Ok(())
     }
 
-    /// Advances address and op_index as special opcode 255 does (`DW_LNS_const_add_pc` in DWARF 5, 6.2.5.2).
+    /// Advances address and op_index as special opcode 255 does (`DW_LNS_const_add_pc` in DWARF 5,
+    /// 6.2.5.2).
     pub(super) fn exec_const_add_pc(&mut self, parameters: &Parameters) -> Result<()>
         ensures step { self.new ≡ step_of parameters.now LineInstruction.ConstAddPc self.old }
-        ensures fits { OnOk result (is_refused parameters.now LineInstruction.ConstAddPc self.old ≡ false) }
+        ensures fits { OnOk result
+            (is_refused parameters.now LineInstruction.ConstAddPc self.old ≡ false) }
         ensures overflow { IfErr result (λ e. (e ≡ Error.AddressOverflow)
             × (is_refused parameters.now LineInstruction.ConstAddPc self.old ≡ true)) }
     {
@@ -456,14 +447,16 @@ impl LineRow {
         self.apply_operation_advance(u64::from(operation_advance), parameters)
     }
 
-    /// Advances line, address and op_index at once, by the formula of DWARF 5, 6.2.5.1: the opcode above the opcode
-    /// base counts lines from line_base on, and an operation for each line_range of it.
+    /// Advances line, address and op_index at once, by the formula of DWARF 5, 6.2.5.1: the opcode
+    /// above the opcode base counts lines from line_base on, and an operation for each line_range
+    /// of it.
     #[inline(always)]
-    pub(crate) fn exec_special_opcode(&mut self, opcode: u8, parameters: &Parameters) -> Result<()>
+    pub(super) fn exec_special_opcode(&mut self, opcode: u8, parameters: &Parameters) -> Result<()>
         requires { parameters.now.opcode_base ≤ opcode }
         ensures some { 0 < opcode }
         ensures step { self.new ≡ step_of parameters.now (LineInstruction.Special opcode) self.old }
-        ensures fits { OnOk result (is_refused parameters.now (LineInstruction.Special opcode) self.old ≡ false) }
+        ensures fits { OnOk result
+            (is_refused parameters.now (LineInstruction.Special opcode) self.old ≡ false) }
         ensures overflow { IfErr result (λ e. (e ≡ Error.AddressOverflow)
             × (is_refused parameters.now (LineInstruction.Special opcode) self.old ≡ true)) }
     {
@@ -474,11 +467,12 @@ impl LineRow {
         self.apply_operation_advance(u64::from(adjusted_opcode / line_range), parameters)
     }
 
-    /// Sets the address, from operation 0 on; or is a tombstone for what follows, where the address is below the one
-    /// before it, or stands for nothing (a tombstone). A linker that drops a function leaves its rows, and puts a
-    /// value in the place of their address: all ones, as LLVM's does and DWARF 6 asks; all ones less one, where all
-    /// ones has a meaning of its own; or 0 and what was added to it, as older ones do. Addresses of a sequence only
-    /// grow (DWARF 5, 6.2.5), so one that is below the last within a sequence is of a dropped function too.
+    /// Sets the address, from operation 0 on; or is a tombstone for what follows, where the address
+    /// is below the one before it, or stands for nothing (a tombstone). A linker that drops a
+    /// function leaves its rows, and puts a value in the place of their address: all ones, as
+    /// LLVM's does and DWARF 6 asks; all ones less one, where all ones has a meaning of its own; or
+    /// 0 and what was added to it, as older ones do. Addresses of a sequence only grow (DWARF 5,
+    /// 6.2.5), so one that is below the last within a sequence is of a dropped function too.
     pub(super) fn exec_set_address(&mut self, address: u64, parameters: &Parameters)
         ensures { self.new ≡ step_of parameters.now (LineInstruction.SetAddress address) self.old }
     {

@@ -9,7 +9,8 @@ use gimli_core::{Error, Result};
 use std::alloc::Global;
 use std::marker::Model;
 
-/// A row whose op_index fits into 8 bits, and whose other numbers, but for the address, fit into 32.
+/// A row whose op_index fits into 8 bits, and whose other numbers, but for the address, fit
+/// into 32.
 #[derive(Clone, Copy, Debug)]
 struct NarrowRow {
     address: u64,
@@ -123,8 +124,15 @@ impl StoredRow {
     }
 }
 
-/// Rows in their order, each in 48 bytes. A row of which a number is 2^32 or more, its address aside, or op_index 2^8
-/// or more, takes memory of its own beside that.
+/// Rows in their order, each in 48 bytes. A row of which a number is 2^32 or more, its address
+/// aside, or op_index 2^8 or more, takes memory of its own beside that.
+///
+/// <!-- part of crates/gimli_c/src/row_reader/open.rt -->
+/// ```rust
+/// let mut rows = RowList::new(alloc);
+/// let fault = match keep_rows(&mut program.rows(), &mut rows) {
+///     Ok(fault) => fault,
+/// ```
 #[derive(Debug, Drop)]
 pub struct RowList {
     rows: Vec<StoredRow>,
@@ -141,7 +149,8 @@ impl Model for RowList {
 }
 
 impl RowList {
-    ghost use Rattle.std.specs.Prelude.{◌≡◌, ◌<◌, ◌↔◌, [], ◌∷◌, ◌++◌, length, slice_get, slice_index_or, IfErr, IfOk, IsTrue, OnErr, OnOk};
+    ghost use Rattle.std.specs.Prelude.{◌≡◌, ◌<◌, ◌↔◌, [], ◌∷◌, ◌++◌, length, slice_get};
+    ghost use Rattle.std.specs.Prelude.{slice_index_or, IfErr, IfOk, IsTrue, OnErr, OnOk};
     ghost use Rattle.gimli_line.specs.declared.run.row.LineRow.{LineRow};
 
     /// No rows. Takes no memory.
@@ -166,7 +175,8 @@ impl RowList {
         self.push_wide(row)
     }
 
-    /// Appends a row in memory of its own. Fails only with `OutOfMemory`; the list is then as it was.
+    /// Appends a row in memory of its own. Fails only with `OutOfMemory`; the list is then as it
+    /// was.
     #[inline(never)]
     fn push_wide(&mut self, row: &LineRow) -> Result<()>
         ensures ok { OnOk result (self.new ≡ self.old ++ row.now ∷ []) }
@@ -179,8 +189,9 @@ impl RowList {
         }
     }
 
-    /// Moves the rows into a list of their own, which has no more room than they need. This list is empty then, and
-    /// keeps its room for the rows to come. Fails only with `OutOfMemory`; this list is then as it was.
+    /// Moves the rows into a list of their own, which has no more room than they need. This list is
+    /// empty then, and keeps its room for the rows to come. Fails only with `OutOfMemory`; this
+    /// list is then as it was.
     pub fn take(&mut self) -> Result<RowList>
         ensures ok { IfOk result (λ rows. rows ≡ self.old) }
         ensures emptied { OnOk result (self.new ≡ []) }

@@ -1,6 +1,7 @@
 //! The rows of a program or of one sequence, in order.
 
 use crate::header::program_header::LineProgramHeader;
+use crate::run::from_bytes::Executed;
 use crate::run::instruction::LineInstructions;
 use crate::run::program::{CompleteLineProgram, IncompleteLineProgram, LineProgram};
 use crate::run::row::LineRow;
@@ -18,6 +19,14 @@ enum Step {
 }
 
 /// The rows of a program that are still to come, in order.
+///
+/// <!-- part of crates/uses/src/reading.rt -->
+/// ```rust
+/// let row = match rows.next_row()? {
+///     Some((_header, row)) => *row,
+///     None => return Ok(found),
+/// };
+/// ```
 #[derive(Clone, Debug, Drop)]
 pub struct LineRows<R: Reader, P: LineProgram<R>> {
     program: P,
@@ -59,25 +68,30 @@ trait Lent {
 impl<R: Reader, P: LineProgram<R>> Lent for LineRows<R, P> {
     ghost use Rattle.gimli_line.specs.contracts.run.rows.LineRows.{the_row};
 
-    ghost lent = { the_row R.row P.row R.Endian.row R.Offset.row R.Reader.own R.Endian.Endianity.own R.Endian.PartialEq.own R.Offset.ReaderOffset.own R.Offset.PartialEq.own R.Offset.Ord.own R.Offset.PartialOrd.own P.LineProgram.own };
+    ghost lent = { the_row R.row P.row R.Endian.row R.Offset.row R.Reader.own R.Endian.Endianity.own
+        R.Endian.PartialEq.own R.Offset.ReaderOffset.own R.Offset.PartialEq.own R.Offset.Ord.own
+        R.Offset.PartialOrd.own P.LineProgram.own };
 }
 
 impl<R: Reader, P: LineProgram<R>> LineRows<R, P> {
-    ghost use Rattle.std.specs.Prelude.{◌≡◌, [], ◌∷◌, None, Ok, IfErr, IfOk, IfSome, IsOk, MatchBool};
+    ghost use Rattle.std.specs.Prelude.{◌≡◌, [], ◌∷◌, None, Ok, IfErr, IfOk, IfSome, IsOk};
+    ghost use Rattle.std.specs.Prelude.{MatchBool};
     ghost use Rattle.std.specs.Borrow.{sem};
     ghost use Rattle.std.specs.Io.BufRead.{Rests};
     ghost use Rattle.gimli_line.specs.run.Events.{row as row_event};
     ghost use Rattle.gimli_line.specs.header.Header.{without_files, HasOneOrder};
     ghost use Rattle.gimli_line.specs.header.Orders.{header_orders};
     ghost use Rattle.gimli_line.specs.run.Progress.{with_reset_row, Progress};
-    ghost use Rattle.gimli_line.specs.run.Rows.{start_of_run, GivesRowsAlone, IsOfOneOrder, KeepsHeader, NextIs, RowIs, EndIs, FaultIs};
+    ghost use Rattle.gimli_line.specs.run.Rows.{start_of_run, GivesRowsAlone, IsOfOneOrder};
+    ghost use Rattle.gimli_line.specs.run.Rows.{KeepsHeader, NextIs, RowIs, EndIs, FaultIs};
     ghost use Rattle.gimli_line.specs.run.Made.{given_of};
     ghost use Rattle.gimli_line.specs.run.AnyRows.{AnyFaultIs, AnyRowIs, NextAnyIs, NoneIs};
-    ghost use Rattle.gimli_line.specs.inside.run.Rows.{StepIs};
+    ghost use Rattle.gimli_line.specs.inside.run.Rows.{KeepsRun, StepsTo};
 
     /// The rows of these instructions of a program, from the start of a sequence on.
     pub(crate) fn start(program: P, instructions: LineInstructions<R>) -> Self
-        ensures { result ≡ start_of_run P.appends (P.meaning program) (P.notation program) (P.offset program)
+        ensures { result
+            ≡ start_of_run P.appends (P.meaning program) (P.notation program) (P.offset program)
             (P.orders program) instructions }
     {
         let row = LineRow::new(program.header());
@@ -100,10 +114,12 @@ impl<R: Reader, P: LineProgram<R>> LineRows<R, P> {
         self.program.header()
     }
 
-    /// The next row that isn't under a tombstone, with the header as it is there; None where the program has no more,
-    /// and the header has all files then. Refused as an instruction is, or by `OutOfMemory` where it defines a file:
-    /// it returns None after such a refusal, as it is after the end. Refused by `AddressOverflow` too, and then
-    /// goes on after it. A program whose files are complete isn't refused for memory.
+    /// The next row that isn't under a tombstone, with the header as it is there; None where the
+    /// program has no more, and the header has all files then. Refused as an instruction is, or by
+    /// `OutOfMemory` where it defines a file: it returns None after such a refusal, as it is after
+    /// the end. Refused by `AddressOverflow` too, and then goes on after it. A program whose files
+    /// are complete isn't refused for memory.
+    #[inline(always)]
     pub fn next_row(&mut self) -> Result<Option<(&LineProgramHeader<R>, &LineRow)>>
         ensures* after { sem 𝓛 (Rests ⟦<LineRows<R, P> as Lent>⟧.lent self.entry
             (λ new. KeepsHeader self.old new × NextIs self.old new result)) }
@@ -177,21 +193,18 @@ impl<R: Reader, P: LineProgram<R>> LineRows<R, P> {
         self.program
     }
 
-    /// Executes instructions up to the next row that isn't under a tombstone, and says whether there is one.
+    /// Executes instructions up to the next row that isn't under a tombstone, and says whether
+    /// there is one.
     #[inline(always)]
     pub(crate) fn advance(&mut self) -> Result<bool>
         ensures row { IfOk result (λ found. MatchBool found
             (RowIs self.old self.new self.new.row self.new.files)
             (EndIs self.old self.new)) }
         ensures err { IfErr result (FaultIs (with_reset_row self.old) self.new) }
-        ensures fixed { self.new.fixed ≡ self.old.fixed }
-        ensures appends { self.new.appends ≡ self.old.appends }
-        ensures notation { self.new.notation ≡ self.old.notation }
-        ensures offset { self.new.offset ≡ self.old.offset }
-        ensures order { IsOfOneOrder self.old → IsOfOneOrder self.new }
-        ensures handed { self.new.orders.handed ≡ self.old.orders.handed }
+        ensures keeps { KeepsRun self.old self.new }
         ensures passes { IfOk result (λ found. MatchBool found
-            (Progress (with_reset_row self.old) (with_reset_row self.new) (row_event self.new.row ∷ []))
+            (Progress (with_reset_row self.old) (with_reset_row self.new)
+            (row_event self.new.row ∷ []))
             ((self.new.unread.bytes ≡ []) × Progress (with_reset_row self.old) self.new [])) }
     {
         'rows: loop {
@@ -215,19 +228,14 @@ impl<R: Reader, P: LineProgram<R>> LineRows<R, P> {
             (AnyRowIs self.old self.new self.new.row self.new.files)
             (NoneIs self.old self.new)) }
         ensures err { IfErr result (AnyFaultIs (with_reset_row self.old) self.new) }
-        ensures fixed { self.new.fixed ≡ self.old.fixed }
-        ensures appends { self.new.appends ≡ self.old.appends }
-        ensures notation { self.new.notation ≡ self.old.notation }
-        ensures offset { self.new.offset ≡ self.old.offset }
-        ensures order { IsOfOneOrder self.old → IsOfOneOrder self.new }
-        ensures handed { self.new.orders.handed ≡ self.old.orders.handed }
+        ensures keeps { KeepsRun self.old self.new }
         ensures passes { IfOk result (λ found. MatchBool found
             (Progress (with_reset_row self.old) (with_reset_row self.new) (given_of self.new.row))
             ((self.new.unread.bytes ≡ []) × Progress (with_reset_row self.old) self.new [])) }
     {
         self.row.reset(self.program.header());
         'instructions: loop {
-            match self.step() {
+            match self.execute_some() {
                 Err(e) => return Err(e),
                 Ok(Step::Done) => return Ok(false),
                 Ok(Step::Made) => return Ok(true),
@@ -236,94 +244,62 @@ impl<R: Reader, P: LineProgram<R>> LineRows<R, P> {
         }
     }
 
-    /// Executes instructions that are met most, from their bytes, up to the first row, or up to one
-    /// of another kind, and that one too. What is read from stands in a variable of its own over
-    /// the loop, so that it stays in the processor's registers.
+    /// Executes common instructions from their bytes, up to the first that makes a row or is
+    /// another one, and that one too. What is read from stands in a variable of its own over the
+    /// loop, so that it stays in the processor's registers.
     #[inline(always)]
-    fn step(&mut self) -> Result<Step>
-        ensures ok { IfOk result (StepIs self.old self.new) }
-        ensures err { IfErr result (AnyFaultIs self.old self.new) }
-        ensures fixed { self.new.fixed ≡ self.old.fixed }
-        ensures appends { self.new.appends ≡ self.old.appends }
-        ensures notation { self.new.notation ≡ self.old.notation }
-        ensures offset { self.new.offset ≡ self.old.offset }
-        ensures order { IsOfOneOrder self.old → IsOfOneOrder self.new }
-        ensures handed { self.new.orders.handed ≡ self.old.orders.handed }
+    fn execute_some(&mut self) -> Result<Step>
+        ensures { StepsTo self.old self.new result }
     {
         let mut instructions = self.instructions.clone();
         'common: loop {
             let header = self.program.header();
-            match instructions.execute_common(header, &mut self.row) {
+            let executed = match instructions.execute_common(header, &mut self.row) {
+                Ok(executed) => executed,
                 Err(e) => {
                     self.instructions = instructions;
                     return Err(e);
                 }
-                Ok(None) => break,
-                Ok(Some(false)) => {}
-                Ok(Some(true)) => {
+            };
+            match executed {
+                Executed::No => break,
+                Executed::Row => {
                     self.instructions = instructions;
                     return Ok(Step::Made);
                 }
+                _ => {}
             }
         }
         self.instructions = instructions;
-        self.step_apart()
+        self.execute_one()
     }
 
-    /// Does what `step_rarer` does. Its answer has memory of its own, which is cleared here alone and
-    /// not in front of the loop above.
+    /// Executes one instruction, from its bytes or as it is parsed. In line, so that the room for
+    /// the answer of the call is cleared here alone, and not in front of the loop above.
     #[inline(always)]
-    fn step_apart(&mut self) -> Result<Step>
-        ensures ok { IfOk result (StepIs self.old self.new) }
-        ensures err { IfErr result (AnyFaultIs self.old self.new) }
-        ensures fixed { self.new.fixed ≡ self.old.fixed }
-        ensures appends { self.new.appends ≡ self.old.appends }
-        ensures notation { self.new.notation ≡ self.old.notation }
-        ensures offset { self.new.offset ≡ self.old.offset }
-        ensures order { IsOfOneOrder self.old → IsOfOneOrder self.new }
-        ensures handed { self.new.orders.handed ≡ self.old.orders.handed }
-    {
-        self.step_rarer()
-    }
-
-    /// Executes one instruction: one of those that are met now and then from its bytes, any other
-    /// as it is parsed.
-    fn step_rarer(&mut self) -> Result<Step>
-        ensures ok { IfOk result (StepIs self.old self.new) }
-        ensures err { IfErr result (AnyFaultIs self.old self.new) }
-        ensures fixed { self.new.fixed ≡ self.old.fixed }
-        ensures appends { self.new.appends ≡ self.old.appends }
-        ensures notation { self.new.notation ≡ self.old.notation }
-        ensures offset { self.new.offset ≡ self.old.offset }
-        ensures order { IsOfOneOrder self.old → IsOfOneOrder self.new }
-        ensures handed { self.new.orders.handed ≡ self.old.orders.handed }
+    fn execute_one(&mut self) -> Result<Step>
+        ensures { StepsTo self.old self.new result }
     {
         let header = self.program.header();
-        let made = match self.instructions.execute_rarer(header, &mut self.row) {
+        let executed = match self.instructions.execute_other(header, &mut self.row) {
+            Ok(executed) => executed,
             Err(e) => return Err(e),
-            Ok(None) => return self.step_define_file(),
-            Ok(Some(made)) => made,
         };
-        if !made {
-            return Ok(Step::More);
+        match executed {
+            Executed::No => self.define_file(),
+            Executed::Row => Ok(Step::Made),
+            _ => Ok(Step::More),
         }
-        Ok(Step::Made)
     }
 
-    /// Executes one instruction: a definition of a file from its bytes, any other as it is parsed.
-    fn step_define_file(&mut self) -> Result<Step>
-        ensures ok { IfOk result (StepIs self.old self.new) }
-        ensures err { IfErr result (AnyFaultIs self.old self.new) }
-        ensures fixed { self.new.fixed ≡ self.old.fixed }
-        ensures appends { self.new.appends ≡ self.old.appends }
-        ensures notation { self.new.notation ≡ self.old.notation }
-        ensures offset { self.new.offset ≡ self.old.offset }
-        ensures order { IsOfOneOrder self.old → IsOfOneOrder self.new }
-        ensures handed { self.new.orders.handed ≡ self.old.orders.handed }
+    /// Adds the file that the next instruction defines, from its bytes; an instruction of another
+    /// kind is executed as it is parsed.
+    fn define_file(&mut self) -> Result<Step>
+        ensures { StepsTo self.old self.new result }
     {
         let header = self.program.header();
         let Some(file) = self.instructions.next_defined_file(header) else {
-            return self.step_any();
+            return self.execute_parsed();
         };
         match self.program.add_file(file) {
             Err(e) => {
@@ -334,16 +310,9 @@ impl<R: Reader, P: LineProgram<R>> LineRows<R, P> {
         }
     }
 
-    /// Executes one instruction of any kind.
-    fn step_any(&mut self) -> Result<Step>
-        ensures ok { IfOk result (StepIs self.old self.new) }
-        ensures err { IfErr result (AnyFaultIs self.old self.new) }
-        ensures fixed { self.new.fixed ≡ self.old.fixed }
-        ensures appends { self.new.appends ≡ self.old.appends }
-        ensures notation { self.new.notation ≡ self.old.notation }
-        ensures offset { self.new.offset ≡ self.old.offset }
-        ensures order { IsOfOneOrder self.old → IsOfOneOrder self.new }
-        ensures handed { self.new.orders.handed ≡ self.old.orders.handed }
+    /// Executes one instruction of any kind, as it is parsed.
+    fn execute_parsed(&mut self) -> Result<Step>
+        ensures { StepsTo self.old self.new result }
     {
         let instruction = match self.instructions.next_instruction(self.program.header()) {
             Err(e) => return Err(e),

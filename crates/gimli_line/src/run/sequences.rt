@@ -11,6 +11,15 @@ use std::alloc::Global;
 use std::marker::Model;
 
 /// A sequence of a line program: rows of which the last one is an end row, and no other.
+///
+/// <!-- part of crates/uses/src/ends.rt -->
+/// ```rust
+/// for sequence in &sequences {
+///     let start = sequence.start;
+///     let end = sequence.end;
+///     writeln!(text, "  {start:#x} to {end:#x}")?;
+/// }
+/// ```
 #[derive(Clone, Debug, Drop)]
 pub struct LineSequence<R: Reader> {
     /// The address of its first row; 0 where the end row is the only one.
@@ -52,7 +61,12 @@ impl<R: Reader> Model for SequenceSplit<R> {
 
     ghost Value = { SequenceSplit };
 
-    ghost view = { λ a. record { parts = map part_of a.sequences.items; unread = a.instructions; start = a.start } };
+    ghost view = { λ a.
+        record {
+          parts = map part_of a.sequences.items;
+          unread = a.instructions;
+          start = a.start;
+        } };
 }
 
 impl<R: Reader> SequenceSplit<R> {
@@ -71,7 +85,8 @@ impl<R: Reader> SequenceSplit<R> {
         }
     }
 
-    /// Takes in the next row, after which a rest of the instructions is left. Refused by `OutOfMemory` alone.
+    /// Takes in the next row, after which a rest of the instructions is left. Refused by
+    /// `OutOfMemory` alone.
     fn row(&mut self, row: &LineRow, rest: &LineInstructions<R>) -> Result<()>
         requires { (front : List ℕ) × (self.old.unread.bytes ≡ front ++ rest.now.bytes) }
         ensures ok { OnOk result (self.new ≡ with_row row.now rest.now self.old) }
@@ -156,11 +171,12 @@ impl<R: Reader> IncompleteLineProgram<R> {
     ghost use Rattle.gimli_line.specs.header.Header.{HasOneOrder};
     ghost use Rattle.gimli_line.specs.run.Events.{row};
     ghost use Rattle.gimli_line.specs.header.Orders.{header_orders};
-    ghost use Rattle.gimli_line.specs.run.Sequences.{part_of, AreSequences, HasFirstFault, HaveRuns, ResumesToRows};
+    ghost use Rattle.gimli_line.specs.run.Sequences.{part_of, AreSequences, HasFirstFault};
+    ghost use Rattle.gimli_line.specs.run.Sequences.{HaveRuns, ResumesToRows};
 
-    /// Runs the whole program, and splits it into its sequences, so that each can be run by itself. Rows after the
-    /// last end row are in no sequence. Refused by the first fault of the run, wherever it stands, or by
-    /// `OutOfMemory`.
+    /// Runs the whole program, and splits it into its sequences, so that each can be run by itself.
+    /// Rows after the last end row are in no sequence. Refused by the first fault of the run,
+    /// wherever it stands, or by `OutOfMemory`.
     pub fn sequences(self) -> Result<(CompleteLineProgram<R>, Vec<LineSequence<R>>)>
         ensures ok { IfOk result (λ found. AreSequences self.notation self.meaning found.0.meaning
             (map part_of found.1.items)) }
@@ -185,8 +201,9 @@ impl<R: Reader> IncompleteLineProgram<R> {
         Ok((CompleteLineProgram { header }, split.into_sequences()))
     }
 
-    /// What `sequences` returns, and the rows of each of these sequences in a list of its own. They come from the same
-    /// run, so that no sequence has to be run again for them. Refused as `sequences` is.
+    /// What `sequences` returns, and the rows of each of these sequences in a list of its own. They
+    /// come from the same run, so that no sequence has to be run again for them. Refused as
+    /// `sequences` is.
     pub fn sequences_with_rows(
         self,
     ) -> Result<(CompleteLineProgram<R>, Vec<LineSequence<R>>, Vec<RowList>)>
@@ -229,7 +246,8 @@ impl<R: Reader> CompleteLineProgram<R> {
     ghost use Rattle.gimli_line.specs.header.Orders.{header_orders};
     ghost use Rattle.gimli_line.specs.run.Events.{Event, Events};
     ghost use Rattle.gimli_line.specs.run.EventsWithFiles.{EventsWithFiles};
-    ghost use Rattle.gimli_line.specs.run.Rows.{events_left, files_at_end, start_of_run, GivesRowsAlone, IsOfOneOrder};
+    ghost use Rattle.gimli_line.specs.run.Rows.{events_left, files_at_end, start_of_run};
+    ghost use Rattle.gimli_line.specs.run.Rows.{GivesRowsAlone, IsOfOneOrder};
     ghost use Rattle.gimli_line.specs.run.Sequences.{events_of, part_of, ResumesToRows};
 
     /// The rows of one of the program's sequences. The header has all files from the start.
@@ -239,11 +257,13 @@ impl<R: Reader> CompleteLineProgram<R> {
     ) -> ResumedLineRows<'program, R>
         ensures events { EventsWithFiles sequence.now.instructions.notation false self.now.meaning
             sequence.now.instructions.bytes (events_left result) }
-        ensures run { (run : List Event) → Events sequence.now.instructions.notation self.now.meaning
+        ensures run { (run : List Event)
+            → Events sequence.now.instructions.notation self.now.meaning
             sequence.now.instructions.bytes run → events_of (events_left result) ≡ run }
         ensures files { files_at_end result ≡ self.now.meaning.files }
         ensures start { result ≡ start_of_run false self.now.meaning self.now.notation
-            (R.Offset.number self.now.offset.0) (header_orders R.big self.now) sequence.now.instructions }
+            (R.Offset.number self.now.offset.0) (header_orders R.big self.now)
+            sequence.now.instructions }
         ensures order { HasOneOrder R.big self.now → IsOfOneOrder result }
         ensures unrefused { ResumesToRows self.now.meaning (part_of sequence.now)
             → GivesRowsAlone result }

@@ -4,7 +4,8 @@ use Rattle.gimli_line.specs.declared.run.row.LineRow.{LineRow}
 use Rattle.gimli_lookup.specs.FirstPair.{HasNoPair, IsFirstPairOf}
 
 -- x and y are the first such pair of the sequence at an index, and no sequence before it has one
-pub record IsFirstPairIn (a : ℕ) (sequences : List (List LineRow)) (sequence : ℕ) (x y : LineRow) : Type 0 where
+pub record IsFirstPairIn (a : ℕ) (sequences : List (List LineRow)) (sequence : ℕ) (x y : LineRow)
+    : Type 0 where
   pub rows : List LineRow
   pub there : slice_get sequences sequence ≡ Some rows
   pub none_earlier : All (HasNoPair a) (take sequence sequences)

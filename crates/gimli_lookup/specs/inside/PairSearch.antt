@@ -9,7 +9,9 @@ use Rattle.gimli_lookup.specs.FirstPair.{HasNoPair, IsFirstPairOf, IsFirstPair}
 -- what is known of the sequences that have ended, and of the rows of the open one
 abbrev pub Knows : ℕ → List (List LineRow) → List LineRow → PairSearch → Type 0
 Knows a ended unended Start = All (HasNoPair a) ended × (unended ≡ [])
-Knows a ended unended (After last) = All (HasNoPair a) ended × HasNoPair a unended × (front : List LineRow) × (unended ≡ front ++ last ∷ [])
+Knows a ended unended (After last) =
+    All (HasNoPair a) ended × HasNoPair a unended × (front : List LineRow)
+    × (unended ≡ front ++ last ∷ [])
 Knows a ended unended (Open x y) = All (HasNoPair a) ended × IsFirstPairOf a unended x y
 Knows a ended unended (Ended x y) = IsFirstPair a ended x y
 

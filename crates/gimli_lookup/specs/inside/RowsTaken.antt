@@ -13,7 +13,8 @@ use Rattle.gimli_lookup.specs.inside.SequenceCut.{SequenceCut, with_rows}
 -- what comes after these events: nothing, or the first fault
 abbrev pub StopsAt : RunState → RunState → List EventWithFiles → Option Error → Type 0
 StopsAt old new front None = (made_left old ≡ front) × (new.files ≡ files_at_end old)
-StopsAt old new front (Some e) = (rest : List EventWithFiles) × (made_left old ≡ front ++ event_of (fault e) new ∷ rest)
+StopsAt old new front (Some e) =
+    (rest : List EventWithFiles) × (made_left old ≡ front ++ event_of (fault e) new ∷ rest)
 
 -- the rows up to the first fault were taken in
 pub record AreTaken (old new : RunState) (e : Option Error) (from to : SequenceCut) : Type 0 where

@@ -4,8 +4,8 @@ use Rattle.std.specs.List.{filter}
 use Rattle.gimli_line.specs.declared.run.row.LineRow.{LineRow}
 use Rattle.gimli_lookup.specs.UnitRun.{has_rows, stands}
 
--- the parts of the sequences that have ended and then those of the open one, how many of them are of ended ones, and
--- the rows of the part that is open
+-- the parts of the sequences that have ended and then those of the open one, how many of them are
+-- of ended ones, and the rows of the part that is open
 pub record SequenceCut : Type 0 where
   pub lowest : ℕ
   pub parts : List (List LineRow)

@@ -19,4 +19,5 @@ have_statement is_file line sequences = list_any (has_statement is_file line) se
 -- the least line from the asked one on that passes a test, if there is one
 abbrev pub IsFirstWith : (ℕ → Bool) → ℕ → Option ℕ → Type 0
 IsFirstWith test asked found = MatchOption found ((l : ℕ) → asked ≤ l → test l ≡ false)
-    (λ line. (asked ≤ line) × (test line ≡ true) × ((l : ℕ) → asked ≤ l → l < line → test l ≡ false))
+    (λ line. (asked ≤ line) × (test line ≡ true)
+    × ((l : ℕ) → asked ≤ l → l < line → test l ≡ false))

@@ -1,5 +1,6 @@
 -- Steps of two lists as one, and pairs in sequences whose addresses go down.
-use Rattle.std.specs.Prelude.{◌≡◌, ◌<◌, ◌+◌, ℕ, false, List, length, take, slice_get, All, None, Some}
+use Rattle.std.specs.Prelude.{◌≡◌, ◌<◌, ◌+◌, ℕ, false, List, length, take, slice_get, All, None}
+use Rattle.std.specs.Prelude.{Some}
 use Rattle.std.specs.Option.{option_or}
 use Rattle.gimli_line.specs.declared.run.row.LineRow.{LineRow}
 use Rattle.gimli_lookup.specs.declared.steps.Step.{Step}
@@ -16,10 +17,13 @@ pub record AreJoined (left right steps : List Step) : Type 0 where
 
 -- none of these sequences has both addresses that go down and a pair round the address
 abbrev pub HaveNoUnorderedPair : ℕ → List (List LineRow) → Type 0
-HaveNoUnorderedPair a sequences = All (λ rows. never_go_down rows ≡ false → HasNoPair a rows) sequences
+HaveNoUnorderedPair a sequences =
+    All (λ rows. never_go_down rows ≡ false → HasNoPair a rows) sequences
 
--- x and y are the first pair of the first sequence that has one and whose addresses go down, and it stands before `end`
-pub record IsFirstUnorderedPair (a end : ℕ) (sequences : List (List LineRow)) (sequence : ℕ) (x y : LineRow) : Type 0 where
+-- x and y are the first pair of the first sequence that has one and whose addresses go down, and it
+-- stands before `end`
+pub record IsFirstUnorderedPair (a end : ℕ) (sequences : List (List LineRow)) (sequence : ℕ)
+    (x y : LineRow) : Type 0 where
   pub rows : List LineRow
   pub before_end : sequence < end
   pub there : slice_get sequences sequence ≡ Some rows

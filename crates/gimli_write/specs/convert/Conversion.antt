@@ -1,5 +1,6 @@
 -- A conversion, as far as it got, and what it has still to read.
-use Rattle.std.specs.Prelude.{◌≡◌, ◌⊎◌, ℕ, true, List, Option, Some, None, Result, Ok, Err, MatchResult}
+use Rattle.std.specs.Prelude.{◌≡◌, ◌⊎◌, ℕ, true, List, Option, Some, None, Result, Ok, Err, IfErr}
+use Rattle.std.specs.Prelude.{OnOk, MatchResult}
 use Rattle.std.specs.declared.vec.Vec.{Vec}
 use Rattle.std.specs.declared.alloc.Global.{Global}
 use Rattle.gimli_bytes.specs.declared.address.Address.{Address}
@@ -9,12 +10,17 @@ use Rattle.gimli_build.specs.declared.built.row.LineRow.{LineRow}
 use Rattle.gimli_build.specs.declared.built.items.BuiltItem.TheVariants.{Row}
 use Rattle.gimli_build.specs.Texts.{Sections}
 use Rattle.gimli_write.specs.declared.convert_error.ConvertError.{ConvertError}
-use Rattle.gimli_write.specs.declared.convert_error.ConvertError.TheVariants.{OutOfMemory, UnsupportedLineInstruction}
+use Rattle.gimli_write.specs.declared.convert_error.ConvertError.TheVariants.{
+  OutOfMemory,
+  UnsupportedLineInstruction,
+}
 use Rattle.gimli_write.specs.declared.convert.run.SourceRow.{SourceRow}
 use Rattle.gimli_write.specs.declared.convert.rows.ConvertLineRow.{ConvertLineRow}
 use Rattle.gimli_write.specs.convert.SourceTables.{SourceTables, TablesAndTexts, tables_with}
-use Rattle.gimli_write.specs.convert.Items.{Reading, ends, stops, offers, address_offered, row_or_end_offered, defines_first, after_definitions, ReadsItems}
-use Rattle.gimli_write.specs.convert.SourceRun.{SourceRun, reading_left}
+use Rattle.gimli_write.specs.convert.Items.{Reading, ends, stops, offers, address_offered}
+use Rattle.gimli_write.specs.convert.Items.{row_or_end_offered, defines_first, after_definitions}
+use Rattle.gimli_write.specs.convert.Items.{ReadsItems}
+use Rattle.gimli_write.specs.convert.SourceRun.{SourceRun, start_of_source, reading_left}
 use Rattle.gimli_write.specs.convert.Outcome.{Outcome, outcome_of, without_items}
 use Rattle.gimli_write.specs.convert.Preparation.{tables_of_header}
 use Rattle.gimli_write.specs.convert.Sources.{Source}
@@ -42,6 +48,18 @@ start_of_conversion sections source tables = record {
   held = None;
   failed = None;
 }
+
+-- how far a conversion got, with the texts of the line strings that it is lent
+pub record Progress : Type 0 where
+  pub conversion : Conversion
+  pub line_strings : List (List ℕ)
+
+abbrev pub beside : List (List ℕ) → Conversion → Progress
+beside line_strings c = record { conversion = c; line_strings = line_strings }
+
+-- the program that was built so far
+abbrev pub built_so_far : Progress → Built
+built_so_far p = p.conversion.tables.program
 
 -- ---- what is still to be read
 
@@ -74,18 +92,22 @@ still_to_read c line_strings =
     unless_failed c.failed (address_offered c.address tables
     (after_held (version_of_source c) tables c.held (source_left c line_strings)))
 
+abbrev pub reading_of : Progress → Reading
+reading_of p = still_to_read p.conversion p.line_strings
+
 -- ---- reads
 
--- a read hands this out, after the files that are defined before it, and finds these tables; the rest is then still to be
--- read
+-- a read hands this out, after the files that are defined before it, and finds these tables; the
+-- rest is then still to be read
 abbrev pub HandsOut : Reading → Option ConvertLineRow → TablesAndTexts → Reading → Type 0
 HandsOut old (Some row) tables rest = after_definitions old ≡ offers row tables rest
 HandsOut old None tables rest = (after_definitions old ≡ ends tables) × (rest ≡ ends tables)
 
--- a read is refused: as what was to be read is, after the files that are defined before it, or for `OutOfMemory` where
--- a file is defined before anything else is read
+-- a read is refused: as what was to be read is, after the files that are defined before it, or for
+-- `OutOfMemory` where a file is defined before anything else is read
 abbrev pub IsReadRefusal : Reading → ConvertError → Type 0
-IsReadRefusal old e = (after_definitions old ≡ stops e) ⊎ ((e ≡ OutOfMemory) × (defines_first old ≡ true))
+IsReadRefusal old e =
+    (after_definitions old ≡ stops e) ⊎ ((e ≡ OutOfMemory) × (defines_first old ≡ true))
 
 -- a read adds files to the program, and changes nothing else in it
 abbrev pub AddsFiles : Built → Built → Type 0
@@ -101,40 +123,68 @@ CanBuildRow p row = CanBuild p.line_encoding (previous_position p.items) (Row ro
 abbrev pub IsBuildRefusal : Type 0 → ConvertError → Type 0
 IsBuildRefusal asked e = ((e ≡ OutOfMemory) × asked) ⊎ ((e ≡ UnsupportedLineInstruction) × ¬ asked)
 
+-- a call asks this: it holds where the call isn't refused, and else the call is refused so
+pub record Asks {A : Type 0} (asked : Type 0) (result : Result A ConvertError) : Type 0 where
+  pub holds : OnOk result asked
+  pub refusal : IfErr result (IsBuildRefusal asked)
+
 -- the same conversion with another program
 abbrev pub with_program : Built → Conversion → Conversion
 with_program p c = record c { tables = record c.tables { program = p } }
 
 -- ---- a conversion from its start on
 
--- the directories and files of a source are added, by the steps of its header; the old line strings are those before it,
--- the new ones those after it
-abbrev pub IsPrepared : Source → List (List ℕ) → Conversion → List (List ℕ) → Type 0
-IsPrepared s old c new = tables_of_header s.sections s.header s.given old ≡ Ok (tables_with new c.tables)
+-- the directories and files of a source are added, by the steps of its header; these are the line
+-- strings before it
+abbrev pub IsPrepared : Source → List (List ℕ) → Progress → Type 0
+IsPrepared s old new =
+    tables_of_header s.sections s.header s.given old
+    ≡ Ok (tables_with new.line_strings new.conversion.tables)
 
 -- why they aren't added: what refuses a step, or `OutOfMemory`
 abbrev pub IsHeaderRefusal : Source → List (List ℕ) → ConvertError → Type 0
-IsHeaderRefusal s line_strings = IsRefusedBy (tables_of_header s.sections s.header s.given line_strings)
+IsHeaderRefusal s line_strings =
+    IsRefusedBy (tables_of_header s.sections s.header s.given line_strings)
 
 -- the whole program of a source is still to be read, with these tables at its start
-abbrev pub ReadsWhole : Source → Conversion → List (List ℕ) → Type 0
-ReadsWhole s c line_strings =
-    ReadsItems s.notation s.sections s.header (tables_with line_strings c.tables) s.header.program (still_to_read c line_strings)
+abbrev pub ReadsWhole : Source → Progress → Type 0
+ReadsWhole s p =
+    ReadsItems s.notation s.sections s.header (tables_with p.line_strings p.conversion.tables)
+    s.header.program
+    (reading_of p)
 
--- what comes of a source, where nothing is built before: the refusal of a step of its header, else what comes of reading
--- its program
-abbrev pub IsConverted : (ℕ → Option Address) → Source → List (List ℕ) → Result Outcome ConvertError → Type 0
+-- nothing of the program of a source is read yet
+abbrev pub IsUnread : Source → Conversion → Type 0
+IsUnread s c =
+    c
+    ≡ start_of_conversion s.sections
+    (start_of_source s.header (record { bytes = s.header.program; notation = s.notation })) c.tables
+
+-- a conversion of a source is begun, which had these line strings
+pub record IsBegun (s : Source) (old : List (List ℕ)) (new : Progress) : Type 0 where
+  -- its directories and files are added
+  pub prepared : IsPrepared s old new
+  -- all that its program gives is still to be read
+  pub reads : ReadsWhole s new
+  -- nothing of it was read
+  pub unread : IsUnread s new.conversion
+
+-- what comes of a source, where nothing is built before: the refusal of a step of its header, else
+-- what comes of reading its program
+abbrev pub IsConverted : (ℕ → Option Address) → Source → List (List ℕ) → Result Outcome ConvertError
+    → Type 0
 IsConverted convert_address s line_strings outcome =
     (reading : Reading) × MatchResult (tables_of_header s.sections s.header s.given line_strings)
-    (λ first. ReadsItems s.notation s.sections s.header first s.header.program reading × (outcome_of convert_address reading first.program ≡ outcome))
+    (λ first. ReadsItems s.notation s.sections s.header first s.header.program reading
+    × (outcome_of convert_address reading first.program ≡ outcome))
     (λ e. outcome ≡ Err e)
 
 -- ---- reads, from one state to the next
 
 -- a read hands this out, and leaves what is still to be read after it
-abbrev pub GivesNext : Conversion → List (List ℕ) → Option ConvertLineRow → Conversion → List (List ℕ) → Type 0
-GivesNext old old_strings row new new_strings =
-    HandsOut (still_to_read old old_strings) row (tables_of new new_strings) (still_to_read new new_strings)
+abbrev pub GivesNext : Progress → Option ConvertLineRow → Progress → Type 0
+GivesNext old row new =
+    HandsOut (reading_of old) row (tables_of new.conversion new.line_strings) (reading_of new)
 
 -- ---- with a map of addresses that is handed in
 
@@ -144,28 +194,38 @@ AnswersAs map convert_address = (a : ℕ) (r : Option Address) → map a r → r
 
 -- what was answered of a conversion, and the line strings after it
 abbrev pub outcome_with : Built × Vec ℕ Global → List (List ℕ) → Outcome
-outcome_with answer line_strings = record { program = answer.0; file_ids = answer.1.items; line_strings = line_strings }
+outcome_with answer line_strings = record {
+  program = answer.0;
+  file_ids = answer.1.items;
+  line_strings = line_strings;
+}
 
--- by such a map a source is converted to this answer; the old line strings are those before it, the new ones those after it
-abbrev pub ConvertsTo : (ℕ → Option Address → Type 0) → Source → List (List ℕ) → Built × Vec ℕ Global → List (List ℕ) → Type 0
+-- by such a map a source is converted to this answer; the old line strings are those before it, the
+-- new ones those after it
+abbrev pub ConvertsTo : (ℕ → Option Address → Type 0) → Source → List (List ℕ)
+    → Built × Vec ℕ Global → List (List ℕ) → Type 0
 ConvertsTo map s old answer new =
     (g : ℕ → Option Address) → AnswersAs map g → IsConverted g s old (Ok (outcome_with answer new))
 
 -- why a source isn't converted by such a map: what refuses it, or `OutOfMemory`
-abbrev pub IsConvertRefusal : (ℕ → Option Address → Type 0) → Source → List (List ℕ) → ConvertError → Type 0
+abbrev pub IsConvertRefusal : (ℕ → Option Address → Type 0) → Source → List (List ℕ) → ConvertError
+    → Type 0
 IsConvertRefusal map s line_strings e =
-    (g : ℕ → Option Address) → AnswersAs map g → (e ≡ OutOfMemory) ⊎ IsConverted g s line_strings (Err e)
+    (g : ℕ → Option Address) → AnswersAs map g
+    → (e ≡ OutOfMemory) ⊎ IsConverted g s line_strings (Err e)
 
 -- what comes of all that is still to be read
-abbrev pub outcome_of_rest : (ℕ → Option Address) → Conversion → List (List ℕ) → Result Outcome ConvertError
-outcome_of_rest convert_address c line_strings = outcome_of convert_address (still_to_read c line_strings) c.tables.program
+abbrev pub outcome_of_rest : (ℕ → Option Address) → Progress → Result Outcome ConvertError
+outcome_of_rest convert_address p = outcome_of convert_address (reading_of p) (built_so_far p)
 
 -- by such a map all that is still to be read is converted to this answer
-abbrev pub RestConvertsTo : (ℕ → Option Address → Type 0) → Conversion → List (List ℕ) → Built × Vec ℕ Global → List (List ℕ) → Type 0
-RestConvertsTo map c old answer new =
-    (g : ℕ → Option Address) → AnswersAs map g → outcome_of_rest g c old ≡ Ok (outcome_with answer new)
+abbrev pub RestConvertsTo : (ℕ → Option Address → Type 0) → Progress → Built × Vec ℕ Global
+    → List (List ℕ) → Type 0
+RestConvertsTo map old answer new =
+    (g : ℕ → Option Address) → AnswersAs map g
+    → outcome_of_rest g old ≡ Ok (outcome_with answer new)
 
 -- why it isn't: what refuses it, or `OutOfMemory`
-abbrev pub IsRestRefusal : (ℕ → Option Address → Type 0) → Conversion → List (List ℕ) → ConvertError → Type 0
-IsRestRefusal map c line_strings e =
-    (g : ℕ → Option Address) → AnswersAs map g → IsRefusedBy (outcome_of_rest g c line_strings) e
+abbrev pub IsRestRefusal : (ℕ → Option Address → Type 0) → Progress → ConvertError → Type 0
+IsRestRefusal map old e =
+    (g : ℕ → Option Address) → AnswersAs map g → IsRefusedBy (outcome_of_rest g old) e

@@ -19,7 +19,8 @@ use Rattle.gimli_write.specs.convert.Outcome.{Outcome}
 use Rattle.gimli_write.specs.convert.Mapped.{CanBeFaithful, IsReadAs, AreFilesReadAs}
 use Rattle.gimli_write.specs.convert.Sources.{Source}
 
--- a conversion that was done: the map of addresses, the source, the line strings before it, and what came of it
+-- a conversion that was done: the map of addresses, the source, the line strings before it, and
+-- what came of it
 pub record DoneConversion : Type 0 where
   pub convert_address : ℕ → Option Address
   pub source : Source
@@ -39,7 +40,9 @@ SourceGives d rows = Events d.source.notation d.source.header d.source.header.pr
 
 -- rows that are read back of it say what rows of its source say, one by one
 abbrev pub AreReadAs : DoneConversion → List ReadRow → List ReadRow → Type 0
-AreReadAs d = OneByOne (IsReadAs d.source.header.parameters.encoding.version d.outcome.program.encoding.version d.outcome.file_ids)
+AreReadAs d =
+    OneByOne (IsReadAs d.source.header.parameters.encoding.version
+    d.outcome.program.encoding.version d.outcome.file_ids)
 
 -- a unit of a program that is read back, with the tables after it was written
 pub record UnitReadBack (p : Built) : Type 0 where
@@ -62,12 +65,15 @@ GivesBack d rows unit = (found : List ReadRow) × UnitGives unit found × AreRea
 
 -- the files of its source where the program ends
 abbrev pub SourceFilesAre : DoneConversion → List File → Type 0
-SourceFilesAre d files = FilesAtEnd d.source.notation true d.source.header d.source.header.program files
+SourceFilesAre d files =
+    FilesAtEnd d.source.notation true d.source.header d.source.header.program files
 
--- each of these files has an id, which is the index of the file that is read back in its place, with the same paths
+-- each of these files has an id, which is the index of the file that is read back in its place,
+-- with the same paths
 abbrev pub AreFilesReadBack : DoneConversion → List (List ℕ) → List File → Type 0
 AreFilesReadBack d strings files =
     let p = d.outcome.program in
-    let texts = texts_in strings (texts_after p (texts_in strings d.outcome.line_strings)).line_strings in
+    let texts =
+    texts_in strings (texts_after p (texts_in strings d.outcome.line_strings)).line_strings in
     AreFilesReadAs d.source.sections d.source.header files d.outcome.file_ids
     (map (bytes_in texts) p.directories) (map (built_file p texts) p.files)

@@ -1,6 +1,9 @@
--- What a conversion reads of a line program: rows and ends, each at its point, found by looking back (DWARF 5, sections
--- 6.2.2 and 6.2.5). The past of a point is the list of the instructions before it, the nearest first.
-use Rattle.std.specs.Prelude.{◌≡◌, ℕ, Bool, true, false, ◌-◌, not, ◌&&◌, if◌then◌else◌, nat_eq, nat_le, List, [], ◌∷◌, slice_get, Option, Some, None, ok_or, Result, Ok, Err}
+-- What a conversion reads of a line program: rows and ends, each at its point, found by looking
+-- back (DWARF 5, sections 6.2.2 and 6.2.5). The past of a point is the list of the instructions
+-- before it, the nearest first.
+use Rattle.std.specs.Prelude.{◌≡◌, ℕ, Bool, true, false, ◌-◌, not, ◌&&◌, if◌then◌else◌, nat_eq}
+use Rattle.std.specs.Prelude.{nat_le, List, [], ◌∷◌, slice_get, Option, Some, None, ok_or, Result}
+use Rattle.std.specs.Prelude.{Ok, Err}
 use Rattle.gimli_core.specs.Notation.{Notation}
 use Rattle.gimli_core.specs.declared.error.Error.{Error}
 use Rattle.gimli_core.specs.declared.error.Error.TheVariants.{AddressOverflow}
@@ -11,16 +14,26 @@ use Rattle.gimli_line.specs.run.InstructionGrammar.{Decodes}
 use Rattle.gimli_line.specs.run.Registers.{sequence, nearest}
 use Rattle.gimli_line.specs.run.OperationPointer.{is_under_tombstone, overflows}
 use Rattle.gimli_line.specs.run.Events.{row_at}
-use Rattle.gimli_line.specs.declared.run.instruction.LineInstruction.TheVariants.{DefineFile, SetAddress as SetAddressIns}
+use Rattle.gimli_line.specs.declared.run.instruction.LineInstruction.TheVariants.{
+  DefineFile,
+  SetAddress as SetAddressIns,
+}
 use Rattle.gimli_build.specs.Texts.{Sections}
 use Rattle.gimli_build.specs.declared.built.row.LineRow.{LineRow}
 use Rattle.gimli_write.specs.convert.Texts.{◌>>=◌}
 use Rattle.gimli_write.specs.convert.SourceTables.{TablesAndTexts, file_added}
 use Rattle.gimli_write.specs.declared.convert_error.ConvertError.{ConvertError}
-use Rattle.gimli_write.specs.declared.convert_error.ConvertError.TheVariants.{Read, InvalidFileIndex}
+use Rattle.gimli_write.specs.declared.convert_error.ConvertError.TheVariants.{
+  Read,
+  InvalidFileIndex,
+}
 use Rattle.gimli_write.specs.declared.convert.run.SourceRow.{SourceRow}
 use Rattle.gimli_write.specs.declared.convert.rows.ConvertLineRow.{ConvertLineRow}
-use Rattle.gimli_write.specs.declared.convert.rows.ConvertLineRow.TheVariants.{SetAddress, Row, EndSequence}
+use Rattle.gimli_write.specs.declared.convert.rows.ConvertLineRow.TheVariants.{
+  SetAddress,
+  Row,
+  EndSequence,
+}
 
 -- ---- set addresses
 
@@ -35,7 +48,9 @@ base_at past = nearest address_operand 0 (sequence past)
 -- the address that was last set after the last point that makes a row, if one was
 abbrev pub pending_address : List Ins → Option ℕ
 pending_address [] = None
-pending_address (i ∷ past) = if makes_row i then None else (elim (address_operand i) [ Some a ↦ Some a | None ↦ pending_address past ])
+pending_address (i ∷ past) =
+    if makes_row i then None
+    else (elim (address_operand i) [ Some a ↦ Some a | None ↦ pending_address past ])
 
 -- ---- rows
 
@@ -43,11 +58,17 @@ pending_address (i ∷ past) = if makes_row i then None else (elim (address_oper
 abbrev pub source_row : Parameters → List Ins → Ins → SourceRow
 source_row parameters past i =
     let row = row_at parameters past i in
-    record { set_address = pending_address past; address_offset = row.address - base_at past; row = row }
+    record {
+      set_address = pending_address past;
+      address_offset = row.address - base_at past;
+      row = row;
+    }
 
 -- the id of a file number; up to version 4 of the source none has number 0
 abbrev pub file_id : ℕ → TablesAndTexts → ℕ → Result ℕ ConvertError
-file_id version tables n = if nat_le version 4 && nat_eq n 0 then Err InvalidFileIndex else ok_or (slice_get tables.file_ids n) InvalidFileIndex
+file_id version tables n =
+    if nat_le version 4 && nat_eq n 0 then Err InvalidFileIndex
+    else ok_or (slice_get tables.file_ids n) InvalidFileIndex
 
 -- a row of the source as one that is built, with this file
 abbrev pub row_in : SourceRow → ℕ → LineRow
@@ -92,18 +113,22 @@ row_offered (Err e) tables rest = stops e
 
 abbrev pub row_or_end_offered : ℕ → TablesAndTexts → SourceRow → Reading → Reading
 row_or_end_offered version tables r rest =
-    if r.row.end_sequence then offers (EndSequence r.address_offset) tables rest else row_offered (built_row version tables r) tables rest
+    if r.row.end_sequence then offers (EndSequence r.address_offset) tables rest
+    else row_offered (built_row version tables r) tables rest
 
 -- a row of the source, after the address that was set for it
 abbrev pub source_row_offered : ℕ → TablesAndTexts → SourceRow → Reading → Reading
-source_row_offered version tables r rest = address_offered r.set_address tables (row_or_end_offered version tables r rest)
+source_row_offered version tables r rest =
+    address_offered r.set_address tables (row_or_end_offered version tables r rest)
 
--- what a point gives, and what is read after it: a refusal where it overflows, else its row where it makes one and
--- isn't under a tombstone
+-- what a point gives, and what is read after it: a refusal where it overflows, else its row where
+-- it makes one and isn't under a tombstone
 abbrev pub reading_at : Parameters → TablesAndTexts → List Ins → Ins → Reading → Reading
 reading_at parameters tables past i rest =
     if overflows parameters past i then stops (Read AddressOverflow)
-    else (if makes_row i && not (is_under_tombstone parameters past) then source_row_offered parameters.encoding.version tables (source_row parameters past i) rest else rest)
+    else (if makes_row i && not (is_under_tombstone parameters past)
+    then source_row_offered parameters.encoding.version tables (source_row parameters past i) rest
+    else rest)
 
 abbrev pub end_reading : Option Error → TablesAndTexts → Reading
 end_reading None tables = ends tables
@@ -117,14 +142,17 @@ reading_with (Err e) next = stops e
 -- ---- files that the program defines
 
 -- the tables after an instruction: a file that it defines is added
-abbrev pub tables_after_definition : Sections → TablesAndTexts → Ins → Result TablesAndTexts ConvertError
+abbrev pub tables_after_definition : Sections → TablesAndTexts → Ins
+    → Result TablesAndTexts ConvertError
 tables_after_definition sections tables (DefineFile f) = file_added sections tables f
 tables_after_definition sections tables i = Ok tables
 
--- the tables at a point: the first ones, and the files that were defined before it, under a tombstone or not
+-- the tables at a point: the first ones, and the files that were defined before it, under a
+-- tombstone or not
 abbrev pub tables_at : Sections → TablesAndTexts → List Ins → Result TablesAndTexts ConvertError
 tables_at sections first [] = Ok first
-tables_at sections first (i ∷ past) = tables_at sections first past >>= λ tables. tables_after_definition sections tables i
+tables_at sections first (i ∷ past) =
+    tables_at sections first past >>= λ tables. tables_after_definition sections tables i
 
 -- what is read after an instruction, where the file that it defines comes first
 abbrev pub with_definition : Ins → Reading → Reading
@@ -144,14 +172,18 @@ after_definitions reading = reading
 -- ---- programs
 
 -- what is read of these instructions and this end after a past
-abbrev pub reading_after : Sections → Parameters → TablesAndTexts → List Ins → List Ins → Option Error → Reading
-reading_after sections parameters first past [] end = reading_with (tables_at sections first past) (end_reading end)
+abbrev pub reading_after : Sections → Parameters → TablesAndTexts → List Ins → List Ins
+    → Option Error → Reading
+reading_after sections parameters first past [] end =
+    reading_with (tables_at sections first past) (end_reading end)
 reading_after sections parameters first past (i ∷ list) end =
     reading_with (tables_at sections first past) (λ tables.
-    reading_at parameters tables past i (with_definition i (reading_after sections parameters first (i ∷ past) list end)))
+    reading_at parameters tables past i
+    (with_definition i (reading_after sections parameters first (i ∷ past) list end)))
 
 -- what is read of a program's bytes, with these tables at its start
-pub record ReadsItems (notation : Notation) (sections : Sections) (h : Header) (first : TablesAndTexts) (bytes : List ℕ) (reading : Reading) : Type 0 where
+pub record ReadsItems (notation : Notation) (sections : Sections) (h : Header)
+    (first : TablesAndTexts) (bytes : List ℕ) (reading : Reading) : Type 0 where
   pub list : List Ins
   pub end : Option Error
   pub decoding : Decodes notation h bytes list end

@@ -1,16 +1,15 @@
--- The files of a conversion after a read: those that were there stay, and at the end, or where a read is refused for
--- another cause than `OutOfMemory`, all are there that its source defines before. And the program can be written,
--- whatever was read.
+-- The files of a conversion after a read: those that were there stay, and at the end, or where a
+-- read is refused for another cause than `OutOfMemory`, all are there that its source defines
+-- before. And the program can be written, whatever was read.
 use Rattle.std.specs.Prelude.{◌≡◌, ℕ, if◌then◌else◌, is_some, List}
 use Rattle.gimli_bytes.specs.Texts.{texts_in}
 use Rattle.gimli_build.specs.Built.{Built}
 use Rattle.gimli_build.specs.Conditions.{CanWrite}
 use Rattle.gimli_build.specs.Tables.{keys_of, Keeps}
 use Rattle.gimli_write.specs.convert.SourceTables.{SourceTables, TablesAndTexts, tables_with}
-use Rattle.gimli_write.specs.convert.SourceRun.{start_of_source}
 use Rattle.gimli_write.specs.convert.TablesAtEnd.{tables_at_end, tables_after_row}
-use Rattle.gimli_write.specs.convert.Sources.{Source}
-use Rattle.gimli_write.specs.convert.Conversion.{Conversion, start_of_conversion, version_of_source}
+use Rattle.gimli_write.specs.convert.Conversion.{Conversion, Progress, built_so_far}
+use Rattle.gimli_write.specs.convert.Conversion.{version_of_source}
 
 -- a file that was there keeps its id, and its number in the source; the ids of directories stay
 pub record KeepsFiles (old new : SourceTables) : Type 0 where
@@ -20,31 +19,38 @@ pub record KeepsFiles (old new : SourceTables) : Type 0 where
 
 -- the tables that what is left of the source leaves
 abbrev pub final_tables_of_source : Conversion → List (List ℕ) → TablesAndTexts
-final_tables_of_source c line_strings = tables_at_end c.sections c.source (tables_with line_strings c.tables)
+final_tables_of_source c line_strings =
+    tables_at_end c.sections c.source (tables_with line_strings c.tables)
 
--- those that a conversion is left with: all files are added that its source defines before it ends, or before the first
--- refusal that isn't `OutOfMemory`. After a refusal they are those that it has
+-- those that a conversion is left with: all files are added that its source defines before it ends,
+-- or before the first refusal that isn't `OutOfMemory`. After a refusal they are those that it has
 abbrev pub final_tables : Conversion → List (List ℕ) → TablesAndTexts
 final_tables c line_strings =
     let now = tables_with line_strings c.tables in
-    if is_some c.failed then now else tables_after_row (version_of_source c) now c.held (final_tables_of_source c line_strings)
+    if is_some c.failed then now
+    else tables_after_row (version_of_source c) now c.held (final_tables_of_source c line_strings)
 
 -- a conversion has the tables that it was to be left with
-abbrev pub HasFinalTables : Conversion → List (List ℕ) → Conversion → List (List ℕ) → Type 0
-HasFinalTables old old_strings new new_strings = tables_with new_strings new.tables ≡ final_tables old old_strings
+abbrev pub HasFinalTables : Progress → Progress → Type 0
+HasFinalTables old new =
+    tables_with new.line_strings new.conversion.tables
+    ≡ final_tables old.conversion old.line_strings
 
 -- it is still to be left with them
-abbrev pub KeepsFinalTables : Conversion → List (List ℕ) → Conversion → List (List ℕ) → Type 0
-KeepsFinalTables old old_strings new new_strings = final_tables new new_strings ≡ final_tables old old_strings
+abbrev pub KeepsFinalTables : Progress → Progress → Type 0
+KeepsFinalTables old new =
+    final_tables new.conversion new.line_strings ≡ final_tables old.conversion old.line_strings
 
 -- a program can be written, whatever the table of strings is, which it names no text of
 pub record IsWritable (p : Built) (line_strings : List (List ℕ)) : Type 0 where
   pub can : (strings : List (List ℕ)) → CanWrite p (texts_in strings line_strings)
 
 -- a program that could be written still can be
-pub record StaysWritable (old : SourceTables) (old_strings : List (List ℕ)) (new : SourceTables) (new_strings : List (List ℕ)) : Type 0 where
-  pub still : (strings : List (List ℕ)) → CanWrite old.program (texts_in strings old_strings) → CanWrite new.program (texts_in strings new_strings)
+pub record StaysWritable (old : SourceTables) (old_strings : List (List ℕ)) (new : SourceTables)
+    (new_strings : List (List ℕ)) : Type 0 where
+  pub still : (strings : List (List ℕ)) → CanWrite old.program (texts_in strings old_strings)
+      → CanWrite new.program (texts_in strings new_strings)
 
--- nothing of the program of a source is read yet
-abbrev pub IsUnread : Source → Conversion → Type 0
-IsUnread s c = c ≡ start_of_conversion s.sections (start_of_source s.header (record { bytes = s.header.program; notation = s.notation })) c.tables
+-- so can the program that a conversion has built so far
+abbrev pub HasWritable : Progress → Type 0
+HasWritable p = IsWritable (built_so_far p) p.line_strings

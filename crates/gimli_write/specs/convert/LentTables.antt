@@ -3,16 +3,24 @@ use Rattle.std.specs.Prelude.{◌≡◌, ℕ, List}
 use Rattle.std.specs.Borrow.{MutBor}
 use Rattle.gimli_bytes.specs.Texts.{KeepsTexts}
 
+-- both, as they are lent
+pub record LentTables : Type 0 where
+  pub line_strings : MutBor (List (List ℕ))
+  pub strings : MutBor (List (List ℕ))
+
+abbrev pub lent : MutBor (List (List ℕ)) → MutBor (List (List ℕ)) → LentTables
+lent line_strings strings = record { line_strings = line_strings; strings = strings }
+
 -- both are still the tables that were lent, with the texts that they had
-pub record SameStringTables (old_line_strings old_strings new_line_strings new_strings : MutBor (List (List ℕ))) : Type 0 where
-  pub line_strings : new_line_strings.now ≡ old_line_strings.now
-  pub strings : new_strings.now ≡ old_strings.now
-  pub lent_line_strings : new_line_strings.ghost_name ≡ old_line_strings.ghost_name
-  pub lent_strings : new_strings.ghost_name ≡ old_strings.ghost_name
+pub record SameStringTables (old new : LentTables) : Type 0 where
+  pub line_strings : new.line_strings.now ≡ old.line_strings.now
+  pub strings : new.strings.now ≡ old.strings.now
+  pub lent_line_strings : new.line_strings.ghost_name ≡ old.line_strings.ghost_name
+  pub lent_strings : new.strings.ghost_name ≡ old.strings.ghost_name
 
 -- the same, but that texts may have been added to the line strings, after those that they had
-pub record KeepsStringTables (old_line_strings old_strings new_line_strings new_strings : MutBor (List (List ℕ))) : Type 0 where
-  pub line_strings : KeepsTexts old_line_strings.now new_line_strings.now
-  pub strings : new_strings.now ≡ old_strings.now
-  pub lent_line_strings : new_line_strings.ghost_name ≡ old_line_strings.ghost_name
-  pub lent_strings : new_strings.ghost_name ≡ old_strings.ghost_name
+pub record KeepsStringTables (old new : LentTables) : Type 0 where
+  pub line_strings : KeepsTexts old.line_strings.now new.line_strings.now
+  pub strings : new.strings.now ≡ old.strings.now
+  pub lent_line_strings : new.line_strings.ghost_name ≡ old.line_strings.ghost_name
+  pub lent_strings : new.strings.ghost_name ≡ old.strings.ghost_name

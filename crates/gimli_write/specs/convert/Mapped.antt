@@ -1,5 +1,8 @@
--- What it means that a converted program says what its source says, and what is asked of the source for it.
-use Rattle.std.specs.Prelude.{◌≡◌, ◌≢◌, ℕ, ◌+◌, ◌≤◌, Bool, true, false, not, ◌&&◌, ◌||◌, if◌then◌else◌, List, [], ◌∷◌, ◌++◌, map, slice_get, Option, Some, None, option_map, Result, MatchResult}
+-- What it means that a converted program says what its source says, and what is asked of the source
+-- for it.
+use Rattle.std.specs.Prelude.{◌≡◌, ◌≢◌, ℕ, ◌+◌, ◌≤◌, Bool, true, false, not, ◌&&◌, ◌||◌}
+use Rattle.std.specs.Prelude.{if◌then◌else◌, List, [], ◌∷◌, ◌++◌, map, slice_get, Option, Some}
+use Rattle.std.specs.Prelude.{None, option_map}
 use Rattle.std.specs.List.{AllByRecursion}
 use Rattle.std.specs.declared.vec.Vec.{Vec}
 use Rattle.std.specs.declared.alloc.Global.{Global}
@@ -32,8 +35,7 @@ use Rattle.gimli_write.specs.RoundTrip.{FileAnswer, HasFittingAddresses}
 use Rattle.gimli_write.specs.convert.Outcome.{Outcome}
 use Rattle.gimli_write.specs.convert.Preparation.{encoding_of}
 use Rattle.gimli_write.specs.convert.Sources.{Source}
-use Rattle.gimli_write.specs.declared.convert_error.ConvertError.{ConvertError}
-use Rattle.gimli_write.specs.convert.Conversion.{AnswersAs, outcome_with, ConvertsTo, IsConvertRefusal}
+use Rattle.gimli_write.specs.convert.Conversion.{AnswersAs, outcome_with, ConvertsTo}
 
 -- ---- what is asked
 
@@ -44,16 +46,20 @@ MapsToItself convert_address = (a : ℕ) → convert_address a ≡ Some (Constan
 -- a point of the sequence that ends this past made a row that isn't under a tombstone
 abbrev pub gave_row : Parameters → List Ins → Bool
 gave_row parameters [] = false
-gave_row parameters (i ∷ past) = if is_end i then false else ((makes_row i && not (is_under_tombstone parameters past)) || gave_row parameters past)
+gave_row parameters (i ∷ past) =
+    if is_end i then false
+    else ((makes_row i && not (is_under_tombstone parameters past)) || gave_row parameters past)
 
 -- none of these instructions after a past ends a sequence under a tombstone that gave a row
 abbrev pub NoneEndsUnderTombstone : Parameters → List Ins → List Ins → Type 0
 NoneEndsUnderTombstone parameters past [] = Unit {0}
 NoneEndsUnderTombstone parameters past (i ∷ list) =
-    (is_end i ≡ true → is_under_tombstone parameters past ≡ true → gave_row parameters past ≡ false) × NoneEndsUnderTombstone parameters (i ∷ past) list
+    (is_end i ≡ true → is_under_tombstone parameters past ≡ true → gave_row parameters past ≡ false)
+    × NoneEndsUnderTombstone parameters (i ∷ past) list
 
 -- no sequence of a program that gave a row ends under a tombstone
-pub record NoSequenceEndsUnderTombstone (notation : Notation) (h : Header) (bytes : List ℕ) : Type 0 where
+pub record NoSequenceEndsUnderTombstone (notation : Notation) (h : Header) (bytes : List ℕ)
+    : Type 0 where
   pub list : List Ins
   pub end : Option Error
   pub decoding : Decodes notation h bytes list end
@@ -72,9 +78,10 @@ pub record IsFileId (version : ℕ) (file_ids : List ℕ) (number id : ℕ) : Ty
   pub from_one : version ≤ 4 → number ≢ 0
   pub there : slice_get file_ids number ≡ Some id
 
--- a row of the source says what a built one says, where the address `base` was set before it; the built one has the id
--- of its file
-pub record IsMappedRow (version : ℕ) (file_ids : List ℕ) (base : ℕ) (built : LineRow) (source : ReadRow) : Type 0 where
+-- a row of the source says what a built one says, where the address `base` was set before it; the
+-- built one has the id of its file
+pub record IsMappedRow (version : ℕ) (file_ids : List ℕ) (base : ℕ) (built : LineRow)
+    (source : ReadRow) : Type 0 where
   pub file : IsFileId version file_ids source.file built.file
   pub others : source ≡ record (read_row version base built) { file = source.file }
 
@@ -83,16 +90,21 @@ pub record IsMappedEnd (base offset : ℕ) (source : ReadRow) : Type 0 where
   pub address : source.address ≡ base + offset
   pub ends : source.end_sequence ≡ true
 
--- the rows of a source are the built rows and ends one by one, where the address `base` was set before them
+-- the rows of a source are the built rows and ends one by one, where the address `base` was set
+-- before them
 abbrev pub RowsMapped : ℕ → List ℕ → ℕ → List BuiltItem → List ReadRow → Type 0
 RowsMapped version file_ids base [] rows = rows ≡ []
-RowsMapped version file_ids base (SetAddress a ∷ items) rows = RowsMapped version file_ids (address_value a) items rows
-RowsMapped version file_ids base (Row built ∷ items) (source ∷ rows) = IsMappedRow version file_ids base built source × RowsMapped version file_ids base items rows
-RowsMapped version file_ids base (End offset op_index ∷ items) (source ∷ rows) = IsMappedEnd base offset source × RowsMapped version file_ids 0 items rows
+RowsMapped version file_ids base (SetAddress a ∷ items) rows =
+    RowsMapped version file_ids (address_value a) items rows
+RowsMapped version file_ids base (Row built ∷ items) (source ∷ rows) =
+    IsMappedRow version file_ids base built source × RowsMapped version file_ids base items rows
+RowsMapped version file_ids base (End offset op_index ∷ items) (source ∷ rows) =
+    IsMappedEnd base offset source × RowsMapped version file_ids 0 items rows
 RowsMapped version file_ids base (item ∷ items) [] = ⊥
 
 -- the events of a source are rows, and these are the built rows and ends
-pub record AreRowsMapped (notation : Notation) (h : Header) (bytes : List ℕ) (c : Outcome) : Type 0 where
+pub record AreRowsMapped (notation : Notation) (h : Header) (bytes : List ℕ) (c : Outcome)
+    : Type 0 where
   pub rows : List ReadRow
   pub events : Events notation h bytes (map row rows)
   pub mapped : RowsMapped h.parameters.encoding.version c.file_ids 0 c.program.items rows
@@ -105,68 +117,78 @@ IsDirectoryPath sections (Some v) path = IsText sections v path
 IsDirectoryPath sections None path = path ≡ []
 
 -- a file of a source has this path, and its directory has this one
-pub record HasPaths (sections : Sections) (h : Header) (path directory : List ℕ) (f : File) : Type 0 where
+pub record HasPaths (sections : Sections) (h : Header) (path directory : List ℕ) (f : File)
+    : Type 0 where
   pub own : IsText sections f.path_name path
   pub of_directory : IsDirectoryPath sections (directory_of h f.directory_index) directory
 
 -- it is the last of these files that has these paths
-pub record IsLastWithPaths (sections : Sections) (h : Header) (path directory : List ℕ) (files : List File) (f : File) : Type 0 where
+pub record IsLastWithPaths (sections : Sections) (h : Header) (path directory : List ℕ)
+    (files : List File) (f : File) : Type 0 where
   pub before : List File
   pub later : List File
   pub parts : files ≡ before ++ f ∷ later
   pub has : HasPaths sections h path directory f
   pub none_after : AllByRecursion (λ g. HasPaths sections h path directory g → ⊥) later
 
--- the file with this id has the paths of a file of the source, and what is known of the last one that has them
-pub record IsMappedFile (sections : Sections) (h : Header) (files : List File) (strings : List (List ℕ)) (c : Outcome) (f : File) (id : ℕ) : Type 0 where
+-- the file with this id has the paths of a file of the source, and what is known of the last one
+-- that has them
+pub record IsMappedFile (sections : Sections) (h : Header) (files : List File)
+    (strings : List (List ℕ)) (c : Outcome) (f : File) (id : ℕ) : Type 0 where
   pub built : BuiltFile
   pub there : slice_get c.program.files id ≡ Some built
   pub directory : LineText
   pub directory_there : slice_get c.program.directories built.0.1 ≡ Some directory
-  pub has : HasPaths sections h (bytes_in (texts_in strings c.line_strings) built.0.0) (bytes_in (texts_in strings c.line_strings) directory) f
+  pub has : HasPaths sections h (bytes_in (texts_in strings c.line_strings) built.0.0)
+      (bytes_in (texts_in strings c.line_strings) directory) f
   pub last : File
-  pub is_last : IsLastWithPaths sections h (bytes_in (texts_in strings c.line_strings) built.0.0) (bytes_in (texts_in strings c.line_strings) directory) files last
+  pub is_last : IsLastWithPaths sections h (bytes_in (texts_in strings c.line_strings) built.0.0)
+      (bytes_in (texts_in strings c.line_strings) directory) files last
   pub timestamp : built.1.timestamp ≡ last.timestamp
   pub size : built.1.size ≡ last.size
   pub md5 : built.1.md5 ≡ last.md5
-  pub source : IsOptionalText sections last.source (option_map (bytes_in (texts_in strings c.line_strings)) built.1.source)
+  pub source : IsOptionalText sections last.source
+      (option_map (bytes_in (texts_in strings c.line_strings)) built.1.source)
 
--- each file number of the source has an id, whose file is the one that it stands for; no other number has one
-pub record AreFilesMapped (sections : Sections) (h : Header) (files : List File) (strings : List (List ℕ)) (c : Outcome) : Type 0 where
+-- each file number of the source has an id, whose file is the one that it stands for; no other
+-- number has one
+pub record AreFilesMapped (sections : Sections) (h : Header) (files : List File)
+    (strings : List (List ℕ)) (c : Outcome) : Type 0 where
   pub each : (n : ℕ) (f : File) → entry_of h.parameters.encoding.version None files n ≡ Some f
-      → (id : ℕ) × IsFileId h.parameters.encoding.version c.file_ids n id × IsMappedFile sections h files strings c f id
-  pub only : (n id : ℕ) → IsFileId h.parameters.encoding.version c.file_ids n id → (f : File) × (entry_of h.parameters.encoding.version None files n ≡ Some f)
-
--- ---- all of it
-
--- a converted program says what its source says: its rows and ends, and its files, those that the program defines too
-pub record IsMapped (s : Source) (strings : List (List ℕ)) (c : Outcome) : Type 0 where
-  pub rows : AreRowsMapped s.notation s.header s.header.program c
-  pub source_files : List File
-  pub at_end : FilesAtEnd s.notation true s.header s.header.program source_files
-  pub files : AreFilesMapped s.sections s.header source_files strings c
+      → (id : ℕ) × IsFileId h.parameters.encoding.version c.file_ids n id
+      × IsMappedFile sections h files strings c f id
+  pub only : (n id : ℕ) → IsFileId h.parameters.encoding.version c.file_ids n id
+      → (f : File) × (entry_of h.parameters.encoding.version None files n ≡ Some f)
 
 -- ---- what is read back
 
--- a row that is read back of a conversion in this version says what a row of the source in its version says: an end has
--- its address, and any other row all its registers, with the number that its file has now
-pub record IsReadAs (source_version version : ℕ) (file_ids : List ℕ) (source back : ReadRow) : Type 0 where
+-- a row that is read back of a conversion in this version says what a row of the source in its
+-- version says: an end has its address, and any other row all its registers, with the number that
+-- its file has now
+pub record IsReadAs (source_version version : ℕ) (file_ids : List ℕ) (source back : ReadRow)
+    : Type 0 where
   pub address : back.address ≡ source.address
   pub ends : back.end_sequence ≡ source.end_sequence
   pub registers : source.end_sequence ≡ false → back ≡ record source { file = back.file }
-  pub file : source.end_sequence ≡ false → (id : ℕ) × IsFileId source_version file_ids source.file id × (back.file ≡ file_number version id)
+  pub file : source.end_sequence ≡ false
+      → (id : ℕ) × IsFileId source_version file_ids source.file id
+      × (back.file ≡ file_number version id)
 
 -- a file that is read back, beside these directories, has the paths of a file of the source
-pub record IsFileReadAs (sections : Sections) (h : Header) (directories : List (List ℕ)) (f : File) (answer : FileAnswer) : Type 0 where
+pub record IsFileReadAs (sections : Sections) (h : Header) (directories : List (List ℕ)) (f : File)
+    (answer : FileAnswer) : Type 0 where
   pub directory : List ℕ
   pub directory_there : slice_get directories answer.directory_index ≡ Some directory
   pub has : HasPaths sections h answer.path directory f
 
--- each file number of the source has an id, and the file with this index that is read back is the one that it stands for
-pub record AreFilesReadAs (sections : Sections) (h : Header) (files : List File) (file_ids : List ℕ) (directories : List (List ℕ)) (answers : List FileAnswer) : Type 0 where
+-- each file number of the source has an id, and the file with this index that is read back is the
+-- one that it stands for
+pub record AreFilesReadAs (sections : Sections) (h : Header) (files : List File) (file_ids : List ℕ)
+    (directories : List (List ℕ)) (answers : List FileAnswer) : Type 0 where
   pub each : (n : ℕ) (f : File) → entry_of h.parameters.encoding.version None files n ≡ Some f
       → (id : ℕ) × IsFileId h.parameters.encoding.version file_ids n id
-      × ((answer : FileAnswer) × (slice_get answers id ≡ Some answer) × IsFileReadAs sections h directories f answer)
+      × ((answer : FileAnswer) × (slice_get answers id ≡ Some answer)
+      × IsFileReadAs sections h directories f answer)
 
 -- ---- what a caller knows
 
@@ -179,29 +201,33 @@ SetsConstant item = Unit {0}
 abbrev pub HasConstantAddresses : Built → Type 0
 HasConstantAddresses p = AllByRecursion SetsConstant p.items
 
--- a converted program can be written; it says what its source says, in addresses that are numbers, fit and hide nothing;
--- and rows that are read back as it was built say what the rows of the source say
+-- ---- all of it
+
+-- a converted program says what its source says, beside these strings
 pub record IsFaithful (s : Source) (strings : List (List ℕ)) (c : Outcome) : Type 0 where
+  -- its rows and ends are those of the source, one by one
+  pub rows : AreRowsMapped s.notation s.header s.header.program c
+  -- its files stand for those of the source, the ones that its program defines too
+  pub source_files : List File
+  pub at_end : FilesAtEnd s.notation true s.header s.header.program source_files
+  pub files : AreFilesMapped s.sections s.header source_files strings c
+  -- it can be written, and its addresses are numbers, fit and hide nothing
   pub can_write : CanWrite c.program (texts_in strings c.line_strings)
-  pub mapped : IsMapped s strings c
-  pub addresses : HasFittingAddresses c.program
   pub constants : HasConstantAddresses c.program
-  pub read_back : (rows back : List ReadRow) → Events s.notation s.header s.header.program (map row rows)
+  pub addresses : HasFittingAddresses c.program
+  -- rows that are read back as it was built say what the rows of the source say
+  pub read_back : (rows back : List ReadRow)
+      → Events s.notation s.header s.header.program (map row rows)
       → RowsMatch c.program.encoding.version [] c.program.items back
-      → OneByOne (IsReadAs s.header.parameters.encoding.version c.program.encoding.version c.file_ids) rows back
+      → OneByOne
+      (IsReadAs s.header.parameters.encoding.version c.program.encoding.version c.file_ids) rows
+      back
 
--- where what is asked of a source, of what is handed and of the map of addresses holds, what was answered is faithful, with
--- these tables after it
-abbrev pub IsFaithfulIfItCan : (ℕ → Option Address → Type 0) → Source → Built × Vec ℕ Global → StringTables → Type 0
-IsFaithfulIfItCan map s answer texts =
-    (g : ℕ → Option Address) → AnswersAs map g → CanBeFaithful g s → IsFaithful s texts.strings (outcome_with answer texts.line_strings)
-
--- by such a map a source is converted to this answer, which is faithful where it can be, with these tables after it
-pub record ConvertsWell (map : ℕ → Option Address → Type 0) (s : Source) (old : List (List ℕ)) (answer : Built × Vec ℕ Global) (texts : StringTables) : Type 0 where
+-- a source is converted to this answer, for each function that gives what this map of addresses may
+-- return; and it says what the source says, where what is asked for that holds. The old line
+-- strings are those before it
+pub record ConvertsWell (map : ℕ → Option Address → Type 0) (s : Source) (old : List (List ℕ))
+    (answer : Built × Vec ℕ Global) (texts : StringTables) : Type 0 where
   pub converts : ConvertsTo map s old answer texts.line_strings
-  pub faithful : IsFaithfulIfItCan map s answer texts
-
--- what a call returns that converts a source by such a map: the old line strings are those before it
-abbrev pub IsAnswerOf : (ℕ → Option Address → Type 0) → Source → List (List ℕ) → Result (Built × Vec ℕ Global) ConvertError → StringTables → Type 0
-IsAnswerOf map s old result texts =
-    MatchResult result (λ answer. ConvertsWell map s old answer texts) (IsConvertRefusal map s old)
+  pub faithful : (g : ℕ → Option Address) → AnswersAs map g → CanBeFaithful g s
+      → IsFaithful s texts.strings (outcome_with answer texts.line_strings)

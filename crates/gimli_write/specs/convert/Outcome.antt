@@ -1,6 +1,9 @@
--- What `convert` does with what is read of a source: addresses, rows and ends are handed to the builder in order, each
--- before the next is read. It is a function, so what comes of a reading is told exactly.
-use Rattle.std.specs.Prelude.{ℕ, ◌+◌, ◌-◌, ◌*◌, ◌/◌, ◌%◌, ◌^◌, Bool, true, false, not, ◌&&◌, ◌||◌, if◌then◌else◌, nat_eq, nat_lt, nat_le, List, [], Option, ok_or, Result, Ok, Err}
+-- What `convert` does with what is read of a source: addresses, rows and ends are handed to the
+-- builder in order, each before the next is read. It is a function, so what comes of a reading is
+-- told exactly.
+use Rattle.std.specs.Prelude.{ℕ, ◌+◌, ◌-◌, ◌*◌, ◌/◌, ◌%◌, ◌^◌, Bool, true, false, not, ◌&&◌, ◌||◌}
+use Rattle.std.specs.Prelude.{if◌then◌else◌, nat_eq, nat_lt, nat_le, List, [], Option, ok_or}
+use Rattle.std.specs.Prelude.{Result, Ok, Err}
 use Rattle.gimli_core.specs.declared.common.LineEncoding.{LineEncoding}
 use Rattle.gimli_bytes.specs.declared.address.Address.{Address}
 use Rattle.gimli_build.specs.Calls.{after_address, after_row, after_end}
@@ -12,40 +15,55 @@ use Rattle.gimli_write.specs.convert.Texts.{◌>>=◌}
 use Rattle.gimli_write.specs.convert.SourceTables.{TablesAndTexts}
 use Rattle.gimli_write.specs.convert.Items.{Reading, ends, stops, defines, offers}
 use Rattle.gimli_write.specs.declared.convert_error.ConvertError.{ConvertError}
-use Rattle.gimli_write.specs.declared.convert_error.ConvertError.TheVariants.{InvalidAddress, MissingLineEndSequence, UnsupportedLineInstruction}
+use Rattle.gimli_write.specs.declared.convert_error.ConvertError.TheVariants.{
+  InvalidAddress,
+  MissingLineEndSequence,
+  UnsupportedLineInstruction,
+}
 use Rattle.gimli_write.specs.declared.convert.rows.ConvertLineRow.{ConvertLineRow}
 use Rattle.gimli_write.specs.declared.convert.rows.ConvertLineRow.TheVariants as offer
 
 -- ---- the builder's conditions, as tests
 
--- whether a row or an end at the offset o and the operation i can follow a row at p and j; this tests `CanFollow`
+-- whether a row or an end at the offset o and the operation i can follow a row at p and j; this
+-- tests `CanFollow`
 abbrev pub can_follow : LineEncoding → ℕ × ℕ → ℕ → ℕ → Bool
 can_follow e position offset op_index =
-    nat_eq (offset % e.minimum_instruction_length) 0 && nat_lt op_index e.maximum_operations_per_instruction
+    nat_eq (offset % e.minimum_instruction_length) 0
+    && nat_lt op_index e.maximum_operations_per_instruction
     && nat_le position.0 offset && (not (nat_eq offset position.0) || nat_le position.1 op_index)
-    && nat_lt ((offset - position.0) / e.minimum_instruction_length * e.maximum_operations_per_instruction + op_index) (2 ^ 64)
+    && nat_lt
+    ((offset - position.0) / e.minimum_instruction_length * e.maximum_operations_per_instruction
+    + op_index)
+    (2 ^ 64)
 
 -- whether an item can be built where the previous row is at this position; this tests `CanBuild`
 abbrev pub can_build : LineEncoding → ℕ × ℕ → BuiltItem → Bool
 can_build e position (SetAddress a) = true
-can_build e position (Row r) = can_follow e position r.address_offset r.op_index && nat_lt r.line (2 ^ 63)
+can_build e position (Row r) =
+    can_follow e position r.address_offset r.op_index && nat_lt r.line (2 ^ 63)
 can_build e position (End offset op_index) = can_follow e position offset op_index
 
 -- ---- one item
 
 -- an item that is built only within the builder's conditions
 abbrev pub if_built : Built → BuiltItem → Built → Result Built ConvertError
-if_built p item next = if can_build p.line_encoding (previous_position p.items) item then Ok next else Err UnsupportedLineInstruction
+if_built p item next =
+    if can_build p.line_encoding (previous_position p.items) item then Ok next
+    else Err UnsupportedLineInstruction
 
 -- the program after what is read, where this maps the addresses of the source
 abbrev pub after_item : (ℕ → Option Address) → ConvertLineRow → Built → Result Built ConvertError
-after_item convert_address (offer.SetAddress a) p = ok_or (convert_address a) InvalidAddress >>= λ mapped. Ok (after_address mapped p)
+after_item convert_address (offer.SetAddress a) p =
+    ok_or (convert_address a) InvalidAddress >>= λ mapped. Ok (after_address mapped p)
 after_item convert_address (offer.Row r) p = if_built p (Row r) (after_row r p)
-after_item convert_address (offer.EndSequence offset) p = if_built p (End offset p.row.op_index) (after_end offset p)
+after_item convert_address (offer.EndSequence offset) p =
+    if_built p (End offset p.row.op_index) (after_end offset p)
 
 -- ---- all of them
 
--- what comes of a conversion: the program, the id of each file number of the source, and the table of line strings
+-- what comes of a conversion: the program, the id of each file number of the source, and the table
+-- of line strings
 pub record Outcome : Type 0 where
   pub program : Built
   pub file_ids : List ℕ
@@ -53,25 +71,38 @@ pub record Outcome : Type 0 where
 
 -- a program with the directories and files of these tables; what was built in it stays
 abbrev pub with_tables : TablesAndTexts → Built → Built
-with_tables tables p = record p { directories = tables.program.directories; files = tables.program.files }
+with_tables tables p = record p {
+  directories = tables.program.directories;
+  files = tables.program.files;
+}
 
 -- at the end no sequence may be open
 abbrev pub outcome_at_end : TablesAndTexts → Built → Result Outcome ConvertError
 outcome_at_end tables p =
     if p.in_sequence then Err MissingLineEndSequence
-    else Ok (record { program = with_tables tables p; file_ids = tables.file_ids; line_strings = tables.line_strings })
+    else Ok (record {
+      program = with_tables tables p;
+      file_ids = tables.file_ids;
+      line_strings = tables.line_strings;
+    })
 
--- what comes of a program and a reading, to its end or to the first refusal: of the map, of the builder's conditions, of
--- the reading, or of a sequence that is left open
+-- what comes of a program and a reading, to its end or to the first refusal: of the map, of the
+-- builder's conditions, of the reading, or of a sequence that is left open
 abbrev pub outcome_of : (ℕ → Option Address) → Reading → Built → Result Outcome ConvertError
 outcome_of convert_address (ends tables) p = outcome_at_end tables p
 outcome_of convert_address (stops e) p = Err e
 outcome_of convert_address (defines rest) p = outcome_of convert_address rest p
-outcome_of convert_address (offers item tables rest) p = after_item convert_address item (with_tables tables p) >>= λ next. outcome_of convert_address rest next
+outcome_of convert_address (offers item tables rest) p =
+    after_item convert_address item (with_tables tables p) >>= λ next.
+    outcome_of convert_address rest next
 
 -- ---- how contracts start it
 
--- a program as it was made, with nothing built in it: so the tables of a reading have it, since what is read doesn't
--- depend on what is built
+-- a program as it was made, with nothing built in it: so the tables of a reading have it, since
+-- what is read doesn't depend on what is built
 abbrev pub without_items : Built → Built
-without_items p = record p { items = []; row = initial_row p.encoding.version p.line_encoding.default_is_stmt; in_sequence = false }
+without_items p = record p {
+  items = [];
+  row = initial_row p.encoding.version p.line_encoding.default_is_stmt;
+  in_sequence = false;
+}

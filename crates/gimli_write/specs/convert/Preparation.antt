@@ -1,5 +1,7 @@
 -- What is made of the header of a source, before its program is read.
-use Rattle.std.specs.Prelude.{ℕ, ◌||◌, List, [], ◌∷◌, Bool, false, Option, Some, None, option_map, ok_or, unwrap_or, Result, Ok, Err, nat_eq, nat_le, nat_lt, pos, ◌+ℤ◌, int_lt, int_le, if◌then◌else◌}
+use Rattle.std.specs.Prelude.{ℕ, ◌||◌, List, [], ◌∷◌, Bool, false, Option, Some, None, option_map}
+use Rattle.std.specs.Prelude.{ok_or, unwrap_or, Result, Ok, Err, nat_eq, nat_le, nat_lt, pos, ◌+ℤ◌}
+use Rattle.std.specs.Prelude.{int_lt, int_le, if◌then◌else◌}
 use Rattle.std.specs.Option.{option_map_or}
 use Rattle.gimli_core.specs.declared.common.Encoding.{Encoding}
 use Rattle.gimli_core.specs.declared.common.LineEncoding.{LineEncoding}
@@ -11,25 +13,33 @@ use Rattle.gimli_build.specs.Built.{Built, empty_built}
 use Rattle.gimli_build.specs.FirstTables.{first_directories, first_files}
 use Rattle.gimli_build.specs.Texts.{Sections}
 use Rattle.gimli_write.specs.declared.convert_error.ConvertError.{ConvertError}
-use Rattle.gimli_write.specs.declared.convert_error.ConvertError.TheVariants.{MissingCompilationDirectory, MissingCompilationName, InvalidDirectoryIndex, InvalidLineBase}
+use Rattle.gimli_write.specs.declared.convert_error.ConvertError.TheVariants.{
+  MissingCompilationDirectory,
+  MissingCompilationName,
+  InvalidDirectoryIndex,
+  InvalidLineBase,
+}
 use Rattle.gimli_write.specs.convert.Texts.{◌>>=◌, without_zero, source_text, source_path}
-use Rattle.gimli_write.specs.convert.SourceTables.{TablesAndTexts, directory_added, file_added, all_added}
+use Rattle.gimli_write.specs.convert.SourceTables.{TablesAndTexts, directory_added, file_added}
+use Rattle.gimli_write.specs.convert.SourceTables.{all_added}
 
 -- what a program of version 5 asks, and one up to version 4 can do without
 abbrev pub needed_from_5 : {A : Type 0} → ℕ → A → ConvertError → Result A ConvertError
 needed_from_5 version empty missing = if nat_le version 4 then Ok empty else Err missing
 
--- the path of directory 0 or of file 0, for a program of this version: up to version 4 of the source it stands in none of
--- its tables, so it may be empty there
+-- the path of directory 0 or of file 0, for a program of this version: up to version 4 of the
+-- source it stands in none of its tables, so it may be empty there
 abbrev pub first_path : ℕ → Sections → Header → Value → Result (List ℕ) ConvertError
 first_path version sections h v =
-    if nat_le h.parameters.encoding.version 4 then source_text sections v else source_path version sections v
+    if nat_le h.parameters.encoding.version 4 then source_text sections v
+    else source_path version sections v
 
 -- ---- the working directory, which is directory 0
 
 abbrev pub working_directory : ℕ → Sections → Header → Result (List ℕ) ConvertError
 working_directory version sections h =
-    option_map_or (first_path version sections h) (directory_of h 0) (needed_from_5 version [] MissingCompilationDirectory)
+    option_map_or (first_path version sections h) (directory_of h 0)
+    (needed_from_5 version [] MissingCompilationDirectory)
 
 -- ---- the source file, which is file 0, or has the name that is handed in
 
@@ -41,7 +51,8 @@ pub record SourceFile : Type 0 where
 abbrev pub file_directory : ℕ → Sections → Header → ℕ → Result (Option (List ℕ)) ConvertError
 file_directory version sections h index =
     if nat_eq index 0 then Ok None
-    else (ok_or (directory_of h index) InvalidDirectoryIndex >>= λ v. source_path version sections v >>= λ path. Ok (Some path))
+    else (ok_or (directory_of h index) InvalidDirectoryIndex >>= λ v.
+    source_path version sections v >>= λ path. Ok (Some path))
 
 abbrev pub own_source_file : ℕ → Sections → Header → File → Result SourceFile ConvertError
 own_source_file version sections h f =
@@ -64,17 +75,20 @@ source_file version sections h name =
 
 -- ---- the encoding of lines
 
--- the source's can't be written: no special opcode is sure to advance no line, or no byte holds the one that does
+-- the source's can't be written: no special opcode is sure to advance no line, or no byte holds the
+-- one that does
 abbrev pub is_out_of_range : LineEncoding → Bool
 is_out_of_range e = int_le (e.line_base +ℤ pos e.line_range) (pos 0) || nat_lt 127 e.line_range
 
 -- the one that is handed in, else the source's
-abbrev pub chosen_line_encoding : LineEncoding → Option LineEncoding → Result LineEncoding ConvertError
+abbrev pub chosen_line_encoding : LineEncoding → Option LineEncoding
+    → Result LineEncoding ConvertError
 chosen_line_encoding own (Some handed) = Ok handed
 chosen_line_encoding own None = if is_out_of_range own then Err InvalidLineBase else Ok own
 
 abbrev pub line_encoding_of : LineEncoding → Option LineEncoding → Result LineEncoding ConvertError
-line_encoding_of own handed = if int_lt (pos 0) own.line_base then Err InvalidLineBase else chosen_line_encoding own handed
+line_encoding_of own handed =
+    if int_lt (pos 0) own.line_base then Err InvalidLineBase else chosen_line_encoding own handed
 
 -- ---- the program, with its first directory and file
 
@@ -99,15 +113,18 @@ first_texts version line_strings directory file =
       line_strings = after third file.path;
     }
 
--- whether the files of a header have a value, which those up to version 4 all have of times and sizes
+-- whether the files of a header have a value, which those up to version 4 all have of times and
+-- sizes
 abbrev pub has_before_5 : ℕ → Header → Bool
-has_before_5 content h = nat_le h.parameters.encoding.version 4 || has_content content h.file_formats
+has_before_5 content h =
+    nat_le h.parameters.encoding.version 4 || has_content content h.file_formats
 
 abbrev pub start_of_program : Encoding → LineEncoding → Header → FirstTexts → Built
 start_of_program encoding line_encoding h texts =
     record (empty_built false encoding line_encoding
     (first_directories encoding.version texts.working_directory texts.source_directory)
-    (first_files encoding.version texts.working_directory texts.source_directory texts.source_file None)) {
+    (first_files encoding.version texts.working_directory texts.source_directory texts.source_file
+    None)) {
       file_has_timestamp = has_before_5 0x0003 h;
       file_has_size = has_before_5 0x0004 h;
       file_has_md5 = has_content 0x0005 h.file_formats;
@@ -135,19 +152,26 @@ pub record Handed : Type 0 where
   pub name : Option (List ℕ)
 
 abbrev pub handed_of : Option Encoding → Option LineEncoding → Option (List ℕ) → Handed
-handed_of encoding line_encoding name = record { encoding = encoding; line_encoding = line_encoding; name = name }
+handed_of encoding line_encoding name = record {
+  encoding = encoding;
+  line_encoding = line_encoding;
+  name = name;
+}
 
 -- the one that is handed in, else the source's
 abbrev pub encoding_of : Header → Handed → Encoding
 encoding_of h given = unwrap_or given.encoding h.parameters.encoding
 
 -- the tables after all directories and files of a header, from the line strings before it
-abbrev pub tables_of_header : Sections → Header → Handed → List (List ℕ) → Result TablesAndTexts ConvertError
+abbrev pub tables_of_header : Sections → Header → Handed → List (List ℕ)
+    → Result TablesAndTexts ConvertError
 tables_of_header sections h given line_strings =
     let encoding = encoding_of h given in
     working_directory encoding.version sections h >>= λ directory.
     source_file encoding.version sections h given.name >>= λ file.
     line_encoding_of h.parameters.line_encoding given.line_encoding >>= λ line_encoding.
     all_added (directory_added sections) h.directories
-    (start_of_tables encoding line_encoding h (first_texts encoding.version line_strings directory file)) >>= λ tables.
+    (start_of_tables encoding line_encoding h
+    (first_texts encoding.version line_strings directory file))
+    >>= λ tables.
     all_added (file_added sections) h.files tables

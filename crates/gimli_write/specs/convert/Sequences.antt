@@ -1,16 +1,26 @@
 -- The sequences of what a conversion reads.
-use Rattle.std.specs.Prelude.{◌≡◌, ℕ, List, [], ◌∷◌, ◌++◌, Option, Some, None, option_map, Result, Ok, Err}
+use Rattle.std.specs.Prelude.{◌≡◌, ℕ, List, [], ◌∷◌, ◌++◌, Option, Some, None, option_map, Result}
+use Rattle.std.specs.Prelude.{Ok, Err}
 use Rattle.gimli_build.specs.declared.built.row.LineRow.{LineRow}
 use Rattle.gimli_write.specs.declared.convert_error.ConvertError.{ConvertError}
-use Rattle.gimli_write.specs.declared.convert_error.ConvertError.TheVariants.{MissingLineEndSequence}
-use Rattle.gimli_write.specs.declared.convert.rows.ConvertLineRow.TheVariants.{SetAddress, Row, EndSequence}
+use Rattle.gimli_write.specs.declared.convert_error.ConvertError.TheVariants.{
+  MissingLineEndSequence,
+}
+use Rattle.gimli_write.specs.declared.convert.rows.ConvertLineRow.TheVariants.{
+  SetAddress,
+  Row,
+  EndSequence,
+}
 use Rattle.gimli_write.specs.declared.convert.rows.ConvertLineSequence.{ConvertLineSequence}
 use Rattle.gimli_write.specs.declared.convert.rows.ConvertLineSequenceEnd.{ConvertLineSequenceEnd}
-use Rattle.gimli_write.specs.declared.convert.rows.ConvertLineSequenceEnd.TheVariants.{Length, Address}
+use Rattle.gimli_write.specs.declared.convert.rows.ConvertLineSequenceEnd.TheVariants.{
+  Length,
+  Address,
+}
 use Rattle.gimli_write.specs.convert.SourceTables.{TablesAndTexts}
 use Rattle.gimli_write.specs.convert.Items.{Reading, ends, stops, defines, offers}
 use Rattle.gimli_write.specs.convert.Texts.{IsRefusedBy}
-use Rattle.gimli_write.specs.convert.Conversion.{Conversion, still_to_read}
+use Rattle.gimli_write.specs.convert.Conversion.{Progress, reading_of}
 
 -- rows whose offsets count from one address
 pub record SequenceRead : Type 0 where
@@ -25,27 +35,31 @@ abbrev pub sequence_read : ConvertLineSequence → SequenceRead
 sequence_read s = sequence_with s.start s.rows.items s.end
 
 -- where nothing more is read no rows may be left without an end
-abbrev pub no_sequence : List LineRow → TablesAndTexts → Result (Option SequenceRead × Reading) ConvertError
+abbrev pub no_sequence : List LineRow → TablesAndTexts
+    → Result (Option SequenceRead × Reading) ConvertError
 no_sequence [] tables = Ok (None, ends tables)
 no_sequence (row ∷ rows) tables = Err MissingLineEndSequence
 
--- the sequence that a reading begins with, after this start and these rows, and what is read after it: it goes up to
--- its end, or to an address that is set after a row, which is read again
-abbrev pub sequence_from : Option ℕ → List LineRow → Reading → Result (Option SequenceRead × Reading) ConvertError
+-- the sequence that a reading begins with, after this start and these rows, and what is read after
+-- it: it goes up to its end, or to an address that is set after a row, which is read again
+abbrev pub sequence_from : Option ℕ → List LineRow → Reading
+    → Result (Option SequenceRead × Reading) ConvertError
 sequence_from start rows (ends tables) = no_sequence rows tables
 sequence_from start rows (stops e) = Err e
 sequence_from start rows (defines rest) = sequence_from start rows rest
-sequence_from start rows (offers (Row row) tables rest) = sequence_from start (rows ++ row ∷ []) rest
-sequence_from start rows (offers (EndSequence length) tables rest) = Ok (Some (sequence_with start rows (Length length)), rest)
+sequence_from start rows (offers (Row row) tables rest) =
+    sequence_from start (rows ++ row ∷ []) rest
+sequence_from start rows (offers (EndSequence length) tables rest) =
+    Ok (Some (sequence_with start rows (Length length)), rest)
 sequence_from start [] (offers (SetAddress a) tables rest) = sequence_from (Some a) [] rest
 sequence_from start (row ∷ rows) (offers (SetAddress a) tables rest) =
     Ok (Some (sequence_with start (row ∷ rows) (Address a)), offers (SetAddress a) tables rest)
 
 -- a read gathers this sequence, and leaves what is still to be read after it
-abbrev pub GathersNext : Conversion → List (List ℕ) → Option ConvertLineSequence → Conversion → List (List ℕ) → Type 0
-GathersNext old old_strings sequence new new_strings =
-    sequence_from None [] (still_to_read old old_strings) ≡ Ok (option_map sequence_read sequence, still_to_read new new_strings)
+abbrev pub GathersNext : Progress → Option ConvertLineSequence → Progress → Type 0
+GathersNext old sequence new =
+    sequence_from None [] (reading_of old) ≡ Ok (option_map sequence_read sequence, reading_of new)
 
 -- why a read gathers none: what refuses it, or `OutOfMemory`
-abbrev pub IsGatherRefusal : Conversion → List (List ℕ) → ConvertError → Type 0
-IsGatherRefusal c line_strings = IsRefusedBy (sequence_from None [] (still_to_read c line_strings))
+abbrev pub IsGatherRefusal : Progress → ConvertError → Type 0
+IsGatherRefusal old = IsRefusedBy (sequence_from None [] (reading_of old))

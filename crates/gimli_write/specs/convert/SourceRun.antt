@@ -1,5 +1,6 @@
 -- What a run over a source has still to read.
-use Rattle.std.specs.Prelude.{ℕ, ◌-◌, not, ◌&&◌, if◌then◌else◌, List, [], ◌∷◌, Option, Some, None, unwrap_or, Result, Ok}
+use Rattle.std.specs.Prelude.{ℕ, ◌-◌, not, ◌&&◌, if◌then◌else◌, List, [], ◌∷◌, Option, Some, None}
+use Rattle.std.specs.Prelude.{unwrap_or, Result, Ok}
 use Rattle.gimli_core.specs.declared.error.Error.{Error}
 use Rattle.gimli_core.specs.declared.error.Error.TheVariants.{AddressOverflow}
 use Rattle.gimli_line.specs.header.Header.{Header}
@@ -14,7 +15,9 @@ use Rattle.gimli_write.specs.declared.convert_error.ConvertError.{ConvertError}
 use Rattle.gimli_write.specs.declared.convert_error.ConvertError.TheVariants.{Read}
 use Rattle.gimli_write.specs.declared.convert.run.SourceRow.{SourceRow}
 use Rattle.gimli_write.specs.convert.SourceTables.{TablesAndTexts}
-use Rattle.gimli_write.specs.convert.Items.{Reading, stops, address_operand, source_row_offered, end_reading, reading_with, tables_after_definition, with_definition}
+use Rattle.gimli_write.specs.convert.Items.{Reading, stops, address_operand, source_row_offered}
+use Rattle.gimli_write.specs.convert.Items.{end_reading, reading_with, tables_after_definition}
+use Rattle.gimli_write.specs.convert.Items.{with_definition}
 
 pub record SourceRun : Type 0 where
   pub header : Header
@@ -29,7 +32,13 @@ pub record SourceRun : Type 0 where
 
 -- the start of a program
 abbrev pub start_of_source : Header → Unread → SourceRun
-start_of_source h unread = record { header = h; row = initial h.parameters; base = 0; pending = None; unread = unread }
+start_of_source h unread = record {
+  header = h;
+  row = initial h.parameters;
+  base = 0;
+  pending = None;
+  unread = unread;
+}
 
 -- ---- one instruction
 
@@ -43,7 +52,8 @@ abbrev pub base_after : Ins → ℕ → ℕ
 base_after i base = if is_end i then 0 else unwrap_or (address_operand i) base
 
 abbrev pub pending_after : Ins → Option ℕ → Option ℕ
-pending_after i pending = if makes_row i then None else (elim (address_operand i) [ Some a ↦ Some a | None ↦ pending ])
+pending_after i pending =
+    if makes_row i then None else (elim (address_operand i) [ Some a ↦ Some a | None ↦ pending ])
 
 -- the state after an instruction, apart from what is unread
 abbrev pub state_after : Ins → SourceRun → SourceRun
@@ -57,20 +67,26 @@ state_after i s = record s {
 abbrev pub instruction_reading : SourceRun → TablesAndTexts → Ins → Reading → Reading
 instruction_reading s tables i rest =
     if is_refused s.header.parameters i s.row then stops (Read AddressOverflow)
-    else (if makes_row i && not s.row.tombstone then source_row_offered s.header.parameters.encoding.version tables (row_made s i) rest else rest)
+    else (if makes_row i && not s.row.tombstone
+    then source_row_offered s.header.parameters.encoding.version tables (row_made s i) rest
+    else rest)
 
 -- ---- all that is unread
 
 -- what is read of these instructions and this end, with tables that may be refused
-abbrev pub reading_from : Sections → SourceRun → Result TablesAndTexts ConvertError → List Ins → Option Error → Reading
+abbrev pub reading_from : Sections → SourceRun → Result TablesAndTexts ConvertError → List Ins
+    → Option Error → Reading
 reading_from sections s there [] end = reading_with there (end_reading end)
 reading_from sections s there (i ∷ list) end =
     reading_with there (λ tables.
-    instruction_reading s tables i (with_definition i (reading_from sections (state_after i s) (tables_after_definition sections tables i) list end)))
+    instruction_reading s tables i (with_definition i
+    (reading_from sections (state_after i s) (tables_after_definition sections tables i) list end)))
 
 -- what is still to be read
 abbrev pub reading_upon : Sections → SourceRun → Result TablesAndTexts ConvertError → Reading
-reading_upon sections s there = let c = decoded_at s.unread.notation s.header s.unread.bytes in reading_from sections s there c.0 c.1
+reading_upon sections s there =
+    let c = decoded_at s.unread.notation s.header s.unread.bytes in
+    reading_from sections s there c.0 c.1
 
 abbrev pub reading_left : Sections → SourceRun → TablesAndTexts → Reading
 reading_left sections s tables = reading_upon sections s (Ok tables)

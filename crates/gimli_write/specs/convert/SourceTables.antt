@@ -1,10 +1,12 @@
 -- The directories and files of a source, as they are added to the program that is built of it.
-use Rattle.std.specs.Prelude.{ℕ, List, [], ◌∷◌, ◌++◌, Option, Some, option_map, ok_or, slice_get, Result, Ok}
+use Rattle.std.specs.Prelude.{ℕ, List, [], ◌∷◌, ◌++◌, Option, Some, option_map, ok_or, slice_get}
+use Rattle.std.specs.Prelude.{Result, Ok}
 use Rattle.std.specs.Option.{option_map_or}
 use Rattle.gimli_core.specs.Values.{Value}
 use Rattle.gimli_line.specs.header.File.{File}
 use Rattle.gimli_build.specs.LineText.{made_text, made_table}
-use Rattle.gimli_build.specs.Tables.{FileKey, with_directory, index_of_directory, with_file, index_of_file}
+use Rattle.gimli_build.specs.Tables.{FileKey, with_directory, index_of_directory, with_file}
+use Rattle.gimli_build.specs.Tables.{index_of_file}
 use Rattle.gimli_build.specs.Built.{Built}
 use Rattle.gimli_build.specs.Texts.{Sections}
 use Rattle.gimli_write.specs.declared.convert_error.ConvertError.{ConvertError}
@@ -16,7 +18,8 @@ pub record SourceTables : Type 0 where
   pub program : Built
   -- for each directory of the source, by its index there, its id in the program
   pub directory_ids : List ℕ
-  -- for each file, by its number in the source, its id; up to version 4 of the source none has number 0
+  -- for each file, by its number in the source, its id; up to version 4 of the source none has
+  -- number 0
   pub file_ids : List ℕ
 
 -- the same, with the texts of the table of line strings
@@ -44,17 +47,22 @@ abbrev pub with_path : TablesAndTexts → List ℕ → TablesAndTexts
 with_path tables path =
     let text = made_text (version_of tables) tables.line_strings path in
     record tables {
-      program = record tables.program { directories = with_directory tables.program.directories text };
-      directory_ids = tables.directory_ids ++ index_of_directory tables.program.directories text ∷ [];
+      program = record tables.program {
+        directories = with_directory tables.program.directories text;
+      };
+      directory_ids =
+          tables.directory_ids ++ index_of_directory tables.program.directories text ∷ [];
       line_strings = made_table (version_of tables) tables.line_strings path;
     }
 
 abbrev pub directory_added : Sections → TablesAndTexts → Value → Result TablesAndTexts ConvertError
-directory_added sections tables v = source_path (version_of tables) sections v >>= λ path. Ok (with_path tables path)
+directory_added sections tables v =
+    source_path (version_of tables) sections v >>= λ path. Ok (with_path tables path)
 
 -- ---- files
 
--- what a file of the source has, with texts of this program: its path, the id of its directory, and its source
+-- what a file of the source has, with texts of this program: its path, the id of its directory, and
+-- its source
 pub record FileParts : Type 0 where
   pub path : List ℕ
   pub directory : ℕ
@@ -68,7 +76,8 @@ file_parts version sections directory_ids f =
     if_there (source_text sections) f.source >>= λ source.
     Ok (record { path = path; directory = directory; source = source })
 
--- the tables after a file of these parts, whose path is added to the line strings before its source is
+-- the tables after a file of these parts, whose path is added to the line strings before its source
+-- is
 abbrev pub with_parts : TablesAndTexts → File → FileParts → TablesAndTexts
 with_parts tables f parts =
     let made = made_text (version_of tables) in
@@ -78,7 +87,12 @@ with_parts tables f parts =
     record tables {
       program = record tables.program {
         files = with_file tables.program.files key
-            (Some (record { timestamp = f.timestamp; size = f.size; md5 = f.md5; source = option_map (made paths) parts.source }));
+            (Some (record {
+              timestamp = f.timestamp;
+              size = f.size;
+              md5 = f.md5;
+              source = option_map (made paths) parts.source;
+            }));
       };
       file_ids = tables.file_ids ++ index_of_file tables.program.files key ∷ [];
       line_strings = option_map_or (after paths) parts.source paths;
@@ -86,11 +100,13 @@ with_parts tables f parts =
 
 abbrev pub file_added : Sections → TablesAndTexts → File → Result TablesAndTexts ConvertError
 file_added sections tables f =
-    file_parts (version_of tables) sections tables.directory_ids f >>= λ parts. Ok (with_parts tables f parts)
+    file_parts (version_of tables) sections tables.directory_ids f >>= λ parts.
+    Ok (with_parts tables f parts)
 
 -- ---- many
 
 -- in order, to the first that is refused
-abbrev pub all_added : {A : Type 0} → (TablesAndTexts → A → Result TablesAndTexts ConvertError) → List A → TablesAndTexts → Result TablesAndTexts ConvertError
+abbrev pub all_added : {A : Type 0} → (TablesAndTexts → A → Result TablesAndTexts ConvertError)
+    → List A → TablesAndTexts → Result TablesAndTexts ConvertError
 all_added add [] tables = Ok tables
 all_added add (x ∷ xs) tables = add tables x >>= λ next. all_added add xs next

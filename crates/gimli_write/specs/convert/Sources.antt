@@ -7,7 +7,8 @@ use Rattle.gimli_line.specs.header.Header.{Header, SeenHeader}
 use Rattle.gimli_build.specs.Texts.{Sections}
 use Rattle.gimli_write.specs.convert.Preparation.{Handed, handed_of}
 
--- a source: its notation and its header, the sections that hold its texts, and what is handed for the conversion
+-- a source: its notation and its header, the sections that hold its texts, and what is handed for
+-- the conversion
 pub record Source : Type 0 where
   pub notation : Notation
   pub sections : Sections
@@ -15,10 +16,12 @@ pub record Source : Type 0 where
   pub given : Handed
 
 -- the source that a call is handed, where these are the bytes of a reader
-abbrev pub source_of : {R Offset Endian : Type 0} → (R → List ℕ) → R → R → SeenHeader R Offset Endian → Option R → Option Encoding → Option LineEncoding → Source
-source_of bytes debug_str debug_line_str from_program from_comp_name encoding line_encoding = record {
-  notation = from_program.notation;
-  sections = record { strings = bytes debug_str; line_strings = bytes debug_line_str };
-  header = from_program.meaning;
-  given = handed_of encoding line_encoding (option_map bytes from_comp_name);
-}
+abbrev pub source_of : {R Offset Endian : Type 0} → (R → List ℕ) → R → R
+    → SeenHeader R Offset Endian → Option R → Option Encoding → Option LineEncoding → Source
+source_of bytes debug_str debug_line_str from_program from_comp_name encoding line_encoding =
+    record {
+      notation = from_program.notation;
+      sections = record { strings = bytes debug_str; line_strings = bytes debug_line_str };
+      header = from_program.meaning;
+      given = handed_of encoding line_encoding (option_map bytes from_comp_name);
+    }

@@ -9,10 +9,15 @@ use Rattle.gimli_build.specs.ReadsBack.{directories_from_zero}
 
 -- with this address size and working directory, and no name
 abbrev pub unit_entry_with : ℕ → List ℕ → UnitEntry
-unit_entry_with size directory = record { address_size = size; directory = Some directory; name = None }
+unit_entry_with size directory = record {
+  address_size = size;
+  directory = Some directory;
+  name = None;
+}
 
 -- the bytes begin with a unit that has this header
-pub record BeginsUnit (notation : Notation) (unit_entry : UnitEntry) (bytes : List ℕ) (h : Header) : Type 0 where
+pub record BeginsUnit (notation : Notation) (unit_entry : UnitEntry) (bytes : List ℕ) (h : Header)
+    : Type 0 where
   pub spelled : SpellsUnit notation unit_entry bytes h
 
 -- the texts of a header are there
@@ -21,7 +26,8 @@ pub record HasTexts (sections : Sections) (h : Header) : Type 0 where
   pub files : All (HasFileTexts sections) h.files
 
 -- the bytes begin with a unit whose texts are there
-pub record CanRead (notation : Notation) (unit_entry : UnitEntry) (sections : Sections) (bytes : List ℕ) : Type 0 where
+pub record CanRead (notation : Notation) (unit_entry : UnitEntry) (sections : Sections)
+    (bytes : List ℕ) : Type 0 where
   pub header : Header
   pub unit : BeginsUnit notation unit_entry bytes header
   pub texts : HasTexts sections header

@@ -1,3 +1,4 @@
+pub mod Preparation
 pub mod Conversion
 pub mod SourceRun
 pub mod TablesAtEnd

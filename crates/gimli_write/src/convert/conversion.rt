@@ -1,17 +1,26 @@
 //! A source that is read, and the program that is built of it.
 
-ghost use Rattle.std.specs.Prelude.{◌≡◌, ◌≢◌, ℕ, List, [], Option, None, Some, Ok, Err, option_map, IfErr, IfOk, OnErr, OnOk, true, false};
+ghost use Rattle.std.specs.Prelude.{◌≡◌, ◌≢◌, ℕ, List, Option, None, Some, Ok};
+ghost use Rattle.std.specs.Prelude.{IfErr, IfOk, OnErr, OnOk, true, false};
 ghost use Rattle.gimli_bytes.specs.Texts.{KeepsTexts};
 ghost use Rattle.gimli_bytes.specs.declared.address.Address.{Address};
 ghost use Rattle.gimli_write.specs.convert.Texts.{IsRefusedBy};
 ghost use Rattle.gimli_write.specs.convert.SourceTables.{tables_with};
-ghost use Rattle.gimli_write.specs.convert.KeptTables.{KeepsFiles, IsWritable, StaysWritable, final_tables_of_source, HasFinalTables, KeepsFinalTables};
+ghost use Rattle.gimli_write.specs.convert.KeptTables.{IsWritable, HasWritable, StaysWritable};
+ghost use Rattle.gimli_write.specs.convert.KeptTables.{final_tables_of_source};
+ghost use Rattle.gimli_write.specs.convert.Reads.{ReadsOn, LeavesTables, RepeatsRefusal};
 ghost use Rattle.gimli_write.specs.convert.Items.{Reading, stops, offers, row_or_end_offered};
 ghost use Rattle.gimli_write.specs.convert.SourceRun.{start_of_source};
 ghost use Rattle.gimli_write.specs.convert.TablesAtEnd.{lacks_file, tables_after_row};
-ghost use Rattle.gimli_write.specs.convert.Conversion.{start_of_conversion, tables_of, version_of_source, source_left, still_to_read, HandsOut, IsReadRefusal, AddsFiles, with_program, outcome_of_rest, AnswersAs, RestConvertsTo, IsRestRefusal};
+ghost use Rattle.gimli_write.specs.convert.Conversion.{start_of_conversion, tables_of};
+ghost use Rattle.gimli_write.specs.convert.Conversion.{version_of_source};
+ghost use Rattle.gimli_write.specs.convert.Conversion.{source_left, still_to_read, beside};
+ghost use Rattle.gimli_write.specs.convert.Conversion.{with_program};
+ghost use Rattle.gimli_write.specs.convert.Conversion.{GivesNext, IsReadRefusal};
+ghost use Rattle.gimli_write.specs.convert.Conversion.{AnswersAs, outcome_of_rest, RestConvertsTo};
+ghost use Rattle.gimli_write.specs.convert.Conversion.{IsRestRefusal};
 ghost use Rattle.gimli_write.specs.inside.convert.Conversion.{TakesRow};
-ghost use Rattle.gimli_write.specs.convert.Sequences.{sequence_from, sequence_read};
+ghost use Rattle.gimli_write.specs.convert.Sequences.{GathersNext, IsGatherRefusal};
 ghost use Rattle.gimli_write.specs.convert.Outcome.{after_item, without_items};
 
 use crate::convert::rows::{ConvertLineRow, ConvertLineSequence, ConvertLineSequenceEnd};
@@ -26,6 +35,14 @@ use gimli_line::IncompleteLineProgram;
 use std::marker::Model;
 
 /// A source, as far as it was read, and the program that is built of it.
+///
+/// <!-- part of crates/checks_writing/src/conversions.rt -->
+/// ```rust
+/// let mut conversion = conversion_of(program, None, &mut line_strings, &mut strings)?;
+/// check_first_reads(rt, &mut conversion)?;
+/// check_last_reads(rt, &mut conversion)?;
+/// check_built(rt, conversion);
+/// ```
 #[derive(Drop)]
 #[derive_where(Debug; R, R::Offset)]
 pub struct Conversion<R: Reader> {
@@ -84,28 +101,24 @@ impl<R: Reader> Conversion<R> {
         (tables.program, tables.files)
     }
 
-    /// Reads up to the next row, end, or address that one of these follows. Refused as the source is read, or by
-    /// `OutOfMemory` where it defines a file; every later read repeats the refusal. The line strings keep their texts.
+    /// Reads up to the next row, end, or address that one of these follows. Refused as the source
+    /// is read, or by `OutOfMemory` where it defines a file; every later read repeats the refusal.
+    /// The line strings keep their texts.
     pub(crate) fn read_row(
         &mut self,
         line_strings: &mut LineStringTable,
     ) -> ConvertResult<Option<ConvertLineRow>>
-        ensures ok { IfOk result (λ row. HandsOut (still_to_read self.old line_strings.old) row
-            (tables_of self.new line_strings.new) (still_to_read self.new line_strings.new)) }
+        ensures ok { IfOk result (λ row. GivesNext (beside line_strings.old self.old) row
+            (beside line_strings.new self.new)) }
         ensures err { IfErr result (IsReadRefusal (still_to_read self.old line_strings.old)) }
-        ensures repeats { (e : ConvertError) → self.old.failed ≡ Some e → result ≡ Err e }
-        ensures failed { IfErr result (λ e. self.new.failed ≡ Some e) }
-        ensures well { OnOk result (self.new.failed ≡ None) }
+        // Refusals are kept; files and texts stay.
+        ensures repeats { RepeatsRefusal (beside line_strings.old self.old) result
+            (beside line_strings.new self.new) }
         ensures given { OnOk result (self.new.address ≡ None) }
-        ensures adds { AddsFiles self.old.tables.program self.new.tables.program }
-        ensures keeps { KeepsFiles self.old.tables self.new.tables }
-        ensures writable { StaysWritable self.old.tables line_strings.old self.new.tables line_strings.new }
-        ensures last { OnOk result (KeepsFinalTables self.old line_strings.old self.new line_strings.new) }
-        ensures ended { IfOk result (λ row. row ≡ None →
-            HasFinalTables self.old line_strings.old self.new line_strings.new) }
-        ensures stopped { IfErr result (λ e. e ≢ ConvertError.OutOfMemory →
-            HasFinalTables self.old line_strings.old self.new line_strings.new) }
-        ensures stays { KeepsTexts line_strings.old line_strings.new }
+        ensures reads_on { ReadsOn (beside line_strings.old self.old)
+            (beside line_strings.new self.new) }
+        ensures leaves { LeavesTables (beside line_strings.old self.old) result
+            (beside line_strings.new self.new) }
     {
         if let Some(e) = self.failed {
             return Err(e);
@@ -125,20 +138,15 @@ impl<R: Reader> Conversion<R> {
         line_strings: &mut LineStringTable,
     ) -> ConvertResult<Option<ConvertLineRow>>
         requires { self.old.failed ≡ None }
-        ensures ok { IfOk result (λ row. HandsOut (still_to_read self.old line_strings.old) row
-            (tables_of self.new line_strings.new) (still_to_read self.new line_strings.new)) }
+        ensures ok { IfOk result (λ row. GivesNext (beside line_strings.old self.old) row
+            (beside line_strings.new self.new)) }
         ensures err { IfErr result (IsReadRefusal (still_to_read self.old line_strings.old)) }
         ensures well { self.new.failed ≡ None }
         ensures given { OnOk result (self.new.address ≡ None) }
-        ensures adds { AddsFiles self.old.tables.program self.new.tables.program }
-        ensures keeps { KeepsFiles self.old.tables self.new.tables }
-        ensures writable { StaysWritable self.old.tables line_strings.old self.new.tables line_strings.new }
-        ensures last { OnOk result (KeepsFinalTables self.old line_strings.old self.new line_strings.new) }
-        ensures ended { IfOk result (λ row. row ≡ None →
-            HasFinalTables self.old line_strings.old self.new line_strings.new) }
-        ensures stopped { IfErr result (λ e. e ≢ ConvertError.OutOfMemory →
-            HasFinalTables self.old line_strings.old self.new line_strings.new) }
-        ensures stays { KeepsTexts line_strings.old line_strings.new }
+        ensures reads_on { ReadsOn (beside line_strings.old self.old)
+            (beside line_strings.new self.new) }
+        ensures leaves { LeavesTables (beside line_strings.old self.old) result
+            (beside line_strings.new self.new) }
     {
         if let Some(address) = self.address.take() {
             return Ok(Some(ConvertLineRow::SetAddress(address)));
@@ -158,18 +166,26 @@ impl<R: Reader> Conversion<R> {
         }
     }
 
-    /// A row or an end of the source, as it is handed out. Refused as `InvalidFileIndex` where the source has no file of
-    /// the row's number so far.
+    /// A row or an end of the source, as it is handed out. Refused as `InvalidFileIndex` where the
+    /// source has no file of the row's number so far.
     fn row_or_end(&self, row: &SourceRow) -> ConvertResult<ConvertLineRow>
         ensures ok { IfOk result (λ offered. (line_strings : List (List ℕ)) (rest : Reading) →
-            row_or_end_offered (version_of_source self.now) (tables_of self.now line_strings) row.now rest
+            row_or_end_offered (version_of_source self.now) (tables_of self.now line_strings)
+            row.now rest
             ≡ offers offered (tables_of self.now line_strings) rest) }
         ensures err { IfErr result (λ e. (line_strings : List (List ℕ)) (rest : Reading) →
-            row_or_end_offered (version_of_source self.now) (tables_of self.now line_strings) row.now rest ≡ stops e) }
+            row_or_end_offered (version_of_source self.now) (tables_of self.now line_strings)
+            row.now rest
+            ≡ stops e) }
+        // Whether its file is there.
         ensures found { OnOk result ((line_strings : List (List ℕ)) →
-            lacks_file (version_of_source self.now) (tables_with line_strings self.now.tables) row.now ≡ false) }
+            lacks_file (version_of_source self.now) (tables_with line_strings self.now.tables)
+            row.now
+            ≡ false) }
         ensures lacks { OnErr result ((line_strings : List (List ℕ)) →
-            lacks_file (version_of_source self.now) (tables_with line_strings self.now.tables) row.now ≡ true) }
+            lacks_file (version_of_source self.now) (tables_with line_strings self.now.tables)
+            row.now
+            ≡ true) }
     {
         if row.row.end_sequence() {
             return Ok(ConvertLineRow::EndSequence(row.address_offset));
@@ -180,7 +196,8 @@ impl<R: Reader> Conversion<R> {
         Ok(ConvertLineRow::Row(row.built_row(file)))
     }
 
-    /// Executes the source up to the next row that isn't under a tombstone, and adds the files that it defines.
+    /// Executes the source up to the next row that isn't under a tombstone, and adds the files that
+    /// it defines.
     fn next_source_row(
         &mut self,
         line_strings: &mut LineStringTable,
@@ -189,21 +206,24 @@ impl<R: Reader> Conversion<R> {
             (source_left self.old line_strings.old) row
             (tables_of self.new line_strings.new) (source_left self.new line_strings.new)) }
         ensures err { IfErr result (IsReadRefusal (source_left self.old line_strings.old)) }
+        // What stays, and what is added.
         ensures version { version_of_source self.new ≡ version_of_source self.old }
         ensures address { self.new.address ≡ self.old.address }
         ensures held { self.new.held ≡ self.old.held }
         ensures failed { self.new.failed ≡ self.old.failed }
-        ensures adds { AddsFiles self.old.tables.program self.new.tables.program }
-        ensures keeps { KeepsFiles self.old.tables self.new.tables }
-        ensures writable { StaysWritable self.old.tables line_strings.old self.new.tables line_strings.new }
+        ensures reads_on { ReadsOn (beside line_strings.old self.old)
+            (beside line_strings.new self.new) }
+        // The tables that the source leaves.
         ensures last { IfOk result (λ row. tables_after_row (version_of_source self.new)
-            (tables_with line_strings.new self.new.tables) row (final_tables_of_source self.new line_strings.new)
+            (tables_with line_strings.new self.new.tables) row
+            (final_tables_of_source self.new line_strings.new)
             ≡ final_tables_of_source self.old line_strings.old) }
         ensures ended { IfOk result (λ row. row ≡ None →
-            tables_with line_strings.new self.new.tables ≡ final_tables_of_source self.old line_strings.old) }
+            tables_with line_strings.new self.new.tables
+            ≡ final_tables_of_source self.old line_strings.old) }
         ensures stopped { IfErr result (λ e. e ≢ ConvertError.OutOfMemory →
-            tables_with line_strings.new self.new.tables ≡ final_tables_of_source self.old line_strings.old) }
-        ensures stays { KeepsTexts line_strings.old line_strings.new }
+            tables_with line_strings.new self.new.tables
+            ≡ final_tables_of_source self.old line_strings.old) }
     {
         'steps: loop {
             match self.source.step()? {
@@ -217,28 +237,24 @@ impl<R: Reader> Conversion<R> {
         }
     }
 
-    /// Reads up to the end of a sequence, or to an address that is set after a row, which the next read returns first.
-    /// Refused as `read_row` is, as `MissingLineEndSequence` for rows without an end, or by `OutOfMemory`; every later
-    /// read repeats the refusal. The line strings keep their texts.
+    /// Reads up to the end of a sequence, or to an address that is set after a row, which the next
+    /// read returns first. Refused as `read_row` is, as `MissingLineEndSequence` for rows without
+    /// an end, or by `OutOfMemory`; every later read repeats the refusal. The line strings keep
+    /// their texts.
     pub(crate) fn read_sequence(
         &mut self,
         line_strings: &mut LineStringTable,
     ) -> ConvertResult<Option<ConvertLineSequence>>
-        ensures ok { IfOk result (λ sequence. sequence_from None [] (still_to_read self.old line_strings.old)
-            ≡ Ok (option_map sequence_read sequence, still_to_read self.new line_strings.new)) }
-        ensures err { IfErr result (IsRefusedBy (sequence_from None [] (still_to_read self.old line_strings.old))) }
-        ensures repeats { (e : ConvertError) → self.old.failed ≡ Some e → result ≡ Err e }
-        ensures failed { IfErr result (λ e. self.new.failed ≡ Some e) }
-        ensures well { OnOk result (self.new.failed ≡ None) }
-        ensures adds { AddsFiles self.old.tables.program self.new.tables.program }
-        ensures keeps { KeepsFiles self.old.tables self.new.tables }
-        ensures writable { StaysWritable self.old.tables line_strings.old self.new.tables line_strings.new }
-        ensures last { OnOk result (KeepsFinalTables self.old line_strings.old self.new line_strings.new) }
-        ensures ended { IfOk result (λ sequence. sequence ≡ None →
-            HasFinalTables self.old line_strings.old self.new line_strings.new) }
-        ensures stopped { IfErr result (λ e. e ≢ ConvertError.OutOfMemory →
-            HasFinalTables self.old line_strings.old self.new line_strings.new) }
-        ensures stays { KeepsTexts line_strings.old line_strings.new }
+        ensures ok { IfOk result (λ sequence. GathersNext (beside line_strings.old self.old)
+            sequence (beside line_strings.new self.new)) }
+        ensures err { IfErr result (IsGatherRefusal (beside line_strings.old self.old)) }
+        // Refusals are kept; files and texts stay.
+        ensures repeats { RepeatsRefusal (beside line_strings.old self.old) result
+            (beside line_strings.new self.new) }
+        ensures reads_on { ReadsOn (beside line_strings.old self.old)
+            (beside line_strings.new self.new) }
+        ensures leaves { LeavesTables (beside line_strings.old self.old) result
+            (beside line_strings.new self.new) }
     {
         if let Some(e) = self.failed {
             return Err(e);
@@ -257,19 +273,14 @@ impl<R: Reader> Conversion<R> {
         &mut self,
         line_strings: &mut LineStringTable,
     ) -> ConvertResult<Option<ConvertLineSequence>>
-        ensures ok { IfOk result (λ sequence. sequence_from None [] (still_to_read self.old line_strings.old)
-            ≡ Ok (option_map sequence_read sequence, still_to_read self.new line_strings.new)) }
-        ensures err { IfErr result (IsRefusedBy (sequence_from None [] (still_to_read self.old line_strings.old))) }
+        ensures ok { IfOk result (λ sequence. GathersNext (beside line_strings.old self.old)
+            sequence (beside line_strings.new self.new)) }
+        ensures err { IfErr result (IsGatherRefusal (beside line_strings.old self.old)) }
         ensures well { OnOk result (self.new.failed ≡ None) }
-        ensures adds { AddsFiles self.old.tables.program self.new.tables.program }
-        ensures keeps { KeepsFiles self.old.tables self.new.tables }
-        ensures writable { StaysWritable self.old.tables line_strings.old self.new.tables line_strings.new }
-        ensures last { OnOk result (KeepsFinalTables self.old line_strings.old self.new line_strings.new) }
-        ensures ended { IfOk result (λ sequence. sequence ≡ None →
-            HasFinalTables self.old line_strings.old self.new line_strings.new) }
-        ensures stopped { IfErr result (λ e. e ≢ ConvertError.OutOfMemory →
-            HasFinalTables self.old line_strings.old self.new line_strings.new) }
-        ensures stays { KeepsTexts line_strings.old line_strings.new }
+        ensures reads_on { ReadsOn (beside line_strings.old self.old)
+            (beside line_strings.new self.new) }
+        ensures leaves { LeavesTables (beside line_strings.old self.old) result
+            (beside line_strings.new self.new) }
     {
         let mut start = None;
         let mut rows = Vec::new(*line_strings.allocator());
@@ -301,8 +312,8 @@ impl<R: Reader> Conversion<R> {
         self.address = Some(address);
     }
 
-    /// Builds what was read. Refused as `InvalidAddress` where there is no other address, as `UnsupportedLineInstruction`
-    /// where it can't be built, or by `OutOfMemory`.
+    /// Builds what was read. Refused as `InvalidAddress` where there is no other address, as
+    /// `UnsupportedLineInstruction` where it can't be built, or by `OutOfMemory`.
     fn feed<F: Fn(u64) -> Option<Address>>(
         &mut self,
         row: ConvertLineRow,
@@ -314,7 +325,8 @@ impl<R: Reader> Conversion<R> {
         ensures err { (g : ℕ → Option Address) → AnswersAs (F.post convert_address.now) g
             → IfErr result (IsRefusedBy (after_item g row self.old.tables.program)) }
         ensures kept { OnOk result (self.new ≡ with_program self.new.tables.program self.old) }
-        ensures items { OnOk result (without_items self.new.tables.program ≡ without_items self.old.tables.program) }
+        ensures items { OnOk result
+            (without_items self.new.tables.program ≡ without_items self.old.tables.program) }
     {
         match row {
             ConvertLineRow::SetAddress(address) => match convert_address(address) {
@@ -341,13 +353,15 @@ impl<R: Reader> Conversion<R> {
     ) -> ConvertResult<()>
         requires { F.IsAlwaysCallable convert_address.now }
         ensures ok { (g : ℕ → Option Address) → AnswersAs (F.post convert_address.now) g
-            → OnOk result (outcome_of_rest g self.old line_strings.old ≡ Ok (record {
+            → OnOk result (outcome_of_rest g (beside line_strings.old self.old) ≡ Ok (record {
               program = self.new.tables.program;
               file_ids = self.new.tables.file_ids;
               line_strings = line_strings.new;
             })) }
-        ensures err { IfErr result (IsRestRefusal (F.post convert_address.now) self.old line_strings.old) }
-        ensures writable { OnOk result (StaysWritable self.old.tables line_strings.old self.new.tables line_strings.new) }
+        ensures err { IfErr result
+            (IsRestRefusal (F.post convert_address.now) (beside line_strings.old self.old)) }
+        ensures writable { OnOk result
+            (StaysWritable self.old.tables line_strings.old self.new.tables line_strings.new) }
         ensures stays { KeepsTexts line_strings.old line_strings.new }
     {
         'rows: loop {
@@ -360,10 +374,10 @@ impl<R: Reader> Conversion<R> {
     }
 }
 
-/// Reads and builds all that is still to be read. Refused by the first of these: an address that has no other, as
-/// `InvalidAddress`; what can't be built, as `UnsupportedLineInstruction`; a refusal of reading; a sequence that is left
-/// open, as `MissingLineEndSequence`; or by `OutOfMemory`. The line strings keep their texts, and what could be written
-/// still can be.
+/// Reads and builds all that is still to be read. Refused by the first of these: an address that
+/// has no other, as `InvalidAddress`; what can't be built, as `UnsupportedLineInstruction`; a
+/// refusal of reading; a sequence that is left open, as `MissingLineEndSequence`; or by
+/// `OutOfMemory`. The line strings keep their texts, and what could be written still can be.
 pub(crate) fn convert_all<R: Reader, F: Fn(u64) -> Option<Address>>(
     mut conversion: Conversion<R>,
     line_strings: &mut LineStringTable,
@@ -371,9 +385,10 @@ pub(crate) fn convert_all<R: Reader, F: Fn(u64) -> Option<Address>>(
 ) -> ConvertResult<(LineProgram, Vec<FileId>)>
     requires { F.IsAlwaysCallable convert_address }
     ensures ok { IfOk result (λ answer. RestConvertsTo (F.post convert_address)
-        conversion line_strings.old answer line_strings.new) }
-    ensures err { IfErr result (IsRestRefusal (F.post convert_address) conversion line_strings.old) }
-    ensures writable { IsWritable conversion.tables.program line_strings.old
+        (beside line_strings.old conversion) answer line_strings.new) }
+    ensures err { IfErr result
+        (IsRestRefusal (F.post convert_address) (beside line_strings.old conversion)) }
+    ensures writable { HasWritable (beside line_strings.old conversion)
         → IfOk result (λ answer. IsWritable answer.0 line_strings.new) }
     ensures stays { KeepsTexts line_strings.old line_strings.new }
 {

@@ -1,6 +1,7 @@
 //! What is made of the header of a source, before its program is read.
 
-ghost use Rattle.std.specs.Prelude.{◌≡◌, ◌≢◌, All, IfOk, IfErr, IfSome, IsTrue, OnOk, Ok, None, Some, false, option_map};
+ghost use Rattle.std.specs.Prelude.{◌≡◌, ◌≢◌, All, IfOk, IfErr, IfSome, IsTrue, OnOk};
+ghost use Rattle.std.specs.Prelude.{Ok, None, Some, false, option_map};
 ghost use Rattle.gimli_core.specs.Numbers.{is_address_size};
 ghost use Rattle.gimli_core.specs.Values.{value_seen};
 ghost use Rattle.gimli_line.specs.header.File.{file_seen};
@@ -9,9 +10,18 @@ ghost use Rattle.gimli_line.specs.header.Header.{has_content};
 ghost use Rattle.gimli_bytes.specs.Texts.{KeepsTexts};
 ghost use Rattle.gimli_build.specs.Advance.{CanEncode};
 ghost use Rattle.gimli_build.specs.Conditions.{Accepts};
-ghost use Rattle.gimli_write.specs.convert.Texts.{◌>>=◌ as ◌>>>◌, IsRefusedBy};
-ghost use Rattle.gimli_write.specs.convert.SourceTables.{tables_with, directory_added, file_added, all_added};
-ghost use Rattle.gimli_write.specs.convert.Preparation.{first_path, working_directory, file_directory, own_source_file, named_source_file, source_file, is_out_of_range, line_encoding_of, first_texts, start_of_program, start_of_tables, first_ids, has_before_5, handed_of, tables_of_header};
+ghost use Rattle.gimli_write.specs.convert.Texts.{IsRefusedBy};
+ghost use Rattle.gimli_write.specs.convert.SourceTables.{tables_with};
+ghost use Rattle.gimli_write.specs.convert.Preparation.{first_path, working_directory};
+ghost use Rattle.gimli_write.specs.convert.Preparation.{file_directory};
+ghost use Rattle.gimli_write.specs.convert.Preparation.{own_source_file, named_source_file};
+ghost use Rattle.gimli_write.specs.convert.Preparation.{source_file};
+ghost use Rattle.gimli_write.specs.convert.Preparation.{is_out_of_range, line_encoding_of};
+ghost use Rattle.gimli_write.specs.convert.Preparation.{first_texts, start_of_program, first_ids};
+ghost use Rattle.gimli_write.specs.convert.Preparation.{has_before_5};
+ghost use Rattle.gimli_write.specs.convert.Preparation.{handed_of, tables_of_header};
+ghost use Rattle.gimli_write.specs.inside.convert.Preparation.{with_first_texts, tables_at_start};
+ghost use Rattle.gimli_write.specs.inside.convert.Preparation.{lists_added};
 
 use crate::convert::tables::SourceTables;
 use crate::convert::texts::{
@@ -26,8 +36,9 @@ use gimli_line::{FileEntry, LineProgramHeader};
 use std::alloc::Global;
 use std::marker::Model;
 
-/// The path of the source's directory 0 or file 0, for a program of this version. Up to version 4 of the source it stands
-/// in none of its tables and is refused as `source_text` is; from version 5 on as `source_path` is.
+/// The path of the source's directory 0 or file 0, for a program of this version. Up to version 4
+/// of the source it stands in none of its tables and is refused as `source_text` is; from version 5
+/// on as `source_path` is.
 fn first_path<R: Reader>(
     alloc: Global,
     version: u16,
@@ -48,16 +59,19 @@ fn first_path<R: Reader>(
     }
 }
 
-/// The working directory of the program, which is the source's directory 0, refused as `first_path` is. Where there is
-/// none it is empty up to version 4, and from version 5 on this is refused as `MissingCompilationDirectory`.
+/// The working directory of the program, which is the source's directory 0, refused as `first_path`
+/// is. Where there is none it is empty up to version 4, and from version 5 on this is refused as
+/// `MissingCompilationDirectory`.
 fn working_directory<R: Reader>(
     alloc: Global,
     version: u16,
     header: &LineProgramHeader<R>,
     sections: &TextSections<R>,
 ) -> ConvertResult<Vec<u8>>
-    ensures ok { IfOk result (λ text. working_directory version sections.now header.now.meaning ≡ Ok text.items) }
-    ensures err { IfErr result (IsRefusedBy (working_directory version sections.now header.now.meaning)) }
+    ensures ok { IfOk result (λ text.
+        working_directory version sections.now header.now.meaning ≡ Ok text.items) }
+    ensures err { IfErr result
+        (IsRefusedBy (working_directory version sections.now header.now.meaning)) }
     ensures no_zero { IfOk result (λ text. All (λ b. b ≢ 0) text.items) }
 {
     match header.directory(0) {
@@ -67,7 +81,8 @@ fn working_directory<R: Reader>(
     }
 }
 
-/// The source file of the program: its path, and its directory unless that is the working directory.
+/// The source file of the program: its path, and its directory unless that is the working
+/// directory.
 #[derive(Drop)]
 struct SourceFile {
     directory: Option<Vec<u8>>,
@@ -86,8 +101,8 @@ impl Model for SourceFile {
     } };
 }
 
-/// The directory of a source file, which the working directory is at index 0. Refused as `InvalidDirectoryIndex` where
-/// the source has no directory of its index, and as `source_path` is.
+/// The directory of a source file, which the working directory is at index 0. Refused as
+/// `InvalidDirectoryIndex` where the source has no directory of its index, and as `source_path` is.
 fn file_directory<R: Reader>(
     alloc: Global,
     version: u16,
@@ -97,7 +112,8 @@ fn file_directory<R: Reader>(
 ) -> ConvertResult<Option<Vec<u8>>>
     ensures ok { IfOk result (λ text. file_directory version sections.now header.now.meaning index
         ≡ Ok (option_map (λ text. text.items) text)) }
-    ensures err { IfErr result (IsRefusedBy (file_directory version sections.now header.now.meaning index)) }
+    ensures err { IfErr result
+        (IsRefusedBy (file_directory version sections.now header.now.meaning index)) }
     ensures no_zero { IfOk result (λ text. IfSome text (λ text. All (λ b. b ≢ 0) text.items)) }
 {
     if index == 0 {
@@ -121,7 +137,8 @@ fn own_source_file<R: Reader>(
         (file_seen R.bytes R.Offset.number file.now) ≡ Ok found) }
     ensures err { IfErr result (IsRefusedBy (own_source_file version sections.now header.now.meaning
         (file_seen R.bytes R.Offset.number file.now))) }
-    ensures directory_no_zero { IfOk result (λ found. IfSome found.directory (λ text. All (λ b. b ≢ 0) text)) }
+    ensures directory_no_zero { IfOk result (λ found.
+        IfSome found.directory (λ text. All (λ b. b ≢ 0) text)) }
     ensures path_no_zero { IfOk result (λ found. All (λ b. b ≢ 0) found.path) }
 {
     let directory = file_directory(alloc, version, header, file.directory_index(), sections)?;
@@ -143,9 +160,9 @@ fn named_source_file<R: Reader>(alloc: Global, name: R) -> ConvertResult<SourceF
     })
 }
 
-/// The source file of the program: the one of the name that is handed in, where the source is of version 4 or less,
-/// else the source's file 0. Where there is none it is empty up to version 4, and from version 5 on this is refused as
-/// `MissingCompilationName`.
+/// The source file of the program: the one of the name that is handed in, where the source is of
+/// version 4 or less, else the source's file 0. Where there is none it is empty up to version 4,
+/// and from version 5 on this is refused as `MissingCompilationName`.
 fn source_file<R: Reader>(
     alloc: Global,
     version: u16,
@@ -154,10 +171,12 @@ fn source_file<R: Reader>(
     sections: &TextSections<R>,
 ) -> ConvertResult<SourceFile>
     ensures ok { IfOk result (λ found.
-        source_file version sections.now header.now.meaning (option_map R.bytes from_comp_name) ≡ Ok found) }
+        source_file version sections.now header.now.meaning (option_map R.bytes from_comp_name)
+        ≡ Ok found) }
     ensures err { IfErr result (IsRefusedBy
         (source_file version sections.now header.now.meaning (option_map R.bytes from_comp_name))) }
-    ensures directory_no_zero { IfOk result (λ found. IfSome found.directory (λ text. All (λ b. b ≢ 0) text)) }
+    ensures directory_no_zero { IfOk result (λ found.
+        IfSome found.directory (λ text. All (λ b. b ≢ 0) text)) }
     ensures path_no_zero { IfOk result (λ found. All (λ b. b ≢ 0) found.path) }
 {
     if header.version() <= 4 {
@@ -175,8 +194,8 @@ fn source_file<R: Reader>(
     }
 }
 
-/// Whether lines can't be written by the encoding of a source: no special opcode is sure to advance no line, or no byte
-/// holds the one that does.
+/// Whether lines can't be written by the encoding of a source: no special opcode is sure to advance
+/// no line, or no byte holds the one that does.
 fn is_out_of_range(line_encoding: LineEncoding) -> bool
     ensures { result ≡ is_out_of_range line_encoding }
 {
@@ -184,8 +203,9 @@ fn is_out_of_range(line_encoding: LineEncoding) -> bool
         || line_encoding.line_range > 127
 }
 
-/// What lines are encoded by: as handed in, else as in the source. Refused as `InvalidLineBase` where the source's line
-/// base is above 0, and where the source's encoding is taken and lines can't be written by it.
+/// What lines are encoded by: as handed in, else as in the source. Refused as `InvalidLineBase`
+/// where the source's line base is above 0, and where the source's encoding is taken and lines
+/// can't be written by it.
 fn line_encoding_of(own: LineEncoding, handed: Option<LineEncoding>) -> ConvertResult<LineEncoding>
     requires own { IsLineEncoding own }
     requires handed { IfSome handed CanEncode }
@@ -202,8 +222,8 @@ fn line_encoding_of(own: LineEncoding, handed: Option<LineEncoding>) -> ConvertR
     }
 }
 
-/// The program, with its first directory and file. Requires texts without zero bytes. Refused by `OutOfMemory` alone. The
-/// line strings keep their texts.
+/// The program, with its first directory and file. Requires texts without zero bytes. Refused by
+/// `OutOfMemory` alone. The line strings keep their texts.
 fn first_program<R: Reader>(
     encoding: Encoding,
     line_encoding: LineEncoding,
@@ -216,10 +236,13 @@ fn first_program<R: Reader>(
     requires working { All (λ b. b ≢ 0) directory.now }
     requires directory { IfSome file.now.directory (λ text. All (λ b. b ≢ 0) text) }
     requires path { All (λ b. b ≢ 0) file.now.path }
-    ensures ok { IfOk result (λ program. program ≡ start_of_program encoding line_encoding header.now.meaning
+    // What is made of the texts.
+    ensures ok { IfOk result (λ program.
+        program ≡ start_of_program encoding line_encoding header.now.meaning
         (first_texts encoding.version line_strings.old directory.now file.now)) }
     ensures table { OnOk result (line_strings.new
         ≡ (first_texts encoding.version line_strings.old directory.now file.now).line_strings) }
+    // However it ends.
     ensures stays { KeepsTexts line_strings.old line_strings.new }
     ensures memory { IfErr result (λ e. e ≡ ConvertError.OutOfMemory) }
 {
@@ -257,8 +280,9 @@ fn with_flags<R: Reader>(mut program: LineProgram, header: &LineProgramHeader<R>
     program
 }
 
-/// The id that stands at number 0 up to version 4, where no row names it. `gimli_build` makes ids for files that are added
-/// and for the first row of a program, so this is that of a placeholder's row.
+/// The id that stands at number 0 up to version 4, where no row names it. `gimli_build` makes ids
+/// for files that are added and for the first row of a program, so this is that of a placeholder's
+/// row.
 fn unused_file(alloc: Global) -> FileId
     ensures { result ≡ 0 }
 {
@@ -266,7 +290,8 @@ fn unused_file(alloc: Global) -> FileId
     program.row().file
 }
 
-/// The program, and no directory or file of its source but those at 0 up to version 4. Refused by `OutOfMemory` alone.
+/// The program, and no directory or file of its source but those at 0 up to version 4. Refused by
+/// `OutOfMemory` alone.
 fn first_tables(
     alloc: Global,
     program: LineProgram,
@@ -291,8 +316,9 @@ fn first_tables(
     })
 }
 
-/// The tables of a header before its directories and files are added, with the texts of the first of them. Requires texts
-/// without zero bytes. Refused as the encoding of lines is, or by `OutOfMemory`. The line strings keep their texts.
+/// The tables of a header before its directories and files are added, with the texts of the first
+/// of them. Requires texts without zero bytes. Refused as the encoding of lines is, or by
+/// `OutOfMemory`. The line strings keep their texts.
 fn tables_with_texts<R: Reader>(
     encoding: Encoding,
     line_encoding: Option<LineEncoding>,
@@ -306,10 +332,8 @@ fn tables_with_texts<R: Reader>(
     requires working { All (λ b. b ≢ 0) directory.now }
     requires directory { IfSome file.now.directory (λ text. All (λ b. b ≢ 0) text) }
     requires path { All (λ b. b ≢ 0) file.now.path }
-    ensures ok { IfOk result (λ tables.
-        (line_encoding_of header.now.meaning.parameters.line_encoding line_encoding >>> λ e.
-        Ok (start_of_tables encoding e header.now.meaning
-        (first_texts encoding.version line_strings.old directory.now file.now)))
+    ensures ok { IfOk result (λ tables. with_first_texts encoding line_encoding header.now.meaning
+        (first_texts encoding.version line_strings.old directory.now file.now)
         ≡ Ok (tables_with line_strings.new tables)) }
     ensures err { IfErr result
         (IsRefusedBy (line_encoding_of header.now.meaning.parameters.line_encoding line_encoding)) }
@@ -321,8 +345,9 @@ fn tables_with_texts<R: Reader>(
     first_tables(alloc, program, header.version())
 }
 
-/// The tables of a header before its directories and files are added. Refused by the first of these that is refused: the
-/// working directory, the source file, the encoding of lines; or by `OutOfMemory`. The line strings keep their texts.
+/// The tables of a header before its directories and files are added. Refused by the first of these
+/// that is refused: the working directory, the source file, the encoding of lines; or by
+/// `OutOfMemory`. The line strings keep their texts.
 fn tables_at_start<R: Reader>(
     sections: &TextSections<R>,
     header: &LineProgramHeader<R>,
@@ -333,19 +358,11 @@ fn tables_at_start<R: Reader>(
 ) -> ConvertResult<SourceTables>
     requires address_size { IsTrue (is_address_size encoding.address_size) }
     requires lines { IfSome line_encoding CanEncode }
-    ensures ok { IfOk result (λ tables.
-        (working_directory encoding.version sections.now header.now.meaning >>> λ directory.
-        source_file encoding.version sections.now header.now.meaning (option_map R.bytes from_comp_name) >>> λ file.
-        line_encoding_of header.now.meaning.parameters.line_encoding line_encoding >>> λ e.
-        Ok (start_of_tables encoding e header.now.meaning
-        (first_texts encoding.version line_strings.old directory file)))
+    ensures ok { IfOk result (λ tables. tables_at_start sections.now header.now.meaning
+        encoding line_encoding (option_map R.bytes from_comp_name) line_strings.old
         ≡ Ok (tables_with line_strings.new tables)) }
-    ensures err { IfErr result (IsRefusedBy
-        (working_directory encoding.version sections.now header.now.meaning >>> λ directory.
-        source_file encoding.version sections.now header.now.meaning (option_map R.bytes from_comp_name) >>> λ file.
-        line_encoding_of header.now.meaning.parameters.line_encoding line_encoding >>> λ e.
-        Ok (start_of_tables encoding e header.now.meaning
-        (first_texts encoding.version line_strings.old directory file)))) }
+    ensures err { IfErr result (IsRefusedBy (tables_at_start sections.now header.now.meaning
+        encoding line_encoding (option_map R.bytes from_comp_name) line_strings.old)) }
     ensures stays { KeepsTexts line_strings.old line_strings.new }
 {
     let alloc = *line_strings.allocator();
@@ -361,33 +378,28 @@ fn tables_at_start<R: Reader>(
     )
 }
 
-/// Adds the directories and files of a header. Refused by the first that is refused, or by `OutOfMemory`. The line
-/// strings keep their texts.
+/// Adds the directories and files of a header. Refused by the first that is refused, or by
+/// `OutOfMemory`. The line strings keep their texts.
 fn add_directories_and_files<R: Reader>(
     tables: &mut SourceTables,
     sections: &TextSections<R>,
     header: &LineProgramHeader<R>,
     line_strings: &mut LineStringTable,
 ) -> ConvertResult<()>
-    ensures ok { OnOk result
-        ((all_added (directory_added sections.now) header.now.meaning.directories
-        (tables_with line_strings.old tables.old) >>> λ between.
-        all_added (file_added sections.now) header.now.meaning.files between)
-        ≡ Ok (tables_with line_strings.new tables.new)) }
+    ensures ok { OnOk result (lists_added sections.now header.now.meaning
+        (tables_with line_strings.old tables.old) ≡ Ok (tables_with line_strings.new tables.new)) }
     ensures err { IfErr result (IsRefusedBy
-        (all_added (directory_added sections.now) header.now.meaning.directories
-        (tables_with line_strings.old tables.old) >>> λ between.
-        all_added (file_added sections.now) header.now.meaning.files between)) }
+        (lists_added sections.now header.now.meaning (tables_with line_strings.old tables.old))) }
     ensures stays { KeepsTexts line_strings.old line_strings.new }
 {
     tables.add_directories(header.include_directories(), sections, line_strings)?;
     tables.add_files(header.file_names(), sections, line_strings)
 }
 
-/// The program of a header with its directories and files, and where it has those of the source. Requires encodings that a
-/// program may have, where they are handed in. Refused by the first of these that is refused: the working directory, the
-/// source file, the encoding of lines, the directories, the files; or by `OutOfMemory`. The line strings keep their
-/// texts.
+/// The program of a header with its directories and files, and where it has those of the source.
+/// Requires encodings that a program may have, where they are handed in. Refused by the first of
+/// these that is refused: the working directory, the source file, the encoding of lines, the
+/// directories, the files; or by `OutOfMemory`. The line strings keep their texts.
 pub(crate) fn prepare<R: Reader>(
     sections: &TextSections<R>,
     header: &LineProgramHeader<R>,

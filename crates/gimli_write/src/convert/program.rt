@@ -1,17 +1,23 @@
 //! The conversion of a line program, as its callers see it.
 
-ghost use Rattle.std.specs.Prelude.{◌≡◌, ◌≢◌, false, Option, Some, None, Err, IfErr, IfOk, IfSome, IsTrue, OnErr, OnOk};
+ghost use Rattle.std.specs.Prelude.{◌≡◌, false, IfErr, IfOk, IfSome, IsTrue};
 ghost use Rattle.gimli_core.specs.Numbers.{is_address_size};
 ghost use Rattle.gimli_bytes.specs.Texts.{KeepsTexts, texts_in};
 ghost use Rattle.gimli_build.specs.Calls.{after_begin, after_address, after_row, after_end};
 ghost use Rattle.gimli_build.specs.Advance.{CanEncode};
 ghost use Rattle.gimli_build.specs.Conditions.{CanEndSequence};
 ghost use Rattle.gimli_write.specs.declared.convert_error.ConvertError.TheVariants.{OutOfMemory};
-ghost use Rattle.gimli_write.specs.convert.KeptTables.{IsUnread, IsWritable, StaysWritable, KeepsFiles, HasFinalTables, KeepsFinalTables};
-ghost use Rattle.gimli_write.specs.convert.LentTables.{SameStringTables, KeepsStringTables};
+ghost use Rattle.gimli_write.specs.convert.KeptTables.{IsWritable, HasWritable};
+ghost use Rattle.gimli_write.specs.convert.LentTables.{lent, SameStringTables, KeepsStringTables};
+ghost use Rattle.gimli_write.specs.convert.Reads.{ReadsOn, LeavesTables, RepeatsRefusal};
+ghost use Rattle.gimli_write.specs.convert.Converter.{progress, lent_tables, program_of, Builds};
 ghost use Rattle.gimli_write.specs.convert.Sources.{source_of};
-ghost use Rattle.gimli_write.specs.convert.Mapped.{IsAnswerOf};
-ghost use Rattle.gimli_write.specs.convert.Conversion.{still_to_read, IsPrepared, IsHeaderRefusal, ReadsWhole, GivesNext, IsReadRefusal, AddsFiles, CanBuildRow, IsBuildRefusal, with_program, RestConvertsTo, IsRestRefusal};
+ghost use Rattle.gimli_write.specs.convert.Mapped.{ConvertsWell};
+ghost use Rattle.gimli_write.specs.convert.Conversion.{beside, reading_of, Asks, CanBuildRow};
+ghost use Rattle.gimli_write.specs.convert.Conversion.{IsBegun, IsHeaderRefusal};
+ghost use Rattle.gimli_write.specs.convert.Conversion.{GivesNext, IsReadRefusal};
+ghost use Rattle.gimli_write.specs.convert.Conversion.{IsConvertRefusal, RestConvertsTo};
+ghost use Rattle.gimli_write.specs.convert.Conversion.{IsRestRefusal};
 ghost use Rattle.gimli_write.specs.convert.Sequences.{GathersNext, IsGatherRefusal};
 
 use crate::convert::conversion::{Conversion, convert_all};
@@ -27,8 +33,15 @@ use std::marker::{Model, PhantomData};
 
 /// A line program that is read and built again.
 ///
-/// It holds the tables of strings until it is dropped. What owns memory stands at the last type parameter, which is
-/// never written.
+/// It holds the tables of strings until it is dropped. What owns memory stands at the last type
+/// parameter, which is never written.
+///
+/// <!-- part of crates/checks_writing/src/conversions.rt -->
+/// ```rust
+/// check_equal(rt, conversion.read_row()?, FIRST);
+/// let sequence = conversion.read_sequence()?;
+/// let found = sequence.map(|sequence| (sequence.start, sequence.rows.len(), sequence.end));
+/// ```
 #[derive(Debug)]
 pub struct ConvertLineProgram<'a, 'b, R: Reader, P = Conversion<R>> {
     line_strings: &'a mut LineStringTable,
@@ -40,8 +53,8 @@ pub struct ConvertLineProgram<'a, 'b, R: Reader, P = Conversion<R>> {
 impl<R: Reader, P: Drop> Drop for ConvertLineProgram<'_, '_, R, P> {
     /// Leaves both tables as they are. A derived `Drop` wouldn't say so to a caller.
     fn drop(self)
-        ensures line_strings { self.exit.0.now ≡ self.entry.line_strings.now }
-        ensures strings { self.exit.1.0.now ≡ self.entry.strings.now }
+        ensures line_strings { self.exit.0.now ≡ (lent_tables self.entry).line_strings.now }
+        ensures strings { self.exit.1.0.now ≡ (lent_tables self.entry).strings.now }
     {
         let ConvertLineProgram {
             line_strings: _line_strings,
@@ -52,7 +65,14 @@ impl<R: Reader, P: Drop> Drop for ConvertLineProgram<'_, '_, R, P> {
     }
 }
 
-/// The header of a source, made into the directories and files of a program that is to be built. It borrows no table.
+/// The header of a source, made into the directories and files of a program that is to be built. It
+/// borrows no table.
+///
+/// <!-- part of crates/uses/src/converting.rt -->
+/// ```rust
+/// let mut converter = header.converter(line_strings, strings);
+/// converter.read_row()
+/// ```
 #[derive(Drop)]
 #[derive_where(Debug; R, R::Offset)]
 pub struct ConvertLineHeader<R: Reader> {
@@ -68,17 +88,20 @@ impl<R: Reader> Model for ConvertLineHeader<R> {
 }
 
 impl<R: Reader> ConvertLineHeader<R> {
-    /// The first half of `ConvertLineProgram::new`: all of it that can be refused. The directories and files of the
-    /// source are added to the program that is built, by the encodings that are handed, else by the source's own.
-    /// Requires encodings that a program may have, where they are handed. The program that is begun meets what `write`
-    /// asks. The table keeps its texts, also where it is refused.
+    /// The first half of `ConvertLineProgram::new`: all of it that can be refused. The directories
+    /// and files of the source are added to the program that is built, by the encodings that are
+    /// handed, else by the source's own. Requires encodings that a program may have, where they are
+    /// handed. The program that is begun meets what `write` asks. The table keeps its texts, also
+    /// where it is refused.
     ///
-    /// Refused by the first of these that is, or by `OutOfMemory`: the working directory, as `MissingCompilationDirectory`
-    /// where a program from version 5 on would have none; the source file, as `MissingCompilationName` there, and as
-    /// `InvalidDirectoryIndex` in a directory that isn't there; the encoding of lines, as `InvalidLineBase`; the
-    /// directories; the files, as `InvalidDirectoryIndex` too. A text is refused as `Read` where it isn't there, as
-    /// `UnsupportedLineStringForm` in a supplementary file, and as `InvalidAttributeValue` for a zero byte, or where it is
-    /// an empty path of the source's tables and the program is of version 4 or less.
+    /// Refused by the first of these that is, or by `OutOfMemory`: the working directory, as
+    /// `MissingCompilationDirectory` where a program from version 5 on would have none; the source
+    /// file, as `MissingCompilationName` there, and as `InvalidDirectoryIndex` in a directory that
+    /// isn't there; the encoding of lines, as `InvalidLineBase`; the directories; the files, as
+    /// `InvalidDirectoryIndex` too. A text is refused as `Read` where it isn't there, as
+    /// `UnsupportedLineStringForm` in a supplementary file, and as `InvalidAttributeValue` for a
+    /// zero byte, or where it is an empty path of the source's tables and the program is of version
+    /// 4 or less.
     pub fn new(
         debug_str: R,
         debug_line_str: R,
@@ -90,15 +113,13 @@ impl<R: Reader> ConvertLineHeader<R> {
     ) -> ConvertResult<Self>
         requires address_size { IfSome encoding (λ e. IsTrue (is_address_size e.address_size)) }
         requires lines { IfSome line_encoding CanEncode }
-        ensures ok { IfOk result (λ header. IsPrepared (source_of R.bytes debug_str debug_line_str
-            from_program from_comp_name encoding line_encoding) line_strings.old header line_strings.new) }
+        ensures ok { IfOk result (λ header. IsBegun (source_of R.bytes debug_str debug_line_str
+            from_program from_comp_name encoding line_encoding) line_strings.old
+            (beside line_strings.new header)) }
         ensures err { IfErr result (IsHeaderRefusal (source_of R.bytes debug_str debug_line_str
             from_program from_comp_name encoding line_encoding) line_strings.old) }
-        ensures reads { IfOk result (λ header. ReadsWhole (source_of R.bytes debug_str debug_line_str
-            from_program from_comp_name encoding line_encoding) header line_strings.new) }
-        ensures unread { IfOk result (λ header. IsUnread (source_of R.bytes debug_str debug_line_str
-            from_program from_comp_name encoding line_encoding) header) }
-        ensures writable { IfOk result (λ header. IsWritable header.tables.program line_strings.new) }
+        // What was begun can be written.
+        ensures writable { IfOk result (λ header. HasWritable (beside line_strings.new header)) }
         ensures stays { KeepsTexts line_strings.old line_strings.new }
     {
         let sections = TextSections {
@@ -117,18 +138,19 @@ impl<R: Reader> ConvertLineHeader<R> {
         Ok(ConvertLineHeader { conversion })
     }
 
-    /// The second half of `ConvertLineProgram::new`, which is never refused: the conversion of the program after the
-    /// header. It holds both tables until it is dropped, and so far they are as they were. The line strings have to be
-    /// the table that `new` was handed, since directories and files name texts by their index there: with another table
-    /// the program that is built has other names.
+    /// The second half of `ConvertLineProgram::new`, which is never refused: the conversion of the
+    /// program after the header. It holds both tables until it is dropped, and so far they are as
+    /// they were. The line strings have to be the table that `new` was handed, since directories
+    /// and files name texts by their index there: with another table the program that is built has
+    /// other names.
     pub fn converter<'a, 'b>(
         self,
         line_strings: &'a mut LineStringTable,
         strings: &'b mut StringTable,
     ) -> ConvertLineProgram<'a, 'b, R>
-        ensures header { result.conversion ≡ self }
-        ensures string_tables { SameStringTables line_strings.entry strings.entry
-            result.line_strings result.strings }
+        ensures header { (progress result).conversion ≡ self }
+        ensures string_tables { SameStringTables (lent line_strings.entry strings.entry)
+            (lent_tables result) }
     {
         ConvertLineProgram {
             line_strings,
@@ -147,11 +169,13 @@ impl<R: Reader> ConvertLineHeader<R> {
 }
 
 impl<'a, 'b, R: Reader> ConvertLineProgram<'a, 'b, R, Conversion<R>> {
-    /// A conversion of a source, over the sections that hold its texts. Its directories and files are added to the
-    /// program that is built, by the encodings that are handed, else by the source's own. The name is that of the source
-    /// file, where the source is of version 4 or less; else file 0 is it. Requires encodings that a program may have, where
-    /// they are handed. The program that is begun meets what `write` asks. Refused as `ConvertLineHeader::new` is. Where it
-    /// isn't refused, the tables keep their texts; where it is, only the clauses of `ConvertLineHeader::new` say so.
+    /// A conversion of a source, over the sections that hold its texts. Its directories and files
+    /// are added to the program that is built, by the encodings that are handed, else by the
+    /// source's own. The name is that of the source file, where the source is of version 4 or less;
+    /// else file 0 is it. Requires encodings that a program may have, where they are handed. The
+    /// program that is begun meets what `write` asks. Refused as `ConvertLineHeader::new` is. Where
+    /// it isn't refused, the tables keep their texts; where it is, only the clauses of
+    /// `ConvertLineHeader::new` say so.
     pub fn new(
         debug_str: R,
         debug_line_str: R,
@@ -164,18 +188,15 @@ impl<'a, 'b, R: Reader> ConvertLineProgram<'a, 'b, R, Conversion<R>> {
     ) -> ConvertResult<Self>
         requires address_size { IfSome encoding (λ e. IsTrue (is_address_size e.address_size)) }
         requires lines { IfSome line_encoding CanEncode }
-        ensures ok { IfOk result (λ convert. IsPrepared (source_of R.bytes debug_str debug_line_str from_program
-            from_comp_name encoding line_encoding) line_strings.old convert.conversion convert.line_strings.now) }
+        ensures ok { IfOk result (λ convert. IsBegun (source_of R.bytes debug_str debug_line_str
+            from_program from_comp_name encoding line_encoding)
+            line_strings.old (progress convert)) }
         ensures err { IfErr result (IsHeaderRefusal (source_of R.bytes debug_str debug_line_str
             from_program from_comp_name encoding line_encoding) line_strings.old) }
-        ensures reads { IfOk result (λ convert. ReadsWhole (source_of R.bytes debug_str debug_line_str
-            from_program from_comp_name encoding line_encoding) convert.conversion convert.line_strings.now) }
-        ensures unread { IfOk result (λ convert. IsUnread (source_of R.bytes debug_str debug_line_str
-            from_program from_comp_name encoding line_encoding) convert.conversion) }
-        ensures writable { IfOk result
-            (λ convert. IsWritable convert.conversion.tables.program convert.line_strings.now) }
-        ensures string_tables { IfOk result (λ convert. KeepsStringTables line_strings.entry strings.entry
-            convert.line_strings convert.strings) }
+        // What was begun can be written, and both tables are those that were handed.
+        ensures writable { IfOk result (λ convert. HasWritable (progress convert)) }
+        ensures string_tables { IfOk result (λ convert.
+            KeepsStringTables (lent line_strings.entry strings.entry) (lent_tables convert)) }
     {
         let header = ConvertLineHeader::new(
             debug_str,
@@ -189,88 +210,61 @@ impl<'a, 'b, R: Reader> ConvertLineProgram<'a, 'b, R, Conversion<R>> {
         Ok(header.converter(line_strings, strings))
     }
 
-    /// Begins a sequence in the program that is built. Refused as `UnsupportedLineInstruction` where one has begun, or
-    /// by `OutOfMemory`; then nothing changes.
+    /// Begins a sequence in the program that is built. Refused as `UnsupportedLineInstruction`
+    /// where one has begun, or by `OutOfMemory`; then nothing changes.
     pub fn begin_sequence(&mut self, address: Option<Address>) -> ConvertResult<()>
-        ensures ok { OnOk result (self.new.conversion ≡ with_program
-            (after_begin address self.old.conversion.tables.program) self.old.conversion) }
-        ensures outside { OnOk result (self.old.conversion.tables.program.in_sequence ≡ false) }
-        ensures err { IfErr result
-            (IsBuildRefusal (self.old.conversion.tables.program.in_sequence ≡ false)) }
-        ensures kept { OnErr result (self.new.conversion ≡ self.old.conversion) }
-        ensures writable { StaysWritable self.old.conversion.tables self.old.line_strings.now
-            self.new.conversion.tables self.new.line_strings.now }
-        ensures string_tables { SameStringTables self.old.line_strings self.old.strings
-            self.new.line_strings self.new.strings }
+        ensures builds { Builds (after_begin address (program_of self.old))
+            self.old result self.new }
+        ensures asks { Asks ((program_of self.old).in_sequence ≡ false) result }
     {
         self.conversion.tables.begin_sequence(address)
     }
 
-    /// Sets the address in the program that is built, where a sequence begins if none has. Refused by `OutOfMemory`
-    /// alone; then nothing changes.
+    /// Sets the address in the program that is built, where a sequence begins if none has. Refused
+    /// by `OutOfMemory` alone; then nothing changes.
     pub fn set_address(&mut self, address: Address) -> ConvertResult<()>
-        ensures ok { OnOk result (self.new.conversion ≡ with_program
-            (after_address address self.old.conversion.tables.program) self.old.conversion) }
+        ensures builds { Builds (after_address address (program_of self.old))
+            self.old result self.new }
         ensures memory { IfErr result (λ e. e ≡ ConvertError.OutOfMemory) }
-        ensures kept { OnErr result (self.new.conversion ≡ self.old.conversion) }
-        ensures writable { StaysWritable self.old.conversion.tables self.old.line_strings.now
-            self.new.conversion.tables self.new.line_strings.now }
-        ensures string_tables { SameStringTables self.old.line_strings self.old.strings
-            self.new.line_strings self.new.strings }
     {
         self.conversion.tables.set_address(address)
     }
 
     /// Makes this row the current one of the program that is built, and builds it. Refused as
-    /// `UnsupportedLineInstruction` where it can't be generated after the row before it, or by `OutOfMemory`; then
-    /// nothing changes, nor does the current row.
+    /// `UnsupportedLineInstruction` where it can't be generated after the row before it, or by
+    /// `OutOfMemory`; then nothing changes, nor does the current row.
     pub fn generate_row(&mut self, row: LineRow) -> ConvertResult<()>
-        ensures ok { OnOk result (self.new.conversion ≡ with_program
-            (after_row row self.old.conversion.tables.program) self.old.conversion) }
-        ensures can { OnOk result (CanBuildRow self.old.conversion.tables.program row) }
-        ensures err { IfErr result
-            (IsBuildRefusal (CanBuildRow self.old.conversion.tables.program row)) }
-        ensures kept { OnErr result (self.new.conversion ≡ self.old.conversion) }
-        ensures writable { StaysWritable self.old.conversion.tables self.old.line_strings.now
-            self.new.conversion.tables self.new.line_strings.now }
-        ensures string_tables { SameStringTables self.old.line_strings self.old.strings
-            self.new.line_strings self.new.strings }
+        ensures builds { Builds (after_row row (program_of self.old)) self.old result self.new }
+        ensures asks { Asks (CanBuildRow (program_of self.old) row) result }
     {
         self.conversion.tables.generate_row(row)
     }
 
-    /// Ends a sequence of the program that is built, so many bytes after the address that was last set. Refused as
-    /// `UnsupportedLineInstruction` where it can't end there, or by `OutOfMemory`; then nothing changes.
+    /// Ends a sequence of the program that is built, so many bytes after the address that was last
+    /// set. Refused as `UnsupportedLineInstruction` where it can't end there, or by `OutOfMemory`;
+    /// then nothing changes.
     pub fn end_sequence(&mut self, address_offset: u64) -> ConvertResult<()>
-        ensures ok { OnOk result (self.new.conversion ≡ with_program
-            (after_end address_offset self.old.conversion.tables.program) self.old.conversion) }
-        ensures can { OnOk result
-            (CanEndSequence self.old.conversion.tables.program address_offset) }
-        ensures err { IfErr result
-            (IsBuildRefusal (CanEndSequence self.old.conversion.tables.program address_offset)) }
-        ensures kept { OnErr result (self.new.conversion ≡ self.old.conversion) }
-        ensures writable { StaysWritable self.old.conversion.tables self.old.line_strings.now
-            self.new.conversion.tables self.new.line_strings.now }
-        ensures string_tables { SameStringTables self.old.line_strings self.old.strings
-            self.new.line_strings self.new.strings }
+        ensures builds { Builds (after_end address_offset (program_of self.old))
+            self.old result self.new }
+        ensures asks { Asks (CanEndSequence (program_of self.old) address_offset) result }
     {
         self.conversion.tables.end_sequence(address_offset)
     }
 
     /// Whether a sequence has begun in the program that is built.
     pub fn in_sequence(&self) -> bool
-        ensures { result ≡ self.now.conversion.tables.program.in_sequence }
+        ensures { result ≡ (program_of self.now).in_sequence }
     {
         self.conversion.tables.in_sequence()
     }
 
-    /// The program that was built so far, and for each file number of the source its id there; up to version 4 of the
-    /// source none has number 0.
+    /// The program that was built so far, and for each file number of the source its id there; up
+    /// to version 4 of the source none has number 0.
     pub fn program(self) -> (LineProgram, Vec<FileId>)
-        ensures program { result.0 ≡ self.entry.conversion.tables.program }
-        ensures files { result.1.items ≡ self.entry.conversion.tables.file_ids }
-        ensures line_strings { self.exit.0.now ≡ self.entry.line_strings.now }
-        ensures strings { self.exit.1.0.now ≡ self.entry.strings.now }
+        ensures program { result.0 ≡ program_of self.entry }
+        ensures files { result.1.items ≡ (progress self.entry).conversion.tables.file_ids }
+        ensures line_strings { self.exit.0.now ≡ (lent_tables self.entry).line_strings.now }
+        ensures strings { self.exit.1.0.now ≡ (lent_tables self.entry).strings.now }
     {
         let ConvertLineProgram {
             line_strings: _line_strings,
@@ -281,86 +275,66 @@ impl<'a, 'b, R: Reader> ConvertLineProgram<'a, 'b, R, Conversion<R>> {
         conversion.into_program()
     }
 
-    /// Reads up to the next row, end, or address that one of these follows. An address that is a tombstone, and what
-    /// is under it, gives nothing. Files that are defined on the way are added to the program that is built. Refused
-    /// as `Read` for a fault of the source, and as `InvalidFileIndex` for a row of no file. A file that is defined is
-    /// refused as `InvalidDirectoryIndex` in a directory that isn't there, as `InvalidAttributeValue` for an empty
-    /// path where the program is of version 4 or less, or by `OutOfMemory`. Every later read repeats the refusal. The
-    /// tables keep their texts. So do files their ids and their numbers in the source; after a refusal for another
-    /// cause than memory, and at the end, all files are there that the source defines before. A program that met what
-    /// `write` asks still does.
+    /// Reads up to the next row, end, or address that one of these follows. An address that is a
+    /// tombstone, and what is under it, gives nothing. Files that are defined on the way are added
+    /// to the program that is built. Refused as `Read` for a fault of the source, and as
+    /// `InvalidFileIndex` for a row of no file. A file that is defined is refused as
+    /// `InvalidDirectoryIndex` in a directory that isn't there, as `InvalidAttributeValue` for an
+    /// empty path where the program is of version 4 or less, or by `OutOfMemory`. Every later read
+    /// repeats the refusal. The tables keep their texts. So do files their ids and their numbers in
+    /// the source; after a refusal for another cause than memory, and at the end, all files are
+    /// there that the source defines before. A program that met what `write` asks still does.
     pub fn read_row(&mut self) -> ConvertResult<Option<ConvertLineRow>>
-        ensures ok { IfOk result (λ row. GivesNext self.old.conversion self.old.line_strings.now
-            row self.new.conversion self.new.line_strings.now) }
-        ensures err { IfErr result
-            (IsReadRefusal (still_to_read self.old.conversion self.old.line_strings.now)) }
-        ensures repeats { (e : ConvertError)
-            → self.old.conversion.failed ≡ Some e → result ≡ Err e }
-        ensures failed { IfErr result (λ e. self.new.conversion.failed ≡ Some e) }
-        ensures well { OnOk result (self.new.conversion.failed ≡ None) }
-        ensures adds { AddsFiles self.old.conversion.tables.program self.new.conversion.tables.program }
-        ensures keeps { KeepsFiles self.old.conversion.tables self.new.conversion.tables }
-        ensures writable { StaysWritable self.old.conversion.tables self.old.line_strings.now
-            self.new.conversion.tables self.new.line_strings.now }
-        ensures last { OnOk result (KeepsFinalTables self.old.conversion self.old.line_strings.now
-            self.new.conversion self.new.line_strings.now) }
-        ensures ended { IfOk result (λ row. row ≡ None → HasFinalTables self.old.conversion
-            self.old.line_strings.now self.new.conversion self.new.line_strings.now) }
-        ensures stopped { IfErr result (λ e. e ≢ OutOfMemory → HasFinalTables self.old.conversion
-            self.old.line_strings.now self.new.conversion self.new.line_strings.now) }
-        ensures string_tables { KeepsStringTables self.old.line_strings self.old.strings
-            self.new.line_strings self.new.strings }
+        ensures ok { IfOk result (λ row. GivesNext (progress self.old) row (progress self.new)) }
+        ensures err { IfErr result (IsReadRefusal (reading_of (progress self.old))) }
+        // Refusals are kept; files and texts stay.
+        ensures repeats { RepeatsRefusal (progress self.old) result (progress self.new) }
+        ensures reads_on { ReadsOn (progress self.old) (progress self.new) }
+        ensures leaves { LeavesTables (progress self.old) result (progress self.new) }
+        ensures string_tables { KeepsStringTables (lent_tables self.old) (lent_tables self.new) }
     {
         self.conversion.read_row(self.line_strings)
     }
 
-    /// Reads up to the end of a sequence, or to an address that is set after a row; the next read gives that address
-    /// first. Refused as `read_row` is, as `MissingLineEndSequence` for rows without an end, or by `OutOfMemory`; every
-    /// later read repeats the refusal. The tables keep their texts.
-    /// So do files their ids and their numbers in the source; after a refusal for another cause than memory, and at the
-    /// end, all files are there that the source defines before. A program that met what `write` asks still does.
+    /// Reads up to the end of a sequence, or to an address that is set after a row; the next read
+    /// gives that address first. Refused as `read_row` is, as `MissingLineEndSequence` for rows
+    /// without an end, or by `OutOfMemory`; every later read repeats the refusal. The tables keep
+    /// their texts. So do files their ids and their numbers in the source; after a refusal for
+    /// another cause than memory, and at the end, all files are there that the source defines
+    /// before. A program that met what `write` asks still does.
     pub fn read_sequence(&mut self) -> ConvertResult<Option<ConvertLineSequence>>
-        ensures ok { IfOk result (λ sequence. GathersNext self.old.conversion
-            self.old.line_strings.now sequence self.new.conversion self.new.line_strings.now) }
-        ensures err { IfErr result (IsGatherRefusal self.old.conversion self.old.line_strings.now) }
-        ensures repeats { (e : ConvertError)
-            → self.old.conversion.failed ≡ Some e → result ≡ Err e }
-        ensures failed { IfErr result (λ e. self.new.conversion.failed ≡ Some e) }
-        ensures well { OnOk result (self.new.conversion.failed ≡ None) }
-        ensures adds { AddsFiles self.old.conversion.tables.program self.new.conversion.tables.program }
-        ensures keeps { KeepsFiles self.old.conversion.tables self.new.conversion.tables }
-        ensures writable { StaysWritable self.old.conversion.tables self.old.line_strings.now
-            self.new.conversion.tables self.new.line_strings.now }
-        ensures last { OnOk result (KeepsFinalTables self.old.conversion self.old.line_strings.now
-            self.new.conversion self.new.line_strings.now) }
-        ensures ended { IfOk result (λ sequence. sequence ≡ None → HasFinalTables self.old.conversion
-            self.old.line_strings.now self.new.conversion self.new.line_strings.now) }
-        ensures stopped { IfErr result (λ e. e ≢ OutOfMemory → HasFinalTables self.old.conversion
-            self.old.line_strings.now self.new.conversion self.new.line_strings.now) }
-        ensures string_tables { KeepsStringTables self.old.line_strings self.old.strings
-            self.new.line_strings self.new.strings }
+        ensures ok { IfOk result (λ sequence.
+            GathersNext (progress self.old) sequence (progress self.new)) }
+        ensures err { IfErr result (IsGatherRefusal (progress self.old)) }
+        // Refusals are kept; files and texts stay.
+        ensures repeats { RepeatsRefusal (progress self.old) result (progress self.new) }
+        ensures reads_on { ReadsOn (progress self.old) (progress self.new) }
+        ensures leaves { LeavesTables (progress self.old) result (progress self.new) }
+        ensures string_tables { KeepsStringTables (lent_tables self.old) (lent_tables self.new) }
     {
         self.conversion.read_sequence(self.line_strings)
     }
 
-    /// Reads and builds all that is still to be read: what `read_row` gives is handed to the builder, each before the next
-    /// is read. The map gives for each address of the source the one that is set in its place. Refused by the first of
-    /// these: an address that has no other, as `InvalidAddress`; what can't be built, as `UnsupportedLineInstruction`; a
-    /// refusal of reading; a sequence that is left open, as `MissingLineEndSequence`; or by `OutOfMemory`. The tables keep
-    /// their texts. Where the program met what `write` asks, the new one does. Requires a map that may always be called.
+    /// Reads and builds all that is still to be read: what `read_row` gives is handed to the
+    /// builder, each before the next is read. The map gives for each address of the source the one
+    /// that is set in its place. Refused by the first of these: an address that has no other, as
+    /// `InvalidAddress`; what can't be built, as `UnsupportedLineInstruction`; a refusal of
+    /// reading; a sequence that is left open, as `MissingLineEndSequence`; or by `OutOfMemory`. The
+    /// tables keep their texts. Where the program met what `write` asks, the new one does. Requires
+    /// a map that may always be called.
     pub fn convert<F: Fn(u64) -> Option<Address>>(
         self,
         convert_address: F,
     ) -> ConvertResult<(LineProgram, Vec<FileId>)>
         requires { F.IsAlwaysCallable convert_address }
         ensures ok { IfOk result (λ answer. RestConvertsTo (F.post convert_address)
-            self.entry.conversion self.entry.line_strings.now answer self.exit.0.now) }
-        ensures err { IfErr result (IsRestRefusal (F.post convert_address)
-            self.entry.conversion self.entry.line_strings.now) }
-        ensures writable { IsWritable self.entry.conversion.tables.program self.entry.line_strings.now
+            (progress self.entry) answer self.exit.0.now) }
+        ensures err { IfErr result (IsRestRefusal (F.post convert_address) (progress self.entry)) }
+        // What can be written, and both tables.
+        ensures writable { HasWritable (progress self.entry)
             → IfOk result (λ answer. IsWritable answer.0 self.exit.0.now) }
-        ensures stays { KeepsTexts self.entry.line_strings.now self.exit.0.now }
-        ensures strings { self.exit.1.0.now ≡ self.entry.strings.now }
+        ensures stays { KeepsTexts (lent_tables self.entry).line_strings.now self.exit.0.now }
+        ensures strings { self.exit.1.0.now ≡ (lent_tables self.entry).strings.now }
     {
         let ConvertLineProgram {
             line_strings,
@@ -372,11 +346,12 @@ impl<'a, 'b, R: Reader> ConvertLineProgram<'a, 'b, R, Conversion<R>> {
     }
 }
 
-/// A conversion that is begun and done in one call: `ConvertLineProgram::new`, and then its `convert`. Requires
-/// encodings that a program may have, where they are handed, and a map that may always be called. Refused as these
-/// are; the tables keep their texts, also then. Where each address is mapped to itself, addresses are at least as wide
-/// as the source's, and no sequence that gave a row ends under a tombstone, the program says what its source says, and
-/// so do the rows that are read back of it.
+/// A conversion that is begun and done in one call: `ConvertLineProgram::new`, and then its
+/// `convert`. Requires encodings that a program may have, where they are handed, and a map that may
+/// always be called. Refused as these are; the tables keep their texts, also then. Where each
+/// address is mapped to itself, addresses are at least as wide as the source's, and no sequence
+/// that gave a row ends under a tombstone, the program says what its source says, and so do the
+/// rows that are read back of it.
 pub fn convert_program<R: Reader, F: Fn(u64) -> Option<Address>>(
     debug_str: R,
     debug_line_str: R,
@@ -391,8 +366,13 @@ pub fn convert_program<R: Reader, F: Fn(u64) -> Option<Address>>(
     requires address_size { IfSome encoding (λ e. IsTrue (is_address_size e.address_size)) }
     requires lines { IfSome line_encoding CanEncode }
     requires callable { F.IsAlwaysCallable convert_address }
-    ensures outcome { IsAnswerOf (F.post convert_address) (source_of R.bytes debug_str debug_line_str from_program
-        from_comp_name encoding line_encoding) line_strings.old result (texts_in strings.new line_strings.new) }
+    ensures outcome { IfOk result (λ answer. ConvertsWell (F.post convert_address)
+        (source_of R.bytes debug_str debug_line_str
+        from_program from_comp_name encoding line_encoding)
+        line_strings.old answer (texts_in strings.new line_strings.new)) }
+    ensures refusal { IfErr result (IsConvertRefusal (F.post convert_address)
+        (source_of R.bytes debug_str debug_line_str
+        from_program from_comp_name encoding line_encoding) line_strings.old) }
     ensures stays { KeepsTexts line_strings.old line_strings.new }
     ensures strings { strings.new ≡ strings.old }
 {

@@ -4,9 +4,17 @@ use gimli_build::LineRow;
 use std::marker::Model;
 
 /// What is read of a source, one by one.
+///
+/// <!-- part of crates/checks_writing/src/conversions.rt -->
+/// ```rust
+/// if let Some(ConvertLineRow::Row(row)) = conversion.read_row()? {
+///     check_refused_calls(rt, conversion, row)?;
+/// }
+/// ```
 #[derive(Clone, Copy, Debug, PartialEq, Eq)]
 pub enum ConvertLineRow {
-    /// An address is set. The offsets of the rows and of the end that follow in the sequence count from it.
+    /// An address is set. The offsets of the rows and of the end that follow in the sequence count
+    /// from it.
     SetAddress(u64),
     /// A row.
     Row(LineRow),
@@ -15,6 +23,18 @@ pub enum ConvertLineRow {
 }
 
 /// Rows of a source whose offsets count from one address, and how they end.
+///
+/// <!-- part of crates/rows_writing/src/reading.rt -->
+/// ```rust
+/// lines.put(format_args!("sequence {start}"));
+/// for row in sequence.rows.as_slice() {
+///     lines.put(Row(*row));
+/// }
+/// match sequence.end {
+///     ConvertLineSequenceEnd::Length(length) => lines.put(format_args!("length {length}")),
+///     ConvertLineSequenceEnd::Address(address) => lines.put(format_args!("address {address}")),
+/// }
+/// ```
 #[derive(Debug, Drop, PartialEq, Eq)]
 pub struct ConvertLineSequence {
     /// The address that is set before the rows, if one is.
@@ -26,6 +46,14 @@ pub struct ConvertLineSequence {
 }
 
 /// How the rows of a sequence end.
+///
+/// <!-- part of crates/rows_writing/src/reading.rt -->
+/// ```rust
+/// match sequence.end {
+///     ConvertLineSequenceEnd::Length(length) => lines.put(format_args!("length {length}")),
+///     ConvertLineSequenceEnd::Address(address) => lines.put(format_args!("address {address}")),
+/// }
+/// ```
 #[derive(Clone, Copy, Debug, PartialEq, Eq)]
 pub enum ConvertLineSequenceEnd {
     /// The sequence ends, so many bytes after the address that was last set in it.

@@ -7,7 +7,8 @@ use crate::convert_error::{ConvertError, ConvertResult};
 use gimli_build::{FileId, LineRow as BuiltRow};
 use gimli_core::Reader;
 use gimli_line::{
-    ColumnType, FileEntry, IncompleteLineProgram, LineInstruction, LineInstructions, LineRow,
+    ColumnType, Executed, FileEntry, IncompleteLineProgram, LineInstruction, LineInstructions,
+    LineRow,
 };
 use std::marker::Model;
 
@@ -16,7 +17,8 @@ use std::marker::Model;
 pub(crate) struct SourceRow {
     /// The address that was set after the row before it, if one was.
     pub(crate) set_address: Option<u64>,
-    /// How many bytes it is after the address that was last set in the sequence, or after 0 where none was.
+    /// How many bytes it is after the address that was last set in the sequence, or after 0 where
+    /// none was.
     pub(crate) address_offset: u64,
     /// The registers.
     pub(crate) row: LineRow,
@@ -123,8 +125,18 @@ impl<R: Reader> SourceRun<R> {
     ghost use Rattle.gimli_write.specs.convert.Items.{stops, address_operand, ReadsItems};
     ghost use Rattle.gimli_write.specs.convert.TablesAtEnd.{tables_at_end};
     ghost use Rattle.gimli_write.specs.inside.convert.TablesAtEnd.{step_tables};
-    ghost use Rattle.gimli_write.specs.convert.SourceRun.{start_of_source, state_after, reading_left};
-    ghost use Rattle.gimli_write.specs.inside.convert.SourceRun.{step_made, step_reading, Shortens};
+    ghost use Rattle.gimli_write.specs.convert.SourceRun.{
+      start_of_source,
+      state_after,
+      reading_left,
+    };
+    ghost use Rattle.gimli_write.specs.inside.convert.SourceRun.{
+      source_row,
+      step_made,
+      step_reading,
+      Shortens,
+      StepsSource,
+    };
 
     /// The source, from its start on.
     pub(crate) fn start(program: IncompleteLineProgram<R>) -> Self
@@ -153,8 +165,9 @@ impl<R: Reader> SourceRun<R> {
         self.program.header().version()
     }
 
-    /// Takes the next instruction and executes it, unless it defines a file. Refused by `Read`, as the instruction
-    /// is, or by `AddressOverflow`. Takes no memory.
+    /// Takes the next instruction and executes it, unless it defines a file. Refused by `Read`, as
+    /// the instruction is, or by `AddressOverflow`. Takes no memory.
+    #[inline(always)]
     pub(crate) fn step(&mut self) -> ConvertResult<SourceStep<R>>
         ensures reading { IfOk result (λ step. (sections : Sections) (tables : TablesAndTexts)
             → reading_left sections self.old tables
@@ -169,6 +182,31 @@ impl<R: Reader> SourceRun<R> {
         ensures shorter { IfOk result (λ step. Shortens step self.old self.new) }
         ensures header { self.new.header ≡ self.old.header }
         ensures notation { self.new.unread.notation ≡ self.old.unread.notation }
+    {
+        let header = self.program.header();
+        let executed = match self.instructions.execute_next(header, &mut self.row) {
+            Ok(executed) => executed,
+            Err(e) => return Err(ConvertError::Read(e)),
+        };
+        match executed {
+            Executed::No => self.step_parsed(),
+            Executed::Quiet => Ok(SourceStep::More),
+            Executed::Address(address) => {
+                self.base = address;
+                self.pending = Some(address);
+                Ok(SourceStep::More)
+            }
+            Executed::Row => {
+                let row = self.row;
+                self.row.reset(self.program.header());
+                Ok(self.made(row))
+            }
+        }
+    }
+
+    /// Does what `step` does, of an instruction as it is parsed.
+    fn step_parsed(&mut self) -> ConvertResult<SourceStep<R>>
+        ensures { StepsSource R.bytes R.Offset.number self.old self.new result }
     {
         let instruction = match self.instructions.next_instruction(self.program.header()) {
             Err(e) => return Err(ConvertError::Read(e)),
@@ -195,15 +233,19 @@ impl<R: Reader> SourceRun<R> {
         let _never_refused = self.row.execute(set_address, &mut self.program);
     }
 
-    /// Executes an instruction, which doesn't set an address and defines no file. Refused by `AddressOverflow`.
+    /// Executes an instruction, which doesn't set an address and defines no file. Refused by
+    /// `AddressOverflow`.
     fn execute(&mut self, instruction: LineInstruction<R>) -> ConvertResult<SourceStep<R>>
-        requires allowed { IsAllowed self.old.header.parameters (ins_seen R.bytes R.Offset.number instruction) }
+        requires allowed { IsAllowed self.old.header.parameters
+            (ins_seen R.bytes R.Offset.number instruction) }
         requires address { address_operand (ins_seen R.bytes R.Offset.number instruction) ≡ None }
         requires file { defines_file (ins_seen R.bytes R.Offset.number instruction) ≡ false }
         ensures fits { OnOk result (is_refused self.old.header.parameters
             (ins_seen R.bytes R.Offset.number instruction) self.old.row ≡ false) }
-        ensures step { OnOk result (self.new ≡ state_after (ins_seen R.bytes R.Offset.number instruction) self.old) }
-        ensures made { IfOk result (λ step. step ≡ step_made self.old (ins_seen R.bytes R.Offset.number instruction)) }
+        ensures step { OnOk result
+            (self.new ≡ state_after (ins_seen R.bytes R.Offset.number instruction) self.old) }
+        ensures made { IfOk result (λ step.
+            step ≡ step_made self.old (ins_seen R.bytes R.Offset.number instruction)) }
         ensures overflow { IfErr result (λ e. (e ≡ ConvertError.Read AddressOverflow)
             × (is_refused self.old.header.parameters
             (ins_seen R.bytes R.Offset.number instruction) self.old.row ≡ true)) }
@@ -217,17 +259,29 @@ impl<R: Reader> SourceRun<R> {
         if !made {
             return Ok(SourceStep::More);
         }
-        let address = self.row.address();
-        let ends = self.row.end_sequence();
+        let row = self.row;
+        self.row.reset(self.program.header());
+        Ok(self.made(row))
+    }
+
+    /// The step of an instruction that made this row, which may be under a tombstone and may end
+    /// its sequence; the registers are ready for what follows it.
+    #[inline(always)]
+    fn made(&mut self, row: LineRow) -> SourceStep<R>
+        ensures step { result ≡ (if row.tombstone then SourceStep.More
+            else SourceStep.Made (source_row self.old row)) }
+        ensures new { self.new ≡ record self.old {
+          base = if row.end_sequence then 0 else self.old.base;
+          pending = None;
+        } }
+    {
         let source_row = SourceRow {
             set_address: self.pending,
-            address_offset: address.saturating_sub(self.base),
-            row: self.row,
+            address_offset: row.address().saturating_sub(self.base),
+            row,
         };
-        let step = SourceStep::of_row(source_row);
-        self.base = base_after_row(self.base, ends);
+        self.base = base_after_row(self.base, row.end_sequence());
         self.pending = None;
-        self.row.reset(self.program.header());
-        Ok(step)
+        SourceStep::of_row(source_row)
     }
 }

@@ -1,23 +1,24 @@
 //! The directories and files of a source, as they are added to the program that is built of it.
 
-ghost use Rattle.std.specs.Prelude.{◌≡◌, ◌≢◌, ◌≤◌, ℕ, List, [], false, All, IfOk, IfErr, IfSome, OnErr, OnOk, Ok, length, map, slice_get, ◌<◌};
+ghost use Rattle.std.specs.Prelude.{◌≡◌, ◌≢◌, ◌≤◌, ℕ, List, [], false, All, IfOk, IfErr, IfSome};
+ghost use Rattle.std.specs.Prelude.{OnErr, OnOk, Ok, length, map, slice_get, ◌<◌};
 ghost use Rattle.gimli_core.specs.Values.{value_seen};
 ghost use Rattle.gimli_line.specs.header.File.{file_seen};
 ghost use Rattle.gimli_bytes.specs.Texts.{KeepsTexts};
-ghost use Rattle.gimli_build.specs.Built.{previous_position};
 ghost use Rattle.gimli_build.specs.Calls.{after_begin, after_address, after_row, after_end};
-ghost use Rattle.gimli_build.specs.Conditions.{CanBuild, CanGenerateRow, CanEndSequence};
+ghost use Rattle.gimli_build.specs.Conditions.{CanGenerateRow, CanEndSequence};
 ghost use Rattle.gimli_write.specs.convert.Texts.{IsRefusedBy};
 ghost use Rattle.gimli_write.specs.convert.Items.{file_id};
-ghost use Rattle.gimli_write.specs.convert.Conversion.{AddsFiles, IsBuildRefusal};
+ghost use Rattle.gimli_write.specs.convert.Conversion.{AddsFiles, Asks, CanBuildRow};
 ghost use Rattle.gimli_write.specs.convert.KeptTables.{KeepsFiles, StaysWritable};
-ghost use Rattle.gimli_write.specs.convert.SourceTables.{tables_with, directory_added, file_added, file_parts, with_parts, all_added};
+ghost use Rattle.gimli_write.specs.convert.SourceTables.{tables_with, directory_added, file_added};
+ghost use Rattle.gimli_write.specs.convert.SourceTables.{file_parts, with_parts, all_added};
 ghost use Rattle.gimli_write.specs.declared.convert_error.ConvertError.TheVariants.{OutOfMemory};
 
 use crate::convert::texts::{optional_program_text, optional_text, program_text, source_path};
 use crate::convert_error::{ConvertError, ConvertResult, from_write};
 use crate::text::TextSections;
-use gimli_build::{BuiltItem, DirectoryId, FileId, FileInfo, LineProgram, LineRow};
+use gimli_build::{DirectoryId, FileId, FileInfo, LineProgram, LineRow};
 use gimli_bytes::{Address, LineStringTable};
 use gimli_core::{AttributeValue, Reader, ReaderOffset};
 use gimli_line::FileEntry;
@@ -31,7 +32,8 @@ pub(crate) struct SourceTables {
     pub(crate) program: LineProgram,
     /// For each directory of the source, by its index there, its id in the program.
     pub(crate) directories: Vec<DirectoryId>,
-    /// For each file, by its number in the source, its id; up to version 4 of the source none has number 0.
+    /// For each file, by its number in the source, its id; up to version 4 of the source none has
+    /// number 0.
     pub(crate) files: Vec<FileId>,
 }
 
@@ -73,17 +75,20 @@ impl Model for FileParts {
 }
 
 impl SourceTables {
-    /// Adds a directory after the others. Refused as its path is; the program and the ids are then as before, unless
-    /// memory is missing. The line strings keep their texts.
+    /// Adds a directory after the others. Refused as its path is; the program and the ids are then
+    /// as before, unless memory is missing. The line strings keep their texts.
     pub(crate) fn add_directory<R: Reader>(
         &mut self,
         directory: AttributeValue<R>,
         sections: &TextSections<R>,
         line_strings: &mut LineStringTable,
     ) -> ConvertResult<()>
-        ensures ok { OnOk result (directory_added sections.now (tables_with line_strings.old self.old)
-            (value_seen R.bytes R.Offset.number directory) ≡ Ok (tables_with line_strings.new self.new)) }
-        ensures err { IfErr result (IsRefusedBy (directory_added sections.now (tables_with line_strings.old self.old)
+        ensures ok { OnOk result
+            (directory_added sections.now (tables_with line_strings.old self.old)
+            (value_seen R.bytes R.Offset.number directory)
+            ≡ Ok (tables_with line_strings.new self.new)) }
+        ensures err { IfErr result
+            (IsRefusedBy (directory_added sections.now (tables_with line_strings.old self.old)
             (value_seen R.bytes R.Offset.number directory))) }
         ensures kept { IfErr result (λ e. e ≢ ConvertError.OutOfMemory → self.new ≡ self.old) }
         ensures stays { KeepsTexts line_strings.old line_strings.new }
@@ -98,8 +103,8 @@ impl SourceTables {
         }
     }
 
-    /// What a file of the source has, with texts of the program. Refused as its path and its source are, and as
-    /// `InvalidDirectoryIndex` where the source has no directory of its index.
+    /// What a file of the source has, with texts of the program. Refused as its path and its source
+    /// are, and as `InvalidDirectoryIndex` where the source has no directory of its index.
     fn file_parts<R: Reader>(
         &self,
         alloc: Global,
@@ -108,12 +113,17 @@ impl SourceTables {
     ) -> ConvertResult<FileParts>
         ensures ok { IfOk result (λ parts. file_parts self.now.program.encoding.version sections.now
             self.now.directory_ids (file_seen R.bytes R.Offset.number file.now) ≡ Ok parts) }
-        ensures err { IfErr result (IsRefusedBy (file_parts self.now.program.encoding.version sections.now
+        ensures err { IfErr result
+            (IsRefusedBy (file_parts self.now.program.encoding.version sections.now
             self.now.directory_ids (file_seen R.bytes R.Offset.number file.now))) }
+        // What a program asks of them.
         ensures no_zero { IfOk result (λ parts. All (λ b. b ≢ 0) parts.path) }
-        ensures not_empty { IfOk result (λ parts. self.now.program.encoding.version ≤ 4 → parts.path ≢ []) }
-        ensures source_no_zero { IfOk result (λ parts. IfSome parts.source (λ text. All (λ b. b ≢ 0) text)) }
-        ensures within { IfOk result (λ parts. parts.directory < length self.now.program.directories) }
+        ensures not_empty { IfOk result (λ parts.
+            self.now.program.encoding.version ≤ 4 → parts.path ≢ []) }
+        ensures source_no_zero { IfOk result (λ parts.
+            IfSome parts.source (λ text. All (λ b. b ≢ 0) text)) }
+        ensures within { IfOk result (λ parts.
+            parts.directory < length self.now.program.directories) }
     {
         let path = source_path(alloc, self.program.version(), file.path_name(), sections)?;
         let directory = match directory_id(self.directories.as_slice(), file.directory_index()) {
@@ -128,8 +138,9 @@ impl SourceTables {
         })
     }
 
-    /// Adds a file of these parts after the others. Requires a path and a source that a program can have, and a directory
-    /// of the program. Refused by `OutOfMemory` alone. The line strings keep their texts.
+    /// Adds a file of these parts after the others. Requires a path and a source that a program can
+    /// have, and a directory of the program. Refused by `OutOfMemory` alone. The line strings keep
+    /// their texts.
     fn add_parts<R: Reader>(
         &mut self,
         file: &FileEntry<R>,
@@ -141,8 +152,10 @@ impl SourceTables {
         requires source_no_zero { IfSome parts.now.source (λ text. All (λ b. b ≢ 0) text) }
         requires within { parts.now.directory < length self.old.program.directories }
         ensures ok { OnOk result (with_parts (tables_with line_strings.old self.old)
-            (file_seen R.bytes R.Offset.number file.now) parts.now ≡ tables_with line_strings.new self.new) }
+            (file_seen R.bytes R.Offset.number file.now) parts.now
+            ≡ tables_with line_strings.new self.new) }
         ensures memory { IfErr result (λ e. e ≡ ConvertError.OutOfMemory) }
+        // However it ends.
         ensures adds { AddsFiles self.old.program self.new.program }
         ensures keeps { KeepsFiles self.old self.new }
         ensures writable { StaysWritable self.old line_strings.old self.new line_strings.new }
@@ -163,8 +176,8 @@ impl SourceTables {
         }
     }
 
-    /// Adds a file after the others. Refused as `file_parts` is; the program, the ids and the line strings are then as
-    /// before, unless memory is missing. The line strings keep their texts.
+    /// Adds a file after the others. Refused as `file_parts` is; the program, the ids and the line
+    /// strings are then as before, unless memory is missing. The line strings keep their texts.
     pub(crate) fn add_file<R: Reader>(
         &mut self,
         file: &FileEntry<R>,
@@ -172,11 +185,15 @@ impl SourceTables {
         line_strings: &mut LineStringTable,
     ) -> ConvertResult<()>
         ensures ok { OnOk result (file_added sections.now (tables_with line_strings.old self.old)
-            (file_seen R.bytes R.Offset.number file.now) ≡ Ok (tables_with line_strings.new self.new)) }
-        ensures err { IfErr result (IsRefusedBy (file_added sections.now (tables_with line_strings.old self.old)
+            (file_seen R.bytes R.Offset.number file.now)
+            ≡ Ok (tables_with line_strings.new self.new)) }
+        ensures err { IfErr result
+            (IsRefusedBy (file_added sections.now (tables_with line_strings.old self.old)
             (file_seen R.bytes R.Offset.number file.now))) }
         ensures kept { IfErr result (λ e. e ≢ ConvertError.OutOfMemory → self.new ≡ self.old) }
-        ensures texts { IfErr result (λ e. e ≢ ConvertError.OutOfMemory → line_strings.new ≡ line_strings.old) }
+        ensures texts { IfErr result (λ e.
+            e ≢ ConvertError.OutOfMemory → line_strings.new ≡ line_strings.old) }
+        // However it ends.
         ensures adds { AddsFiles self.old.program self.new.program }
         ensures keeps { KeepsFiles self.old self.new }
         ensures writable { StaysWritable self.old line_strings.old self.new line_strings.new }
@@ -186,8 +203,8 @@ impl SourceTables {
         self.add_parts(file, &parts, line_strings)
     }
 
-    /// The id of the file of a number in the source, which is of this version. Refused as `InvalidFileIndex` where the
-    /// source has no file of its number so far.
+    /// The id of the file of a number in the source, which is of this version. Refused as
+    /// `InvalidFileIndex` where the source has no file of its number so far.
     pub(crate) fn file_id(&self, source_version: u16, number: u64) -> ConvertResult<FileId>
         ensures { (line_strings : List (List ℕ))
             → result ≡ file_id source_version (tables_with line_strings self.now) number }
@@ -201,7 +218,8 @@ impl SourceTables {
         }
     }
 
-    /// Adds directories in order. Refused as the first is that is refused. The line strings keep their texts.
+    /// Adds directories in order. Refused as the first is that is refused. The line strings keep
+    /// their texts.
     pub(crate) fn add_directories<R: Reader>(
         &mut self,
         directories: &[AttributeValue<R>],
@@ -209,10 +227,12 @@ impl SourceTables {
         line_strings: &mut LineStringTable,
     ) -> ConvertResult<()>
         ensures ok { OnOk result (all_added (directory_added sections.now)
-            (map (value_seen R.bytes R.Offset.number) directories.now) (tables_with line_strings.old self.old)
+            (map (value_seen R.bytes R.Offset.number) directories.now)
+            (tables_with line_strings.old self.old)
             ≡ Ok (tables_with line_strings.new self.new)) }
         ensures err { IfErr result (IsRefusedBy (all_added (directory_added sections.now)
-            (map (value_seen R.bytes R.Offset.number) directories.now) (tables_with line_strings.old self.old))) }
+            (map (value_seen R.bytes R.Offset.number) directories.now)
+            (tables_with line_strings.old self.old))) }
         ensures stays { KeepsTexts line_strings.old line_strings.new }
     {
         for directory in directories {
@@ -221,7 +241,8 @@ impl SourceTables {
         Ok(())
     }
 
-    /// Adds files in order. Refused as the first is that is refused. The line strings keep their texts.
+    /// Adds files in order. Refused as the first is that is refused. The line strings keep their
+    /// texts.
     pub(crate) fn add_files<R: Reader>(
         &mut self,
         files: &[FileEntry<R>],
@@ -229,10 +250,12 @@ impl SourceTables {
         line_strings: &mut LineStringTable,
     ) -> ConvertResult<()>
         ensures ok { OnOk result (all_added (file_added sections.now)
-            (map (file_seen R.bytes R.Offset.number) files.now) (tables_with line_strings.old self.old)
+            (map (file_seen R.bytes R.Offset.number) files.now)
+            (tables_with line_strings.old self.old)
             ≡ Ok (tables_with line_strings.new self.new)) }
         ensures err { IfErr result (IsRefusedBy (all_added (file_added sections.now)
-            (map (file_seen R.bytes R.Offset.number) files.now) (tables_with line_strings.old self.old))) }
+            (map (file_seen R.bytes R.Offset.number) files.now)
+            (tables_with line_strings.old self.old))) }
         ensures stays { KeepsTexts line_strings.old line_strings.new }
     {
         for file in files {
@@ -241,12 +264,12 @@ impl SourceTables {
         Ok(())
     }
 
-    /// Begins a sequence. Refused as `UnsupportedLineInstruction` where one has begun, or by `OutOfMemory`; then nothing
-    /// changes.
+    /// Begins a sequence. Refused as `UnsupportedLineInstruction` where one has begun, or by
+    /// `OutOfMemory`; then nothing changes.
     pub(crate) fn begin_sequence(&mut self, address: Option<Address>) -> ConvertResult<()>
-        ensures ok { OnOk result (self.new ≡ record self.old { program = after_begin address self.old.program }) }
-        ensures outside { OnOk result (self.old.program.in_sequence ≡ false) }
-        ensures err { IfErr result (IsBuildRefusal (self.old.program.in_sequence ≡ false)) }
+        ensures ok { OnOk result
+            (self.new ≡ record self.old { program = after_begin address self.old.program }) }
+        ensures asks { Asks (self.old.program.in_sequence ≡ false) result }
         ensures kept { OnErr result (self.new ≡ self.old) }
     {
         if self.program.in_sequence() {
@@ -260,7 +283,8 @@ impl SourceTables {
 
     /// Sets the address. Refused by `OutOfMemory` alone; then nothing changes.
     pub(crate) fn set_address(&mut self, address: Address) -> ConvertResult<()>
-        ensures ok { OnOk result (self.new ≡ record self.old { program = after_address address self.old.program }) }
+        ensures ok { OnOk result
+            (self.new ≡ record self.old { program = after_address address self.old.program }) }
         ensures memory { IfErr result (λ e. e ≡ ConvertError.OutOfMemory) }
         ensures kept { OnErr result (self.new ≡ self.old) }
     {
@@ -270,14 +294,12 @@ impl SourceTables {
         }
     }
 
-    /// Builds a row. Refused as `UnsupportedLineInstruction` where it can't be generated, or by `OutOfMemory`; then
-    /// nothing changes.
+    /// Builds a row. Refused as `UnsupportedLineInstruction` where it can't be generated, or by
+    /// `OutOfMemory`; then nothing changes.
     pub(crate) fn generate_row(&mut self, row: LineRow) -> ConvertResult<()>
-        ensures ok { OnOk result (self.new ≡ record self.old { program = after_row row self.old.program }) }
-        ensures can { OnOk result
-            (CanBuild self.old.program.line_encoding (previous_position self.old.program.items) (BuiltItem.Row row)) }
-        ensures err { IfErr result (IsBuildRefusal
-            (CanBuild self.old.program.line_encoding (previous_position self.old.program.items) (BuiltItem.Row row))) }
+        ensures ok { OnOk result
+            (self.new ≡ record self.old { program = after_row row self.old.program }) }
+        ensures asks { Asks (CanBuildRow self.old.program row) result }
         ensures kept { OnErr result (self.new ≡ self.old) }
     {
         let program = &mut self.program;
@@ -290,12 +312,12 @@ impl SourceTables {
         generated
     }
 
-    /// Ends a sequence. Refused as `UnsupportedLineInstruction` where it can't end at this offset, or by `OutOfMemory`;
-    /// then nothing changes.
+    /// Ends a sequence. Refused as `UnsupportedLineInstruction` where it can't end at this offset,
+    /// or by `OutOfMemory`; then nothing changes.
     pub(crate) fn end_sequence(&mut self, address_offset: u64) -> ConvertResult<()>
-        ensures ok { OnOk result (self.new ≡ record self.old { program = after_end address_offset self.old.program }) }
-        ensures can { OnOk result (CanEndSequence self.old.program address_offset) }
-        ensures err { IfErr result (IsBuildRefusal (CanEndSequence self.old.program address_offset)) }
+        ensures ok { OnOk result
+            (self.new ≡ record self.old { program = after_end address_offset self.old.program }) }
+        ensures asks { Asks (CanEndSequence self.old.program address_offset) result }
         ensures kept { OnErr result (self.new ≡ self.old) }
     {
         if !self.program.can_end_sequence(address_offset) {
@@ -331,13 +353,12 @@ fn file_at(ids: &[FileId], number: u64) -> Option<FileId>
     ids.get(number).copied()
 }
 
-/// Builds the current row. Refused as `UnsupportedLineInstruction` where it can't be generated, or by `OutOfMemory`;
-/// then nothing changes.
+/// Builds the current row. Refused as `UnsupportedLineInstruction` where it can't be generated, or
+/// by `OutOfMemory`; then nothing changes.
 fn generate_current(program: &mut LineProgram) -> ConvertResult<()>
     requires { program.old.is_none ≡ false }
     ensures ok { OnOk result (program.new ≡ after_row program.old.row program.old) }
-    ensures can { OnOk result (CanGenerateRow program.old) }
-    ensures err { IfErr result (IsBuildRefusal (CanGenerateRow program.old)) }
+    ensures asks { Asks (CanGenerateRow program.old) result }
     ensures kept { OnErr result (program.new ≡ program.old) }
 {
     if !program.can_generate_row() {

@@ -1,12 +1,15 @@
 //! The texts of a source that is converted, and those of the program that is built of it.
 
-ghost use Rattle.std.specs.Prelude.{◌≡◌, ◌≢◌, ◌≤◌, ℕ, List, [], All, IfOk, IfErr, IfSome, OnOk, Ok, option_map};
+ghost use Rattle.std.specs.Prelude.{◌≡◌, ◌≢◌, ◌≤◌, ℕ, List, [], All, IfOk, IfErr, IfSome, OnOk, Ok};
+ghost use Rattle.std.specs.Prelude.{option_map};
 ghost use Rattle.std.specs.Option.{option_map_or};
 ghost use Rattle.gimli_core.specs.Reading.{result_map};
 ghost use Rattle.gimli_core.specs.Values.{value_seen};
 ghost use Rattle.gimli_bytes.specs.Texts.{KeepsTexts, texts_in};
-ghost use Rattle.gimli_build.specs.LineText.{line_text, made_text, made_table, IsWithin, HasNoZero, IsNotEmpty};
-ghost use Rattle.gimli_write.specs.convert.Texts.{IsRefusedBy, if_there, without_zero, source_text, source_path};
+ghost use Rattle.gimli_build.specs.LineText.{line_text, made_text, made_table, IsWithin, HasNoZero};
+ghost use Rattle.gimli_build.specs.LineText.{IsNotEmpty};
+ghost use Rattle.gimli_write.specs.convert.Texts.{IsRefusedBy, if_there, without_zero, source_text};
+ghost use Rattle.gimli_write.specs.convert.Texts.{source_path};
 
 use crate::convert_error::{ConvertError, ConvertResult, from_write};
 use crate::text::{TextSections, text};
@@ -28,16 +31,19 @@ pub(crate) fn without_zero(text: Vec<u8>) -> ConvertResult<Vec<u8>>
     }
 }
 
-/// The text that a value of the source stands for. Refused as `text` is, as `UnsupportedLineStringForm` for a text of
-/// a supplementary file, and as `InvalidAttributeValue` for one with a zero byte.
+/// The text that a value of the source stands for. Refused as `text` is, as
+/// `UnsupportedLineStringForm` for a text of a supplementary file, and as `InvalidAttributeValue`
+/// for one with a zero byte.
 pub(crate) fn source_text<R: Reader>(
     alloc: Global,
     value: AttributeValue<R>,
     sections: &TextSections<R>,
 ) -> ConvertResult<Vec<u8>>
-    ensures ok { IfOk result (λ text. source_text sections.now (value_seen R.bytes R.Offset.number value)
+    ensures ok { IfOk result (λ text.
+        source_text sections.now (value_seen R.bytes R.Offset.number value)
         ≡ Ok text.items) }
-    ensures err { IfErr result (IsRefusedBy (source_text sections.now (value_seen R.bytes R.Offset.number value))) }
+    ensures err { IfErr result
+        (IsRefusedBy (source_text sections.now (value_seen R.bytes R.Offset.number value))) }
     ensures no_zero { IfOk result (λ text. All (λ b. b ≢ 0) text.items) }
 {
     match value {
@@ -56,7 +62,8 @@ pub(crate) fn optional_text<R: Reader>(
         (option_map (value_seen R.bytes R.Offset.number) value)
         ≡ Ok (option_map (λ text. text.items) text)) }
     ensures err { IfErr result (IsRefusedBy
-        (if_there (source_text sections.now) (option_map (value_seen R.bytes R.Offset.number) value))) }
+        (if_there (source_text sections.now)
+        (option_map (value_seen R.bytes R.Offset.number) value))) }
     ensures no_zero { IfOk result (λ text. IfSome text (λ text. All (λ b. b ≢ 0) text.items)) }
 {
     match value {
@@ -65,8 +72,9 @@ pub(crate) fn optional_text<R: Reader>(
     }
 }
 
-/// The path of a directory or a file of the source, for a program of this version. Refused as `source_text` is, and up
-/// to version 4 as `InvalidAttributeValue` where it is empty, since it would end its table.
+/// The path of a directory or a file of the source, for a program of this version. Refused as
+/// `source_text` is, and up to version 4 as `InvalidAttributeValue` where it is empty, since it
+/// would end its table.
 pub(crate) fn source_path<R: Reader>(
     alloc: Global,
     version: u16,
@@ -74,9 +82,11 @@ pub(crate) fn source_path<R: Reader>(
     sections: &TextSections<R>,
 ) -> ConvertResult<Vec<u8>>
     ensures ok { IfOk result (λ path.
-        source_path version sections.now (value_seen R.bytes R.Offset.number value) ≡ Ok path.items) }
+        source_path version sections.now (value_seen R.bytes R.Offset.number value)
+        ≡ Ok path.items) }
     ensures err { IfErr result
-        (IsRefusedBy (source_path version sections.now (value_seen R.bytes R.Offset.number value))) }
+        (IsRefusedBy
+        (source_path version sections.now (value_seen R.bytes R.Offset.number value))) }
     ensures no_zero { IfOk result (λ path. All (λ b. b ≢ 0) path.items) }
     ensures not_empty { IfOk result (λ path. version ≤ 4 → path.items ≢ []) }
 {
@@ -87,19 +97,25 @@ pub(crate) fn source_path<R: Reader>(
     Ok(path)
 }
 
-/// A text of a program of this encoding. Requires bytes without a zero byte. Refused by `OutOfMemory` alone; then the line
-/// strings are as before.
+/// A text of a program of this encoding. Requires bytes without a zero byte. Refused by
+/// `OutOfMemory` alone; then the line strings are as before.
 pub(crate) fn program_text(
     text: &[u8],
     encoding: Encoding,
     line_strings: &mut LineStringTable,
 ) -> ConvertResult<LineString>
     requires { All (λ b. b ≢ 0) text.now }
-    ensures ok { IfOk result (λ made. line_text made ≡ made_text encoding.version line_strings.old text.now) }
-    ensures table { OnOk result (line_strings.new ≡ made_table encoding.version line_strings.old text.now) }
-    ensures within { IfOk result (λ made. (strings : List (List ℕ)) → IsWithin (texts_in strings line_strings.new) (line_text made)) }
+    ensures ok { IfOk result (λ made.
+        line_text made ≡ made_text encoding.version line_strings.old text.now) }
+    ensures table { OnOk result
+        (line_strings.new ≡ made_table encoding.version line_strings.old text.now) }
+    // What a program asks of it.
+    ensures within { IfOk result (λ made. (strings : List (List ℕ)) →
+        IsWithin (texts_in strings line_strings.new) (line_text made)) }
     ensures no_zero { IfOk result (λ made. HasNoZero (line_text made)) }
-    ensures not_empty { encoding.version ≤ 4 → text.now ≢ [] → IfOk result (λ made. IsNotEmpty (line_text made)) }
+    ensures not_empty { encoding.version ≤ 4 → text.now ≢ []
+        → IfOk result (λ made. IsNotEmpty (line_text made)) }
+    // However it ends.
     ensures stays { KeepsTexts line_strings.old line_strings.new }
     ensures memory { IfErr result (λ e. e ≡ ConvertError.OutOfMemory) }
 {
@@ -117,12 +133,16 @@ pub(crate) fn optional_program_text(
 ) -> ConvertResult<Option<LineString>>
     requires { IfSome text.now (λ text. All (λ b. b ≢ 0) text.items) }
     ensures ok { IfOk result (λ made. option_map line_text made
-        ≡ option_map (made_text encoding.version line_strings.old) (option_map (λ text. text.items) text.now)) }
-    ensures table { OnOk result (line_strings.new ≡ option_map_or (made_table encoding.version line_strings.old)
+        ≡ option_map (made_text encoding.version line_strings.old)
+        (option_map (λ text. text.items) text.now)) }
+    ensures table { OnOk result
+        (line_strings.new ≡ option_map_or (made_table encoding.version line_strings.old)
         (option_map (λ text. text.items) text.now) line_strings.old) }
+    // What a program asks of it.
     ensures within { IfOk result (λ made. IfSome made (λ made. (strings : List (List ℕ)) →
         IsWithin (texts_in strings line_strings.new) (line_text made))) }
     ensures no_zero { IfOk result (λ made. IfSome made (λ made. HasNoZero (line_text made))) }
+    // However it ends.
     ensures stays { KeepsTexts line_strings.old line_strings.new }
     ensures memory { IfErr result (λ e. e ≡ ConvertError.OutOfMemory) }
 {

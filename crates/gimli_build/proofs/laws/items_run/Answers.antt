@@ -3,4 +3,5 @@ use Rattle.gimli_build.proofs.laws.items_run.Goals as goal
 
 pub returns : goal.returns
 returns c = λ here items way next.
-    items-run here.encoding here.line_encoding way.accepts.address_size way.accepts.lines next.version here.base here.previous items way.position next.line_before next.built next.addresses
+    items-run here.encoding here.line_encoding way.accepts.address_size way.accepts.lines next.version here.base here.previous items way.position
+    next.line_before next.built next.addresses

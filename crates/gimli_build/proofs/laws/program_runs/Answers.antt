@@ -14,4 +14,5 @@ returns c = λ p can.
     let e = p.line_encoding in
     let first = initial_row encoding.version e.default_is_stmt in
     ap (λ (r : ReadRow). run (built_rules encoding e) r (program_instructions p)) (start-is encoding e can.version)
-    ∙ items-run encoding e can.accepts.address_size can.accepts.lines can.version 0 first p.items (start_position e can.accepts.lines) (lit< tt) can.built can.addresses
+    ∙ items-run encoding e can.accepts.address_size can.accepts.lines can.version 0 first p.items (start_position e can.accepts.lines) (lit< tt) can.built
+    can.addresses

@@ -7,7 +7,9 @@ pub returns-clause-writes : goal.returns-clause-writes
 returns-clause-writes g c =
     let first = rw c.encoding.ensures.encoding at c.in_ok-write_opening.ensures in
     let second = rw first.ordered at c.in_ok-write_header.ensures.writes in
-    let third = rw (second.ordered ∙ first.ordered, c.encoding-2.ensures.encoding, c.line_encoding.ensures, c.built_items.ensures.items) at c.write_items.ensures.writes in
+    let third =
+    rw (second.ordered ∙ first.ordered, c.encoding-2.ensures.encoding, c.line_encoding.ensures, c.built_items.ensures.items) at
+    c.write_items.ensures.writes in
     joins first (joins second third)
 
 pub returns-clause-built : goal.returns-clause-built

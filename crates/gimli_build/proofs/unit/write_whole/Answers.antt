@@ -24,18 +24,25 @@ returns-clause-writes g c =
     let n = c.len.result - c.len-start.result in
     let whole : ℕ → Result (List ℕ) Error = λ k. result_append (Ok (escape_bytes big format)) (length_word big format k) in
     let bytes = inside_bytes big c.args.program.now (texts_in c.args.strings.now c.args.line_strings.now) in
-    let opened : IsTrue g.W.Sink.keeps_bytes → c1 ≡ (old ++ escape_bytes big format) ++ open_word big format = λ keeps_bytes. rw c.format-format.ensures at (c.in_ok-length.ensures.appends.ok keeps_bytes) ∙ ap (λ l. old ++ l) (escape_is big format) ∙ sym (append_assoc old (escape_bytes big format) (open_word big format)) in
-    let at : IsTrue g.W.Sink.keeps_bytes → start ≡ length old + length (escape_bytes big format) = λ keeps_bytes. rw c.format-format.ensures at (c.in_ok-length.ensures.place keeps_bytes) ∙ ap (λ k. length old + k) (sym (escape_long big format)) in
+    let opened : IsTrue g.W.Sink.keeps_bytes → c1 ≡ (old ++ escape_bytes big format) ++ open_word big format = λ keeps_bytes.
+    rw c.format-format.ensures at (c.in_ok-length.ensures.appends.ok keeps_bytes) ∙ ap (λ l. old ++ l) (escape_is big format)
+    ∙ sym (append_assoc old (escape_bytes big format) (open_word big format)) in
+    let at : IsTrue g.W.Sink.keeps_bytes → start ≡ length old + length (escape_bytes big format) = λ keeps_bytes.
+    rw c.format-format.ensures at (c.in_ok-length.ensures.place keeps_bytes) ∙ ap (λ k. length old + k) (sym (escape_long big format)) in
     let written : IsTrue g.W.Sink.keeps_bytes → Appends bytes c1 c2 = λ keeps_bytes. rw c.in_ok-length.ensures.appends.ordered at (inside.ok keeps_bytes) in
     let counted : n ≡ length c2 - length c1 = omega (arith, c.len.ensures, c.len-start.ensures) in
     let ordered = inside.ordered ∙ c.in_ok-length.ensures.appends.ordered in
     record {
-      keeps = begins_before old c2 c3 start (begins_then old c1 c2 c.in_ok-length.ensures.appends.keeps inside.keeps) c.in_ok-length.ensures.after c.write_initial_length_at.ensures.before;
+      keeps =
+          begins_before old c2 c3 start (begins_then old c1 c2 c.in_ok-length.ensures.appends.keeps inside.keeps) c.in_ok-length.ensures.after
+          c.write_initial_length_at.ensures.before;
       ordered = c.write_initial_length_at.ensures.ordered ∙ ordered;
       ok = λ keeps_bytes. on_ok c.write_initial_length_at.result
-          (framed whole (length_word big format) (escape_bytes big format) (open_word big format) old c1 c2 c3 start n bytes (λ k. refl) (opened keeps_bytes) (at keeps_bytes) (written keeps_bytes) counted (λ word is. length_word_long big format n word is))
+          (framed whole (length_word big format) (escape_bytes big format) (open_word big format) old c1 c2 c3 start n bytes (λ k. refl) (opened keeps_bytes)
+          (at keeps_bytes) (written keeps_bytes) counted (λ word is. length_word_long big format n word is))
           (rw (ordered, c.format-format.ensures) at (c.write_initial_length_at.ensures.ok keeps_bytes));
       err = λ keeps_bytes fails_for_memory_alone. if_err c.write_initial_length_at.result
-          (λ e refused. inr (frame_refused whole (length_word big format) (escape_bytes big format) (open_word big format) old c1 c2 c3 start n bytes (λ k. refl) (opened keeps_bytes) (at keeps_bytes) (written keeps_bytes) counted (λ word is. length_word_long big format n word is) e refused))
+          (λ e refused. inr (frame_refused whole (length_word big format) (escape_bytes big format) (open_word big format) old c1 c2 c3 start n bytes
+          (λ k. refl) (opened keeps_bytes) (at keeps_bytes) (written keeps_bytes) counted (λ word is. length_word_long big format n word is) e refused))
           (rw (ordered, c.format-format.ensures) at (c.write_initial_length_at.ensures.err fails_for_memory_alone));
     }

@@ -10,13 +10,17 @@ use Rattle.gimli_bytes.proofs.piece_vec.put.Goals as goal
 pub index_mut-piece-requires : goal.index_mut-piece-requires
 index_mut-piece-requires c =
     let some : 0 < length c.loop-rest.rest.now = grind (arith, common_steps) in
-    let inside = piece-inside c.args.size c.loop-rest.at c.loop-rest.pieces.items c.requires.size c.loop-rest.invariant.sizes (omega (arith, c.loop-rest.invariant.fits)) in
+    let inside =
+    piece-inside c.args.size c.loop-rest.at c.loop-rest.pieces.items c.requires.size c.loop-rest.invariant.sizes
+    (omega (arith, c.loop-rest.invariant.fits)) in
     omega (arith, c.loop-rest.pieces.ok.0)
 
 pub put-requires : goal.put-requires
 put-requires c =
     let some : 0 < length c.loop-rest.rest.now = grind (arith, common_steps) in
-    let inside = piece-inside c.args.size c.loop-rest.at c.loop-rest.pieces.items c.requires.size c.loop-rest.invariant.sizes (omega (arith, c.loop-rest.invariant.fits)) in
+    let inside =
+    piece-inside c.args.size c.loop-rest.at c.loop-rest.pieces.items c.requires.size c.loop-rest.invariant.sizes
+    (omega (arith, c.loop-rest.invariant.fits)) in
     let size = c.loop-rest.invariant.sizes (c.loop-rest.at / c.args.size) c.index_mut-piece.result.now inside in
     let same = ap (λ (l : List ℕ). length l) c.index_mut-piece.ensures.value in
     omega (arith, size, same, c.split_at.ensures.front_len, c.min.ensures, mod_below c.loop-rest.at c.args.size c.requires.size)
@@ -50,5 +54,8 @@ loop-rest-preserved c =
       count = count ∙ c.loop-rest.invariant.count;
       fits = rw (after, count) (omega (arith, c.loop-rest.invariant.fits));
       end = omega (arith, c.loop-rest.invariant.end);
-      bytes = put-step n at ps piece c.split_at.result.0.now c.split_at.result.1.now c.loop-rest.rest.now c.put.new.self c.loop-rest.invariant.sizes inside parts c.loop-rest.invariant.fits fits is ∙ c.loop-rest.invariant.bytes;
+      bytes =
+          put-step n at ps piece c.split_at.result.0.now c.split_at.result.1.now c.loop-rest.rest.now c.put.new.self c.loop-rest.invariant.sizes inside parts
+          c.loop-rest.invariant.fits fits is
+          ∙ c.loop-rest.invariant.bytes;
     }

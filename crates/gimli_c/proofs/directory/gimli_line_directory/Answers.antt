@@ -23,7 +23,9 @@ returns-clause-found c = λ _.
       is_directory = ap (λ p. directory_of p.meaning c.args.index) (sym c.header.ensures) ∙ sym c.in-Some.ensures.directory;
       seen_is = c.new.ensures;
       bytes_is = elim c.match-text_here.branch [
-        | in-Some-text_here w ↦ some_text (Some (value_seen (λ s. s.slice.now) (λ n. n) c.in-Some.value)) _ _ _ _ w.in-Some-text_here.ensures w.slice.ensures (w.bytes-is ∙ w.copy_bytes.ensures)
+        | in-Some-text_here w ↦
+            some_text (Some (value_seen (λ s. s.slice.now) (λ n. n) c.in-Some.value)) _ _ _ _ w.in-Some-text_here.ensures w.slice.ensures
+            (w.bytes-is ∙ w.copy_bytes.ensures)
         | in_default w ↦ no_text (Some (value_seen (λ s. s.slice.now) (λ n. n) c.in-Some.value)) _ _ w.in_default.ensures w.bytes-is
       ];
     }

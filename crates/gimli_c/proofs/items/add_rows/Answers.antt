@@ -12,9 +12,12 @@ returns-in_err-base-clause-cause c = λ start.
     let old = c.args.program.now in
     let so_far = c.loop-row.invariant in
     rw (p.1, p.2) (λ s.
-    subst (λ (position : ℕ × ℕ). HasRowsFault old.line_encoding old.encoding.version (length c.args.ids.now) None position c.args.rows.now c.in_err-base.field-0.0) start
+    subst
+    (λ (position : ℕ × ℕ). HasRowsFault old.line_encoding old.encoding.version (length c.args.ids.now) None position c.args.rows.now c.in_err-base.field-0.0)
+    start
     (so_far.faults _
-    (row_of_rows c.loop-row.program old _ _ _ _ _ _ _ (ap (λ (q : Built). q.line_encoding) so_far.others) (ap (λ (q : Built). q.encoding) so_far.others) c.loop-row-test.true
+    (row_of_rows c.loop-row.program old _ _ _ _ _ _ _ (ap (λ (q : Built). q.line_encoding) so_far.others) (ap (λ (q : Built). q.encoding) so_far.others)
+    c.loop-row-test.true
     (c.in_err-base.ensures.cause (so_far.start start) s))))
 
 pub loop-row-preserved : goal.loop-row-preserved

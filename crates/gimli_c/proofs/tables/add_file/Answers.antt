@@ -14,4 +14,6 @@ returns-in-Ok-clause-can c =
     (file_can c.args.program.now (path, c.in-Some.directory) _ c.requires.can (text_is_inline path _ c.in_ok-path.ensures.ok c.in_ok-path.ensures.no_zero) refl)
 
 pub returns-in-Ok-clause-well : goal.returns-in-Ok-clause-well
-returns-in-Ok-clause-well c = file_is_well c.args.program.now.encoding.version c.args.texts.now c.args.ids.now _ c.args.file.now (rw c.version.ensures at c.in_ok-path.ensures.well) (sym c.in-Some.ensures)
+returns-in-Ok-clause-well c =
+    file_is_well c.args.program.now.encoding.version c.args.texts.now c.args.ids.now _ c.args.file.now (rw c.version.ensures at c.in_ok-path.ensures.well)
+    (sym c.in-Some.ensures)

@@ -11,7 +11,8 @@ use Rattle.gimli_c.proofs.tables.add_files.Goals as goal
 pub loop-file-preserved : goal.loop-file-preserved
 loop-file-preserved c =
     let well : GimliFileName → Type 0 = λ f. HasNone (HasFileFault c.args.program.now.encoding.version c.args.texts.now (length c.args.ids.now) f) in
-    let same : c.loop-file.program.encoding.version ≡ c.args.program.now.encoding.version = ap (λ (p : Built). p.encoding.version) c.loop-file.invariant.others in
+    let same : c.loop-file.program.encoding.version
+    ≡ c.args.program.now.encoding.version = ap (λ (p : Built). p.encoding.version) c.loop-file.invariant.others in
     record {
       can = first_of (search rules, grind (arith, common_steps));
       files = first_of (search rules, grind (arith, common_steps));

@@ -31,7 +31,8 @@ returns-clause-ok c = λ big.
       is_start = record {
         program_is = c.in_ok-start.ensures.start
             ∙ ap (λ (e : Encoding). start_program e c.in_ok-units.lines c.args.texts.now c.args.directories.now c.args.files.now) c.in_ok-units.ensures.encoding
-            ∙ ap (λ (l : LineEncoding). start_program (encoding_of c.args.encoding.now) l c.args.texts.now c.args.directories.now c.args.files.now) c.in_ok-units.ensures.lines;
+            ∙ ap (λ (l : LineEncoding). start_program (encoding_of c.args.encoding.now) l c.args.texts.now c.args.directories.now c.args.files.now)
+            c.in_ok-units.ensures.lines;
         can = c.in_ok-start.ensures.can;
       };
       directory_ids = c.in_ok-ids.ids.items;
@@ -40,7 +41,9 @@ returns-clause-ok c = λ big.
       after = after;
       directories = directories;
       files = files;
-      items = items_built c.args.details c.args.encoding.now c.in_ok-start.start between after c.add_rows.new.program _ _ _ _ _ _ c.as_slice-2.result.now c.args.rows.now
+      items =
+          items_built c.args.details c.args.encoding.now c.in_ok-start.start between after c.add_rows.new.program _ _ _ _ _ _ c.as_slice-2.result.now
+          c.args.rows.now
           (ap (λ (q : Built). q.items) c.in_ok-start.ensures.start) encoding directories files c.as_slice-2.ensures.value c.in_ok-add_rows.ensures.ok;
       others = c.in_ok-add_rows.ensures.ok.others;
       can = c.in_ok-add_rows.ensures.can;
@@ -49,13 +52,17 @@ returns-clause-ok c = λ big.
 pub returns-in_err-ids-clause-cause : goal.returns-in_err-ids-clause-cause
 returns-in_err-ids-clause-cause c = λ big.
     let p = err_from_is_err_and c.from_residual-in_err-ids.result c.from_residual-in_err-ids.ensures.1 in
-    let encoding = ap (λ (q : Built). q.encoding) c.with_details-program.ensures ∙ ap (λ (q : Built). q.encoding) c.in_ok-start.ensures.start ∙ c.in_ok-units.ensures.encoding in
+    let encoding =
+    ap (λ (q : Built). q.encoding) c.with_details-program.ensures ∙ ap (λ (q : Built). q.encoding) c.in_ok-start.ensures.start
+    ∙ c.in_ok-units.ensures.encoding in
     rw (p.1, p.2) (λ s. names_refused _ _ _ (ap (λ e. e.version) encoding) (c.in_err-ids.ensures.cause s))
 
 pub returns-in_err-file_ids-clause-cause : goal.returns-in_err-file_ids-clause-cause
 returns-in_err-file_ids-clause-cause c = λ big.
     let p = err_from_is_err_and c.from_residual-in_err-file_ids.result c.from_residual-in_err-file_ids.ensures.1 in
-    let started = ap (λ (q : Built). q.encoding) c.with_details-program.ensures ∙ ap (λ (q : Built). q.encoding) c.in_ok-start.ensures.start ∙ c.in_ok-units.ensures.encoding in
+    let started =
+    ap (λ (q : Built). q.encoding) c.with_details-program.ensures ∙ ap (λ (q : Built). q.encoding) c.in_ok-start.ensures.start
+    ∙ c.in_ok-units.ensures.encoding in
     let encoding = ap (λ (q : Built). q.encoding) c.in_ok-ids.ensures.ok.others ∙ started in
     let ids = ap (λ (xs : List ℕ). length xs) c.as_slice.ensures.value ∙ directory_ids _ _ _ _ _ _ c.in_ok-ids.ensures.ok (ap (λ e. e.version) started) in
     rw (p.1, p.2) (λ s. files_refused _ _ _ _ (ap (λ e. e.version) encoding) ids (c.in_err-file_ids.ensures.cause s))
@@ -70,7 +77,9 @@ returns-in_err-add_rows-clause-cause c = λ big.
     ∙ ap (λ (q : Built). q.line_encoding) c.in_ok-start.ensures.start ∙ c.in_ok-units.ensures.lines in
     let encoding = ap (λ (q : Built). q.encoding) files ∙ ap (λ (q : Built). q.encoding) directories ∙ ap (λ (q : Built). q.encoding) details
     ∙ ap (λ (q : Built). q.encoding) c.in_ok-start.ensures.start ∙ c.in_ok-units.ensures.encoding in
-    let none = ap (λ (q : Built). q.items) files ∙ ap (λ (q : Built). q.items) directories ∙ ap (λ (q : Built). q.items) details ∙ ap (λ (q : Built). q.items) c.in_ok-start.ensures.start in
+    let none =
+    ap (λ (q : Built). q.items) files ∙ ap (λ (q : Built). q.items) directories ∙ ap (λ (q : Built). q.items) details
+    ∙ ap (λ (q : Built). q.items) c.in_ok-start.ensures.start in
     let ids = ap (λ (xs : List ℕ). length xs) c.as_slice-2.ensures.value ∙ file_ids _ _ _ _ _ _ c.in_ok-file_ids.ensures.ok in
     rw (p.1, p.2) (λ s. rows_refused _ c.add_files.new.program _ _ lines encoding ids (c.in_err-add_rows.ensures.cause (ap previous_position none) s))
 
@@ -87,7 +96,8 @@ returns-clause-well c = λ big.
     let started = ap (λ (q : Built). q.encoding) details ∙ ap (λ (q : Built). q.encoding) start ∙ given.encoding in
     let between = ap (λ (q : Built). q.encoding) directories ∙ started in
     let after = ap (λ (q : Built). q.encoding) files ∙ between in
-    let none = ap (λ (q : Built). q.items) files ∙ ap (λ (q : Built). q.items) directories ∙ ap (λ (q : Built). q.items) details ∙ ap (λ (q : Built). q.items) start in
+    let none =
+    ap (λ (q : Built). q.items) files ∙ ap (λ (q : Built). q.items) directories ∙ ap (λ (q : Built). q.items) details ∙ ap (λ (q : Built). q.items) start in
     let ids = ap (λ (xs : List ℕ). length xs) c.as_slice.ensures.value ∙ directory_ids _ _ _ _ _ _ c.in_ok-ids.ensures.ok (ap (λ e. e.version) started) in
     let file_count = ap (λ (xs : List ℕ). length xs) c.as_slice-2.ensures.value ∙ file_ids _ _ _ _ _ _ c.in_ok-file_ids.ensures.ok in
     let each : ℕ → ℕ → Type 0 = λ version end. All (λ f. HasNone (HasFileFault version h.texts end f)) h.files in

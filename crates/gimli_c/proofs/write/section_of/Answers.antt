@@ -9,5 +9,6 @@ returns-clause-reads_back c =
     let p = c.args.program.now in
     let empty = c.from-section.ensures ∙ c.new.ensures in
     let gained = rw (c.default-strings.ensures, c.default-line_strings.ensures) at c.in_ok-write.ensures.tables in
-    read_back (is_big c.from-section.result.0.endian) c.args.big p (texts_in c.write.new.strings c.write.new.line_strings) c.from-section.result.0.bytes c.write.new.w.0.bytes
+    read_back (is_big c.from-section.result.0.endian) c.args.big p (texts_in c.write.new.strings c.write.new.line_strings) c.from-section.result.0.bytes
+    c.write.new.w.0.bytes
     (ap (λ s. is_big s.endian) empty ∙ c.order.ensures) (ap (λ s. s.bytes) empty) c.requires.source gained (c.in_ok-write.ensures.reads_back refl)

@@ -14,15 +14,18 @@ returns-then-declared-eq0-clause-read g c = search_ends _ _ _ _ c.in_ok-declared
 pub returns-in_err-specifications-clause-read : goal.returns-in_err-specifications-clause-read
 returns-in_err-specifications-clause-read g c =
     let p = err_from_is_err_and c.from_residual-in_err-specifications.result c.from_residual-in_err-specifications.ensures.1 in
-    rw (p.1, p.2) (search_fault_inside _ _ _ _ c.in_ok-declared.ensures.read c.if-declared-eq0.false _ _ c.in_err-specifications.ensures.read ∙ c.loop-declared.invariant)
+    rw (p.1, p.2)
+    (search_fault_inside _ _ _ _ c.in_ok-declared.ensures.read c.if-declared-eq0.false _ _ c.in_err-specifications.ensures.read ∙ c.loop-declared.invariant)
 
 pub returns-then-declared-code-clause-read : goal.returns-then-declared-code-clause-read
 returns-then-declared-code-clause-read g c =
-    search_found _ _ _ _ c.in_ok-declared.ensures.read c.if-declared-eq0.false _ _ c.in_ok-specifications.ensures.read c.if-declared-code.true ∙ c.loop-declared.invariant
+    search_found _ _ _ _ c.in_ok-declared.ensures.read c.if-declared-eq0.false _ _ c.in_ok-specifications.ensures.read c.if-declared-code.true
+    ∙ c.loop-declared.invariant
 
 pub loop-declared-preserved : goal.loop-declared-preserved
 loop-declared-preserved g c =
-    sym (search_more _ _ _ _ c.in_ok-declared.ensures.read c.if-declared-eq0.false _ _ c.in_ok-specifications.ensures.read c.if-declared-code.false) ∙ c.loop-declared.invariant
+    sym (search_more _ _ _ _ c.in_ok-declared.ensures.read c.if-declared-eq0.false _ _ c.in_ok-specifications.ensures.read c.if-declared-code.false)
+    ∙ c.loop-declared.invariant
 
 pub loop-declared-smaller : goal.loop-declared-smaller
 loop-declared-smaller g c = search_smaller 0 _ _ _ c.in_ok-declared.ensures.read c.if-declared-eq0.false _ _ c.in_ok-specifications.ensures.read

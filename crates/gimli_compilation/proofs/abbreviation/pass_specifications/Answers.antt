@@ -9,10 +9,13 @@ returns-in_err-specification g c =
     record { read = rw (p.1, p.2) (sym (passed_refused _ _ _ c.in_err-specification.ensures.read) ∙ c.loop-specification.invariant) }
 
 pub returns-then-is_end : goal.returns-then-is_end
-returns-then-is_end g c = record { read = sym (passed_last _ _ _ c.in_ok-specification.ensures.read (sym c.is_end.ensures ∙ c.if-is_end.true)) ∙ c.loop-specification.invariant }
+returns-then-is_end g c = record {
+  read = sym (passed_last _ _ _ c.in_ok-specification.ensures.read (sym c.is_end.ensures ∙ c.if-is_end.true)) ∙ c.loop-specification.invariant;
+}
 
 pub loop-specification-preserved : goal.loop-specification-preserved
-loop-specification-preserved g c = sym (passed_more _ _ _ c.in_ok-specification.ensures.read (sym c.is_end.ensures ∙ c.if-is_end.false)) ∙ c.loop-specification.invariant
+loop-specification-preserved g c =
+    sym (passed_more _ _ _ c.in_ok-specification.ensures.read (sym c.is_end.ensures ∙ c.if-is_end.false)) ∙ c.loop-specification.invariant
 
 pub loop-specification-smaller : goal.loop-specification-smaller
 loop-specification-smaller g c = specification_smaller _ _ _ c.in_ok-specification.ensures.read

@@ -12,20 +12,28 @@ returns-in_err-specification g c = absurd (never_refused _ _ _ c.loop-specificat
 
 pub returns-then-is_end : goal.returns-then-is_end
 returns-then-is_end g c =
-    record { read = attributes_done _ _ _ _ _ _ _ _ c.in_ok-specification.ensures.read (sym c.is_end.ensures ∙ c.if-is_end.true) c.loop-specification.invariant.so_far }
+    record {
+      read = attributes_done _ _ _ _ _ _ _ _ c.in_ok-specification.ensures.read (sym c.is_end.ensures ∙ c.if-is_end.true) c.loop-specification.invariant.so_far;
+    }
 
 pub returns-in_err-value : goal.returns-in_err-value
 returns-in_err-value g c =
     let p = err_from_is_err_and c.from_residual-in_err-value.result c.from_residual-in_err-value.ensures.1 in
     let read = rw c.loop-specification.invariant.order at c.in_err-value.ensures.read in
-    record { read = rw (p.1, p.2) (attributes_refused _ _ _ _ _ c.loop-specification.invariant.closed c.in_ok-specification.ensures.read (sym c.is_end.ensures ∙ c.if-is_end.false) _ _ _ _ _ read c.loop-specification.invariant.so_far) }
+    record {
+      read =
+          rw (p.1, p.2) (attributes_refused _ _ _ _ _ c.loop-specification.invariant.closed c.in_ok-specification.ensures.read
+          (sym c.is_end.ensures ∙ c.if-is_end.false) _ _ _ _ _ read c.loop-specification.invariant.so_far);
+    }
 
 pub loop-specification-preserved : goal.loop-specification-preserved
 loop-specification-preserved g c =
     let on = sym c.is_end.ensures ∙ c.if-is_end.false in
     let read = rw c.loop-specification.invariant.order at c.in_ok-value.ensures.read in
     record {
-      so_far = rw (c.update.ensures, seen_with) (attributes_go_on _ _ _ _ _ c.loop-specification.invariant.closed c.in_ok-specification.ensures.read on _ _ _ _ _ read c.loop-specification.invariant.so_far);
+      so_far =
+          rw (c.update.ensures, seen_with) (attributes_go_on _ _ _ _ _ c.loop-specification.invariant.closed c.in_ok-specification.ensures.read on _ _ _ _ _
+          read c.loop-specification.invariant.so_far);
       closed = still_listed _ _ _ c.loop-specification.invariant.closed c.in_ok-specification.ensures.read on;
       order = c.parse_form.ensures.order ∙ c.loop-specification.invariant.order;
     }

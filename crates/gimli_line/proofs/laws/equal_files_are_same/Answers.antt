@@ -9,15 +9,35 @@ module _ {R Offset Endian : Type 0} where
   abbrev rebuilt : FileEntry R Offset Endian → FileEntry R Offset Endian
   rebuilt f = record { path_name = f.path_name; directory_index = f.directory_index; timestamp = f.timestamp; size = f.size; md5 = f.md5; source = f.source }
 
-  joined : (x y : FileEntry R Offset Endian) → (x.path_name ≡ y.path_name) × ((x.directory_index ≡ y.directory_index) × ((x.timestamp ≡ y.timestamp) × ((x.size ≡ y.size) × ((x.md5 ≡ y.md5) × (x.source ≡ y.source))))) → x ≡ y
+  joined : (x y : FileEntry R Offset Endian)
+      → (x.path_name ≡ y.path_name)
+      × ((x.directory_index ≡ y.directory_index) × ((x.timestamp ≡ y.timestamp) × ((x.size ≡ y.size) × ((x.md5 ≡ y.md5) × (x.source ≡ y.source)))))
+      → x ≡ y
   joined x y p = let same : rebuilt x ≡ rebuilt y = rw (p.0, p.1.0, p.1.1.0, p.1.1.1.0, p.1.1.1.1.0, p.1.1.1.1.1) refl in same
 
-  parted : (x y : FileEntry R Offset Endian) → x ≡ y → (x.path_name ≡ y.path_name) × ((x.directory_index ≡ y.directory_index) × ((x.timestamp ≡ y.timestamp) × ((x.size ≡ y.size) × ((x.md5 ≡ y.md5) × (x.source ≡ y.source)))))
-  parted x y e = (ap (λ (f : FileEntry R Offset Endian). f.path_name) e, (ap (λ (f : FileEntry R Offset Endian). f.directory_index) e, (ap (λ (f : FileEntry R Offset Endian). f.timestamp) e, (ap (λ (f : FileEntry R Offset Endian). f.size) e, (ap (λ (f : FileEntry R Offset Endian). f.md5) e, (ap (λ (f : FileEntry R Offset Endian). f.source) e))))))
+  parted : (x y : FileEntry R Offset Endian) → x ≡ y
+      → (x.path_name ≡ y.path_name)
+      × ((x.directory_index ≡ y.directory_index) × ((x.timestamp ≡ y.timestamp) × ((x.size ≡ y.size) × ((x.md5 ≡ y.md5) × (x.source ≡ y.source)))))
+  parted x y e = (
+    ap (λ (f : FileEntry R Offset Endian). f.path_name) e,
+    (
+      ap (λ (f : FileEntry R Offset Endian). f.directory_index) e,
+      (
+        ap (λ (f : FileEntry R Offset Endian). f.timestamp) e,
+        (
+          ap (λ (f : FileEntry R Offset Endian). f.size) e,
+          (ap (λ (f : FileEntry R Offset Endian). f.md5) e, (ap (λ (f : FileEntry R Offset Endian). f.source) e)),
+        ),
+      ),
+    ),
+  )
 
 pub returns : goal.returns
 returns g c readers offsets x y =
     let path = c.equal_values_are_same.ensures readers offsets x.path_name y.path_name in
     let source = c.equal_sources_are_same.ensures readers offsets x.source y.source in
     let md5 = c.equal_digests_are_same.ensures x.md5 y.md5 in
-    whole (both path (both (unsigned_Decides x.directory_index y.directory_index) (both (unsigned_Decides x.timestamp y.timestamp) (both (unsigned_Decides x.size y.size) (both md5 source))))) (joined x y) (parted x y)
+    whole
+    (both path (both (unsigned_Decides x.directory_index y.directory_index)
+    (both (unsigned_Decides x.timestamp y.timestamp) (both (unsigned_Decides x.size y.size) (both md5 source)))))
+    (joined x y) (parted x y)

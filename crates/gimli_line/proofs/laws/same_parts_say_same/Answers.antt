@@ -9,7 +9,8 @@ use Rattle.gimli_line.proofs.laws.same_parts_say_same.Goals as goal
 
 module _ {R Offset Endian : Type 0} where
   -- what headers say that is told by their parts
-  same_told : {A : Type 0} (told : OwnParts R Offset Endian → A) (say : SeenHeader R Offset Endian → A) (seen x other y : SeenHeader R Offset Endian) → seen ≡ x → other ≡ y
+  same_told : {A : Type 0} (told : OwnParts R Offset Endian → A) (say : SeenHeader R Offset Endian → A) (seen x other y : SeenHeader R Offset Endian) → seen ≡ x
+      → other ≡ y
       → say seen ≡ told (parts_of seen) → say other ≡ told (parts_of other) → parts_of x ≡ parts_of y → say x ≡ say y
   same_told told say seen x other y is to first second e =
       sym (ap say is) ∙ first ∙ ap (λ h. told (parts_of h)) is ∙ ap told e ∙ sym (ap (λ h. told (parts_of h)) to) ∙ sym second ∙ ap say to

@@ -11,7 +11,8 @@ use Rattle.gimli_line.specs.declared.header.file_entry.FileEntryFormat.{FileEntr
 
 -- what a value of this content type makes of what stood before
 abbrev pub value_after : {A : Type 0} → ℕ → (Value → Option A) → ℕ → Value → A → A
-value_after wanted pick content value before = elim (if nat_eq content wanted then pick value else None) [ Some x ↦ x | None ↦ before ]
+value_after wanted pick content value before =
+    elim (if nat_eq content wanted then pick value else None) [ Some x ↦ x | None ↦ before ]
 
 -- the path of a directory
 abbrev pub path_with : Value → ℕ → Value → Value
@@ -35,7 +36,9 @@ fold_of step first (v ∷ entry) = fold_of step (step first v.0 v.1) entry
 
 module _ (notation : Notation) (format : Format) where
   -- the same as they are read
-  abbrev pub folded_at : {A : Type 0} → (A → ℕ → Value → A) → A → List FileEntryFormat → List ℕ → Read A
+  abbrev pub folded_at : {A : Type 0} → (A → ℕ → Value → A) → A → List FileEntryFormat → List ℕ
+      → Read A
   folded_at step first [] bytes = (Ok first, bytes)
   folded_at step first (f ∷ formats) bytes =
-      form_at notation format f.form.0 bytes >>= λ value rest. folded_at step (step first f.content_type.0 value) formats rest
+      form_at notation format f.form.0 bytes >>= λ value rest.
+      folded_at step (step first f.content_type.0 value) formats rest

@@ -2,8 +2,11 @@
 use Rattle.std.specs.Prelude.{ℕ, List, drop, Some, None, Ok, Err}
 use Rattle.gimli_core.specs.Notation.{Notation}
 use Rattle.gimli_core.specs.Values.{Value}
-use Rattle.gimli_core.specs.Reading.{Read, ◌>>=◌, split_at, text_at, number_at, unsigned_at, signed_at, word_at}
-use Rattle.gimli_core.specs.Form.{Shape, fixed, three_bytes, word_offset, leb, signed_leb, leb_offset, block, counted, leb_counted, string, shape_among, shapes}
+use Rattle.gimli_core.specs.Reading.{Read, ◌>>=◌, split_at, text_at, number_at, unsigned_at}
+use Rattle.gimli_core.specs.Reading.{signed_at, word_at}
+use Rattle.gimli_core.specs.Form.{Shape, fixed, three_bytes, word_offset, leb, signed_leb}
+use Rattle.gimli_core.specs.Form.{leb_offset, block, counted, leb_counted, string, shape_among}
+use Rattle.gimli_core.specs.Form.{shapes}
 use Rattle.gimli_core.specs.declared.common.Format.{Format}
 use Rattle.gimli_core.specs.declared.error.Error.TheVariants.{UnknownForm}
 use Rattle.gimli_core.specs.declared.attribute_value.AttributeValue.TheVariants.{Block, String}
@@ -15,12 +18,16 @@ block_at n bytes = split_at n bytes >>= λ xs rest. (Ok (Block xs), rest)
 
 module _ (notation : Notation) (format : Format) where
   abbrev pub shape_at : Shape → List ℕ → Read Value
-  shape_at (fixed size make) bytes = number_at notation.big size bytes >>= λ n rest. (Ok (make n), rest)
-  shape_at (three_bytes make) bytes = offset_at notation.limit (number_at notation.big 3) bytes >>= λ n rest. (Ok (make n), rest)
-  shape_at (word_offset make) bytes = word_at notation.big notation.limit format bytes >>= λ n rest. (Ok (make n), rest)
+  shape_at (fixed size make) bytes =
+      number_at notation.big size bytes >>= λ n rest. (Ok (make n), rest)
+  shape_at (three_bytes make) bytes =
+      offset_at notation.limit (number_at notation.big 3) bytes >>= λ n rest. (Ok (make n), rest)
+  shape_at (word_offset make) bytes =
+      word_at notation.big notation.limit format bytes >>= λ n rest. (Ok (make n), rest)
   shape_at (leb make) bytes = unsigned_at bytes >>= λ n rest. (Ok (make n), rest)
   shape_at (signed_leb make) bytes = signed_at bytes >>= λ z rest. (Ok (make z), rest)
-  shape_at (leb_offset make) bytes = offset_at notation.limit unsigned_at bytes >>= λ n rest. (Ok (make n), rest)
+  shape_at (leb_offset make) bytes =
+      offset_at notation.limit unsigned_at bytes >>= λ n rest. (Ok (make n), rest)
   shape_at (block size) bytes = block_at size bytes
   shape_at (counted size) bytes = number_at notation.big size bytes >>= block_at
   shape_at leb_counted bytes = offset_at notation.limit unsigned_at bytes >>= block_at

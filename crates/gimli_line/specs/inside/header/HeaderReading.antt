@@ -1,28 +1,41 @@
 -- What is taken of a header, step by step, and what is left.
-use Rattle.std.specs.Prelude.{ℕ, ◌-◌, List, [], ◌∷◌, map, min, count_by, Bool, not, ◌&&◌, nat_eq, nat_le, if◌then◌else◌, option_map, Ok, Err}
+use Rattle.std.specs.Prelude.{ℕ, ◌-◌, List, [], ◌∷◌, map, min, count_by, Bool, not, ◌&&◌, nat_eq}
+use Rattle.std.specs.Prelude.{nat_le, if◌then◌else◌, option_map, Ok, Err}
 use Rattle.std.specs.Int.{w8, cast_signed}
 use Rattle.gimli_core.specs.Notation.{Notation}
 use Rattle.gimli_core.specs.Values.{Value}
-use Rattle.gimli_core.specs.Reading.{Read, ◌>>=◌, byte_at, split_at, text_at, number_at, unsigned_at, unsigned_16_at, word_at, initial_length_at, address_size_at, times_at, within_at}
+use Rattle.gimli_core.specs.Reading.{Read, ◌>>=◌, byte_at, split_at, text_at, number_at}
+use Rattle.gimli_core.specs.Reading.{unsigned_at, unsigned_16_at, word_at, initial_length_at}
+use Rattle.gimli_core.specs.Reading.{address_size_at, times_at, within_at}
 use Rattle.gimli_core.specs.declared.common.Encoding.{Encoding}
 use Rattle.gimli_core.specs.declared.common.LineEncoding.{LineEncoding}
 use Rattle.gimli_core.specs.declared.common.Format.{Format}
 use Rattle.gimli_core.specs.declared.attribute_value.AttributeValue.TheVariants.{String}
 use Rattle.gimli_core.specs.declared.error.Error.{Error}
-use Rattle.gimli_core.specs.declared.error.Error.TheVariants.{UnknownVersion, UnsupportedSegmentSize, MinimumInstructionLengthZero, MaximumOperationsPerInstructionZero, LineRangeZero, OpcodeBaseZero, MissingFileEntryFormatPath}
+use Rattle.gimli_core.specs.declared.error.Error.TheVariants.{
+  UnknownVersion,
+  UnsupportedSegmentSize,
+  MinimumInstructionLengthZero,
+  MaximumOperationsPerInstructionZero,
+  LineRangeZero,
+  OpcodeBaseZero,
+  MissingFileEntryFormatPath,
+}
 use Rattle.gimli_line.specs.header.Parameters.{Parameters}
 use Rattle.gimli_line.specs.header.File.{File}
 use Rattle.gimli_line.specs.header.Header.{Header, UnitEntry, plain_file}
 use Rattle.gimli_line.specs.inside.header.Outcome.{read_map}
 use Rattle.gimli_line.specs.inside.header.TableReading.{list_to_zero_at}
 use Rattle.gimli_line.specs.inside.header.FormReading.{form_at}
-use Rattle.gimli_line.specs.header.HeaderGrammar.{Entry, is_content, path_of, file_of_entry, Opening, handed_value}
+use Rattle.gimli_line.specs.header.HeaderGrammar.{Entry, is_content, path_of, file_of_entry}
+use Rattle.gimli_line.specs.header.HeaderGrammar.{Opening, handed_value}
 use Rattle.gimli_line.specs.declared.header.file_entry.FileEntryFormat.{FileEntryFormat}
 use Rattle.gimli_line.specs.header.HeaderReading.{plain_file_at}
 
 -- a byte that isn't 0
 unfoldable pub positive_at : Error → List ℕ → Read ℕ
-positive_at d bytes = byte_at bytes >>= λ n rest. if not (nat_eq n 0) then (Ok n, rest) else (Err d, rest)
+positive_at d bytes =
+    byte_at bytes >>= λ n rest. if not (nat_eq n 0) then (Ok n, rest) else (Err d, rest)
 
 abbrev pub paths_at : List ℕ → Read (List (List ℕ))
 paths_at bytes = list_to_zero_at text_at bytes
@@ -35,23 +48,28 @@ files_at bytes = list_to_zero_at named_file_at bytes
 
 unfoldable pub format_at : List ℕ → Read FileEntryFormat
 format_at bytes =
-    unsigned_at bytes >>= λ content rest. unsigned_16_at rest >>= λ form rest.
-    (Ok (record { content_type = record { 0 = min content 0xffff }; form = record { 0 = form } }), rest)
+    unsigned_at bytes >>= λ content rest. unsigned_16_at rest >>= λ form rest. (
+      Ok (record { content_type = record { 0 = min content 0xffff }; form = record { 0 = form } }),
+      rest,
+    )
 
 unfoldable pub formats_at : List ℕ → Read (List FileEntryFormat)
 formats_at bytes =
     byte_at bytes >>= λ count rest. times_at count format_at rest >>= λ formats rest.
-    if nat_eq (count_by (is_content 0x0001) formats) 1 then (Ok formats, rest) else (Err MissingFileEntryFormatPath, rest)
+    if nat_eq (count_by (is_content 0x0001) formats) 1 then (Ok formats, rest)
+    else (Err MissingFileEntryFormatPath, rest)
 
 module _ (notation : Notation) (format : Format) where
   -- a value for each format
   abbrev pub entry_at : List FileEntryFormat → List ℕ → Read Entry
   entry_at [] bytes = (Ok [], bytes)
   entry_at (f ∷ formats) bytes =
-      form_at notation format f.form.0 bytes >>= λ value rest. entry_at formats rest >>= λ values rest. (Ok ((f.content_type.0, value) ∷ values), rest)
+      form_at notation format f.form.0 bytes >>= λ value rest.
+      entry_at formats rest >>= λ values rest. (Ok ((f.content_type.0, value) ∷ values), rest)
 
   unfoldable pub entries_at : List FileEntryFormat → List ℕ → Read (List Entry)
-  entries_at formats bytes = unsigned_at bytes >>= λ count rest. times_at count (entry_at formats) rest
+  entries_at formats bytes =
+      unsigned_at bytes >>= λ count rest. times_at count (entry_at formats) rest
 
   -- an entry as a directory or as a file, and so all entries
   abbrev pub directory_at : List FileEntryFormat → List ℕ → Read Value
@@ -67,12 +85,15 @@ module _ (notation : Notation) (format : Format) where
   file_entries_at formats bytes = read_map (map file_of_entry) (entries_at formats bytes)
 
   unfoldable pub table_at : List ℕ → Read (List FileEntryFormat × List Entry)
-  table_at bytes = formats_at bytes >>= λ formats rest. entries_at formats rest >>= λ entries rest. (Ok (formats, entries), rest)
+  table_at bytes =
+      formats_at bytes >>= λ formats rest. entries_at formats rest >>= λ entries rest.
+      (Ok (formats, entries), rest)
 
 unfoldable pub version_at : Bool → List ℕ → Read ℕ
 version_at big bytes =
     number_at big 2 bytes >>= λ version rest.
-    if nat_le 2 version && nat_le version 5 then (Ok version, rest) else (Err (UnknownVersion version), rest)
+    if nat_le 2 version && nat_le version 5 then (Ok version, rest)
+    else (Err (UnknownVersion version), rest)
 
 -- the unit's own address size, and after it a segment selector size of 0
 unfoldable pub own_address_size_at : List ℕ → Read ℕ
@@ -82,12 +103,15 @@ own_address_size_at bytes =
 
 -- the address size of a unit of a version
 abbrev pub size_at : ℕ → ℕ → List ℕ → Read ℕ
-size_at version handed bytes = if nat_le version 4 then (Ok handed, bytes) else own_address_size_at bytes
+size_at version handed bytes =
+    if nat_le version 4 then (Ok handed, bytes) else own_address_size_at bytes
 
 unfoldable pub opening_at : Notation → ℕ → Format → List ℕ → Read Opening
 opening_at notation handed format bytes =
-    version_at notation.big bytes >>= λ version rest. size_at version handed rest >>= λ address_size rest.
-    word_at notation.big notation.limit format rest >>= λ header_length rest. split_at header_length rest >>= λ fields rest. (
+    version_at notation.big bytes >>= λ version rest.
+    size_at version handed rest >>= λ address_size rest.
+    word_at notation.big notation.limit format rest >>= λ header_length rest.
+    split_at header_length rest >>= λ fields rest. (
       Ok (record {
         encoding = record { address_size = address_size; format = format; version = version };
         header_length = header_length;
@@ -98,12 +122,16 @@ opening_at notation handed format bytes =
 
 -- the maximum of operations, which is 1 up to version 3
 abbrev pub operations_at : ℕ → List ℕ → Read ℕ
-operations_at version bytes = if nat_le version 3 then (Ok 1, bytes) else positive_at MaximumOperationsPerInstructionZero bytes
+operations_at version bytes =
+    if nat_le version 3 then (Ok 1, bytes)
+    else positive_at MaximumOperationsPerInstructionZero bytes
 
 unfoldable pub line_encoding_at : ℕ → List ℕ → Read LineEncoding
 line_encoding_at version bytes =
-    positive_at MinimumInstructionLengthZero bytes >>= λ minimum rest. operations_at version rest >>= λ maximum rest.
-    byte_at rest >>= λ statement rest. byte_at rest >>= λ base rest. positive_at LineRangeZero rest >>= λ range rest. (
+    positive_at MinimumInstructionLengthZero bytes >>= λ minimum rest.
+    operations_at version rest >>= λ maximum rest.
+    byte_at rest >>= λ statement rest. byte_at rest >>= λ base rest.
+    positive_at LineRangeZero rest >>= λ range rest. (
       Ok (record {
         minimum_instruction_length = minimum;
         maximum_operations_per_instruction = maximum;
@@ -116,24 +144,33 @@ line_encoding_at version bytes =
 
 unfoldable pub parameters_at : Encoding → List ℕ → Read Parameters
 parameters_at encoding bytes =
-    line_encoding_at encoding.version bytes >>= λ line_encoding rest. positive_at OpcodeBaseZero rest >>= λ opcode_base rest.
-    (Ok (record { encoding = encoding; line_encoding = line_encoding; opcode_base = opcode_base }), rest)
+    line_encoding_at encoding.version bytes >>= λ line_encoding rest.
+    positive_at OpcodeBaseZero rest >>= λ opcode_base rest. (
+      Ok (record { encoding = encoding; line_encoding = line_encoding; opcode_base = opcode_base }),
+      rest,
+    )
 
-unfoldable pub directories_at : Notation → Encoding → List ℕ → Read (List FileEntryFormat × List Value)
+unfoldable pub directories_at : Notation → Encoding → List ℕ
+    → Read (List FileEntryFormat × List Value)
 directories_at notation encoding bytes =
     if nat_le encoding.version 4
     then (paths_at bytes >>= λ paths rest. (Ok ([], map String paths), rest))
-    else (table_at notation encoding.format bytes >>= λ table rest. (Ok (table.0, map path_of table.1), rest))
+    else (table_at notation encoding.format bytes >>= λ table rest.
+    (Ok (table.0, map path_of table.1), rest))
 
-unfoldable pub file_names_at : Notation → Encoding → List ℕ → Read (List FileEntryFormat × List File)
+unfoldable pub file_names_at : Notation → Encoding → List ℕ
+    → Read (List FileEntryFormat × List File)
 file_names_at notation encoding bytes =
     if nat_le encoding.version 4
     then (files_at bytes >>= λ files rest. (Ok ([], files), rest))
-    else (table_at notation encoding.format bytes >>= λ table rest. (Ok (table.0, map file_of_entry table.1), rest))
+    else (table_at notation encoding.format bytes >>= λ table rest.
+    (Ok (table.0, map file_of_entry table.1), rest))
 
 unfoldable pub fields_at : Notation → UnitEntry → ℕ → Opening → List ℕ → List ℕ → Read Header
 fields_at notation unit_entry unit opening program bytes =
-    parameters_at opening.encoding bytes >>= λ parameters rest. split_at (parameters.opcode_base - 1) rest >>= λ counts rest. directories_at notation opening.encoding rest >>= λ directories rest.
+    parameters_at opening.encoding bytes >>= λ parameters rest.
+    split_at (parameters.opcode_base - 1) rest >>= λ counts rest.
+    directories_at notation opening.encoding rest >>= λ directories rest.
     file_names_at notation opening.encoding rest >>= λ files rest. (
       Ok (record {
         parameters = parameters;
@@ -146,13 +183,18 @@ fields_at notation unit_entry unit opening program bytes =
         files = files.1;
         program = program;
         comp_dir = handed_value opening.encoding unit_entry.directory;
-        comp_file = handed_value opening.encoding (option_map (λ path. plain_file path 0 0 0) unit_entry.name);
+        comp_file =
+            handed_value opening.encoding
+            (option_map (λ path. plain_file path 0 0 0) unit_entry.name);
       }),
       rest,
     )
 
 unfoldable pub header_at : Notation → UnitEntry → List ℕ → Read Header
 header_at notation unit_entry bytes =
-    initial_length_at notation.big notation.limit bytes >>= λ unit rest. split_at unit.0 rest >>= λ inside rest.
+    initial_length_at notation.big notation.limit bytes >>= λ unit rest.
+    split_at unit.0 rest >>= λ inside rest.
     within_at inside (opening_at notation unit_entry.address_size unit.1) rest >>= λ opened rest.
-    within_at opened.0.fields (fields_at notation unit_entry unit.0 opened.0 opened.1) rest >>= λ fields rest. (Ok fields.0, rest)
+    within_at opened.0.fields (fields_at notation unit_entry unit.0 opened.0 opened.1) rest
+    >>= λ fields rest.
+    (Ok fields.0, rest)

@@ -6,4 +6,8 @@ use Rattle.gimli_line.specs.declared.header.parse.Opening.{Opening as OpeningOf}
 -- what a call took of them, its reader seen by bytes and its offset by number
 module _ {R Offset Endian : Type 0} (bytes : R → List ℕ) (number : Offset → ℕ) where
   abbrev pub opening_seen : OpeningOf R Endian Offset → Opening
-  opening_seen o = record { encoding = o.encoding; header_length = number o.header_length; fields = bytes o.fields }
+  opening_seen o = record {
+    encoding = o.encoding;
+    header_length = number o.header_length;
+    fields = bytes o.fields;
+  }

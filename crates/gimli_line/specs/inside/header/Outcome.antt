@@ -6,19 +6,22 @@ use Rattle.gimli_core.specs.Reading.{Read, ◌>>=◌}
 use Rattle.gimli_core.specs.declared.error.Error.{Error}
 use Rattle.gimli_core.specs.declared.error.Error.TheVariants.{OutOfMemory}
 
--- what a call returned, its value seen by view, and the bytes that it left are what reading gives, unless memory
--- was missing
+-- what a call returned, its value seen by view, and the bytes that it left are what reading gives,
+-- unless memory was missing
 abbrev pub IsOutcome : {X Y : Type 0} → (X → Y) → Result X Error → List ℕ → Read Y → Type 0
 IsOutcome view (Ok x) left read = read ≡ (Ok (view x), left)
 IsOutcome view (Err e) left read = e ≢ OutOfMemory → read.0 ≡ Err e
 
 -- the same of a list, each of whose items is seen by view
-abbrev pub IsListOutcome : {X Y : Type 0} → (X → Y) → Result (Vec X Global) Error → List ℕ → Read (List Y) → Type 0
+abbrev pub IsListOutcome : {X Y : Type 0} → (X → Y) → Result (Vec X Global) Error → List ℕ
+    → Read (List Y) → Type 0
 IsListOutcome view result left read = IsOutcome (λ list. map view list.items) result left read
 
 -- the same of a table, which is its formats and such a list
-abbrev pub IsTableOutcome : {F X Y : Type 0} → (X → Y) → Result (Vec F Global × Vec X Global) Error → List ℕ → Read (List F × List Y) → Type 0
-IsTableOutcome view result left read = IsOutcome (λ table. (table.0.items, map view table.1.items)) result left read
+abbrev pub IsTableOutcome : {F X Y : Type 0} → (X → Y) → Result (Vec F Global × Vec X Global) Error
+    → List ℕ → Read (List F × List Y) → Type 0
+IsTableOutcome view result left read =
+    IsOutcome (λ table. (table.0.items, map view table.1.items)) result left read
 
 -- the same of the answer alone
 abbrev pub IsAnswer : {X Y : Type 0} → (X → Y) → Result X Error → Result Y Error → Type 0

@@ -6,7 +6,8 @@ use Rattle.gimli_line.specs.run.Unread.{Unread}
 use Rattle.gimli_line.specs.inside.run.Unread.{front_of}
 use Rattle.gimli_line.specs.run.Sequences.{Part}
 
--- the sequences so far; and of the one that is open, the instructions from its start on and the address of its first row
+-- the sequences so far; and of the one that is open, the instructions from its start on and the
+-- address of its first row
 pub record SequenceSplit : Type 0 where
   pub parts : List Part
   pub unread : Unread
@@ -17,7 +18,14 @@ abbrev pub with_row : LineRow → Unread → SequenceSplit → SequenceSplit
 with_row r rest k =
     if r.end_sequence
     then record {
-      parts = k.parts ++ record { start = unwrap_or k.start 0; end = r.address; unread = front_of k.unread rest } ∷ [];
+      parts =
+          k.parts
+          ++ record {
+            start = unwrap_or k.start 0;
+            end = r.address;
+            unread = front_of k.unread rest;
+          }
+          ∷ [];
       unread = rest;
       start = None;
     }

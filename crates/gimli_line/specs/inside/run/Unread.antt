@@ -4,4 +4,6 @@ use Rattle.gimli_line.specs.run.Unread.{Unread}
 
 -- what stands in front of a rest
 abbrev pub front_of : Unread → Unread → Unread
-front_of whole rest = record whole { bytes = take (length whole.bytes - length rest.bytes) whole.bytes }
+front_of whole rest = record whole {
+  bytes = take (length whole.bytes - length rest.bytes) whole.bytes;
+}

@@ -8,7 +8,8 @@ module _ {R : Type 0} where
   rebuilt line_strings strings = record { debug_line_str = line_strings; debug_str = strings }
 
   joined : (x y : StringSections R) → y.debug_line_str ≡ x.debug_line_str → y.debug_str ≡ x.debug_str → y ≡ x
-  joined x y line_strings strings = let same : rebuilt y.debug_line_str y.debug_str ≡ rebuilt x.debug_line_str x.debug_str = rw (line_strings, strings) refl in same
+  joined x y line_strings strings =
+      let same : rebuilt y.debug_line_str y.debug_str ≡ rebuilt x.debug_line_str x.debug_str = rw (line_strings, strings) refl in same
 
 pub returns : goal.returns
 returns g c = λ same x. (

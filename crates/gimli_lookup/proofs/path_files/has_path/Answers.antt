@@ -13,7 +13,8 @@ returns-in-Ok-clause-ok g c =
     let path = c.args.path.now in
     let file = file_seen g.R.Reader.bytes g.R.Offset.ReaderOffset.number c.in-Some.entry.now in
     c.eq.ensures ∙ ap (λ xs. bytes_eq xs path) c.as_slice.ensures.value
-    ∙ sym (path_at paths path c.args.file file (Ok c.in-Ok.whole.items) c.in-Some.ensures.file (ap (λ (p : Paths). file_path p file) (sym c.new.ensures) ∙ c.in-Ok.ensures.ok))
+    ∙ sym (path_at paths path c.args.file file (Ok c.in-Ok.whole.items) c.in-Some.ensures.file
+    (ap (λ (p : Paths). file_path p file) (sym c.new.ensures) ∙ c.in-Ok.ensures.ok))
 
 pub returns-in_default-e : goal.returns-in_default-e
 returns-in_default-e g c =

@@ -26,10 +26,12 @@ returns-in_err-row-clause-err g c =
     rw (p.1, p.2) (elim fault [
       | inl memory ↦ inr (
         memory.0,
-        defines program.notation program.meaning (g.R.Offset.ReaderOffset.number program.offset.0) (header_orders g.R.Reader.big program) first c.rows.rows new c.rows-rows.ensures.start
+        defines program.notation program.meaning (g.R.Offset.ReaderOffset.number program.offset.0) (header_orders g.R.Reader.big program) first c.rows.rows new
+            c.rows-rows.ensures.start
             i.at_end i.files c.next_row.follows.holds-at-none.0.appends memory.1,
       )
-      | inr next ↦ inl (first_fault program.notation program.meaning (events_left first) (events_left c.rows.rows) i.passed.0 c.rows-rows.ensures.events i.passed.1
+      | inr next ↦
+          inl (first_fault program.notation program.meaning (events_left first) (events_left c.rows.rows) i.passed.0 c.rows-rows.ensures.events i.passed.1
           new.files (events_left new) c.in_err-row.field-0.0 next.0)
     ])
 
@@ -58,7 +60,8 @@ rows-preserved g c =
     record {
       passed = (
         i.passed.0 ++ c.in-Some.row.now ∷ [],
-        run_goes program.notation program.meaning (events_left c.rows-rows.result) (events_left c.rows.rows) i.passed.0 c.rows-rows.ensures.events i.passed.1 c.in-Some.row.now _ (events_left new) next.0,
+        run_goes program.notation program.meaning (events_left c.rows-rows.result) (events_left c.rows.rows) i.passed.0 c.rows-rows.ensures.events i.passed.1
+            c.in-Some.row.now _ (events_left new) next.0,
         c.after-search.ensures i.passed.0 i.passed.2,
       );
       at_end = next.2 ∙ i.at_end;

@@ -24,8 +24,14 @@ loop-index-preserved c =
     let address = c.address-address.result in
     record {
       count = omega (arith, c.address-address.ensures.counted, i.count);
-      from = λ t. (omega arith, λ k d e. let same : k ≡ index = omega arith in subst (λ (j : ℕ). (slice_index_or rows j d).address ≤ a) (sym same) (omega (arith, leb-true address a t, c.address-address.ensures.address d)));
-      above = λ t k d e. let same : k ≡ index = omega arith in subst (λ (j : ℕ). a < (slice_index_or rows j d).address) (sym same) (omega (arith, leb-false address a t, c.address-address.ensures.address d));
+      from = λ t. (
+        omega arith,
+        λ k d e. let same : k ≡ index = omega arith in
+            subst (λ (j : ℕ). (slice_index_or rows j d).address ≤ a) (sym same) (omega (arith, leb-true address a t, c.address-address.ensures.address d)),
+      );
+      above = λ t k d e.
+          let same : k ≡ index = omega arith in
+          subst (λ (j : ℕ). a < (slice_index_or rows j d).address) (sym same) (omega (arith, leb-false address a t, c.address-address.ensures.address d));
       none = none_more a rows index i.none (elim c.else-is_from.branch [
         | else-is_from-via-then-is_from+else-a-address w ↦ inr (λ (d : LineRow). omega (arith, w.if-a-address.false, c.address-address.ensures.address d))
         | else-is_from-via-else-is_from w ↦ inl (i.above w.if-is_from.false)

@@ -13,5 +13,7 @@ pub returns-clause-ok : goal.returns-clause-ok
 returns-clause-ok g c =
     let gives = c.into_iter-unit-iterator.ensures.into_iter_gives in
     let all = YieldsList-from_vec {s = c.into_iter-unit-iterator.result} c.args.units.items gives.0 (gives.1 ∙ c.args.units.ok.0) in
-    let end = YieldsList-end all c.loop-unit.yielded c.loop-unit.unit-iterator c.loop-unit.yielded_by c.next.result c.next.new.self c.in-None.is c.next.ensures.steps in
+    let end =
+    YieldsList-end all c.loop-unit.yielded c.loop-unit.unit-iterator c.loop-unit.yielded_by c.next.result c.next.new.self c.in-None.is
+    c.next.ensures.steps in
     c.loop-unit.invariant ∙ ap (λ (us : List ListedUnit). map without_header us) (sym (map-id c.loop-unit.yielded) ∙ end.0)

@@ -5,7 +5,13 @@ use Rattle.gimli_line.specs.declared.run.row.LineRow.{LineRow}
 use Rattle.gimli_lookup.specs.Statements.{addresses_in}
 use Rattle.gimli_lookup.proofs.StatementRuns.{addresses_on, nothing_more, one_more, of_none, of_given, of_first, of_no_statement}
 use Rattle.gimli_lookup.specs.inside.Statements.{is_among}
-use Rattle.gimli_lookup.proofs.statements.append_in.Goals.{then-not-is_of_line, else-not-is_of_line+then-is_stmt+then-not-has_address+in_ok-append, else-not-is_of_line+else-is_stmt, else-is_stmt-via-then-is_stmt+else-not-has_address, else-is_stmt-via-else-is_stmt}
+use Rattle.gimli_lookup.proofs.statements.append_in.Goals.{
+  then-not-is_of_line,
+  else-not-is_of_line+then-is_stmt+then-not-has_address+in_ok-append,
+  else-not-is_of_line+else-is_stmt,
+  else-is_stmt-via-then-is_stmt+else-not-has_address,
+  else-is_stmt-via-else-is_stmt,
+}
 use Rattle.gimli_lookup.proofs.statements.append_in.Goals as goal
 
 pub loop-index-preserved : goal.loop-index-preserved
@@ -26,7 +32,8 @@ loop-index-preserved c =
     ap (λ xs. kept ++ addresses_on is_file line has xs) (sym at_row) ∙ c.loop-index.invariant in
     elim c.if-not-is_of_line.branch [
       | then-not-is_of_line w ↦ rw (w.addresses-is, w.has_address-is)
-          (nothing_more is_file line kept whole has false (row ∷ rest) rest (of_none is_file line has row rest (sym c.is_of_line.ensures ∙ w.if-not-is_of_line.true)) before)
+          (nothing_more is_file line kept whole has false (row ∷ rest) rest
+          (of_none is_file line has row rest (sym c.is_of_line.ensures ∙ w.if-not-is_of_line.true)) before)
       | else-not-is_of_line+then-is_stmt+then-not-has_address+in_ok-append w ↦ rw (w.addresses-is, w.has_address-is)
           (one_more is_file line kept w.append.new.numbers.items whole row.address (row ∷ rest) rest
           (w.in_ok-append.ensures.ok ∙ ap (λ a. kept ++ a ∷ []) w.address.ensures)

@@ -6,4 +6,5 @@ use Rattle.gimli_lookup.proofs.statements.append_in.Given as goal
 
 abbrev pub invariant-loop-index : goal.invariant-loop-index
 invariant-loop-index l =
-    l.addresses.items ++ addresses_on (is_among l.files) l.line l.has_address (drop l.index l.rows) ≡ l.initial.addresses.items ++ addresses_in (is_among l.files) l.line l.rows
+    l.addresses.items ++ addresses_on (is_among l.files) l.line l.has_address (drop l.index l.rows)
+    ≡ l.initial.addresses.items ++ addresses_in (is_among l.files) l.line l.rows

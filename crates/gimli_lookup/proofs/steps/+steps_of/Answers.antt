@@ -20,7 +20,8 @@ returns-clause-ok t c =
     subst (λ (xs : List (List LineRow)). AreStepsOf (first + middle) xs right) (take_rest sequences middle) c.in_ok-right.ensures.ok in
     let of_right_part : AreStepsOf (first + length (take middle sequences)) (drop middle sequences) right =
     subst (λ (n : ℕ). AreStepsOf (first + n) (drop middle sequences) right) size of_right in
-    IfOk-weaker c.join.result (λ (steps : Vec Step Global). AreJoined left right steps.items) (λ (steps : Vec Step Global). AreStepsOf first sequences steps.items)
+    IfOk-weaker c.join.result (λ (steps : Vec Step Global). AreJoined left right steps.items) (λ (steps : Vec Step Global).
+    AreStepsOf first sequences steps.items)
     (λ (steps : Vec Step Global) (joined : AreJoined left right steps.items).
     subst (λ (xs : List (List LineRow)). AreStepsOf first xs steps.items) (take-append-drop middle sequences)
     (joined_steps first (take middle sequences) (drop middle sequences) left right steps.items c.in_ok-left.ensures.ok of_right_part joined))

@@ -10,13 +10,15 @@ loop-index-preserved c =
     elim c.match-steps_of_one.branch [
       | in-Some+else-covered-end+in_ok-push_step+in_ok-push_step-2 w ↦ record {
         so_far = rw (w.steps-is, w.in_ok-push_step-2.ensures.ok, w.in_ok-push_step.ensures.ok, w.end-is)
-            (two_steps_more c.args.first l.index sequences c.index-sequences-index.result l.steps.items l.end (omega arith) c.index-sequences-index.is l.invariant.so_far
+            (two_steps_more c.args.first l.index sequences c.index-sequences-index.result l.steps.items l.end (omega arith) c.index-sequences-index.is
+            l.invariant.so_far
             w.in-Some.covered w.in-Some.uncovered w.in-Some.ensures (omega (arith, w.if-covered-end.false)));
         at_start = λ zero. absurd (omega (arith, zero));
       }
       | in_default-steps_of_one w ↦ record {
         so_far = rw (w.steps-is, w.end-is)
-            (no_step_more c.args.first l.index sequences c.index-sequences-index.result l.steps.items l.end (omega arith) c.index-sequences-index.is l.invariant.so_far
+            (no_step_more c.args.first l.index sequences c.index-sequences-index.result l.steps.items l.end (omega arith) c.index-sequences-index.is
+            l.invariant.so_far
             w.in_default-steps_of_one.ensures);
         at_start = λ zero. absurd (omega (arith, zero));
       }

@@ -14,8 +14,10 @@ returns-clause-kept g c =
     let new = c.take_rows.new.run in
     let fault = c.in_ok-fault.fault in
     let taken = subst (λ (from : SequenceCut). AreTaken old new fault from c.take_rows.new.cut) c.new-cut.ensures c.in_ok-fault.ensures.ok in
-    subst (λ (kept : List (List LineRow)). IsKept c.args.program.notation c.args.lowest c.args.program.meaning (header_of new) fault kept) (sym c.into_parts.ensures)
-    (is_kept c.args.program.notation c.args.lowest c.args.program.meaning (g.R.Offset.ReaderOffset.number c.args.program.offset.0) (header_orders g.R.Reader.big c.args.program)
+    subst (λ (kept : List (List LineRow)). IsKept c.args.program.notation c.args.lowest c.args.program.meaning (header_of new) fault kept)
+    (sym c.into_parts.ensures)
+    (is_kept c.args.program.notation c.args.lowest c.args.program.meaning (g.R.Offset.ReaderOffset.number c.args.program.offset.0)
+    (header_orders g.R.Reader.big c.args.program)
     old new fault c.take_rows.new.cut c.rows-run.ensures.start c.rows-run.ensures.made c.rows-run.ensures.files taken)
 
 pub returns-clause-order : goal.returns-clause-order

@@ -22,8 +22,8 @@ starts None None = (λ _. refl, λ _. refl)
 
 the_end : (x y : ConvertLineSequenceEnd) → Decides (the_ends.eq x y) (x ≡ y)
 the_end x y =
-    let apart = or (one unsigned_Decides) (or (one unsigned_Decides) (end _)) (as_values x) (as_values y) in
-    (λ e. values_one enum x y (apart.0 e), λ e. apart.1 (ap as_values e))
+    let parts = or (one unsigned_Decides) (or (one unsigned_Decides) (end _)) (as_values x) (as_values y) in
+    (λ e. values_one enum x y (parts.0 e), λ e. parts.1 (ap as_values e))
 
 pub returns-clause-sequence : goal.returns-clause-sequence
 returns-clause-sequence c a b =

@@ -1,7 +1,8 @@
 use Rattle.std.proofs.Common.{◌∙◌, ◌^◌, drop}
 use Rattle.gimli_write.specs.RoundTrip.{slice_notation}
 use Rattle.gimli_write.specs.inside.RoundTrip.{unit_entry_with}
-use Rattle.gimli_write.proofs.ReadUnits.{same_unit, same_fault, same_sections, same_notation, same_header, texts_there, header_refused, same_answers, same_refusal}
+use Rattle.gimli_write.proofs.ReadUnits.{same_unit, same_fault, same_sections, same_notation, same_header, texts_there, header_refused, same_answers}
+use Rattle.gimli_write.proofs.ReadUnits.{same_refusal}
 use Rattle.gimli_write.proofs.read_back.read_section.Goals as goal
 
 pub read_program-requires : goal.read_program-requires
@@ -10,8 +11,12 @@ read_program-requires g c =
     let unit_entry = unit_entry_with c.args.address_size c.args.directory.now in
     let bytes = drop c.args.offset.0 c.args.section.now in
     let h = c.in-Ok.program.meaning in
-    let unit = same_unit (2 ^ 64) c.args.address_size c.args.offset.0 big _ c.args.directory.now _ c.args.section.now _ h c.new-section.ensures.order c.new-directory.ensures.bytes c.new-section.ensures.bytes c.in-Ok.ensures.unit in
-    let is = same_sections _ _ _ _ c.args.sections.now (c.new.ensures.bytes ∙ c.as_slice.ensures.value) (c.new-2.ensures.bytes ∙ c.as_slice-2.ensures.value) c.sections.view_is in
+    let unit =
+    same_unit (2 ^ 64) c.args.address_size c.args.offset.0 big _ c.args.directory.now _ c.args.section.now _ h c.new-section.ensures.order
+    c.new-directory.ensures.bytes c.new-section.ensures.bytes c.in-Ok.ensures.unit in
+    let is =
+    same_sections _ _ _ _ c.args.sections.now (c.new.ensures.bytes ∙ c.as_slice.ensures.value) (c.new-2.ensures.bytes ∙ c.as_slice-2.ensures.value)
+    c.sections.view_is in
     rw is (texts_there (slice_notation big) unit_entry bytes c.args.sections.now h c.requires.unit unit)
 
 pub returns-in-Ok-clause-ok : goal.returns-in-Ok-clause-ok
@@ -20,8 +25,12 @@ returns-in-Ok-clause-ok g c h begins =
     let unit_entry = unit_entry_with c.args.address_size c.args.directory.now in
     let bytes = drop c.args.offset.0 c.args.section.now in
     let k = c.in-Ok.program.meaning in
-    let unit = same_unit (2 ^ 64) c.args.address_size c.args.offset.0 big _ c.args.directory.now _ c.args.section.now _ k c.new-section.ensures.order c.new-directory.ensures.bytes c.new-section.ensures.bytes c.in-Ok.ensures.unit in
-    let is = same_sections _ _ _ _ c.args.sections.now (c.new.ensures.bytes ∙ c.as_slice.ensures.value) (c.new-2.ensures.bytes ∙ c.as_slice-2.ensures.value) c.sections.view_is in
+    let unit =
+    same_unit (2 ^ 64) c.args.address_size c.args.offset.0 big _ c.args.directory.now _ c.args.section.now _ k c.new-section.ensures.order
+    c.new-directory.ensures.bytes c.new-section.ensures.bytes c.in-Ok.ensures.unit in
+    let is =
+    same_sections _ _ _ _ c.args.sections.now (c.new.ensures.bytes ∙ c.as_slice.ensures.value) (c.new-2.ensures.bytes ∙ c.as_slice-2.ensures.value)
+    c.sections.view_is in
     let n = same_notation (2 ^ 64) big _ c.in-Ok.program.notation c.in-Ok.ensures.notation c.new-section.ensures.order in
     same_answers c.read_program.result c.in-Ok.program.notation (slice_notation big) _ c.args.sections.now k h n is
     (same_header (slice_notation big) unit_entry bytes k h unit begins) c.read_program.ensures.ok
@@ -32,7 +41,9 @@ returns-in-Ok-clause-err g c h begins =
     let unit_entry = unit_entry_with c.args.address_size c.args.directory.now in
     let bytes = drop c.args.offset.0 c.args.section.now in
     let k = c.in-Ok.program.meaning in
-    let unit = same_unit (2 ^ 64) c.args.address_size c.args.offset.0 big _ c.args.directory.now _ c.args.section.now _ k c.new-section.ensures.order c.new-directory.ensures.bytes c.new-section.ensures.bytes c.in-Ok.ensures.unit in
+    let unit =
+    same_unit (2 ^ 64) c.args.address_size c.args.offset.0 big _ c.args.directory.now _ c.args.section.now _ k c.new-section.ensures.order
+    c.new-directory.ensures.bytes c.new-section.ensures.bytes c.in-Ok.ensures.unit in
     let n = same_notation (2 ^ 64) big _ c.in-Ok.program.notation c.in-Ok.ensures.notation c.new-section.ensures.order in
     same_refusal c.read_program.result c.in-Ok.program.notation (slice_notation big) k h n
     (same_header (slice_notation big) unit_entry bytes k h unit begins) c.read_program.ensures.err
@@ -43,5 +54,6 @@ returns-in-Err-clause-err g c h begins =
     let unit_entry = unit_entry_with c.args.address_size c.args.directory.now in
     let bytes = drop c.args.offset.0 c.args.section.now in
     header_refused (slice_notation big) unit_entry bytes h c.in-Err.e c.from_read.result begins
-    (λ other. same_fault (2 ^ 64) c.args.address_size c.args.offset.0 big _ c.args.directory.now _ c.args.section.now _ c.in-Err.e c.new-section.ensures.order c.new-directory.ensures.bytes c.new-section.ensures.bytes (c.in-Err.ensures.refusal other))
+    (λ other. same_fault (2 ^ 64) c.args.address_size c.args.offset.0 big _ c.args.directory.now _ c.args.section.now _ c.in-Err.e c.new-section.ensures.order
+    c.new-directory.ensures.bytes c.new-section.ensures.bytes (c.in-Err.ensures.refusal other))
     c.from_read.ensures.memory

@@ -15,10 +15,18 @@ returns-in-Ok-clause-refusal g c =
     let program = c.args.program.now in
     let texts = texts_after program (texts_in c.args.strings.now c.args.line_strings.now) in
     let later = drop c.in-Ok.offset.0 c.write.new.w.0.bytes in
-    let read = subst (λ (strings : List (List ℕ)). IfErr c.read_unit.result (RefusesUnit (slice_notation other) (unit_entry_of program (texts_in strings texts.line_strings)) later)) c.in-Ok.ensures.tables.strings
-    (subst (λ (line_strings : List (List ℕ)). IfErr c.read_unit.result (RefusesUnit (slice_notation other) (unit_entry_of program (texts_in c.write.new.strings line_strings)) later)) c.in-Ok.ensures.tables.line_strings c.read_unit.ensures.err) in
+    let read =
+    subst
+    (λ (strings : List (List ℕ)). IfErr c.read_unit.result
+    (RefusesUnit (slice_notation other) (unit_entry_of program (texts_in strings texts.line_strings)) later))
+    c.in-Ok.ensures.tables.strings
+    (subst
+    (λ (line_strings : List (List ℕ)). IfErr c.read_unit.result
+    (RefusesUnit (slice_notation other) (unit_entry_of program (texts_in c.write.new.strings line_strings)) later))
+    c.in-Ok.ensures.tables.line_strings c.read_unit.ensures.err) in
     unit_not_answered big other (to_write big c.args.encoding program (texts_in c.args.strings.now c.args.line_strings.now)) (unit_entry_of program texts)
-    c.args.w.now.0.bytes c.write.new.w.0.bytes c.in-Ok.offset.0 c.read_unit.result c.in-Ok.ensures.ordered (c.in-Ok.ensures.no_cause refl) (c.in-Ok.ensures.unit refl) c.in-Ok.ensures.offset read
+    c.args.w.now.0.bytes c.write.new.w.0.bytes c.in-Ok.offset.0 c.read_unit.result c.in-Ok.ensures.ordered (c.in-Ok.ensures.no_cause refl)
+    (c.in-Ok.ensures.unit refl) c.in-Ok.ensures.offset read
 
 pub returns-in-Err-clause-refusal : goal.returns-in-Err-clause-refusal
 returns-in-Err-clause-refusal g c =
@@ -26,15 +34,20 @@ returns-in-Err-clause-refusal g c =
     let program = c.args.program.now in
     write_refused big (to_write big c.args.encoding program (texts_in c.args.strings.now c.args.line_strings.now))
     (unit_entry_of program (texts_after program (texts_in c.args.strings.now c.args.line_strings.now)))
-    c.args.w.now.0.bytes c.write.new.w.0.bytes c.in-Err.e c.from_write.result (c.in-Err.ensures.err refl refl) c.from_write.ensures.memory c.from_write.ensures.other
+    c.args.w.now.0.bytes c.write.new.w.0.bytes c.in-Err.e c.from_write.result (c.in-Err.ensures.err refl refl) c.from_write.ensures.memory
+    c.from_write.ensures.other
 
 pub returns-in-Ok-clause-never_read : goal.returns-in-Ok-clause-never_read
 returns-in-Ok-clause-never_read g c held =
-    memory_refused (first_cause (g.E.Endianity.big c.args.w.now.0.endian) c.args.encoding c.args.program.now (texts_in c.args.strings.now c.args.line_strings.now)) c.read_unit.result (c.read_unit.ensures.never_read held)
+    memory_refused
+    (first_cause (g.E.Endianity.big c.args.w.now.0.endian) c.args.encoding c.args.program.now (texts_in c.args.strings.now c.args.line_strings.now))
+    c.read_unit.result (c.read_unit.ensures.never_read held)
 
 pub returns-in-Err-clause-never_read : goal.returns-in-Err-clause-never_read
 returns-in-Err-clause-never_read g c held =
-    unwritten_refused (first_cause (g.E.Endianity.big c.args.w.now.0.endian) c.args.encoding c.args.program.now (texts_in c.args.strings.now c.args.line_strings.now)) c.in-Err.e c.from_write.result
+    unwritten_refused
+    (first_cause (g.E.Endianity.big c.args.w.now.0.endian) c.args.encoding c.args.program.now (texts_in c.args.strings.now c.args.line_strings.now)) c.in-Err.e
+    c.from_write.result
     (c.in-Err.ensures.err refl refl) c.from_write.ensures.memory c.from_write.ensures.other
 
 pub read_unit-requires-clause-within : goal.read_unit-requires-clause-within

@@ -2,10 +2,13 @@
 use Rattle.std.specs.Prelude.{◌≡◌, ℕ, Option, Some, None}
 use Rattle.gimli_write.specs.declared.convert.run.SourceRow.{SourceRow}
 use Rattle.gimli_write.specs.convert.SourceTables.{TablesAndTexts}
-use Rattle.gimli_write.specs.convert.Items.{Reading, ends, address_offered, row_or_end_offered, after_definitions}
+use Rattle.gimli_write.specs.convert.Items.{Reading, ends, address_offered, row_or_end_offered}
+use Rattle.gimli_write.specs.convert.Items.{after_definitions}
 
--- what a row of the source, with the address that was set for it, or the end, leaves of what is read
+-- what a row of the source, with the address that was set for it, or the end, leaves of what is
+-- read
 abbrev pub TakesRow : ℕ → Reading → Option SourceRow → TablesAndTexts → Reading → Type 0
 TakesRow version old (Some r) tables rest =
-    after_definitions old ≡ address_offered r.set_address tables (row_or_end_offered version tables r rest)
+    after_definitions old
+    ≡ address_offered r.set_address tables (row_or_end_offered version tables r rest)
 TakesRow version old None tables rest = (after_definitions old ≡ ends tables) × (rest ≡ ends tables)

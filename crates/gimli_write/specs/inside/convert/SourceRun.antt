@@ -1,27 +1,66 @@
 -- What a run over a source has still to read.
-use Rattle.std.specs.Prelude.{◌≡◌, ◌<◌, ℕ, not, ◌&&◌, if◌then◌else◌, List, [], length}
+use Rattle.std.specs.Prelude.{◌≡◌, ◌<◌, ◌-◌, ℕ, not, ◌&&◌, if◌then◌else◌, List, [], length, IfErr}
+use Rattle.std.specs.Prelude.{IfOk, Result}
 use Rattle.gimli_line.specs.header.File.{file_seen}
 use Rattle.gimli_line.specs.run.Instruction.{Ins, makes_row}
+use Rattle.gimli_line.specs.declared.run.row.LineRow.{LineRow}
 use Rattle.gimli_build.specs.Texts.{Sections}
+use Rattle.gimli_write.specs.declared.convert_error.ConvertError.{ConvertError}
+use Rattle.gimli_write.specs.declared.convert.run.SourceRow.{SourceRow}
 use Rattle.gimli_write.specs.declared.convert.run.SourceStep.{SourceStep}
 use Rattle.gimli_write.specs.declared.convert.run.SourceStep.TheVariants.{Done, More, Defines, Made}
 use Rattle.gimli_write.specs.convert.SourceTables.{TablesAndTexts, file_added}
-use Rattle.gimli_write.specs.convert.Items.{Reading, ends, defines, source_row_offered}
+use Rattle.gimli_write.specs.convert.Items.{Reading, ends, defines, source_row_offered, stops}
+use Rattle.gimli_write.specs.convert.TablesAtEnd.{tables_at_end}
+use Rattle.gimli_write.specs.inside.convert.TablesAtEnd.{step_tables}
 use Rattle.gimli_write.specs.convert.SourceRun.{SourceRun, row_made, reading_upon, reading_left}
 
 module _ {R Offset Endian : Type 0} (bytes : R → List ℕ) (number : Offset → ℕ) where
   -- what is read from a step on, after which this state is
-  abbrev pub step_reading : Sections → TablesAndTexts → SourceStep R Endian Offset → SourceRun → Reading
+  abbrev pub step_reading : Sections → TablesAndTexts → SourceStep R Endian Offset → SourceRun
+      → Reading
   step_reading sections tables Done s = ends tables
   step_reading sections tables More s = reading_left sections s tables
-  step_reading sections tables (Defines f) s = defines (reading_upon sections s (file_added sections tables (file_seen bytes number f)))
-  step_reading sections tables (Made r) s = source_row_offered s.header.parameters.encoding.version tables r (reading_left sections s tables)
+  step_reading sections tables (Defines f) s =
+      defines (reading_upon sections s (file_added sections tables (file_seen bytes number f)))
+  step_reading sections tables (Made r) s =
+      source_row_offered s.header.parameters.encoding.version tables r
+      (reading_left sections s tables)
+
+-- a row that was made, from where addresses count
+abbrev pub source_row : SourceRun → LineRow → SourceRow
+source_row s row = record {
+  set_address = s.pending;
+  address_offset = row.address - s.base;
+  row = row;
+}
 
 -- the step of an instruction that defines no file
 abbrev pub step_made : {R Endian Offset : Type 0} → SourceRun → Ins → SourceStep R Endian Offset
 step_made s i = if makes_row i && not s.row.tombstone then Made (row_made s i) else More
 
 -- fewer bytes are unread after a step, and none after the end
-abbrev pub Shortens : {R Endian Offset : Type 0} → SourceStep R Endian Offset → SourceRun → SourceRun → Type 0
+abbrev pub Shortens : {R Endian Offset : Type 0} → SourceStep R Endian Offset → SourceRun
+    → SourceRun → Type 0
 Shortens Done old new = new.unread.bytes ≡ []
 Shortens step old new = length new.unread.bytes < length old.unread.bytes
+
+module _ {R Offset Endian : Type 0} (bytes : R → List ℕ) (number : Offset → ℕ) where
+  -- a step: what its answer says of what is to be read, and of the tables at the end
+  pub record StepsSource (old new : SourceRun)
+      (answer : Result (SourceStep R Endian Offset) ConvertError) : Type 0 where
+    pub reading : IfOk answer (λ step.
+        (sections : Sections) (tables : TablesAndTexts)
+        → reading_left sections old tables ≡ step_reading bytes number sections tables step new)
+    pub refusal : IfErr answer (λ e.
+        (sections : Sections) (tables : TablesAndTexts)
+        → reading_left sections old tables ≡ stops e)
+    pub tables : IfOk answer (λ step.
+        (sections : Sections) (tables : TablesAndTexts)
+        → tables_at_end sections old tables ≡ step_tables bytes number sections tables step new)
+    pub stopped : IfErr answer (λ e.
+        (sections : Sections) (tables : TablesAndTexts)
+        → tables_at_end sections old tables ≡ tables)
+    pub shorter : IfOk answer (λ step. Shortens step old new)
+    pub header : new.header ≡ old.header
+    pub notation : new.unread.notation ≡ old.unread.notation

@@ -1,4 +1,5 @@
--- The tables that a source leaves: the files that it defines are added, up to its end or to what is refused.
+-- The tables that a source leaves: the files that it defines are added, up to its end or to what is
+-- refused.
 use Rattle.std.specs.Prelude.{ℕ, List, Some}
 use Rattle.gimli_line.specs.header.File.{file_seen}
 use Rattle.gimli_build.specs.Texts.{Sections}
@@ -10,8 +11,13 @@ use Rattle.gimli_write.specs.convert.TablesAtEnd.{unless_refused, tables_at_end,
 
 module _ {R Offset Endian : Type 0} (bytes : R → List ℕ) (number : Offset → ℕ) where
   -- these tables, from a step on after which this state is
-  abbrev pub step_tables : Sections → TablesAndTexts → SourceStep R Endian Offset → SourceRun → TablesAndTexts
+  abbrev pub step_tables : Sections → TablesAndTexts → SourceStep R Endian Offset → SourceRun
+      → TablesAndTexts
   step_tables sections tables Done s = tables
   step_tables sections tables More s = tables_at_end sections s tables
-  step_tables sections tables (Defines f) s = unless_refused tables (file_added sections tables (file_seen bytes number f)) (λ next. tables_at_end sections s next)
-  step_tables sections tables (Made r) s = tables_after_row s.header.parameters.encoding.version tables (Some r) (tables_at_end sections s tables)
+  step_tables sections tables (Defines f) s =
+      unless_refused tables (file_added sections tables (file_seen bytes number f)) (λ next.
+      tables_at_end sections s next)
+  step_tables sections tables (Made r) s =
+      tables_after_row s.header.parameters.encoding.version tables (Some r)
+      (tables_at_end sections s tables)

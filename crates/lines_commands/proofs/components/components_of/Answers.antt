@@ -11,6 +11,7 @@ components-preserved c =
     record {
       few = omega (arith, c.components.invariant.few, c.in_ok-ups.ensures.left, c.in-Some.ensures.cases);
       text = sym (c.in_ok-ups.ensures.text (resolved start (map (λ (b : Bor (List ℕ)). b.now) left)))
-          ∙ ap (λ cs. c.components.text.items ++ kept (up_by c.components.ups cs)) (popped start c.components.written.items left c.in-Some.component c.in-Some.ensures.items)
+          ∙ ap (λ cs. c.components.text.items ++ kept (up_by c.components.ups cs))
+          (popped start c.components.written.items left c.in-Some.component c.in-Some.ensures.items)
           ∙ c.components.invariant.text;
     }

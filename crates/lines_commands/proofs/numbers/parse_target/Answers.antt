@@ -12,7 +12,8 @@ none_some x e = true≢false (subst IsNone e refl)
 -- a target's path and digits are those around the last colon
 same : (word path digits : List ℕ) → (word ≡ path ++ (58 ∷ digits)) × HasNo 58 digits → (other : List ℕ) (line : ℕ) (t : NamesTarget word other line)
     → (path ≡ other) × (digits ≡ t.digits)
-same word path digits p other line t = same_parts 58 path digits other t.digits (sym p.0 ∙ t.split) p.1 (digits_no 10 58 (omega arith) refl t.digits t.line_named.is_numeral.1)
+same word path digits p other line t =
+    same_parts 58 path digits other t.digits (sym p.0 ∙ t.split) p.1 (digits_no 10 58 (omega arith) refl t.digits t.line_named.is_numeral.1)
 
 pub returns-in_err-path-clause-only : goal.returns-in_err-path-clause-only
 returns-in_err-path-clause-only c = λ path line t.

@@ -8,7 +8,8 @@ use Rattle.lines_commands.proofs.numbers.without_prefix.Goals as goal
 after_first : (word rest digits : List ℕ) (r : Option (Bor (List ℕ))) → word ≡ 48 ∷ rest → ((after : List ℕ) → rest ≢ 120 ∷ after)
     → MatchOption r ((after : List ℕ) → rest ≢ 88 ∷ after) (λ x. rest ≡ 88 ∷ x.now)
     → MatchOption r ((digits : List ℕ) → HasPrefix word digits → ⊥) (λ digits. HasPrefix word digits.now)
-after_first word rest digits None e small capital = λ digits h. ⊎_elim (λ w. small digits (ap (drop 1) (sym e ∙ w))) (λ w. capital digits (ap (drop 1) (sym e ∙ w))) h
+after_first word rest digits None e small capital =
+    λ digits h. ⊎_elim (λ w. small digits (ap (drop 1) (sym e ∙ w))) (λ w. capital digits (ap (drop 1) (sym e ∙ w))) h
 after_first word rest digits (Some x) e small capital = inr (e ∙ ap (λ l. 48 ∷ l) capital)
 
 -- a word that doesn't begin with the digit 0

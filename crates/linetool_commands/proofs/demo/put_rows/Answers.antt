@@ -8,7 +8,8 @@ use Rattle.gimli_write.specs.LineRow.{LineRow}
 use Rattle.linetool_commands.proofs.demo.put_rows.Goals as goal
 
 -- what can be written can be written with other items
-still_can : (p q : Built) (items : List BuiltItem) (row : LineRow) (begun : Bool) → q ≡ record p { items = items; row = row; in_sequence = begun } → CanWrite p no_texts → CanWrite q no_texts
+still_can : (p q : Built) (items : List BuiltItem) (row : LineRow) (begun : Bool) → q ≡ record p { items = items; row = row; in_sequence = begun }
+    → CanWrite p no_texts → CanWrite q no_texts
 still_can p q items row begun is can =
     rw is (record { program = can.program; directories = can.directories; paths = can.paths; sources = can.sources; sources_end = can.sources_end })
 

@@ -24,8 +24,10 @@ loop-id-preserved c =
     let p = c.args.program.now in
     let texts = texts_of c.args.tables.now in
     let n : Next (IsFileWritable p texts) p.files (c.in-Some.id, line_text c.in-Some.path.now, c.in-Some.field-0-2) c.next.new.self =
-    walked_next (IsFileWritable p texts) p.files (c.in-Some.id, line_text c.in-Some.path.now, c.in-Some.field-0-2) c.loop-id.id-iterator c.next.new.self c.loop-id.invariant c.in-Some.ensures.steps in
-    let found : Some n.file.1 ≡ Some (details c.get_file_info-info.result.now) = sym (ap (option_map (λ (f : File). f.1)) n.found) ∙ c.get_file_info-info.ensures in
+    walked_next (IsFileWritable p texts) p.files (c.in-Some.id, line_text c.in-Some.path.now, c.in-Some.field-0-2) c.loop-id.id-iterator c.next.new.self
+    c.loop-id.invariant c.in-Some.ensures.steps in
+    let found : Some n.file.1 ≡ Some (details c.get_file_info-info.result.now) = sym (ap (option_map (λ (f : File). f.1)) n.found)
+    ∙ c.get_file_info-info.ensures in
     let same : n.file.1 ≡ details c.get_file_info-info.result.now = cc in
     let emits : 5 ≤ p.encoding.version → p.file_has_source ≡ true → c.if-version-ge5.emits ≡ true =
     λ late has. elim c.if-version-ge5.branch [
@@ -39,4 +41,6 @@ loop-id-preserved c =
     })
 
 pub returns : goal.returns
-returns c = λ is. walked_end (IsFileWritable c.args.program.now (texts_of c.args.tables.now)) c.args.program.now.files c.loop-id.id-iterator c.loop-id.invariant c.in-None.ensures.steps.0
+returns c = λ is.
+    walked_end (IsFileWritable c.args.program.now (texts_of c.args.tables.now)) c.args.program.now.files c.loop-id.id-iterator c.loop-id.invariant
+    c.in-None.ensures.steps.0

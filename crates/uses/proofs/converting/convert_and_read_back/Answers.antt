@@ -40,6 +40,9 @@ returns g c =
       faithful = λ rows seen events.
           let can : CanBeFaithful itself source = record { itself = λ a. refl; wide = omega arith; no_end_under_tombstone = seen } in
           let faith = c.in_ok-program.ensures.outcome.faithful itself (λ a r post. search rules) can in
-          subst (λ (e : Encoding). OneByOne (IsReadAs c.args.from_program.meaning.parameters.encoding.version e.version c.in_ok-program.files.items) rows c.in_ok-answer.answer.rows.items) encoding
+          subst
+          (λ (e : Encoding). OneByOne (IsReadAs c.args.from_program.meaning.parameters.encoding.version e.version c.in_ok-program.files.items) rows
+          c.in_ok-answer.answer.rows.items)
+          encoding
           (faith.read_back rows c.in_ok-answer.answer.rows.items events (c.in_ok-answer.ensures.built faith.addresses));
     }

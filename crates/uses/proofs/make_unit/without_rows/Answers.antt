@@ -30,5 +30,6 @@ returns c =
     let is = c.in_ok-program.ensures.ok in
     first_texts _ _ (line_text c.in_ok-directory.directory) _
     (ap (λ (q : Built). q.is_none) is) (ap (λ (q : Built). q.directories) is) (ap (λ (q : Built). q.files) is)
-    (within_where [] _ _ (λ i lt. still_there _ _ i c.in_ok-path.ensures.stays lt) (line_text c.in_ok-directory.directory) (c.in_ok-directory.ensures.within []))
+    (within_where [] _ _ (λ i lt. still_there _ _ i c.in_ok-path.ensures.stays lt) (line_text c.in_ok-directory.directory)
+    (c.in_ok-directory.ensures.within []))
     (c.in_ok-path.ensures.within []) tt tt

@@ -14,7 +14,8 @@ returns g c =
         header = c.in_ok-program.program.meaning;
         spelled = c.in_ok-program.ensures.unit;
         events = events_left c.rows.result;
-        given = subst (λ (n : Notation). EventsWithFiles n true c.in_ok-program.program.meaning c.in_ok-program.program.meaning.program (events_left c.rows.result))
+        given =
+            subst (λ (n : Notation). EventsWithFiles n true c.in_ok-program.program.meaning c.in_ok-program.program.meaning.program (events_left c.rows.result))
             c.in_ok-program.ensures.notation c.rows.ensures.events;
         alone = is;
       }) c.rows_with_paths.ensures.ok;

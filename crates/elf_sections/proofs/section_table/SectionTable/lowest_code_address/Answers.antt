@@ -7,7 +7,12 @@ use Rattle.elf_sections.specs.declared.section_header.SectionHeader.{SectionHead
 use Rattle.elf_sections.proofs.Headers.{header_of, values_all, numbers_from, numbers_kept, numbers_passed, numbers_left, numbers_end}
 use Rattle.elf_sections.proofs.Lowest.{least_of, least_of_all}
 use Rattle.elf_sections.proofs.section_table.SectionTable.lowest_code_address.Goals as goal
-use Rattle.elf_sections.proofs.section_table.SectionTable.lowest_code_address.Goals.{then-is_active+then-is_code, else-is_active, else-is_active-via-then-is_active+else-is_code, else-is_active-via-else-is_active}
+use Rattle.elf_sections.proofs.section_table.SectionTable.lowest_code_address.Goals.{
+  then-is_active+then-is_code,
+  else-is_active,
+  else-is_active-via-then-is_active+else-is_code,
+  else-is_active-via-else-is_active,
+}
 
 pub loop-index-init : goal.loop-index-init
 loop-index-init c =

@@ -10,4 +10,5 @@ use Rattle.elf_sections.proofs.section_table.SectionTable.lowest_code_address.Gi
 abbrev pub invariant-loop-index : goal.invariant-loop-index
 invariant-loop-index l =
     least_of None (map (λ header. header.address) (filter is_code (filter is_active (table_of l.self).headers)))
-    ≡ least_of l.lowest (numbers_from (λ header. header.address) is_code is_active (header_of l.self.layout l.self.entry_size l.self.entries.now) l.self.count l.index)
+    ≡ least_of l.lowest
+    (numbers_from (λ header. header.address) is_code is_active (header_of l.self.layout l.self.entry_size l.self.entries.now) l.self.count l.index)

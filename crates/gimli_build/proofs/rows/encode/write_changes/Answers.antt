@@ -19,17 +19,20 @@ differs false false = refl
 pub returns-in_err-write_if-2-clause-writes : goal.returns-in_err-write_if-2-clause-writes
 returns-in_err-write_if-2-clause-writes g c =
     let p = err_from_is_err_and c.from_residual-in_err-write_if-2.result c.from_residual-in_err-write_if-2.ensures.1 in
-    rw (p.1, p.2) (unwritten (instructions_bytes (changes c.args.version c.args.previous.now c.args.row.now)) c.in_ok-write_if.ensures c.in_err-write_if-2.ensures)
+    rw (p.1, p.2)
+    (unwritten (instructions_bytes (changes c.args.version c.args.previous.now c.args.row.now)) c.in_ok-write_if.ensures c.in_err-write_if-2.ensures)
 
 pub returns-in_err-write_if-3-clause-writes : goal.returns-in_err-write_if-3-clause-writes
 returns-in_err-write_if-3-clause-writes g c =
     let p = err_from_is_err_and c.from_residual-in_err-write_if-3.result c.from_residual-in_err-write_if-3.ensures.1 in
-    rw (p.1, p.2) (unwritten (instructions_bytes (changes c.args.version c.args.previous.now c.args.row.now)) (joins c.in_ok-write_if.ensures c.in_ok-write_if-2.ensures) c.in_err-write_if-3.ensures)
+    rw (p.1, p.2) (unwritten (instructions_bytes (changes c.args.version c.args.previous.now c.args.row.now))
+    (joins c.in_ok-write_if.ensures c.in_ok-write_if-2.ensures) c.in_err-write_if-3.ensures)
 
 pub returns-in_err-write_if-4-clause-writes : goal.returns-in_err-write_if-4-clause-writes
 returns-in_err-write_if-4-clause-writes g c =
     let p = err_from_is_err_and c.from_residual-in_err-write_if-4.result c.from_residual-in_err-write_if-4.ensures.1 in
-    rw (p.1, p.2) (unwritten (instructions_bytes (changes c.args.version c.args.previous.now c.args.row.now)) (joins (joins c.in_ok-write_if.ensures c.in_ok-write_if-2.ensures) c.in_ok-write_if-3.ensures) c.in_err-write_if-4.ensures)
+    rw (p.1, p.2) (unwritten (instructions_bytes (changes c.args.version c.args.previous.now c.args.row.now))
+    (joins (joins c.in_ok-write_if.ensures c.in_ok-write_if-2.ensures) c.in_ok-write_if-3.ensures) c.in_err-write_if-4.ensures)
 
 pub returns-clause-writes : goal.returns-clause-writes
 returns-clause-writes g c =

@@ -15,7 +15,9 @@ loop-item-init g c =
       ordered = refl;
       fit = tt;
       way = rw c.initial-initial.ensures (record { position = start_position e c.requires.can; line = lit< tt; built = c.requires.built });
-      put = λ keeps_bytes. rw c.initial-initial.ensures (standing_start (g.W.Sink.big c.args.w.now) c.args.encoding e (g.W.Sink.contents c.args.w.now) first c.args.items.now);
+      put =
+          λ keeps_bytes.
+          rw c.initial-initial.ensures (standing_start (g.W.Sink.big c.args.w.now) c.args.encoding e (g.W.Sink.contents c.args.w.now) first c.args.items.now);
     }
 
 pub loop-item-preserved : goal.loop-item-preserved
@@ -36,12 +38,15 @@ loop-item-preserved g c =
     let moved : at_position c.position-next_position.result c.next_row-next.result.now ≡ next_previous version e.default_is_stmt previous item =
     ap (λ (p : ℕ × ℕ). at_position p c.next_row-next.result.now) c.position-next_position.ensures ∙ next in
     record {
-      keeps = begins_then (contents c.args.w.now) (contents c.loop-item.w) (contents c.write_item.new.w) c.loop-item.invariant.keeps c.in_ok-write_item.ensures.writes.keeps;
+      keeps =
+          begins_then (contents c.args.w.now) (contents c.loop-item.w) (contents c.write_item.new.w) c.loop-item.invariant.keeps
+          c.in_ok-write_item.ensures.writes.keeps;
       ordered = c.in_ok-write_item.ensures.writes.ordered ∙ c.loop-item.invariant.ordered;
       fit = rw (taken_next items i item lt c.item-item.is) (fit_more version (take i items) item c.loop-item.invariant.fit c.in_ok-write_item.ensures.fit);
       way = rw moved (way_on version e c.requires.can previous item (drop (i + 1) items) way);
       put = λ keeps_bytes.
           let so = rw split at (c.loop-item.invariant.put keeps_bytes) in
           let more = rw c.loop-item.invariant.ordered at (c.in_ok-write_item.ensures.writes.ok keeps_bytes) in
-          rw moved (standing_more big c.args.encoding e whole (contents c.args.w.now) (contents c.loop-item.w) (contents c.write_item.new.w) previous item (drop (i + 1) items) so more);
+          rw moved (standing_more big c.args.encoding e whole (contents c.args.w.now) (contents c.loop-item.w) (contents c.write_item.new.w) previous item
+          (drop (i + 1) items) so more);
     }

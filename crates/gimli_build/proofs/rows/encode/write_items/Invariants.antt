@@ -16,5 +16,7 @@ invariant-loop-item g l =
       ordered : g.W.Sink.big l.w ≡ big;
       fit : AreFit l.encoding.version (take l.item-index l.items);
       way : OnTheWay l.line_encoding previous (drop l.item-index l.items);
-      put : IsTrue g.W.Sink.keeps_bytes → Standing big l.encoding l.line_encoding (items_bytes big l.encoding l.line_encoding first l.items) (contents l.fn.w) (contents l.w) previous (drop l.item-index l.items);
+      put : IsTrue g.W.Sink.keeps_bytes
+          → Standing big l.encoding l.line_encoding (items_bytes big l.encoding l.line_encoding first l.items) (contents l.fn.w) (contents l.w) previous
+          (drop l.item-index l.items);
     }

@@ -16,7 +16,8 @@ same_word : (d : ℤ) → FitsSigned w64 d → to_z w64 (of_z w64 d) ≡ d
 same_word d fits = omega (arith, ints, fits)
 
 -- what the call answers of the word is so of the number
-told : (e : LineEncoding) (d : ℤ) (answer b : Bool) → FitsSigned w64 d → answer ≡ is_special_advance e (to_z w64 (of_z w64 d)) → answer ≡ b → is_special_advance e d ≡ b
+told : (e : LineEncoding) (d : ℤ) (answer b : Bool) → FitsSigned w64 d → answer ≡ is_special_advance e (to_z w64 (of_z w64 d)) → answer ≡ b
+    → is_special_advance e d ≡ b
 told e d answer b fits is same = rw (← same, is, same_word d fits) refl
 
 -- what the numbers of a special line advance have

@@ -16,15 +16,18 @@ returns-in_err-write_if-2-clause-writes g c =
 pub returns-in_err-write_if-3-clause-writes : goal.returns-in_err-write_if-3-clause-writes
 returns-in_err-write_if-3-clause-writes g c =
     let p = err_from_is_err_and c.from_residual-in_err-write_if-3.result c.from_residual-in_err-write_if-3.ensures.1 in
-    rw (p.1, p.2) (unwritten (instructions_bytes (marks c.args.row.now)) (joins c.in_ok-write_if.ensures c.in_ok-write_if-2.ensures) c.in_err-write_if-3.ensures)
+    rw (p.1, p.2)
+    (unwritten (instructions_bytes (marks c.args.row.now)) (joins c.in_ok-write_if.ensures c.in_ok-write_if-2.ensures) c.in_err-write_if-3.ensures)
 
 pub returns-in_err-write_if-4-clause-writes : goal.returns-in_err-write_if-4-clause-writes
 returns-in_err-write_if-4-clause-writes g c =
     let p = err_from_is_err_and c.from_residual-in_err-write_if-4.result c.from_residual-in_err-write_if-4.ensures.1 in
-    rw (p.1, p.2) (unwritten (instructions_bytes (marks c.args.row.now)) (joins (joins c.in_ok-write_if.ensures c.in_ok-write_if-2.ensures) c.in_ok-write_if-3.ensures) c.in_err-write_if-4.ensures)
+    rw (p.1, p.2) (unwritten (instructions_bytes (marks c.args.row.now))
+    (joins (joins c.in_ok-write_if.ensures c.in_ok-write_if-2.ensures) c.in_ok-write_if-3.ensures) c.in_err-write_if-4.ensures)
 
 pub returns-clause-writes : goal.returns-clause-writes
 returns-clause-writes g c =
     let row = c.args.row.now in
-    four_parts (when (not (nat_eq row.discriminator 0)) (SetDiscriminator row.discriminator)) (when row.basic_block SetBasicBlock) (when row.prologue_end SetPrologueEnd) (when row.epilogue_begin SetEpilogueBegin)
+    four_parts (when (not (nat_eq row.discriminator 0)) (SetDiscriminator row.discriminator)) (when row.basic_block SetBasicBlock)
+    (when row.prologue_end SetPrologueEnd) (when row.epilogue_begin SetEpilogueBegin)
     (joins (joins (joins c.in_ok-write_if.ensures c.in_ok-write_if-2.ensures) c.in_ok-write_if-3.ensures) c.in_ok-write_if-4.ensures)

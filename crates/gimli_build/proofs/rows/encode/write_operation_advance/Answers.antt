@@ -13,9 +13,12 @@ returns g c =
     let e = c.args.line_encoding.now in
     let s = c.args.opcode in
     let n = c.args.count in
-    let over : nat_le (s + n * e.line_range) 255 ≡ false = past (nat_le (s + n * e.line_range) 255) (s + n * e.line_range) (rw (c.special_opcode.ensures, c.from-range.ensures) at c.in_default.is) in
+    let over : nat_le (s + n * e.line_range) 255
+    ≡ false = past (nat_le (s + n * e.line_range) 255) (s + n * e.line_range) (rw (c.special_opcode.ensures, c.from-range.ensures) at c.in_default.is) in
     let m = n - constant_advance e in
-    let rest : nat_le (s + m * e.line_range) 255 ≡ false = past (nat_le (s + m * e.line_range) 255) (s + m * e.line_range) (rw c.from-range.ensures at (rw (c.special_opcode-2.ensures, c.saturating_sub-rest.ensures, c.from.ensures) at c.in_default-special_opcode.is)) in
+    let rest : nat_le (s + m * e.line_range) 255
+    ≡ false = past (nat_le (s + m * e.line_range) 255) (s + m * e.line_range)
+    (rw c.from-range.ensures at (rw (c.special_opcode-2.ensures, c.saturating_sub-rest.ensures, c.from.ensures) at c.in_default-special_opcode.is)) in
     let last = rw c.maker-2.ensures at c.in_ok-write_instruction-3.ensures in
     rw (by_advance e s n over rest, append-nil (instruction_bytes (row_maker e s))) (joins c.in_ok-write_instruction-2.ensures last)
 
@@ -32,4 +35,5 @@ returns-in_err-write_instruction-2 g c =
 pub returns-in_err-write_instruction-3 : goal.returns-in_err-write_instruction-3
 returns-in_err-write_instruction-3 g c =
     let p = err_from_is_err_and c.from_residual-in_err-write_instruction-3.result c.from_residual-in_err-write_instruction-3.ensures.1 in
-    rw (p.1, p.2) (unwritten (instructions_bytes (operation_part c.args.line_encoding.now c.args.opcode c.args.count)) c.in_ok-write_instruction-2.ensures c.in_err-write_instruction-3.ensures)
+    rw (p.1, p.2) (unwritten (instructions_bytes (operation_part c.args.line_encoding.now c.args.opcode c.args.count)) c.in_ok-write_instruction-2.ensures
+    c.in_err-write_instruction-3.ensures)

@@ -11,21 +11,25 @@ use Rattle.gimli_build.proofs.rows.encode.write_row.Goals as goal
 
 pub returns-in_err-write_changes-clause-writes : goal.returns-in_err-write_changes-clause-writes
 returns-in_err-write_changes-clause-writes g c =
-    let bytes = instructions_bytes (row_instructions c.args.encoding.version c.args.line_encoding (at_position c.args.position c.args.previous.now) c.args.row.now) in
+    let bytes =
+    instructions_bytes (row_instructions c.args.encoding.version c.args.line_encoding (at_position c.args.position c.args.previous.now) c.args.row.now) in
     let p = err_from_is_err_and c.from_residual-in_err-write_changes.result c.from_residual-in_err-write_changes.ensures.1 in
     rw (p.1, p.2) (unwritten bytes c.in_ok-write_marks.ensures.writes c.in_err-write_changes.ensures.writes)
 
 pub returns-in_err-opcode-clause-writes : goal.returns-in_err-opcode-clause-writes
 returns-in_err-opcode-clause-writes g c =
-    let bytes = instructions_bytes (row_instructions c.args.encoding.version c.args.line_encoding (at_position c.args.position c.args.previous.now) c.args.row.now) in
+    let bytes =
+    instructions_bytes (row_instructions c.args.encoding.version c.args.line_encoding (at_position c.args.position c.args.previous.now) c.args.row.now) in
     let p = err_from_is_err_and c.from_residual-in_err-opcode.result c.from_residual-in_err-opcode.ensures.1 in
     rw (p.1, p.2) (unwritten bytes (joins c.in_ok-write_marks.ensures.writes c.in_ok-write_changes.ensures.writes) c.in_err-opcode.ensures.writes)
 
 pub returns-in_err-write_operation_advance-clause-writes : goal.returns-in_err-write_operation_advance-clause-writes
 returns-in_err-write_operation_advance-clause-writes g c =
-    let bytes = instructions_bytes (row_instructions c.args.encoding.version c.args.line_encoding (at_position c.args.position c.args.previous.now) c.args.row.now) in
+    let bytes =
+    instructions_bytes (row_instructions c.args.encoding.version c.args.line_encoding (at_position c.args.position c.args.previous.now) c.args.row.now) in
     let p = err_from_is_err_and c.from_residual-in_err-write_operation_advance.result c.from_residual-in_err-write_operation_advance.ensures.1 in
-    rw (p.1, p.2) (unwritten bytes (joins c.in_ok-write_marks.ensures.writes (joins c.in_ok-write_changes.ensures.writes c.in_ok-opcode.ensures.writes)) c.in_err-write_operation_advance.ensures)
+    rw (p.1, p.2) (unwritten bytes (joins c.in_ok-write_marks.ensures.writes (joins c.in_ok-write_changes.ensures.writes c.in_ok-opcode.ensures.writes))
+    c.in_err-write_operation_advance.ensures)
 
 pub returns-clause-writes : goal.returns-clause-writes
 returns-clause-writes g c =

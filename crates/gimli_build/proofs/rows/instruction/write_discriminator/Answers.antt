@@ -24,7 +24,8 @@ returns-in_err-write_byte-2 g c =
     let p = err_from_is_err_and c.from_residual-in_err-write_byte-2.result c.from_residual-in_err-write_byte-2.ensures.1 in
     let put = c.in_ok-write_uleb128.ensures.appends in
     let second = writes (Ok (uleb (length c.bytes.result.now + 1))) put in
-    rw (p.1, p.2) (unwritten (instruction_bytes (SetDiscriminator c.args.discriminator)) (joins c.in_ok-write_byte.ensures second) c.in_err-write_byte-2.ensures)
+    rw (p.1, p.2)
+    (unwritten (instruction_bytes (SetDiscriminator c.args.discriminator)) (joins c.in_ok-write_byte.ensures second) c.in_err-write_byte-2.ensures)
 
 pub returns : goal.returns
 returns g c =

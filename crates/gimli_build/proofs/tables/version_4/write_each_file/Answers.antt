@@ -31,7 +31,8 @@ loop-index-preserved g c =
     let so = rw (next_at files i file c.file-directory.ensures) at c.loop-index.invariant.so in
     record {
       so = one_written so c.in_ok-write_file.ensures.writes;
-      fit = rw (taken_at files i file c.file-directory.ensures) (All-push FitsFile (take i files) file c.loop-index.invariant.fit c.in_ok-write_file.ensures.fit);
+      fit =
+          rw (taken_at files i file c.file-directory.ensures) (All-push FitsFile (take i files) file c.loop-index.invariant.fit c.in_ok-write_file.ensures.fit);
     }
 
 pub returns-clause-writes : goal.returns-clause-writes

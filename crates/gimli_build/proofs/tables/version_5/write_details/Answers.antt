@@ -9,7 +9,9 @@ pub returns-in_err-write_uleb128-clause-writes : goal.returns-in_err-write_uleb1
 returns-in_err-write_uleb128-clause-writes g c =
     let program = c.args.program.now in
     let info = c.args.info.now in
-    let bytes = uleb c.args.directory ++ (if program.file_has_timestamp then uleb info.timestamp else []) ++ (if program.file_has_size then uleb info.size else []) ++ (if program.file_has_md5 then info.md5 else []) in
+    let bytes =
+    uleb c.args.directory ++ (if program.file_has_timestamp then uleb info.timestamp else []) ++ (if program.file_has_size then uleb info.size else [])
+    ++ (if program.file_has_md5 then info.md5 else []) in
     let p = err_from_is_err_and c.from_residual.result c.from_residual.ensures.1 in
     let put = c.in_err-write_uleb128.ensures.appends in
     let refused = writes (Ok (uleb c.index.result)) put in
@@ -19,7 +21,9 @@ pub returns-in_err-write_number_if-clause-writes : goal.returns-in_err-write_num
 returns-in_err-write_number_if-clause-writes g c =
     let program = c.args.program.now in
     let info = c.args.info.now in
-    let bytes = uleb c.args.directory ++ (if program.file_has_timestamp then uleb info.timestamp else []) ++ (if program.file_has_size then uleb info.size else []) ++ (if program.file_has_md5 then info.md5 else []) in
+    let bytes =
+    uleb c.args.directory ++ (if program.file_has_timestamp then uleb info.timestamp else []) ++ (if program.file_has_size then uleb info.size else [])
+    ++ (if program.file_has_md5 then info.md5 else []) in
     let p = err_from_is_err_and c.from_residual-in_err-write_number_if.result c.from_residual-in_err-write_number_if.ensures.1 in
     let put = c.in_ok-write_uleb128.ensures.appends in
     let first = writes (Ok (uleb c.index.result)) put in
@@ -29,7 +33,9 @@ pub returns-in_err-write_number_if-2-clause-writes : goal.returns-in_err-write_n
 returns-in_err-write_number_if-2-clause-writes g c =
     let program = c.args.program.now in
     let info = c.args.info.now in
-    let bytes = uleb c.args.directory ++ (if program.file_has_timestamp then uleb info.timestamp else []) ++ (if program.file_has_size then uleb info.size else []) ++ (if program.file_has_md5 then info.md5 else []) in
+    let bytes =
+    uleb c.args.directory ++ (if program.file_has_timestamp then uleb info.timestamp else []) ++ (if program.file_has_size then uleb info.size else [])
+    ++ (if program.file_has_md5 then info.md5 else []) in
     let p = err_from_is_err_and c.from_residual-in_err-write_number_if-2.result c.from_residual-in_err-write_number_if-2.ensures.1 in
     let put = c.in_ok-write_uleb128.ensures.appends in
     let first = writes (Ok (uleb c.index.result)) put in

@@ -18,7 +18,8 @@ pub write_file_entry-requires-clause-empty : goal.write_file_entry-requires-clau
 write_file_entry-requires-clause-empty g c = λ has without.
     let p = c.args.program.now in
     let file : File = ((line_text c.file-file.result.0.now, c.file-file.result.1), details c.file-file.result.2.now) in
-    let there : slice_get p.files c.loop-index.index ≡ Some file = ap (λ (l : List File). slice_get l c.loop-index.index) (sym c.tables-tables.ensures.files) ∙ c.file-file.ensures in
+    let there : slice_get p.files c.loop-index.index ≡ Some file = ap (λ (l : List File). slice_get l c.loop-index.index) (sym c.tables-tables.ensures.files)
+    ∙ c.file-file.ensures in
     c.requires.empty (needs-empty p c.loop-index.index file c.requires.version there has without)
 
 pub loop-index-init : goal.loop-index-init

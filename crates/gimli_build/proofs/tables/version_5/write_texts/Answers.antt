@@ -11,7 +11,8 @@ pub write_line_string-requires : goal.write_line_string-requires
 write_line_string-requires g c =
     let texts = c.args.texts.now in
     let lt : c.loop-text.text-index < length texts = omega arith in
-    all_seen (IsWithin (texts_in c.args.strings.now c.args.line_strings.now)) line_text texts c.loop-text.text-index c.text-item.result lt c.text-item.is c.requires
+    all_seen (IsWithin (texts_in c.args.strings.now c.args.line_strings.now)) line_text texts c.loop-text.text-index c.text-item.result lt c.text-item.is
+    c.requires
 
 pub loop-text-init : goal.loop-text-init
 loop-text-init g c =

@@ -26,7 +26,8 @@ returns-clause-writes g c =
     let bytes = fields_bytes big c.args.program.now (texts_in c.args.strings.now c.args.line_strings.now) in
     let ordered = fields.ordered ∙ c.in_ok-write_udata.ensures.ordered in
     let opened : IsTrue g.W.Sink.keeps_bytes → c1 ≡ (old ++ []) ++ open_word big format = λ keeps_bytes.
-    rw (c.word_size-size.ensures, c.format.ensures, zero_word big format) at (c.in_ok-write_udata.ensures.ok keeps_bytes) ∙ ap (λ (l : List ℕ). l ++ open_word big format) (sym (append-nil old)) in
+    rw (c.word_size-size.ensures, c.format.ensures, zero_word big format) at (c.in_ok-write_udata.ensures.ok keeps_bytes)
+    ∙ ap (λ (l : List ℕ). l ++ open_word big format) (sym (append-nil old)) in
     let at : start ≡ length old + 0 = omega (arith, c.len-length.ensures) in
     let le : length old ≤ start = omega (arith, c.len-length.ensures) in
     let written : IsTrue g.W.Sink.keeps_bytes → Appends bytes c1 c2 = λ keeps_bytes. rw c.in_ok-write_udata.ensures.ordered at (fields.ok keeps_bytes) in
@@ -37,9 +38,11 @@ returns-clause-writes g c =
       keeps = begins_before old c2 c3 start (begins_then old c1 c2 c.in_ok-write_udata.ensures.keeps fields.keeps) le c.write_udata_at.ensures.before;
       ordered = c.write_udata_at.ensures.ordered ∙ ordered;
       ok = λ keeps_bytes. on_ok c.write_udata_at.result
-          (framed word word [] (open_word big format) old c1 c2 c3 start n bytes (λ k. no_escape (word k)) (opened keeps_bytes) at (written keeps_bytes) counted (λ w is. header_word_long big format n w is))
+          (framed word word [] (open_word big format) old c1 c2 c3 start n bytes (λ k. no_escape (word k)) (opened keeps_bytes) at (written keeps_bytes) counted
+          (λ w is. header_word_long big format n w is))
           (rw (ordered, c.word_size-size.ensures, c.format.ensures, known) at (c.write_udata_at.ensures.ok keeps_bytes));
       err = λ keeps_bytes fails_for_memory_alone. if_err c.write_udata_at.result
-          (λ e refused. inr (frame_refused word word [] (open_word big format) old c1 c2 c3 start n bytes (λ k. no_escape (word k)) (opened keeps_bytes) at (written keeps_bytes) counted (λ w is. header_word_long big format n w is) e refused))
+          (λ e refused. inr (frame_refused word word [] (open_word big format) old c1 c2 c3 start n bytes (λ k. no_escape (word k)) (opened keeps_bytes) at
+          (written keeps_bytes) counted (λ w is. header_word_long big format n w is) e refused))
           (rw (ordered, c.word_size-size.ensures, c.format.ensures, known) at (c.write_udata_at.ensures.err fails_for_memory_alone));
     }

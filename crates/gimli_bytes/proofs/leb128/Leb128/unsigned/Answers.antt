@@ -12,7 +12,9 @@ returns-then-rest-lt128 c =
 pub loop-len-preserved : goal.loop-len-preserved
 loop-len-preserved c = record {
   ten = length-set c.loop-len.bytes c.loop-len.len (c.loop-len.rest % 128 + 128) ∙ c.loop-len.invariant.ten;
-  so = uleb_step c.loop-len.bytes c.loop-len.len c.loop-len.rest (uleb_within 9 c.args.val) (omega arith) (omega arith) c.if-rest-lt128.false c.loop-len.invariant.so;
+  so =
+      uleb_step c.loop-len.bytes c.loop-len.len c.loop-len.rest (uleb_within 9 c.args.val) (omega arith) (omega arith) c.if-rest-lt128.false
+      c.loop-len.invariant.so;
 }
 
 pub returns : goal.returns

@@ -2,12 +2,14 @@ use Rattle.std.proofs.Common.{rules, ◌≡◌, sym, ap, ◌∙◌, false, true,
 use Rattle.std.specs.Prelude.{slice_get}
 use Rattle.gimli_bytes.specs.Texts.{with_text, index_of_text}
 use Rattle.gimli_bytes.specs.inside.TextFields.{texts_of}
-use Rattle.gimli_bytes.proofs.TextLemmas.{is_there, not_there, index_there, place_new, texts_new, with_text-there, byte_count-new, with_text-AreTexts, with_text-found, with_text-KeepsTexts}
+use Rattle.gimli_bytes.proofs.TextLemmas.{is_there, not_there, index_there, place_new, texts_new, with_text-there, byte_count-new, with_text-AreTexts}
+use Rattle.gimli_bytes.proofs.TextLemmas.{with_text-found, with_text-KeepsTexts}
 use Rattle.gimli_bytes.proofs.str.Texts.add.Goals as goal
 
 pub returns-in-Some-clause-ok : goal.returns-in-Some-clause-ok
 returns-in-Some-clause-ok c =
-    rw (← c.self.view_is) (sym (with_text-there (texts_of c.self.inside.strings.keys) c.args.text.now (is_there c.self.inside.strings.keys c.args.text.now true c.in-Some.ensures.found)))
+    rw (← c.self.view_is) (sym
+    (with_text-there (texts_of c.self.inside.strings.keys) c.args.text.now (is_there c.self.inside.strings.keys c.args.text.now true c.in-Some.ensures.found)))
 
 pub returns-in-Some-clause-id : goal.returns-in-Some-clause-id
 returns-in-Some-clause-id c =
@@ -36,7 +38,9 @@ returns-clause-id c =
 
 pub returns-in-Some-clause-found : goal.returns-in-Some-clause-found
 returns-in-Some-clause-found c =
-    let there = with_text-there (texts_of c.self.inside.strings.keys) c.args.text.now (is_there c.self.inside.strings.keys c.args.text.now true c.in-Some.ensures.found) in
+    let there =
+    with_text-there (texts_of c.self.inside.strings.keys) c.args.text.now
+    (is_there c.self.inside.strings.keys c.args.text.now true c.in-Some.ensures.found) in
     let place = index_there c.self.inside.strings.keys c.args.text.now c.in-Some.index c.in-Some.ensures.index in
     rw (← c.self.view_is) (ap (slice_get (texts_of c.self.inside.strings.keys)) place
     ∙ ap (λ ts. slice_get ts (index_of_text (texts_of c.self.inside.strings.keys) c.args.text.now)) (sym there)

@@ -11,7 +11,8 @@ overflow_add-offset-in-loop-text c =
     let step = byte_count-more items c.loop-text.text-index c.text-item.result (omega arith) c.text-item.is in
     let part = byte_count-part items (c.loop-text.text-index + 1) in
     let all = byte_count-part c.as_slice.result.now c.args.index in
-    omega (arith, step, part, all, c.loop-text.invariant, c.self.invariant.counted, ap (λ (l : List (Vec ℕ Global)). byte_count (texts_of l)) c.as_slice.ensures.keys)
+    omega
+    (arith, step, part, all, c.loop-text.invariant, c.self.invariant.counted, ap (λ (l : List (Vec ℕ Global)). byte_count (texts_of l)) c.as_slice.ensures.keys)
 
 pub returns-clause-offset : goal.returns-clause-offset
 returns-clause-offset c =

@@ -9,7 +9,8 @@ use Rattle.gimli_bytes.proofs.str.Texts.write.Goals as goal
 pub returns-in_err-write-clause-appends : goal.returns-in_err-write-clause-appends
 returns-in_err-write-clause-appends g c =
     let p = err_from_is_err_and c.from_residual.result c.from_residual.ensures.1 in
-    rw (p.1, p.2) (refused_after c.as_slice.result.now (table_bytes c.args.self.now) c.loop-text.invariant.keeps c.loop-text.invariant.ordered c.in_err-write.ensures)
+    rw (p.1, p.2)
+    (refused_after c.as_slice.result.now (table_bytes c.args.self.now) c.loop-text.invariant.keeps c.loop-text.invariant.ordered c.in_err-write.ensures)
 
 pub returns-in_err-write-clause-texts : goal.returns-in_err-write-clause-texts
 returns-in_err-write-clause-texts g c = rw (← c.self.view_is) c.self.invariant.are_texts
@@ -18,8 +19,10 @@ pub returns-in_err-write_u8-clause-appends : goal.returns-in_err-write_u8-clause
 returns-in_err-write_u8-clause-appends g c =
     let contents = g.W.Sink.contents in
     let p = err_from_is_err_and c.from_residual-in_err-write_u8.result c.from_residual-in_err-write_u8.ensures.1 in
-    let keeps = begins_then (contents c.args.w.now) (contents c.loop-text.w) (contents c.write.new.self) c.loop-text.invariant.keeps c.in_ok-write.ensures.keeps in
-    rw (p.1, p.2) (refused_after (number_bytes (g.W.Sink.big c.write.new.self) 1 0) (table_bytes c.args.self.now) keeps (c.in_ok-write.ensures.ordered ∙ c.loop-text.invariant.ordered) c.in_err-write_u8.ensures)
+    let keeps =
+    begins_then (contents c.args.w.now) (contents c.loop-text.w) (contents c.write.new.self) c.loop-text.invariant.keeps c.in_ok-write.ensures.keeps in
+    rw (p.1, p.2) (refused_after (number_bytes (g.W.Sink.big c.write.new.self) 1 0) (table_bytes c.args.self.now) keeps
+    (c.in_ok-write.ensures.ordered ∙ c.loop-text.invariant.ordered) c.in_err-write_u8.ensures)
 
 pub returns-in_err-write_u8-clause-texts : goal.returns-in_err-write_u8-clause-texts
 returns-in_err-write_u8-clause-texts g c = rw (← c.self.view_is) c.self.invariant.are_texts
@@ -34,7 +37,8 @@ loop-text-preserved g c =
       ordered = c.in_ok-write_u8.ensures.ordered ∙ c.in_ok-write.ensures.ordered ∙ c.loop-text.invariant.ordered;
       put = λ keeps. text_put c.as_slice-text-items.result.now c.loop-text.text-index c.text-item.result (g.W.Sink.big c.write.new.self) c.as_slice.result.now
           (contents c.args.w.now) (contents c.loop-text.w) (contents c.write.new.self) (contents c.write_u8.new.self)
-          c.loop-text-test.true c.text-item.is c.as_slice.ensures.value (c.loop-text.invariant.put keeps) (c.in_ok-write.ensures.ok keeps) (c.in_ok-write_u8.ensures.ok keeps);
+          c.loop-text-test.true c.text-item.is c.as_slice.ensures.value (c.loop-text.invariant.put keeps) (c.in_ok-write.ensures.ok keeps)
+          (c.in_ok-write_u8.ensures.ok keeps);
     }
 
 pub returns-clause-appends : goal.returns-clause-appends
@@ -44,7 +48,8 @@ returns-clause-appends g c =
       keeps = c.loop-text.invariant.keeps;
       ordered = c.loop-text.invariant.ordered;
       ok = λ keeps. all_put c.as_slice-text-items.result.now c.self.inside.strings.keys c.loop-text.text-index c.args.self.now
-          (contents c.args.w.now) (contents c.loop-text.w) c.loop-text-test.false c.as_slice-text-items.ensures.keys c.self.view_is (c.loop-text.invariant.put keeps);
+          (contents c.args.w.now) (contents c.loop-text.w) c.loop-text-test.false c.as_slice-text-items.ensures.keys c.self.view_is
+          (c.loop-text.invariant.put keeps);
       err = λ memory_alone. tt;
     }
 

@@ -6,7 +6,9 @@ pub returns-in-DW_EH_PE_absptr : goal.returns-in-DW_EH_PE_absptr
 returns-in-DW_EH_PE_absptr g c =
     let old = g.Self.Sink.contents c.args.self.now in
     let kind : c.application.result.0 ≡ 0 = omega arith in
-    let wanted = absolute_pointer (g.Self.Sink.big c.args.self.now) old c.args.address c.in-Constant.val c.args.eh_pe c.format.result c.args.size c.in-Constant.is (sym c.application.ensures ∙ kind) c.format.ensures in
+    let wanted =
+    absolute_pointer (g.Self.Sink.big c.args.self.now) old c.args.address c.in-Constant.val c.args.eh_pe c.format.result c.args.size c.in-Constant.is
+    (sym c.application.ensures ∙ kind) c.format.ensures in
     append_as wanted c.write_eh_pointer_data.ensures
 
 pub returns-in-DW_EH_PE_pcrel : goal.returns-in-DW_EH_PE_pcrel
@@ -14,14 +16,17 @@ returns-in-DW_EH_PE_pcrel g c =
     let old = g.Self.Sink.contents c.args.self.now in
     let call = c.write_eh_pointer_data-in-DW_EH_PE_pcrel in
     let kind : c.application.result.0 ≡ 0x10 = omega arith in
-    let wanted = relative_pointer (g.Self.Sink.big c.args.self.now) old c.args.address c.in-Constant.val c.len.result c.args.eh_pe c.format-in-DW_EH_PE_pcrel.result c.args.size c.in-Constant.is (sym c.application.ensures ∙ kind) c.len.ensures c.format-in-DW_EH_PE_pcrel.ensures in
+    let wanted =
+    relative_pointer (g.Self.Sink.big c.args.self.now) old c.args.address c.in-Constant.val c.len.result c.args.eh_pe c.format-in-DW_EH_PE_pcrel.result
+    c.args.size c.in-Constant.is (sym c.application.ensures ∙ kind) c.len.ensures c.format-in-DW_EH_PE_pcrel.ensures in
     append_as wanted call.ensures
 
 pub returns-in_default : goal.returns-in_default
 returns-in_default g c =
     let not_absolute : c.application.result.0 ≢ 0 = omega arith in
     let not_relative : c.application.result.0 ≢ 0x10 = omega arith in
-    refused_at_once c.args.self.now (other_pointer (g.Self.Sink.big c.args.self.now) (g.Self.Sink.contents c.args.self.now) c.args.address c.in-Constant.val c.args.eh_pe c.args.size c.in-Constant.is
+    refused_at_once c.args.self.now (other_pointer (g.Self.Sink.big c.args.self.now) (g.Self.Sink.contents c.args.self.now) c.args.address c.in-Constant.val
+    c.args.eh_pe c.args.size c.in-Constant.is
     (rw (← c.application.ensures) not_absolute) (rw (← c.application.ensures) not_relative))
 
 pub returns-in-Symbol : goal.returns-in-Symbol

@@ -10,31 +10,37 @@ use Rattle.gimli_bytes.proofs.writer.Writer.write_eh_pointer_data.Goals as goal
 pub returns-in-DW_EH_PE_absptr : goal.returns-in-DW_EH_PE_absptr
 returns-in-DW_EH_PE_absptr g c =
     let format : c.args.format.0 ≡ 0 = omega arith in
-    let wanted : pointer_data (g.Self.Sink.big c.args.self.now) c.args.val c.args.format c.args.size ≡ udata (g.Self.Sink.big c.args.self.now) c.args.val c.args.size = formatted_as (g.Self.Sink.big c.args.self.now) c.args.val c.args.format c.args.size 0 format in
+    let wanted : pointer_data (g.Self.Sink.big c.args.self.now) c.args.val c.args.format c.args.size
+    ≡ udata (g.Self.Sink.big c.args.self.now) c.args.val c.args.size = formatted_as (g.Self.Sink.big c.args.self.now) c.args.val c.args.format c.args.size 0
+    format in
     append_as wanted c.write_udata.ensures
 
 pub returns-in-DW_EH_PE_uleb128 : goal.returns-in-DW_EH_PE_uleb128
 returns-in-DW_EH_PE_uleb128 g c =
     let format : c.args.format.0 ≡ 1 = omega arith in
-    let wanted : pointer_data (g.Self.Sink.big c.args.self.now) c.args.val c.args.format c.args.size ≡ Ok (uleb c.args.val) = formatted_as (g.Self.Sink.big c.args.self.now) c.args.val c.args.format c.args.size 1 format in
+    let wanted : pointer_data (g.Self.Sink.big c.args.self.now) c.args.val c.args.format c.args.size
+    ≡ Ok (uleb c.args.val) = formatted_as (g.Self.Sink.big c.args.self.now) c.args.val c.args.format c.args.size 1 format in
     append_as wanted c.write_uleb128.ensures.appends
 
 pub returns-in-DW_EH_PE_udata2 : goal.returns-in-DW_EH_PE_udata2
 returns-in-DW_EH_PE_udata2 g c =
     let format : c.args.format.0 ≡ 2 = omega arith in
-    let wanted : pointer_data (g.Self.Sink.big c.args.self.now) c.args.val c.args.format c.args.size ≡ udata (g.Self.Sink.big c.args.self.now) c.args.val 2 = formatted_as (g.Self.Sink.big c.args.self.now) c.args.val c.args.format c.args.size 2 format in
+    let wanted : pointer_data (g.Self.Sink.big c.args.self.now) c.args.val c.args.format c.args.size
+    ≡ udata (g.Self.Sink.big c.args.self.now) c.args.val 2 = formatted_as (g.Self.Sink.big c.args.self.now) c.args.val c.args.format c.args.size 2 format in
     append_as wanted c.write_udata-in-DW_EH_PE_udata2.ensures
 
 pub returns-in-DW_EH_PE_udata4 : goal.returns-in-DW_EH_PE_udata4
 returns-in-DW_EH_PE_udata4 g c =
     let format : c.args.format.0 ≡ 3 = omega arith in
-    let wanted : pointer_data (g.Self.Sink.big c.args.self.now) c.args.val c.args.format c.args.size ≡ udata (g.Self.Sink.big c.args.self.now) c.args.val 4 = formatted_as (g.Self.Sink.big c.args.self.now) c.args.val c.args.format c.args.size 3 format in
+    let wanted : pointer_data (g.Self.Sink.big c.args.self.now) c.args.val c.args.format c.args.size
+    ≡ udata (g.Self.Sink.big c.args.self.now) c.args.val 4 = formatted_as (g.Self.Sink.big c.args.self.now) c.args.val c.args.format c.args.size 3 format in
     append_as wanted c.write_udata-in-DW_EH_PE_udata4.ensures
 
 pub returns-in-DW_EH_PE_udata8 : goal.returns-in-DW_EH_PE_udata8
 returns-in-DW_EH_PE_udata8 g c =
     let format : c.args.format.0 ≡ 4 = omega arith in
-    let wanted : pointer_data (g.Self.Sink.big c.args.self.now) c.args.val c.args.format c.args.size ≡ udata (g.Self.Sink.big c.args.self.now) c.args.val 8 = formatted_as (g.Self.Sink.big c.args.self.now) c.args.val c.args.format c.args.size 4 format in
+    let wanted : pointer_data (g.Self.Sink.big c.args.self.now) c.args.val c.args.format c.args.size
+    ≡ udata (g.Self.Sink.big c.args.self.now) c.args.val 8 = formatted_as (g.Self.Sink.big c.args.self.now) c.args.val c.args.format c.args.size 4 format in
     append_as wanted c.write_udata-in-DW_EH_PE_udata8.ensures
 
 pub returns-in-DW_EH_PE_sleb128 : goal.returns-in-DW_EH_PE_sleb128
@@ -43,7 +49,8 @@ returns-in-DW_EH_PE_sleb128 g c =
     let passed : cast_signed w64 c.args.val ≡ to_z w64 (of_z w64 c.cast_signed.result) =
     ap (to_z w64) (sym (of_z-to_z w64 c.args.val c.ranges.val.fits) ∙ ap (of_z w64) (sym c.cast_signed.ensures)) in
     let wanted : pointer_data (g.Self.Sink.big c.args.self.now) c.args.val c.args.format c.args.size ≡ Ok (sleb (to_z w64 (of_z w64 c.cast_signed.result))) =
-    formatted_as (g.Self.Sink.big c.args.self.now) c.args.val c.args.format c.args.size 9 format ∙ ap (λ (z : ℤ). let r : Result (List ℕ) Error = Ok (sleb z) in r) passed in
+    formatted_as (g.Self.Sink.big c.args.self.now) c.args.val c.args.format c.args.size 9 format
+    ∙ ap (λ (z : ℤ). let r : Result (List ℕ) Error = Ok (sleb z) in r) passed in
     append_as wanted c.write_sleb128.ensures.appends
 
 pub returns-in-DW_EH_PE_sdata2 : goal.returns-in-DW_EH_PE_sdata2
@@ -51,8 +58,10 @@ returns-in-DW_EH_PE_sdata2 g c =
     let format : c.args.format.0 ≡ 10 = omega arith in
     let passed : cast_signed w64 c.args.val ≡ to_z w64 (of_z w64 c.cast_signed-in-DW_EH_PE_sdata2.result) =
     ap (to_z w64) (sym (of_z-to_z w64 c.args.val c.ranges.val.fits) ∙ ap (of_z w64) (sym c.cast_signed-in-DW_EH_PE_sdata2.ensures)) in
-    let wanted : pointer_data (g.Self.Sink.big c.args.self.now) c.args.val c.args.format c.args.size ≡ sdata (g.Self.Sink.big c.args.self.now) (to_z w64 (of_z w64 c.cast_signed-in-DW_EH_PE_sdata2.result)) 2 =
-    formatted_as (g.Self.Sink.big c.args.self.now) c.args.val c.args.format c.args.size 10 format ∙ ap (λ (z : ℤ). let r : Result (List ℕ) Error = sdata (g.Self.Sink.big c.args.self.now) z 2 in r) passed in
+    let wanted : pointer_data (g.Self.Sink.big c.args.self.now) c.args.val c.args.format c.args.size
+    ≡ sdata (g.Self.Sink.big c.args.self.now) (to_z w64 (of_z w64 c.cast_signed-in-DW_EH_PE_sdata2.result)) 2 =
+    formatted_as (g.Self.Sink.big c.args.self.now) c.args.val c.args.format c.args.size 10 format
+    ∙ ap (λ (z : ℤ). let r : Result (List ℕ) Error = sdata (g.Self.Sink.big c.args.self.now) z 2 in r) passed in
     append_as wanted c.write_sdata.ensures
 
 pub returns-in-DW_EH_PE_sdata4 : goal.returns-in-DW_EH_PE_sdata4
@@ -60,8 +69,10 @@ returns-in-DW_EH_PE_sdata4 g c =
     let format : c.args.format.0 ≡ 11 = omega arith in
     let passed : cast_signed w64 c.args.val ≡ to_z w64 (of_z w64 c.cast_signed-in-DW_EH_PE_sdata4.result) =
     ap (to_z w64) (sym (of_z-to_z w64 c.args.val c.ranges.val.fits) ∙ ap (of_z w64) (sym c.cast_signed-in-DW_EH_PE_sdata4.ensures)) in
-    let wanted : pointer_data (g.Self.Sink.big c.args.self.now) c.args.val c.args.format c.args.size ≡ sdata (g.Self.Sink.big c.args.self.now) (to_z w64 (of_z w64 c.cast_signed-in-DW_EH_PE_sdata4.result)) 4 =
-    formatted_as (g.Self.Sink.big c.args.self.now) c.args.val c.args.format c.args.size 11 format ∙ ap (λ (z : ℤ). let r : Result (List ℕ) Error = sdata (g.Self.Sink.big c.args.self.now) z 4 in r) passed in
+    let wanted : pointer_data (g.Self.Sink.big c.args.self.now) c.args.val c.args.format c.args.size
+    ≡ sdata (g.Self.Sink.big c.args.self.now) (to_z w64 (of_z w64 c.cast_signed-in-DW_EH_PE_sdata4.result)) 4 =
+    formatted_as (g.Self.Sink.big c.args.self.now) c.args.val c.args.format c.args.size 11 format
+    ∙ ap (λ (z : ℤ). let r : Result (List ℕ) Error = sdata (g.Self.Sink.big c.args.self.now) z 4 in r) passed in
     append_as wanted c.write_sdata-in-DW_EH_PE_sdata4.ensures
 
 pub returns-in-DW_EH_PE_sdata8 : goal.returns-in-DW_EH_PE_sdata8
@@ -69,8 +80,10 @@ returns-in-DW_EH_PE_sdata8 g c =
     let format : c.args.format.0 ≡ 12 = omega arith in
     let passed : cast_signed w64 c.args.val ≡ to_z w64 (of_z w64 c.cast_signed-in-DW_EH_PE_sdata8.result) =
     ap (to_z w64) (sym (of_z-to_z w64 c.args.val c.ranges.val.fits) ∙ ap (of_z w64) (sym c.cast_signed-in-DW_EH_PE_sdata8.ensures)) in
-    let wanted : pointer_data (g.Self.Sink.big c.args.self.now) c.args.val c.args.format c.args.size ≡ sdata (g.Self.Sink.big c.args.self.now) (to_z w64 (of_z w64 c.cast_signed-in-DW_EH_PE_sdata8.result)) 8 =
-    formatted_as (g.Self.Sink.big c.args.self.now) c.args.val c.args.format c.args.size 12 format ∙ ap (λ (z : ℤ). let r : Result (List ℕ) Error = sdata (g.Self.Sink.big c.args.self.now) z 8 in r) passed in
+    let wanted : pointer_data (g.Self.Sink.big c.args.self.now) c.args.val c.args.format c.args.size
+    ≡ sdata (g.Self.Sink.big c.args.self.now) (to_z w64 (of_z w64 c.cast_signed-in-DW_EH_PE_sdata8.result)) 8 =
+    formatted_as (g.Self.Sink.big c.args.self.now) c.args.val c.args.format c.args.size 12 format
+    ∙ ap (λ (z : ℤ). let r : Result (List ℕ) Error = sdata (g.Self.Sink.big c.args.self.now) z 8 in r) passed in
     append_as wanted c.write_sdata-in-DW_EH_PE_sdata8.ensures
 
 pub returns-in_default : goal.returns-in_default

@@ -9,37 +9,49 @@ use Rattle.gimli_bytes.proofs.writer.Writer.write_sdata.Goals as goal
 pub returns-in_err-bits_of_i8-in-1 : goal.returns-in_err-bits_of_i8-in-1
 returns-in_err-bits_of_i8-in-1 g c =
     let p = err_from_is_err_and c.from_residual.result c.from_residual.ensures.1 in
-    let wanted = signed_as (g.Self.Sink.big c.args.self.now) c.args.val (to_z w64 (of_z w64 c.args.val)) c.args.size 1 (Err c.in_err-bits_of_i8-in-1.field-0.0) c.in-1.is refl c.in_err-bits_of_i8-in-1.ensures (to_z-of_z w64 c.args.val c.ranges.val) in
+    let wanted =
+    signed_as (g.Self.Sink.big c.args.self.now) c.args.val (to_z w64 (of_z w64 c.args.val)) c.args.size 1 (Err c.in_err-bits_of_i8-in-1.field-0.0) c.in-1.is
+    refl c.in_err-bits_of_i8-in-1.ensures (to_z-of_z w64 c.args.val c.ranges.val) in
     rw (p.1, p.2) (refused_at_once c.args.self.now wanted)
 
 pub returns-in_ok-bits_of_i8-in-1 : goal.returns-in_ok-bits_of_i8-in-1
 returns-in_ok-bits_of_i8-in-1 g c =
-    let wanted : sdata (g.Self.Sink.big c.args.self.now) c.args.val c.args.size ≡ Ok (number_bytes (g.Self.Sink.big c.args.self.now) 1 c.in_ok-bits_of_i8-in-1.field-0) =
-    signed_as (g.Self.Sink.big c.args.self.now) c.args.val (to_z w64 (of_z w64 c.args.val)) c.args.size 1 (Ok c.in_ok-bits_of_i8-in-1.field-0) c.in-1.is refl c.in_ok-bits_of_i8-in-1.ensures (to_z-of_z w64 c.args.val c.ranges.val) in
+    let wanted : sdata (g.Self.Sink.big c.args.self.now) c.args.val c.args.size
+    ≡ Ok (number_bytes (g.Self.Sink.big c.args.self.now) 1 c.in_ok-bits_of_i8-in-1.field-0) =
+    signed_as (g.Self.Sink.big c.args.self.now) c.args.val (to_z w64 (of_z w64 c.args.val)) c.args.size 1 (Ok c.in_ok-bits_of_i8-in-1.field-0) c.in-1.is refl
+    c.in_ok-bits_of_i8-in-1.ensures (to_z-of_z w64 c.args.val c.ranges.val) in
     append_as wanted c.write_u8.ensures
 
 pub returns-in_err-bits_of_i16-in-2 : goal.returns-in_err-bits_of_i16-in-2
 returns-in_err-bits_of_i16-in-2 g c =
     let p = err_from_is_err_and c.from_residual-in_err-bits_of_i16-in-2.result c.from_residual-in_err-bits_of_i16-in-2.ensures.1 in
-    let wanted = signed_as (g.Self.Sink.big c.args.self.now) c.args.val (to_z w64 (of_z w64 c.args.val)) c.args.size 2 (Err c.in_err-bits_of_i16-in-2.field-0.0) c.in-2.is refl c.in_err-bits_of_i16-in-2.ensures (to_z-of_z w64 c.args.val c.ranges.val) in
+    let wanted =
+    signed_as (g.Self.Sink.big c.args.self.now) c.args.val (to_z w64 (of_z w64 c.args.val)) c.args.size 2 (Err c.in_err-bits_of_i16-in-2.field-0.0)
+    c.in-2.is refl c.in_err-bits_of_i16-in-2.ensures (to_z-of_z w64 c.args.val c.ranges.val) in
     rw (p.1, p.2) (refused_at_once c.args.self.now wanted)
 
 pub returns-in_ok-bits_of_i16-in-2 : goal.returns-in_ok-bits_of_i16-in-2
 returns-in_ok-bits_of_i16-in-2 g c =
-    let wanted : sdata (g.Self.Sink.big c.args.self.now) c.args.val c.args.size ≡ Ok (number_bytes (g.Self.Sink.big c.args.self.now) 2 c.in_ok-bits_of_i16-in-2.field-0) =
-    signed_as (g.Self.Sink.big c.args.self.now) c.args.val (to_z w64 (of_z w64 c.args.val)) c.args.size 2 (Ok c.in_ok-bits_of_i16-in-2.field-0) c.in-2.is refl c.in_ok-bits_of_i16-in-2.ensures (to_z-of_z w64 c.args.val c.ranges.val) in
+    let wanted : sdata (g.Self.Sink.big c.args.self.now) c.args.val c.args.size
+    ≡ Ok (number_bytes (g.Self.Sink.big c.args.self.now) 2 c.in_ok-bits_of_i16-in-2.field-0) =
+    signed_as (g.Self.Sink.big c.args.self.now) c.args.val (to_z w64 (of_z w64 c.args.val)) c.args.size 2 (Ok c.in_ok-bits_of_i16-in-2.field-0) c.in-2.is refl
+    c.in_ok-bits_of_i16-in-2.ensures (to_z-of_z w64 c.args.val c.ranges.val) in
     append_as wanted c.write_u16.ensures
 
 pub returns-in_err-bits_of_i32-in-4 : goal.returns-in_err-bits_of_i32-in-4
 returns-in_err-bits_of_i32-in-4 g c =
     let p = err_from_is_err_and c.from_residual-in_err-bits_of_i32-in-4.result c.from_residual-in_err-bits_of_i32-in-4.ensures.1 in
-    let wanted = signed_as (g.Self.Sink.big c.args.self.now) c.args.val (to_z w64 (of_z w64 c.args.val)) c.args.size 4 (Err c.in_err-bits_of_i32-in-4.field-0.0) c.in-4.is refl c.in_err-bits_of_i32-in-4.ensures (to_z-of_z w64 c.args.val c.ranges.val) in
+    let wanted =
+    signed_as (g.Self.Sink.big c.args.self.now) c.args.val (to_z w64 (of_z w64 c.args.val)) c.args.size 4 (Err c.in_err-bits_of_i32-in-4.field-0.0)
+    c.in-4.is refl c.in_err-bits_of_i32-in-4.ensures (to_z-of_z w64 c.args.val c.ranges.val) in
     rw (p.1, p.2) (refused_at_once c.args.self.now wanted)
 
 pub returns-in_ok-bits_of_i32-in-4 : goal.returns-in_ok-bits_of_i32-in-4
 returns-in_ok-bits_of_i32-in-4 g c =
-    let wanted : sdata (g.Self.Sink.big c.args.self.now) c.args.val c.args.size ≡ Ok (number_bytes (g.Self.Sink.big c.args.self.now) 4 c.in_ok-bits_of_i32-in-4.field-0) =
-    signed_as (g.Self.Sink.big c.args.self.now) c.args.val (to_z w64 (of_z w64 c.args.val)) c.args.size 4 (Ok c.in_ok-bits_of_i32-in-4.field-0) c.in-4.is refl c.in_ok-bits_of_i32-in-4.ensures (to_z-of_z w64 c.args.val c.ranges.val) in
+    let wanted : sdata (g.Self.Sink.big c.args.self.now) c.args.val c.args.size
+    ≡ Ok (number_bytes (g.Self.Sink.big c.args.self.now) 4 c.in_ok-bits_of_i32-in-4.field-0) =
+    signed_as (g.Self.Sink.big c.args.self.now) c.args.val (to_z w64 (of_z w64 c.args.val)) c.args.size 4 (Ok c.in_ok-bits_of_i32-in-4.field-0) c.in-4.is refl
+    c.in_ok-bits_of_i32-in-4.ensures (to_z-of_z w64 c.args.val c.ranges.val) in
     append_as wanted c.write_u32.ensures
 
 pub returns-in-8 : goal.returns-in-8

@@ -8,7 +8,9 @@ loop-slot-init c = none_written (IsAnswer c.args.index.now.units) c.args.address
 
 pub loop-slot-preserved : goal.loop-slot-preserved
 loop-slot-preserved c =
-    one_more_written (IsAnswer c.args.index.now.units) c.args.addresses.now c.args.places.now c.loop-slot.places c.loop-slot.slot _ (omega arith) c.loop-slot.invariant c.answer_in.ensures
+    one_more_written (IsAnswer c.args.index.now.units) c.args.addresses.now c.args.places.now c.loop-slot.places c.loop-slot.slot _ (omega arith)
+    c.loop-slot.invariant c.answer_in.ensures
 
 pub returns : goal.returns
-returns c = all_written (IsAnswer c.args.index.now.units) c.args.addresses.now c.args.places.now c.loop-slot.places c.loop-slot.slot (omega arith) c.loop-slot.invariant
+returns c =
+    all_written (IsAnswer c.args.index.now.units) c.args.addresses.now c.args.places.now c.loop-slot.places c.loop-slot.slot (omega arith) c.loop-slot.invariant

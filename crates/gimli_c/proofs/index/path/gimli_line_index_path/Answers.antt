@@ -7,7 +7,8 @@ use Rattle.gimli_c.proofs.index.path.gimli_line_index_path.Goals as goal
 
 pub returns-in-Err-clause-refused : goal.returns-in-Err-clause-refused
 returns-in-Err-clause-refused c = λ _ _ memory.
-    let told = subst (λ (i : SectionIndex). HasNoPath i c.args.unit c.args.file c.args.comp_dir.now c.in-Err.status) c.deref.ensures (c.in-Err.ensures.err memory) in
+    let told =
+    subst (λ (i : SectionIndex). HasNoPath i c.args.unit c.args.file c.args.comp_dir.now c.in-Err.status) c.deref.ensures (c.in-Err.ensures.err memory) in
     subst (λ (o : Option SectionIndex). IfSome o (λ i. HasNoPath i c.args.unit c.args.file c.args.comp_dir.now c.in-Err.status)) c.in-Some.ensures.old told
 
 pub returns-in-Err-clause-found : goal.returns-in-Err-clause-found

@@ -14,7 +14,9 @@ returns-in-None-clause-err c = λ other.
     let at = c.in_ok-offset.ensures.ok in
     let start = c.rows-rows.result in
     let h = c.header-header.result.now.meaning in
-    let l = looked_up start c.run_to_file.new.rows h c.args.file c.header-header.ensures.header c.header-header.ensures.files c.run_to_file.ensures.fixed c.in-Ok-run_to_file.ensures.file in
+    let l =
+    looked_up start c.run_to_file.new.rows h c.args.file c.header-header.ensures.header c.header-header.ensures.files c.run_to_file.ensures.fixed
+    c.in-Ok-run_to_file.ensures.file in
     let unit = unit_here c.args.index.now at.0 _ _ c.in-Ok.program.meaning _ c.deref.ensures.value at.2 refl c.in-Ok.ensures.unit in
     inl (
       refl,
@@ -34,7 +36,9 @@ returns-clause-ok c =
     let at = c.in_ok-offset.ensures.ok in
     let start = c.rows-rows.result in
     let h = c.header-header.result.now.meaning in
-    let l = looked_up start c.run_to_file.new.rows h c.args.file c.header-header.ensures.header c.header-header.ensures.files c.run_to_file.ensures.fixed c.in-Ok-run_to_file.ensures.file in
+    let l =
+    looked_up start c.run_to_file.new.rows h c.args.file c.header-header.ensures.header c.header-header.ensures.files c.run_to_file.ensures.fixed
+    c.in-Ok-run_to_file.ensures.file in
     let unit = unit_here c.args.index.now at.0 _ _ c.in-Ok.program.meaning _ c.deref.ensures.value at.2 refl c.in-Ok.ensures.unit in
     let seen = file_seen (λ s. s.slice.now) (λ n. n) c.in-Some.entry.now in
     ok_more c.path_in_header.result (λ path is. record {
@@ -54,7 +58,9 @@ returns-clause-err c =
     let at = c.in_ok-offset.ensures.ok in
     let start = c.rows-rows.result in
     let h = c.header-header.result.now.meaning in
-    let l = looked_up start c.run_to_file.new.rows h c.args.file c.header-header.ensures.header c.header-header.ensures.files c.run_to_file.ensures.fixed c.in-Ok-run_to_file.ensures.file in
+    let l =
+    looked_up start c.run_to_file.new.rows h c.args.file c.header-header.ensures.header c.header-header.ensures.files c.run_to_file.ensures.fixed
+    c.in-Ok-run_to_file.ensures.file in
     let unit = unit_here c.args.index.now at.0 _ _ c.in-Ok.program.meaning _ c.deref.ensures.value at.2 refl c.in-Ok.ensures.unit in
     let seen = file_seen (λ s. s.slice.now) (λ n. n) c.in-Some.entry.now in
     err_more c.path_in_header.result (λ status is other. let told = is other in inr (inl (

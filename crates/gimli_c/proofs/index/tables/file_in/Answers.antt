@@ -9,13 +9,18 @@ returns-clause-found c = λ ok.
     record {
       kept = at.0;
       is_unit = at.1;
-      gives = location_here (λ p. GivesFile p c.args.number c.gimli_line_file.new.file c.args.path.now c.gimli_line_file.new.path c.args.directory.now c.gimli_line_file.new.directory) c.args.index.now at.0 _ _ c.deref.ensures.value at.2 (c.gimli_line_file.ensures.found ok);
+      gives =
+          location_here
+          (λ p. GivesFile p c.args.number c.gimli_line_file.new.file c.args.path.now c.gimli_line_file.new.path c.args.directory.now
+          c.gimli_line_file.new.directory)
+          c.args.index.now at.0 _ _ c.deref.ensures.value at.2 (c.gimli_line_file.ensures.found ok);
     }
 
 pub returns-clause-none : goal.returns-clause-none
 returns-clause-none c = λ none.
     let at = c.in-Ok.ensures.ok in
-    inr (at.0, at.1, location_here (λ p. GivesNoFile p c.args.number) c.args.index.now at.0 _ _ c.deref.ensures.value at.2 (c.gimli_line_file.ensures.none none))
+    inr
+    (at.0, at.1, location_here (λ p. GivesNoFile p c.args.number) c.args.index.now at.0 _ _ c.deref.ensures.value at.2 (c.gimli_line_file.ensures.none none))
 
 pub returns-clause-refused : goal.returns-clause-refused
 returns-clause-refused c = λ a b d.

@@ -13,7 +13,9 @@ returns-in-Some-clause-ok c =
     let there = unit_there units c.args.unit ok.1 in
     let kept : slice_index_or units c.in_ok-unit_index.unit_index there.kept ≡ there.kept =
     ap (λ (k : ℕ). slice_index_or units k there.kept) ok.0 ∙ there.at there.kept in
-    let are = subst (λ (u : KeptUnit). AreAddressesFrom (addresses_of (nat_eq c.args.file) u.sequences) c.args.line c.in-Ok.found) kept (c.in-Ok.ensures.ok there.kept) in
+    let are =
+    subst (λ (u : KeptUnit). AreAddressesFrom (addresses_of (nat_eq c.args.file) u.sequences) c.args.line c.in-Ok.found) kept
+    (c.in-Ok.ensures.ok there.kept) in
     let some = subst (λ (o : Option Addresses). AreAddressesFrom (addresses_of (nat_eq c.args.file) there.kept.sequences) c.args.line o) c.in-Some.is are in
     record { kept = there.kept; is_unit = there.there; is_first = some.0; addresses_are = some.1 }
 
@@ -24,6 +26,8 @@ returns-in-None-clause-err c =
     let there = unit_there units c.args.unit ok.1 in
     let kept : slice_index_or units c.in_ok-unit_index.unit_index there.kept ≡ there.kept =
     ap (λ (k : ℕ). slice_index_or units k there.kept) ok.0 ∙ there.at there.kept in
-    let are = subst (λ (u : KeptUnit). AreAddressesFrom (addresses_of (nat_eq c.args.file) u.sequences) c.args.line c.in-Ok.found) kept (c.in-Ok.ensures.ok there.kept) in
+    let are =
+    subst (λ (u : KeptUnit). AreAddressesFrom (addresses_of (nat_eq c.args.file) u.sequences) c.args.line c.in-Ok.found) kept
+    (c.in-Ok.ensures.ok there.kept) in
     let none = subst (λ (o : Option Addresses). AreAddressesFrom (addresses_of (nat_eq c.args.file) there.kept.sequences) c.args.line o) c.in-None.is are in
     inr (refl, inr (there.kept, there.there, none))

@@ -7,7 +7,11 @@ pub returns-clause-ok : goal.returns-clause-ok
 returns-clause-ok c =
     let at = c.in_ok-offset.ensures.ok in
     ok_more c.rows_at.result
-    (λ rows is. record { kept = at.0; is_unit = at.1; at_first = location_here (λ p. IsAtFirstRow p rows.value) c.args.index.now at.0 _ _ c.deref.ensures.value at.2 is })
+    (λ rows is. record {
+      kept = at.0;
+      is_unit = at.1;
+      at_first = location_here (λ p. IsAtFirstRow p rows.value) c.args.index.now at.0 _ _ c.deref.ensures.value at.2 is;
+    })
     c.rows_at.ensures.ok
 
 pub returns-clause-err : goal.returns-clause-err

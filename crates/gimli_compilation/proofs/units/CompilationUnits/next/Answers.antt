@@ -11,17 +11,20 @@ returns-then-is_empty-clause-end g c = rw (← c.self.view_is) (sym c.info_at-re
 pub returns-clause-next : goal.returns-clause-next
 returns-clause-next g c =
     let after = rw c.info_at-rest.ensures.order at c.skip_unit.ensures in
-    rw (← c.self.view_is) (next_offset _ _ _ _ _ _ c.info_at-rest.ensures.bytes (λ none. let t = c.is_empty.ensures.1 none in absurd (search rules)) after c.offset_from-self-inside.ensures).follows
+    rw (← c.self.view_is) (next_offset _ _ _ _ _ _ c.info_at-rest.ensures.bytes (λ none. let t = c.is_empty.ensures.1 none in absurd (search rules)) after
+    c.offset_from-self-inside.ensures).follows
 
 pub returns-clause-onward : goal.returns-clause-onward
 returns-clause-onward g c =
     let after = rw c.info_at-rest.ensures.order at c.skip_unit.ensures in
-    rw (← c.self.view_is) (next_offset _ _ _ _ _ _ c.info_at-rest.ensures.bytes (λ none. let t = c.is_empty.ensures.1 none in absurd (search rules)) after c.offset_from-self-inside.ensures).onward
+    rw (← c.self.view_is) (next_offset _ _ _ _ _ _ c.info_at-rest.ensures.bytes (λ none. let t = c.is_empty.ensures.1 none in absurd (search rules)) after
+    c.offset_from-self-inside.ensures).onward
 
 pub returns-clause-within : goal.returns-clause-within
 returns-clause-within g c =
     let after = rw c.info_at-rest.ensures.order at c.skip_unit.ensures in
-    rw (← c.self.view_is) (next_offset _ _ _ _ _ _ c.info_at-rest.ensures.bytes (λ none. let t = c.is_empty.ensures.1 none in absurd (search rules)) after c.offset_from-self-inside.ensures).inside
+    rw (← c.self.view_is) (next_offset _ _ _ _ _ _ c.info_at-rest.ensures.bytes (λ none. let t = c.is_empty.ensures.1 none in absurd (search rules)) after
+    c.offset_from-self-inside.ensures).inside
 
 pub returns-clause-compilation : goal.returns-clause-compilation
 returns-clause-compilation g c = rw (← c.self.view_is, c.into_u64.ensures) c.compilation-compilation.ensures.compilation

@@ -6,6 +6,7 @@ use Rattle.gimli_line.proofs.header.tables.parse_all_formats.Given as goal
 
 abbrev pub invariant-loop : goal.invariant-loop
 invariant-loop g l = record {
-  so_far : collected l.formats.items (λ x. x) (times_at (l.count - l.counter) format_at (g.R.Reader.bytes l.input)) ≡ times_at l.count format_at (g.R.Reader.bytes l.initial.input);
+  so_far : collected l.formats.items (λ x. x) (times_at (l.count - l.counter) format_at (g.R.Reader.bytes l.input))
+      ≡ times_at l.count format_at (g.R.Reader.bytes l.initial.input);
   order : g.R.Reader.big l.input ≡ g.R.Reader.big l.initial.input;
 }

@@ -13,7 +13,8 @@ abbrev pub invariant-loop : goal.invariant-loop
 invariant-loop g l =
     let notation : Notation = record { big = g.R.Reader.big l.fn.input; limit = g.R.Offset.ReaderOffset.limit } in
     record {
-      so_far : collected (map (value_seen g.R.Reader.bytes g.R.Offset.ReaderOffset.number) l.directories.items) path_of (times_at (l.count - l.counter) (entry_at notation l.format l.formats) (g.R.Reader.bytes l.input))
+      so_far : collected (map (value_seen g.R.Reader.bytes g.R.Offset.ReaderOffset.number) l.directories.items) path_of
+          (times_at (l.count - l.counter) (entry_at notation l.format l.formats) (g.R.Reader.bytes l.input))
           ≡ read_map (map path_of) (entries_at notation l.format l.formats (g.R.Reader.bytes l.fn.input));
       order : g.R.Reader.big l.input ≡ g.R.Reader.big l.fn.input;
       parts : All (ValueHasOrder g.R.Reader.big (g.R.Reader.big l.fn.input)) l.directories.items;

@@ -19,10 +19,14 @@ returns-in_err-formats-clause-read g c =
 pub returns-in_err-directories-2-clause-read : goal.returns-in_err-directories-2-clause-read
 returns-in_err-directories-2-clause-read g c =
     let p = err_from_is_err_and c.from_residual-in_err-directories-2.result c.from_residual-in_err-directories-2.ensures.1 in
-    rw (p.1, p.2) (λ other. directories_5_end _ _ _ _ _ _ _ _ c.if-encoding-le4.false c.in_ok-formats.ensures.read c.parse_formats.ensures.order c.deref.ensures.value _ (c.in_err-directories-2.ensures.read other))
+    rw (p.1, p.2) (λ other.
+    directories_5_end _ _ _ _ _ _ _ _ c.if-encoding-le4.false c.in_ok-formats.ensures.read c.parse_formats.ensures.order c.deref.ensures.value _
+    (c.in_err-directories-2.ensures.read other))
 
 pub returns-clause-read : goal.returns-clause-read
-returns-clause-read g c = directories_from_5 _ _ _ _ _ _ _ _ c.if-encoding-le4.false c.in_ok-formats.ensures.read c.parse_formats.ensures.order c.deref.ensures.value _ _ c.in_ok-directories-2.ensures.read
+returns-clause-read g c =
+    directories_from_5 _ _ _ _ _ _ _ _ c.if-encoding-le4.false c.in_ok-formats.ensures.read c.parse_formats.ensures.order c.deref.ensures.value _ _
+    c.in_ok-directories-2.ensures.read
 
 pub returns-clause-parts : goal.returns-clause-parts
 returns-clause-parts g c = values_kept g.R.Reader.big _ _ _ c.parse_formats.ensures.order c.in_ok-directories-2.ensures.parts

@@ -19,14 +19,18 @@ loop-entry_format-preserved g c =
       | then-eq w ↦
           let next = path_replaced see _ _ c.eq.ensures _ _ _ w.if-eq.true w.path_name-is in
           record {
-            so_far = entry_goes_on _ _ _ _ path_with _ _ _ _ _ _ _ _ _ c.loop-entry_format-test.true c.loop-entry_format.invariant.order c.in_ok-value.ensures.read next c.loop-entry_format.invariant.so_far;
+            so_far =
+                entry_goes_on _ _ _ _ path_with _ _ _ _ _ _ _ _ _ c.loop-entry_format-test.true c.loop-entry_format.invariant.order c.in_ok-value.ensures.read
+                next c.loop-entry_format.invariant.so_far;
             order = order;
             part = rw w.path_name-is (value_kept g.R.Reader.big _ _ _ c.loop-entry_format.invariant.order c.in_ok-value.ensures.part);
           }
       | else-eq w ↦
           let next = path_left see _ _ c.eq.ensures _ _ _ w.if-eq.false w.path_name-is in
           record {
-            so_far = entry_goes_on _ _ _ _ path_with _ _ _ _ _ _ _ _ _ c.loop-entry_format-test.true c.loop-entry_format.invariant.order c.in_ok-value.ensures.read next c.loop-entry_format.invariant.so_far;
+            so_far =
+                entry_goes_on _ _ _ _ path_with _ _ _ _ _ _ _ _ _ c.loop-entry_format-test.true c.loop-entry_format.invariant.order c.in_ok-value.ensures.read
+                next c.loop-entry_format.invariant.so_far;
             order = order;
             part = rw w.path_name-is c.loop-entry_format.invariant.part;
           }
@@ -35,7 +39,8 @@ loop-entry_format-preserved g c =
 pub returns-in_err-value-clause-read : goal.returns-in_err-value-clause-read
 returns-in_err-value-clause-read g c =
     let p = err_from_is_err_and c.from_residual.result c.from_residual.ensures.1 in
-    rw (p.1, p.2) (entry_ends _ _ _ _ path_with _ _ _ _ _ _ _ _ c.loop-entry_format-test.true c.loop-entry_format.invariant.order c.in_err-value.ensures.read c.loop-entry_format.invariant.so_far)
+    rw (p.1, p.2) (entry_ends _ _ _ _ path_with _ _ _ _ _ _ _ _ c.loop-entry_format-test.true c.loop-entry_format.invariant.order c.in_err-value.ensures.read
+    c.loop-entry_format.invariant.so_far)
 
 pub returns-clause-read : goal.returns-clause-read
 returns-clause-read g c = entry_done _ _ path_with _ _ _ _ _ c.loop-entry_format-test.false c.loop-entry_format.invariant.so_far

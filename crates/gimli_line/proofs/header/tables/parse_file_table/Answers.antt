@@ -8,7 +8,9 @@ pub returns-then-encoding-le4-clause-read : goal.returns-then-encoding-le4-claus
 returns-then-encoding-le4-clause-read g c = files_up_to_4 _ _ _ _ _ _ c.if-encoding-le4.true c.new.ensures.items c.in_ok-files.ensures.read
 
 pub returns-clause-read : goal.returns-clause-read
-returns-clause-read g c = files_from_5 _ _ _ _ _ _ _ _ _ _ c.if-encoding-le4.false c.in_ok-formats.ensures.read c.parse_formats.ensures.order c.deref.ensures.value c.in_ok-files-2.ensures.read
+returns-clause-read g c =
+    files_from_5 _ _ _ _ _ _ _ _ _ _ c.if-encoding-le4.false c.in_ok-formats.ensures.read c.parse_formats.ensures.order c.deref.ensures.value
+    c.in_ok-files-2.ensures.read
 
 pub returns-clause-parts : goal.returns-clause-parts
 returns-clause-parts g c = files_kept g.R.Reader.big _ _ _ c.parse_formats.ensures.order c.in_ok-files-2.ensures.parts
@@ -26,4 +28,6 @@ returns-in_err-formats-clause-read g c =
 pub returns-in_err-files-2-clause-read : goal.returns-in_err-files-2-clause-read
 returns-in_err-files-2-clause-read g c =
     let p = err_from_is_err_and c.from_residual-in_err-files-2.result c.from_residual-in_err-files-2.ensures.1 in
-    rw (p.1, p.2) (λ other. files_5_end _ _ _ _ _ _ _ _ c.if-encoding-le4.false c.in_ok-formats.ensures.read c.parse_formats.ensures.order c.deref.ensures.value _ (c.in_err-files-2.ensures.read other))
+    rw (p.1, p.2) (λ other.
+    files_5_end _ _ _ _ _ _ _ _ c.if-encoding-le4.false c.in_ok-formats.ensures.read c.parse_formats.ensures.order c.deref.ensures.value _
+    (c.in_err-files-2.ensures.read other))

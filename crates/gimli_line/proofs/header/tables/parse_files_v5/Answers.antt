@@ -23,7 +23,9 @@ returns-in_err-file-clause-read g c =
 
 pub loop-preserved : goal.loop-preserved
 loop-preserved g c = record {
-  so_far = let is = entry_kept _ file_of_entry _ _ _ _ _ _ c.loop.invariant.order c.in_ok-file.ensures.read in rw (c.in_ok-push.ensures.ok, map_push) (times_goes_on file_of_entry _ _ _ c.loop.counter _ _ _ _ c.loop-test.true is c.loop.invariant.so_far);
+  so_far =
+      let is = entry_kept _ file_of_entry _ _ _ _ _ _ c.loop.invariant.order c.in_ok-file.ensures.read in
+      rw (c.in_ok-push.ensures.ok, map_push) (times_goes_on file_of_entry _ _ _ c.loop.counter _ _ _ _ c.loop-test.true is c.loop.invariant.so_far);
   order = c.parse_file_v5.ensures.order ∙ c.loop.invariant.order;
   parts = files_pushed g.R.Reader.big _ _ _ _ _ c.in_ok-push.ensures.ok c.loop.invariant.order c.loop.invariant.parts c.in_ok-file.ensures.part;
 }

@@ -36,7 +36,8 @@ returns-in_default-clause-at_most c =
     let index = c.args.self.now in
     let sequences = c.args.sequences.now in
     let few : binary_digits (length c.as_slice.result.now) ≤ binary_digits (2 * length sequences) =
-    subst (λ (xs : List Step). binary_digits (length xs) ≤ binary_digits (2 * length sequences)) (sym c.as_slice.ensures.value) (step_probes index sequences c.requires c.args.a) in
+    subst (λ (xs : List Step). binary_digits (length xs) ≤ binary_digits (2 * length sequences)) (sym c.as_slice.ensures.value)
+    (step_probes index sequences c.requires c.args.a) in
     omega (arith, c.sequence_at.ensures.at_most, few, c.find_unordered-found.ensures.at_most)
 
 pub find_unordered-requires-clause-end : goal.find_unordered-requires-clause-end
@@ -63,7 +64,8 @@ returns-in-Some-find_unordered-clause-at_most c =
     let index = c.args.self.now in
     let sequences = c.args.sequences.now in
     let few : binary_digits (length c.as_slice.result.now) ≤ binary_digits (2 * length sequences) =
-    subst (λ (xs : List Step). binary_digits (length xs) ≤ binary_digits (2 * length sequences)) (sym c.as_slice.ensures.value) (step_probes index sequences c.requires c.args.a) in
+    subst (λ (xs : List Step). binary_digits (length xs) ≤ binary_digits (2 * length sequences)) (sym c.as_slice.ensures.value)
+    (step_probes index sequences c.requires c.args.a) in
     omega (arith, c.sequence_at.ensures.at_most, few, c.find_unordered.ensures.at_most)
 
 pub offset_bounds-sequences-sequence : goal.offset_bounds-sequences-sequence
@@ -100,7 +102,8 @@ find_by_halves-requires-clause-count c =
       c.sequence_at.ensures.at_most,
       digits_below 64 (length c.as_slice.result.now) fits,
       c.find_unordered.ensures.at_most,
-      scan_and_rows sequences c.in-Some.sequence rows (covering_within index sequences c.requires c.args.a c.in-Some.sequence said) c.index-sequences-sequence.is
+      scan_and_rows sequences c.in-Some.sequence rows (covering_within index sequences c.requires c.args.a c.in-Some.sequence said)
+          c.index-sequences-sequence.is
           (covering_is_ordered c.args.a rows covering),
       c.requires.countable,
     )
@@ -139,7 +142,8 @@ returns-clause-at_most c =
     let said = c.in-Some.ensures.value ∙ ap (step_at c.args.a) c.as_slice.ensures.value in
     let rows = c.index-sequences-sequence.result in
     let few : binary_digits (length c.as_slice.result.now) ≤ binary_digits (2 * length sequences) =
-    subst (λ (xs : List Step). binary_digits (length xs) ≤ binary_digits (2 * length sequences)) (sym c.as_slice.ensures.value) (step_probes index sequences c.requires c.args.a) in
+    subst (λ (xs : List Step). binary_digits (length xs) ≤ binary_digits (2 * length sequences)) (sym c.as_slice.ensures.value)
+    (step_probes index sequences c.requires c.args.a) in
     let here = ap (λ (r : List LineRow). binary_digits (length r)) c.index-sequences-sequence.is in
     let probes = probes_of_covering index sequences c.requires c.args.a c.in-Some.sequence said rows in
     omega (arith, c.sequence_at.ensures.at_most, few, c.find_unordered.ensures.at_most, c.find_by_halves.ensures.at_most, here, probes)

@@ -10,4 +10,5 @@ returns-clause-ends c =
     let some : 0 < length rows = omega (arith, bounds.0, c.len.ensures) in
     let there : c.in_ok-last.last ≡ length rows - 1 = omega (arith, bounds.1, c.len.ensures) in
     rw (← c.self.view_is)
-    (range_is rows c.address.result c.address-2.result some c.address.ensures (λ d. c.address-2.ensures d ∙ ap (λ (k : ℕ). (slice_index_or rows k d).address) there))
+    (range_is rows c.address.result c.address-2.result some c.address.ensures (λ d.
+    c.address-2.ensures d ∙ ap (λ (k : ℕ). (slice_index_or rows k d).address) there))

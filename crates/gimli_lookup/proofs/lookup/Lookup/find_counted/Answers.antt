@@ -16,7 +16,10 @@ find-requires g c =
     let items = c.deref-rows-items.result.now in
     let i = c.loop-rows.rows-index in
     let lt : i < length items = omega arith in
-    let total : sum_by length items < 2 ^ 64 = subst (λ (xs : List (List LineRow)). sum_by length xs < 2 ^ 64) (sym c.deref-rows-items.ensures.value) (omega (arith, c.self.invariant.countable)) in
+    let total : sum_by length items
+    < 2
+    ^ 64 = subst (λ (xs : List (List LineRow)). sum_by length xs < 2 ^ 64) (sym c.deref-rows-items.ensures.value)
+    (omega (arith, c.self.invariant.countable)) in
     record {
       count = omega (
         arith,

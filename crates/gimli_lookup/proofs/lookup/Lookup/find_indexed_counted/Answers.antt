@@ -10,7 +10,9 @@ pub returns-in-Some-clause-pair : goal.returns-in-Some-clause-pair
 returns-in-Some-clause-pair g c =
     let sequences = c.as_slice.result.now in
     let found = c.in-Some.found in
-    let first = MatchOption-at_some (All (HasNoPair c.args.a) sequences) (λ (f : Found). IsFirstPairIn c.args.a sequences f.sequence f.row f.next) found c.in-Some.is c.find-found.ensures.found in
+    let first =
+    MatchOption-at_some (All (HasNoPair c.args.a) sequences) (λ (f : Found). IsFirstPairIn c.args.a sequences f.sequence f.row f.next) found c.in-Some.is
+    c.find-found.ensures.found in
     rw (← c.self.view_is, ← c.as_slice.ensures.value) (first_pair_of_index c.args.a sequences found.sequence found.row found.next first)
 
 pub returns-in-Some-clause-at_least : goal.returns-in-Some-clause-at_least
@@ -22,7 +24,9 @@ returns-in-Some-clause-at_most g c = rw (← c.self.view_is, ← c.as_slice.ensu
 pub returns-in-None-clause-pair : goal.returns-in-None-clause-pair
 returns-in-None-clause-pair g c =
     let sequences = c.as_slice.result.now in
-    let none = MatchOption-at_none (All (HasNoPair c.args.a) sequences) (λ (f : Found). IsFirstPairIn c.args.a sequences f.sequence f.row f.next) c.in-None.is c.find-found.ensures.found in
+    let none =
+    MatchOption-at_none (All (HasNoPair c.args.a) sequences) (λ (f : Found). IsFirstPairIn c.args.a sequences f.sequence f.row f.next) c.in-None.is
+    c.find-found.ensures.found in
     rw (← c.self.view_is, ← c.as_slice.ensures.value) none
 
 pub returns-in-None-clause-at_least : goal.returns-in-None-clause-at_least

@@ -10,7 +10,8 @@ use Rattle.gimli_lookup.proofs.section_lookup.SectionLookup.addresses_of.Goals a
 
 pub unit_addresses-requires : goal.unit_addresses-requires
 unit_addresses-requires g c =
-    let count : length c.units-unit-end.result.now ≡ length c.args.self.now = ap length c.units-unit-end.ensures ∙ length-map c.args.self.now (λ (u : KeptUnit). u.unit) in
+    let count : length c.units-unit-end.result.now ≡ length c.args.self.now = ap length c.units-unit-end.ensures
+    ∙ length-map c.args.self.now (λ (u : KeptUnit). u.unit) in
     omega (arith, count)
 
 pub loop-unit-preserved : goal.loop-unit-preserved

@@ -12,7 +12,9 @@ pub unit_of-requires : goal.unit_of-requires
 unit_of-requires g c =
     let sequences = c.as_slice.result.now in
     let found = c.in-Some.found in
-    let first = MatchOption-at_some (All (HasNoPair c.args.a) sequences) (λ (f : Found). IsFirstPairIn c.args.a sequences f.sequence f.row f.next) found c.in-Some.is c.find-found.ensures.found in
+    let first =
+    MatchOption-at_some (All (HasNoPair c.args.a) sequences) (λ (f : Found). IsFirstPairIn c.args.a sequences f.sequence f.row f.next) found c.in-Some.is
+    c.find-found.ensures.found in
     index_within c.args.a c.self.inside.sequences.items sequences c.self.inside.units.items c.as_slice-in-Some.result.now found.sequence found.row found.next
     c.self.invariant.0 c.as_slice.ensures.value c.as_slice-in-Some.ensures.value first
 
@@ -20,7 +22,9 @@ pub returns-in-Some-clause-pair : goal.returns-in-Some-clause-pair
 returns-in-Some-clause-pair g c =
     let sequences = c.as_slice.result.now in
     let found = c.in-Some.found in
-    let first = MatchOption-at_some (All (HasNoPair c.args.a) sequences) (λ (f : Found). IsFirstPairIn c.args.a sequences f.sequence f.row f.next) found c.in-Some.is c.find-found.ensures.found in
+    let first =
+    MatchOption-at_some (All (HasNoPair c.args.a) sequences) (λ (f : Found). IsFirstPairIn c.args.a sequences f.sequence f.row f.next) found c.in-Some.is
+    c.find-found.ensures.found in
     rw (← all_are c.self.inside.sequences.items c.self.inside.units.items sequences c.args.self.now c.self.invariant.0 c.self.view_is c.as_slice.ensures.value)
     (first_pair_of_index c.args.a sequences found.sequence found.row found.next first)
 
@@ -28,28 +32,47 @@ pub returns-in-Some-clause-unit : goal.returns-in-Some-clause-unit
 returns-in-Some-clause-unit g c =
     let sequences = c.as_slice.result.now in
     let found = c.in-Some.found in
-    let first = MatchOption-at_some (All (HasNoPair c.args.a) sequences) (λ (f : Found). IsFirstPairIn c.args.a sequences f.sequence f.row f.next) found c.in-Some.is c.find-found.ensures.found in
-    unit_found c.args.a c.self.inside.sequences.items sequences c.self.inside.units.items c.as_slice-in-Some.result.now c.args.self.now c.unit_of.result found.sequence found.row found.next
-    c.self.invariant.0 c.self.view_is c.as_slice.ensures.value c.as_slice-in-Some.ensures.value c.unit_of.ensures.unit c.unit_of.ensures.first c.unit_of.ensures.end first
+    let first =
+    MatchOption-at_some (All (HasNoPair c.args.a) sequences) (λ (f : Found). IsFirstPairIn c.args.a sequences f.sequence f.row f.next) found c.in-Some.is
+    c.find-found.ensures.found in
+    unit_found c.args.a c.self.inside.sequences.items sequences c.self.inside.units.items c.as_slice-in-Some.result.now c.args.self.now c.unit_of.result
+    found.sequence found.row found.next
+    c.self.invariant.0 c.self.view_is c.as_slice.ensures.value c.as_slice-in-Some.ensures.value c.unit_of.ensures.unit c.unit_of.ensures.first
+    c.unit_of.ensures.end first
 
 pub returns-in-Some-clause-at_least : goal.returns-in-Some-clause-at_least
 returns-in-Some-clause-at_least g c =
-    rw (← all_are c.self.inside.sequences.items c.self.inside.units.items c.as_slice.result.now c.args.self.now c.self.invariant.0 c.self.view_is c.as_slice.ensures.value) c.find-found.ensures.at_least
+    rw
+    (← all_are c.self.inside.sequences.items c.self.inside.units.items c.as_slice.result.now c.args.self.now c.self.invariant.0 c.self.view_is
+    c.as_slice.ensures.value)
+    c.find-found.ensures.at_least
 
 pub returns-in-Some-clause-at_most : goal.returns-in-Some-clause-at_most
 returns-in-Some-clause-at_most g c =
-    rw (← all_are c.self.inside.sequences.items c.self.inside.units.items c.as_slice.result.now c.args.self.now c.self.invariant.0 c.self.view_is c.as_slice.ensures.value) c.find-found.ensures.at_most
+    rw
+    (← all_are c.self.inside.sequences.items c.self.inside.units.items c.as_slice.result.now c.args.self.now c.self.invariant.0 c.self.view_is
+    c.as_slice.ensures.value)
+    c.find-found.ensures.at_most
 
 pub returns-in-None-clause-pair : goal.returns-in-None-clause-pair
 returns-in-None-clause-pair g c =
     let sequences = c.as_slice.result.now in
-    let none = MatchOption-at_none (All (HasNoPair c.args.a) sequences) (λ (f : Found). IsFirstPairIn c.args.a sequences f.sequence f.row f.next) c.in-None.is c.find-found.ensures.found in
-    rw (← all_are c.self.inside.sequences.items c.self.inside.units.items sequences c.args.self.now c.self.invariant.0 c.self.view_is c.as_slice.ensures.value) none
+    let none =
+    MatchOption-at_none (All (HasNoPair c.args.a) sequences) (λ (f : Found). IsFirstPairIn c.args.a sequences f.sequence f.row f.next) c.in-None.is
+    c.find-found.ensures.found in
+    rw (← all_are c.self.inside.sequences.items c.self.inside.units.items sequences c.args.self.now c.self.invariant.0 c.self.view_is c.as_slice.ensures.value)
+    none
 
 pub returns-in-None-clause-at_least : goal.returns-in-None-clause-at_least
 returns-in-None-clause-at_least g c =
-    rw (← all_are c.self.inside.sequences.items c.self.inside.units.items c.as_slice.result.now c.args.self.now c.self.invariant.0 c.self.view_is c.as_slice.ensures.value) c.find-found.ensures.at_least
+    rw
+    (← all_are c.self.inside.sequences.items c.self.inside.units.items c.as_slice.result.now c.args.self.now c.self.invariant.0 c.self.view_is
+    c.as_slice.ensures.value)
+    c.find-found.ensures.at_least
 
 pub returns-in-None-clause-at_most : goal.returns-in-None-clause-at_most
 returns-in-None-clause-at_most g c =
-    rw (← all_are c.self.inside.sequences.items c.self.inside.units.items c.as_slice.result.now c.args.self.now c.self.invariant.0 c.self.view_is c.as_slice.ensures.value) c.find-found.ensures.at_most
+    rw
+    (← all_are c.self.inside.sequences.items c.self.inside.units.items c.as_slice.result.now c.args.self.now c.self.invariant.0 c.self.view_is
+    c.as_slice.ensures.value)
+    c.find-found.ensures.at_most

@@ -21,7 +21,8 @@ units-preserved g c =
     } in
     let unit = c.in_ok-unit.unit in
     rw c.in_ok-push.ensures.ok
-    (one_kept c.units-walk.result.section c.units-walk.result.entry c.args.lowest c.units-walk.result.offsets c.units.units.items c.units.sequences.items c.new.new.sequences.items
+    (one_kept c.units-walk.result.section c.units-walk.result.entry c.args.lowest c.units-walk.result.offsets c.units.units.items c.units.sequences.items
+    c.new.new.sequences.items
     c.units.walk c.next.new.self o c.in-Some.next.program unit c.units.invariant given c.in_ok-unit.ensures.offset c.in_ok-unit.ensures.kept)
 
 pub returns-clause-offsets : goal.returns-clause-offsets

@@ -26,7 +26,8 @@ returns-in_err-add_directories_and_files-clause-err g c =
     let p = err_from_is_err_and c.from_residual-in_err-add_directories_and_files.result c.from_residual-in_err-add_directories_and_files.ensures.1 in
     rw (p.1, p.2)
     (refused_at_listed s h given c.args.line_strings.now c.unwrap_or-encoding.result target
-    (tables_with c.tables_at_start.new.line_strings c.in_ok-tables.tables) c.in_err-add_directories_and_files.field-0.0 c.in_ok-tables.ensures.ok c.in_err-add_directories_and_files.ensures.err)
+    (tables_with c.tables_at_start.new.line_strings c.in_ok-tables.tables) c.in_err-add_directories_and_files.field-0.0 c.in_ok-tables.ensures.ok
+    c.in_err-add_directories_and_files.ensures.err)
 
 pub returns-in_err-add_directories_and_files-clause-stays : goal.returns-in_err-add_directories_and_files-clause-stays
 returns-in_err-add_directories_and_files-clause-stays g c =

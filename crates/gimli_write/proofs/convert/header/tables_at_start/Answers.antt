@@ -38,5 +38,6 @@ returns-clause-err g c =
     λ directory file. lines >>= λ (e : LineEncoding). Ok (start_of_tables encoding e h (first_texts encoding.version c.args.line_strings.now directory file)) in
     IfErr-weaker c.tables_with_texts.result _ _
     (λ e refused. refused_at_third first second next directory file c.in_ok-directory.ensures.ok c.in_ok-file.ensures.ok e
-    (refused_first lines (λ (e : LineEncoding). Ok (start_of_tables encoding e h (first_texts encoding.version c.args.line_strings.now directory file))) e refused))
+    (refused_first lines (λ (e : LineEncoding). Ok (start_of_tables encoding e h (first_texts encoding.version c.args.line_strings.now directory file))) e
+    refused))
     c.tables_with_texts.ensures.err

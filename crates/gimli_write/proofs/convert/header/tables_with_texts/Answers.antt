@@ -14,7 +14,9 @@ returns-clause-ok g c =
     let h = c.args.header.now.meaning in
     let encoding = c.args.encoding in
     let lines = c.in_ok-lines.lines in
-    let is = ap (λ (own : LineEncoding). line_encoding_of own c.args.line_encoding) (sym c.line_encoding.ensures.line_encoding) ∙ sym c.in_ok-lines.ensures.encoding in
+    let is =
+    ap (λ (own : LineEncoding). line_encoding_of own c.args.line_encoding) (sym c.line_encoding.ensures.line_encoding)
+    ∙ sym c.in_ok-lines.ensures.encoding in
     let made = first_texts encoding.version c.args.line_strings.now c.args.directory.now c.args.file.now in
     ok_by_three c.first_tables.result _ _ _ _
     (λ tables program directories files.

@@ -3,7 +3,8 @@ use Rattle.linetool_commands.proofs.words.Command.parse.Goals as goal
 
 -- the texts of five words
 five : (words : List (Bor (List ℕ))) (d : Bor (List ℕ)) → 5 ≤ length words → length words < 6
-    → map (λ word. word.now) words ≡ (get_or words 0 d).now ∷ (get_or words 1 d).now ∷ (get_or words 2 d).now ∷ (get_or words 3 d).now ∷ (get_or words 4 d).now ∷ []
+    → map (λ word. word.now) words
+    ≡ (get_or words 0 d).now ∷ (get_or words 1 d).now ∷ (get_or words 2 d).now ∷ (get_or words 3 d).now ∷ (get_or words 4 d).now ∷ []
 five [] d l m = grind arith
 five (a ∷ []) d l m = grind arith
 five (a ∷ b ∷ []) d l m = grind arith
@@ -14,7 +15,8 @@ five (a ∷ b ∷ c ∷ e ∷ f ∷ g ∷ rest) d l m = grind arith
 
 -- the texts of six words
 six : (words : List (Bor (List ℕ))) (d : Bor (List ℕ)) → 6 ≤ length words → length words < 7
-    → map (λ word. word.now) words ≡ (get_or words 0 d).now ∷ (get_or words 1 d).now ∷ (get_or words 2 d).now ∷ (get_or words 3 d).now ∷ (get_or words 4 d).now ∷ (get_or words 5 d).now ∷ []
+    → map (λ word. word.now) words
+    ≡ (get_or words 0 d).now ∷ (get_or words 1 d).now ∷ (get_or words 2 d).now ∷ (get_or words 3 d).now ∷ (get_or words 4 d).now ∷ (get_or words 5 d).now ∷ []
 six [] d l m = grind arith
 six (a ∷ []) d l m = grind arith
 six (a ∷ b ∷ []) d l m = grind arith
@@ -63,5 +65,12 @@ returns-in_ok-parse-in-find-clause-command c =
     let words = c.args.words.now in
     let d : Bor (List ℕ) = record { ref_ptr = (0, 0); now = [] } in
     let is_find = c.in-find.is-find in
-    let whole = six words d c.in-find.len_at_least c.in-find.len_below in
-    ((get_or words 1 d).now, (get_or words 2 d).now, (get_or words 3 d).now, (get_or words 4 d).now, (get_or words 5 d).now, cc, c.in_ok-parse-in-find.ensures.named)
+    let whole = six words d c.in-find.len_at_least c.in-find.len_below in (
+      (get_or words 1 d).now,
+      (get_or words 2 d).now,
+      (get_or words 3 d).now,
+      (get_or words 4 d).now,
+      (get_or words 5 d).now,
+      cc,
+      c.in_ok-parse-in-find.ensures.named,
+    )

@@ -10,6 +10,16 @@ invariant_of-self-lent c = λ w. written-AreTables (directories_of c.self.inside
 
 pub returns : goal.returns
 returns c = (
-  (refl, λ w. rw (← c.self.view_is, ← c.id.view_is) (ap (λ (fs : List File). record { directories = directories_of c.self.inside.directories.keys; files = fs }) (files_with c.self.inside.files.entries c.id.inside.0 w))),
-  record { lends = tt; value = rw (← c.self.view_is, ← c.id.view_is) (details_at c.self.inside.files.entries c.id.inside.0 c.unwrap.result.now (sym (ap option_copied_mut c.unwrap.ensures) ∙ c.get_index_mut.ensures.value)) },
+  (
+    refl,
+    λ w.
+        rw (← c.self.view_is, ← c.id.view_is) (ap (λ (fs : List File). record { directories = directories_of c.self.inside.directories.keys; files = fs })
+        (files_with c.self.inside.files.entries c.id.inside.0 w)),
+  ),
+  record {
+    lends = tt;
+    value =
+        rw (← c.self.view_is, ← c.id.view_is) (details_at c.self.inside.files.entries c.id.inside.0 c.unwrap.result.now
+        (sym (ap option_copied_mut c.unwrap.ensures) ∙ c.get_index_mut.ensures.value));
+  },
 )

@@ -12,7 +12,8 @@ use Rattle.gimli_build.proofs.built.line_program.LineProgram.add_file.Goals as g
 pub invariant_of-self-2 : goal.invariant_of-self-2
 invariant_of-self-2 c =
     let not_empty = subst (λ (p : Built). p.encoding.version ≤ 4 → IsNotEmpty (line_text c.args.file)) (sym c.self.view_is) c.requires.not_empty in
-    subst (λ (t : Tables). IsProgram c.self.inside.none c.self.inside.encoding c.self.inside.line_encoding t.directories (keys_of t.files) c.self.inside.items) (sym c.in_ok-id.ensures.ok)
+    subst (λ (t : Tables). IsProgram c.self.inside.none c.self.inside.encoding c.self.inside.line_encoding t.directories (keys_of t.files) c.self.inside.items)
+    (sym c.in_ok-id.ensures.ok)
     (file_added c.self.inside.tables.files (line_text c.args.file, c.args.directory) (option_map details c.args.info) c.self.invariant not_empty)
 
 pub returns-clause-found : goal.returns-clause-found
@@ -31,11 +32,13 @@ returns-clause-within c =
 
 pub returns-clause-keeps : goal.returns-clause-keeps
 returns-clause-keeps c =
-    rw (← c.self.view_is) (subst (λ (t : Tables). Keeps (keys_of c.self.inside.tables.files) (keys_of t.files)) (sym c.in_ok-id.ensures.ok) (file_keeps c.self.inside.tables.files (line_text c.args.file, c.args.directory) (option_map details c.args.info)))
+    rw (← c.self.view_is) (subst (λ (t : Tables). Keeps (keys_of c.self.inside.tables.files) (keys_of t.files)) (sym c.in_ok-id.ensures.ok)
+    (file_keeps c.self.inside.tables.files (line_text c.args.file, c.args.directory) (option_map details c.args.info)))
 
 pub returns-clause-others : goal.returns-clause-others
 returns-clause-others c =
     rw (← c.self.view_is)
     (λ i short other.
     ap (λ (t : Tables). slice_get t.files i) c.in_ok-id.ensures.ok
-    ∙ file_others c.self.inside.tables.files (line_text c.args.file, c.args.directory) (option_map details c.args.info) i short (λ e. other (e ∙ sym c.in_ok-id.ensures.id)))
+    ∙ file_others c.self.inside.tables.files (line_text c.args.file, c.args.directory) (option_map details c.args.info) i short (λ e.
+    other (e ∙ sym c.in_ok-id.ensures.id)))

@@ -15,4 +15,5 @@ loop-slot-preserved c =
 pub returns : goal.returns
 returns c =
     c.loop-slot.invariant
-    ∙ written_within c.loop-slot.slot (map row_seen (rows_left c.args.self.now)) c.args.room.now (omega (arith, length-map (rows_left c.args.self.now) row_seen))
+    ∙ written_within c.loop-slot.slot (map row_seen (rows_left c.args.self.now)) c.args.room.now
+    (omega (arith, length-map (rows_left c.args.self.now) row_seen))

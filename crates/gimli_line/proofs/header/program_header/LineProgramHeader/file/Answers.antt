@@ -15,7 +15,9 @@ returns-then-file-gt0-clause-own g c =
     let old : c.args.self.now.meaning.parameters.encoding.version ≤ 4 = omega (arith, c.version.ensures) in
     let there = c.entry-then-file-gt0.ensures ∙ ap (λ items. slice_get items (c.args.file - 1)) c.deref-then-file-gt0.ensures.value in
     let table = ap (λ h. slice_get h.file_names.items (c.args.file - 1)) c.self.view_is in
-    there ∙ table ∙ sym (entry_above c.args.self.now.meaning.parameters.encoding.version c.args.self.now.comp_file c.args.self.now.file_names.items c.args.file old c.if-file-gt0.true)
+    there ∙ table
+    ∙ sym (entry_above c.args.self.now.meaning.parameters.encoding.version c.args.self.now.comp_file c.args.self.now.file_names.items c.args.file old
+    c.if-file-gt0.true)
 
 pub returns-then-version-gt4-clause-file : goal.returns-then-version-gt4-clause-file
 returns-then-version-gt4-clause-file g c =
@@ -29,7 +31,8 @@ returns-then-version-gt4-clause-own g c =
     let new : 4 < c.args.self.now.meaning.parameters.encoding.version = omega (arith, c.version.ensures) in
     let there = c.entry.ensures ∙ ap (λ items. slice_get items c.args.file) c.deref.ensures.value in
     let table = ap (λ h. slice_get h.file_names.items c.args.file) c.self.view_is in
-    there ∙ table ∙ sym (entry_new c.args.self.now.meaning.parameters.encoding.version c.args.self.now.comp_file c.args.self.now.file_names.items c.args.file new)
+    there ∙ table
+    ∙ sym (entry_new c.args.self.now.meaning.parameters.encoding.version c.args.self.now.comp_file c.args.self.now.file_names.items c.args.file new)
 
 pub returns-clause-file : goal.returns-clause-file
 returns-clause-file g c =
@@ -41,4 +44,6 @@ pub returns-clause-own : goal.returns-clause-own
 returns-clause-own g c =
     let old : c.args.self.now.meaning.parameters.encoding.version ≤ 4 = omega (arith, c.version.ensures) in
     let handed = ap (λ h. h.comp_file) c.self.view_is in
-    sym (copied_own c.as_ref.result) ∙ c.as_ref.ensures.value ∙ handed ∙ sym (entry_first c.args.self.now.meaning.parameters.encoding.version c.args.self.now.comp_file c.args.self.now.file_names.items c.args.file old c.if-file-gt0.false)
+    sym (copied_own c.as_ref.result) ∙ c.as_ref.ensures.value ∙ handed
+    ∙ sym (entry_first c.args.self.now.meaning.parameters.encoding.version c.args.self.now.comp_file c.args.self.now.file_names.items c.args.file old
+    c.if-file-gt0.false)

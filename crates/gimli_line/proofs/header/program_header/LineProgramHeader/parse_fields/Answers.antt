@@ -23,7 +23,8 @@ pub returns-clause-directory : goal.returns-clause-directory
 returns-clause-directory g c = c.comp_dir_of.ensures.own ∙ ap (λ encoding. handed_value encoding c.args.comp_dir) (sym c.in_ok-parameters.ensures.encoding)
 
 pub returns-clause-name : goal.returns-clause-name
-returns-clause-name g c = c.comp_file_of.ensures.path ∙ ap (λ encoding. handed_value encoding (option_map String c.args.comp_name)) (sym c.in_ok-parameters.ensures.encoding)
+returns-clause-name g c =
+    c.comp_file_of.ensures.path ∙ ap (λ encoding. handed_value encoding (option_map String c.args.comp_name)) (sym c.in_ok-parameters.ensures.encoding)
 
 pub returns-in_err-parameters-clause-read : goal.returns-in_err-parameters-clause-read
 returns-in_err-parameters-clause-read g c =
@@ -42,7 +43,9 @@ returns-in_err-directory_entry_format-clause-read g c =
     let counted = c.from_u8.ensures ∙ ap (λ (v : Parameters). v.opcode_base - 1) c.parameters.view_is in
     let counts = c.parse_parameters.ensures.order ∙ c.requires.order in
     let directories = c.split.ensures.order ∙ counts in
-    rw (p.1, p.2) (λ other. directories_end _ _ _ _ _ _ _ _ _ _ c.in_ok-parameters.ensures.read counted _ _ _ c.in_ok-standard_opcode_lengths.ensures.read directories _ (c.in_err-directory_entry_format.ensures.read other))
+    rw (p.1, p.2) (λ other.
+    directories_end _ _ _ _ _ _ _ _ _ _ c.in_ok-parameters.ensures.read counted _ _ _ c.in_ok-standard_opcode_lengths.ensures.read directories _
+    (c.in_err-directory_entry_format.ensures.read other))
 
 pub returns-in_err-file_name_entry_format-clause-read : goal.returns-in_err-file_name_entry_format-clause-read
 returns-in_err-file_name_entry_format-clause-read g c =
@@ -51,7 +54,9 @@ returns-in_err-file_name_entry_format-clause-read g c =
     let counts = c.parse_parameters.ensures.order ∙ c.requires.order in
     let directories = c.split.ensures.order ∙ counts in
     let files = c.parse_directory_table.ensures.order ∙ directories in
-    rw (p.1, p.2) (λ other. files_end _ _ _ _ _ _ _ _ _ _ c.in_ok-parameters.ensures.read counted _ _ _ c.in_ok-standard_opcode_lengths.ensures.read directories _ _ _ _ c.in_ok-directory_entry_format.ensures.read files _ (c.in_err-file_name_entry_format.ensures.read other))
+    rw (p.1, p.2) (λ other.
+    files_end _ _ _ _ _ _ _ _ _ _ c.in_ok-parameters.ensures.read counted _ _ _ c.in_ok-standard_opcode_lengths.ensures.read directories _ _ _ _
+    c.in_ok-directory_entry_format.ensures.read files _ (c.in_err-file_name_entry_format.ensures.read other))
 
 pub returns-clause-read : goal.returns-clause-read
 returns-clause-read g c =
@@ -59,4 +64,6 @@ returns-clause-read g c =
     let counts = c.parse_parameters.ensures.order ∙ c.requires.order in
     let directories = c.split.ensures.order ∙ counts in
     let files = c.parse_directory_table.ensures.order ∙ directories in
-    fields_done _ _ _ _ _ _ _ _ _ _ c.in_ok-parameters.ensures.read counted _ _ _ c.in_ok-standard_opcode_lengths.ensures.read directories _ _ _ _ c.in_ok-directory_entry_format.ensures.read files _ _ _ _ _ c.in_ok-file_name_entry_format.ensures.read c.comp_dir_of.ensures.bytes c.comp_file_of.ensures.file
+    fields_done _ _ _ _ _ _ _ _ _ _ c.in_ok-parameters.ensures.read counted _ _ _ c.in_ok-standard_opcode_lengths.ensures.read directories _ _ _ _
+    c.in_ok-directory_entry_format.ensures.read files _ _ _ _ _ c.in_ok-file_name_entry_format.ensures.read c.comp_dir_of.ensures.bytes
+    c.comp_file_of.ensures.file

@@ -9,4 +9,8 @@ returns-in-Ok-clause-next g c = rw (← c.self.view_is) ((reads_instruction _ c.
 
 pub returns-in-Err-clause-refusal : goal.returns-in-Err-clause-refusal
 returns-in-Err-clause-refusal g c =
-    rw (← c.self.view_is) (λ none. absurd (search rules), c.empty.ensures.left, (reads_instruction _ c.args.header.now.meaning).fault _ _ (sym (ap (λ (r : Read Ins). r.0) c.in-Err.ensures.read)))
+    rw (← c.self.view_is) (
+      λ none. absurd (search rules),
+      c.empty.ensures.left,
+      (reads_instruction _ c.args.header.now.meaning).fault _ _ (sym (ap (λ (r : Read Ins). r.0) c.in-Err.ensures.read)),
+    )

@@ -8,22 +8,37 @@ use Rattle.gimli_line.proofs.run.rows.IncompleteLineProgram+R.rows.Goals as goal
 pub returns-clause-events : goal.returns-clause-events
 returns-clause-events g c =
     let s : Unread = record { bytes = c.args.self.meaning.program; notation = c.args.self.notation } in
-    rw (c.start.ensures, c.instructions-instructions.ensures ∙ ap (λ v. (let s : Unread = record { bytes = v.meaning.program; notation = v.notation } in s)) c.self.view_is)
-    (started_events true c.args.self.meaning c.args.self.notation (g.R.Offset.ReaderOffset.number c.args.self.offset.0) (header_orders g.R.Reader.big c.args.self) s)
+    rw (
+      c.start.ensures,
+      c.instructions-instructions.ensures ∙ ap (λ v. (let s : Unread = record { bytes = v.meaning.program; notation = v.notation } in s)) c.self.view_is,
+    )
+    (started_events true c.args.self.meaning c.args.self.notation (g.R.Offset.ReaderOffset.number c.args.self.offset.0)
+    (header_orders g.R.Reader.big c.args.self) s)
 
 pub returns-clause-made : goal.returns-clause-made
 returns-clause-made g c =
     let s : Unread = record { bytes = c.args.self.meaning.program; notation = c.args.self.notation } in
-    rw (c.start.ensures, c.instructions-instructions.ensures ∙ ap (λ v. (let s : Unread = record { bytes = v.meaning.program; notation = v.notation } in s)) c.self.view_is)
-    (started_made true c.args.self.meaning c.args.self.notation (g.R.Offset.ReaderOffset.number c.args.self.offset.0) (header_orders g.R.Reader.big c.args.self) s)
+    rw (
+      c.start.ensures,
+      c.instructions-instructions.ensures ∙ ap (λ v. (let s : Unread = record { bytes = v.meaning.program; notation = v.notation } in s)) c.self.view_is,
+    )
+    (started_made true c.args.self.meaning c.args.self.notation (g.R.Offset.ReaderOffset.number c.args.self.offset.0) (header_orders g.R.Reader.big c.args.self)
+    s)
 
 pub returns-clause-files : goal.returns-clause-files
 returns-clause-files g c =
     let s : Unread = record { bytes = c.args.self.meaning.program; notation = c.args.self.notation } in
-    rw (c.start.ensures, c.instructions-instructions.ensures ∙ ap (λ v. (let s : Unread = record { bytes = v.meaning.program; notation = v.notation } in s)) c.self.view_is)
-    (started_files true c.args.self.meaning c.args.self.notation (g.R.Offset.ReaderOffset.number c.args.self.offset.0) (header_orders g.R.Reader.big c.args.self) s)
+    rw (
+      c.start.ensures,
+      c.instructions-instructions.ensures ∙ ap (λ v. (let s : Unread = record { bytes = v.meaning.program; notation = v.notation } in s)) c.self.view_is,
+    )
+    (started_files true c.args.self.meaning c.args.self.notation (g.R.Offset.ReaderOffset.number c.args.self.offset.0)
+    (header_orders g.R.Reader.big c.args.self) s)
 
 pub returns-clause-order : goal.returns-clause-order
 returns-clause-order g c = λ has.
-    rw (c.start.ensures, c.instructions-instructions.ensures ∙ ap (λ v. (let s : Unread = record { bytes = v.meaning.program; notation = v.notation } in s)) c.self.view_is)
+    rw (
+      c.start.ensures,
+      c.instructions-instructions.ensures ∙ ap (λ v. (let s : Unread = record { bytes = v.meaning.program; notation = v.notation } in s)) c.self.view_is,
+    )
     (record { readers = are_one_order g.R.Reader.big c.args.self has; unread = λ adds. refl })

@@ -9,22 +9,22 @@ pub returns-in-Ok-true : goal.returns-in-Ok-true
 returns-in-Ok-true g c =
     let r = rw c.in-Ok-true.field-0-test at c.in-Ok-true.ensures.row in
     let keeps : KeepsHeader c.args.self.now c.advance_any.new.self = record {
-      fixed = c.in-Ok-true.ensures.fixed;
-      appends = c.in-Ok-true.ensures.appends;
-      notation = c.in-Ok-true.ensures.notation;
-      offset = c.in-Ok-true.ensures.offset;
-      order = c.in-Ok-true.ensures.order;
-      handed = c.in-Ok-true.ensures.handed;
-      alone = any_rest_alone c.args.self.now c.advance_any.new.self _ _ r c.in-Ok-true.ensures.appends;
+      fixed = c.in-Ok-true.ensures.keeps.fixed;
+      appends = c.in-Ok-true.ensures.keeps.appends;
+      notation = c.in-Ok-true.ensures.keeps.notation;
+      offset = c.in-Ok-true.ensures.keeps.offset;
+      order = c.in-Ok-true.ensures.keeps.order;
+      handed = c.in-Ok-true.ensures.keeps.handed;
+      alone = any_rest_alone c.args.self.now c.advance_any.new.self _ _ r c.in-Ok-true.ensures.keeps.appends;
     } in (
       (refl, λ _. tt, (keeps, rw (c.current.ensures.row, c.current.ensures.files) r)),
       record {
         after = tt;
-        header = c.current.ensures.header ∙ c.in-Ok-true.ensures.fixed;
-        notation = c.current.ensures.notation ∙ c.in-Ok-true.ensures.notation;
-        offset = c.current.ensures.offset ∙ c.in-Ok-true.ensures.offset;
-        order = λ so. c.current.ensures.order (c.in-Ok-true.ensures.order so);
-        handed = c.current.ensures.handed ∙ c.in-Ok-true.ensures.handed;
+        header = c.current.ensures.header ∙ c.in-Ok-true.ensures.keeps.fixed;
+        notation = c.current.ensures.notation ∙ c.in-Ok-true.ensures.keeps.notation;
+        offset = c.current.ensures.offset ∙ c.in-Ok-true.ensures.keeps.offset;
+        order = λ so. c.current.ensures.order (c.in-Ok-true.ensures.keeps.order so);
+        handed = c.current.ensures.handed ∙ c.in-Ok-true.ensures.keeps.handed;
       },
     )
 
@@ -32,13 +32,13 @@ pub returns-in-Ok-false : goal.returns-in-Ok-false
 returns-in-Ok-false g c =
     let none = rw c.in-Ok-false.field-0-test at c.in-Ok-false.ensures.row in
     let keeps : KeepsHeader c.args.self.now c.advance_any.new.self = record {
-      fixed = c.in-Ok-false.ensures.fixed;
-      appends = c.in-Ok-false.ensures.appends;
-      notation = c.in-Ok-false.ensures.notation;
-      offset = c.in-Ok-false.ensures.offset;
-      order = c.in-Ok-false.ensures.order;
-      handed = c.in-Ok-false.ensures.handed;
-      alone = end_alone c.args.self.now c.advance_any.new.self c.in-Ok-false.ensures.appends (none_given c.advance_any.new.self none.1);
+      fixed = c.in-Ok-false.ensures.keeps.fixed;
+      appends = c.in-Ok-false.ensures.keeps.appends;
+      notation = c.in-Ok-false.ensures.keeps.notation;
+      offset = c.in-Ok-false.ensures.keeps.offset;
+      order = c.in-Ok-false.ensures.keeps.order;
+      handed = c.in-Ok-false.ensures.keeps.handed;
+      alone = end_alone c.args.self.now c.advance_any.new.self c.in-Ok-false.ensures.keeps.appends (none_given c.advance_any.new.self none.1);
     } in (
       (refl, λ _. tt, (keeps, none)),
       record {
@@ -54,13 +54,15 @@ returns-in-Ok-false g c =
 pub returns-in-Err : goal.returns-in-Err
 returns-in-Err g c =
     let keeps : KeepsHeader c.args.self.now c.advance_any.new.self = record {
-      fixed = c.in-Err.ensures.fixed;
-      appends = c.in-Err.ensures.appends;
-      notation = c.in-Err.ensures.notation;
-      offset = c.in-Err.ensures.offset;
-      order = c.in-Err.ensures.order;
-      handed = c.in-Err.ensures.handed;
-      alone = λ alone. absurd (never_refused_alone c.args.self.now c.advance_any.new.self c.in-Err.e c.in-Err.ensures.appends (fault_given (with_reset_row c.args.self.now) c.advance_any.new.self c.in-Err.e c.in-Err.ensures.err) alone);
+      fixed = c.in-Err.ensures.keeps.fixed;
+      appends = c.in-Err.ensures.keeps.appends;
+      notation = c.in-Err.ensures.keeps.notation;
+      offset = c.in-Err.ensures.keeps.offset;
+      order = c.in-Err.ensures.keeps.order;
+      handed = c.in-Err.ensures.keeps.handed;
+      alone = λ alone.
+          absurd (never_refused_alone c.args.self.now c.advance_any.new.self c.in-Err.e c.in-Err.ensures.keeps.appends
+          (fault_given (with_reset_row c.args.self.now) c.advance_any.new.self c.in-Err.e c.in-Err.ensures.err) alone);
     } in (
       (refl, λ _. tt, (keeps, c.in-Err.ensures.err)),
       record {

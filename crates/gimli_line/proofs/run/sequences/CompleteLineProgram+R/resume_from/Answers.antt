@@ -8,12 +8,14 @@ use Rattle.gimli_line.proofs.run.sequences.CompleteLineProgram+R.resume_from.Goa
 pub returns-clause-events : goal.returns-clause-events
 returns-clause-events g c =
     let p = c.args.self.now in
-    rw (c.start.ensures, c.clone.ensures) (started_events false p.meaning p.notation (g.R.Offset.ReaderOffset.number p.offset.0) (header_orders g.R.Reader.big p) c.args.sequence.now.instructions)
+    rw (c.start.ensures, c.clone.ensures)
+    (started_events false p.meaning p.notation (g.R.Offset.ReaderOffset.number p.offset.0) (header_orders g.R.Reader.big p) c.args.sequence.now.instructions)
 
 pub returns-clause-files : goal.returns-clause-files
 returns-clause-files g c =
     let p = c.args.self.now in
-    rw (c.start.ensures, c.clone.ensures) (started_files false p.meaning p.notation (g.R.Offset.ReaderOffset.number p.offset.0) (header_orders g.R.Reader.big p) c.args.sequence.now.instructions).given
+    rw (c.start.ensures, c.clone.ensures) (started_files false p.meaning p.notation (g.R.Offset.ReaderOffset.number p.offset.0) (header_orders g.R.Reader.big p)
+    c.args.sequence.now.instructions).given
 
 -- a complete program adds no file
 pub returns-clause-order : goal.returns-clause-order
@@ -23,9 +25,11 @@ returns-clause-order g c = λ has. rw c.start.ensures (record { readers = are_on
 pub returns-clause-run : goal.returns-clause-run
 returns-clause-run g c = λ run has.
     let p = c.args.self.now in
-    rw (c.start.ensures, c.clone.ensures) (gives_run p.meaning p.notation (g.R.Offset.ReaderOffset.number p.offset.0) (header_orders g.R.Reader.big p) c.args.sequence.now.instructions run has)
+    rw (c.start.ensures, c.clone.ensures)
+    (gives_run p.meaning p.notation (g.R.Offset.ReaderOffset.number p.offset.0) (header_orders g.R.Reader.big p) c.args.sequence.now.instructions run has)
 
 pub returns-clause-unrefused : goal.returns-clause-unrefused
 returns-clause-unrefused g c = λ alone.
     let p = c.args.self.now in
-    rw (c.start.ensures, c.clone.ensures) (gives_rows_alone p.meaning p.notation (g.R.Offset.ReaderOffset.number p.offset.0) (header_orders g.R.Reader.big p) c.args.sequence.now.instructions alone.rows alone.given)
+    rw (c.start.ensures, c.clone.ensures) (gives_rows_alone p.meaning p.notation (g.R.Offset.ReaderOffset.number p.offset.0) (header_orders g.R.Reader.big p)
+    c.args.sequence.now.instructions alone.rows alone.given)

@@ -24,7 +24,8 @@ rows-init g c =
     record {
       after = (
         [],
-        rw (c.new-split.ensures, c.clone.ensures ∙ c.instructions.ensures, c.rows-rows.ensures.start) (starts_splitting h c.args.self.notation at_offset (header_orders g.R.Reader.big c.args.self) unread),
+        rw (c.new-split.ensures, c.clone.ensures ∙ c.instructions.ensures, c.rows-rows.ensures.start)
+            (starts_splitting h c.args.self.notation at_offset (header_orders g.R.Reader.big c.args.self) unread),
         rw c.rows-rows.ensures.start (passes_still first _ refl refl refl refl refl),
       );
       notation = rw c.rows-rows.ensures.start refl;
@@ -39,7 +40,9 @@ returns-in_err-advance-clause-err g c =
     let b = c.rows.invariant.after in
     rw (p.1, p.2) (λ other. elim c.in_err-advance.ensures.err [
       | inl m ↦ absurd (other m.0)
-      | inr f ↦ has_first_fault c.args.self.notation (g.R.Offset.ReaderOffset.number c.args.self.offset.0) c.args.self.meaning b.0 c.rows.rows c.advance.new.self _ b.2 f.0
+      | inr f ↦
+          has_first_fault c.args.self.notation (g.R.Offset.ReaderOffset.number c.args.self.offset.0) c.args.self.meaning b.0 c.rows.rows c.advance.new.self _
+          b.2 f.0
     ])
 
 pub returns-in_err-row-clause-err : goal.returns-in_err-row-clause-err
@@ -70,13 +73,15 @@ rows-preserved g c =
       after = (
         b.0 ++ next.row ∷ [],
         rw (c.in_ok-row.ensures.ok, c.row.ensures, c.instructions-in-rows.ensures) (goes_splitting h c.rows.split b.0 (with_reset_row c.rows.rows) next b.1 m),
-        subst (λ (es : List Event). Progress (with_reset_row (start_of_run true h c.args.self.notation at_offset no_orders unread)) (with_reset_row next) es) (sym (map-append row b.0 (next.row ∷ [])))
-            (passes_both (with_reset_row (start_of_run true h c.args.self.notation at_offset no_orders unread)) (with_reset_row c.rows.rows) (with_reset_row next) (map row b.0) (row next.row ∷ []) b.2 m),
+        subst (λ (es : List Event). Progress (with_reset_row (start_of_run true h c.args.self.notation at_offset no_orders unread)) (with_reset_row next) es)
+            (sym (map-append row b.0 (next.row ∷ [])))
+            (passes_both (with_reset_row (start_of_run true h c.args.self.notation at_offset no_orders unread)) (with_reset_row c.rows.rows)
+            (with_reset_row next) (map row b.0) (row next.row ∷ []) b.2 m),
       );
-      notation = c.in_ok-advance.ensures.notation ∙ c.rows.invariant.notation;
-      offset = c.in_ok-advance.ensures.offset ∙ c.rows.invariant.offset;
-      order = λ has. c.in_ok-advance.ensures.order (c.rows.invariant.order has);
-      handed = c.in_ok-advance.ensures.handed ∙ c.rows.invariant.handed;
+      notation = c.in_ok-advance.ensures.keeps.notation ∙ c.rows.invariant.notation;
+      offset = c.in_ok-advance.ensures.keeps.offset ∙ c.rows.invariant.offset;
+      order = λ has. c.in_ok-advance.ensures.keeps.order (c.rows.invariant.order has);
+      handed = c.in_ok-advance.ensures.keeps.handed ∙ c.rows.invariant.handed;
     }
 
 pub returns-clause-ok : goal.returns-clause-ok
@@ -87,27 +92,36 @@ returns-clause-ok g c =
     let m = rw c.if-branch.false at c.in_ok-advance.ensures.passes in
     let b = c.rows.invariant.after in
     let last = c.advance.new.self in
-    let whole = subst (λ (es : List Event). Progress (with_reset_row (start_of_run true h c.args.self.notation at_offset no_orders unread)) last es) (append-nil (map row b.0))
-    (passes_both (with_reset_row (start_of_run true h c.args.self.notation at_offset no_orders unread)) (with_reset_row c.rows.rows) last (map row b.0) [] b.2 m.1) in
-    rw c.into_sequences.ensures (are_sequences c.args.self.notation at_offset h c.header.inside.header.meaning c.rows.split b.0 (with_reset_row c.rows.rows) last b.1 whole m.0
-    (ap (λ v. without_files v.meaning) c.header.view_is ∙ c.into_program.ensures.header) (ap (λ v. v.meaning.files) c.header.view_is ∙ c.into_program.ensures.files))
+    let whole =
+    subst (λ (es : List Event). Progress (with_reset_row (start_of_run true h c.args.self.notation at_offset no_orders unread)) last es)
+    (append-nil (map row b.0))
+    (passes_both (with_reset_row (start_of_run true h c.args.self.notation at_offset no_orders unread)) (with_reset_row c.rows.rows) last (map row b.0) [] b.2
+    m.1) in
+    rw c.into_sequences.ensures
+    (are_sequences c.args.self.notation at_offset h c.header.inside.header.meaning c.rows.split b.0 (with_reset_row c.rows.rows) last b.1 whole m.0
+    (ap (λ v. without_files v.meaning) c.header.view_is ∙ c.into_program.ensures.header)
+    (ap (λ v. v.meaning.files) c.header.view_is ∙ c.into_program.ensures.files))
 
 pub returns-clause-notation : goal.returns-clause-notation
-returns-clause-notation g c = ap (λ v. v.notation) c.header.view_is ∙ c.into_program.ensures.notation ∙ c.in_ok-advance.ensures.notation ∙ c.rows.invariant.notation
+returns-clause-notation g c =
+    ap (λ v. v.notation) c.header.view_is ∙ c.into_program.ensures.notation ∙ c.in_ok-advance.ensures.keeps.notation ∙ c.rows.invariant.notation
 
 pub returns-clause-offset : goal.returns-clause-offset
 returns-clause-offset g c =
-    ap (λ v. g.R.Offset.ReaderOffset.number v.offset.0) c.header.view_is ∙ c.into_program.ensures.offset ∙ c.in_ok-advance.ensures.offset ∙ c.rows.invariant.offset
+    ap (λ v. g.R.Offset.ReaderOffset.number v.offset.0) c.header.view_is ∙ c.into_program.ensures.offset ∙ c.in_ok-advance.ensures.keeps.offset
+    ∙ c.rows.invariant.offset
 
 pub returns-clause-order : goal.returns-clause-order
 returns-clause-order g c = λ has.
     let last = c.advance.new.self in
-    let so = c.in_ok-advance.ensures.order (c.rows.invariant.order has) in
-    has_one_order g.R.Reader.big _ last.notation.big last.orders (ap (λ v. header_orders g.R.Reader.big v) c.header.view_is ∙ c.into_program.ensures.orders) (ap (λ v. v.notation.big) c.header.view_is ∙ ap (λ n. n.big) c.into_program.ensures.notation) so.readers
+    let so = c.in_ok-advance.ensures.keeps.order (c.rows.invariant.order has) in
+    has_one_order g.R.Reader.big _ last.notation.big last.orders (ap (λ v. header_orders g.R.Reader.big v) c.header.view_is ∙ c.into_program.ensures.orders)
+    (ap (λ v. v.notation.big) c.header.view_is ∙ ap (λ n. n.big) c.into_program.ensures.notation) so.readers
 
 pub returns-clause-handed : goal.returns-clause-handed
 returns-clause-handed g c =
-    ap (λ v. (header_orders g.R.Reader.big v).handed) c.header.view_is ∙ ap (λ o. o.handed) c.into_program.ensures.orders ∙ c.in_ok-advance.ensures.handed ∙ c.rows.invariant.handed
+    ap (λ v. (header_orders g.R.Reader.big v).handed) c.header.view_is ∙ ap (λ o. o.handed) c.into_program.ensures.orders ∙ c.in_ok-advance.ensures.keeps.handed
+    ∙ c.rows.invariant.handed
 
 pub returns-clause-unrefused : goal.returns-clause-unrefused
 returns-clause-unrefused g c =

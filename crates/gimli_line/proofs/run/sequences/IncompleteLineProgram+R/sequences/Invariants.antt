@@ -12,7 +12,10 @@ use Rattle.gimli_line.proofs.run.sequences.IncompleteLineProgram+R.sequences.Giv
 abbrev pub invariant-rows : goal.invariant-rows
 invariant-rows g l = record {
   after : (done : List LineRow) × Splitting l.fn.self.meaning l.split done (with_reset_row l.rows)
-      × Progress (with_reset_row (start_of_run true l.fn.self.meaning l.fn.self.notation (g.R.Offset.ReaderOffset.number l.fn.self.offset.0) no_orders (record { bytes = l.fn.self.meaning.program; notation = l.fn.self.notation }))) (with_reset_row l.rows) (map row done);
+      × Progress
+      (with_reset_row (start_of_run true l.fn.self.meaning l.fn.self.notation (g.R.Offset.ReaderOffset.number l.fn.self.offset.0) no_orders
+      (record { bytes = l.fn.self.meaning.program; notation = l.fn.self.notation })))
+      (with_reset_row l.rows) (map row done);
   notation : l.rows.notation ≡ l.fn.self.notation;
   offset : l.rows.offset ≡ g.R.Offset.ReaderOffset.number l.fn.self.offset.0;
   order : HasOneOrder g.R.Reader.big l.fn.self → IsOfOneOrder l.rows;

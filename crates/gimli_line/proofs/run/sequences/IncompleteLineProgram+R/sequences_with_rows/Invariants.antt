@@ -12,7 +12,10 @@ use Rattle.gimli_line.proofs.run.sequences.IncompleteLineProgram+R.sequences_wit
 abbrev pub invariant-run : goal.invariant-run
 invariant-run g l = record {
   after : (done : List LineRow) × Keeping l.fn.self.meaning l.split l.kept done (with_reset_row l.run)
-      × Progress (with_reset_row (start_of_run true l.fn.self.meaning l.fn.self.notation (g.R.Offset.ReaderOffset.number l.fn.self.offset.0) no_orders (record { bytes = l.fn.self.meaning.program; notation = l.fn.self.notation }))) (with_reset_row l.run) (map row done);
+      × Progress
+      (with_reset_row (start_of_run true l.fn.self.meaning l.fn.self.notation (g.R.Offset.ReaderOffset.number l.fn.self.offset.0) no_orders
+      (record { bytes = l.fn.self.meaning.program; notation = l.fn.self.notation })))
+      (with_reset_row l.run) (map row done);
   notation : l.run.notation ≡ l.fn.self.notation;
   offset : l.run.offset ≡ g.R.Offset.ReaderOffset.number l.fn.self.offset.0;
   order : HasOneOrder g.R.Reader.big l.fn.self → IsOfOneOrder l.run;

@@ -1,4 +1,4 @@
-use Rattle.std.proofs.Common.{ℕ, nat_eq, [], sym, ap, ◌∙◌, inr}
+use Rattle.std.proofs.Common.{ℕ, nat_eq, [], refl, sym, ap, ◌∙◌, inr}
 use Rattle.std.specs.Prelude.{Option, None, Some, Ok, Result}
 use Rattle.std.proofs.lemmas.Bool.{eqb-true}
 use Rattle.std.proofs.lemmas.List.{nil_from_length}
@@ -8,12 +8,11 @@ use Rattle.gimli_write.specs.declared.convert.rows.ConvertLineRow.TheVariants.{S
 use Rattle.gimli_write.specs.declared.convert.rows.ConvertLineSequenceEnd.TheVariants.{Address}
 use Rattle.gimli_write.specs.convert.Items.{Reading, offers}
 use Rattle.gimli_write.specs.convert.Sequences.{SequenceRead, sequence_with, sequence_from}
-use Rattle.gimli_write.specs.convert.Conversion.{tables_of, still_to_read}
-use Rattle.gimli_write.proofs.ConvertSteps.{kept_then, refused_same}
+use Rattle.gimli_write.specs.convert.Conversion.{beside, tables_of, still_to_read}
+use Rattle.gimli_write.proofs.ConvertSteps.{refused_same}
 use Rattle.gimli_write.proofs.Outcomes.{one_fewer}
-use Rattle.gimli_write.proofs.KeptFiles.{files_then}
-use Rattle.gimli_write.proofs.Writable.{writable_then}
-use Rattle.gimli_write.proofs.Gathers.{gathered_first, row_gathered, address_gathered, address_ends, given_back, nothing_gathered, rows_left, gather_refused, added_then}
+use Rattle.gimli_write.proofs.ReadLemmas.{reads_then, reads_kept}
+use Rattle.gimli_write.proofs.Gathers.{gathered_first, row_gathered, address_gathered, address_ends, given_back, nothing_gathered, rows_left, gather_refused}
 use Rattle.gimli_write.proofs.convert.conversion.Conversion.gather.Goals as goal
 
 pub returns-in_err-row-clause-err : goal.returns-in_err-row-clause-err
@@ -24,10 +23,6 @@ returns-in_err-row-clause-err g c =
     rw (p.1, p.2)
     (refused_same (sequence_from c.rows.start c.rows.rows.items old) (sequence_from None [] (still_to_read c.args.self.now c.args.line_strings.now)) e
     c.rows.invariant.same (gather_refused c.rows.start c.rows.rows.items old e c.in_err-row.ensures.err))
-
-pub returns-in_err-row-clause-stays : goal.returns-in_err-row-clause-stays
-returns-in_err-row-clause-stays g c =
-    kept_then c.args.line_strings.now c.rows.line_strings c.read_row.new.line_strings c.rows.invariant.stays c.in_err-row.ensures.stays
 
 pub rows-smaller-in-Continue-branch-4 : goal.rows-smaller-in-Continue-branch-4
 rows-smaller-in-Continue-branch-4 g c =
@@ -42,25 +37,20 @@ rows-preserved-in-Continue-branch-4 g c =
     let hands = rw c.in-Some-Row.field-0-is at found in
     record {
       same =
-          row_gathered c.rows.start c.rows.rows.items c.push.new.self.items c.in-Some-Row.row (still_to_read c.rows.self c.rows.line_strings) (still_to_read c.read_row.new.self c.read_row.new.line_strings)
+          row_gathered c.rows.start c.rows.rows.items c.push.new.self.items c.in-Some-Row.row (still_to_read c.rows.self c.rows.line_strings)
+          (still_to_read c.read_row.new.self c.read_row.new.line_strings)
           (tables_of c.read_row.new.self c.read_row.new.line_strings) hands c.in_ok-push-in-Some-Row.ensures.items
           ∙ c.rows.invariant.same;
-      adds = added_then c.args.self.now.tables.program c.rows.self.tables.program c.read_row.new.self.tables.program c.rows.invariant.adds c.in_ok-row.ensures.adds;
-      keeps = files_then c.args.self.now.tables c.rows.self.tables c.read_row.new.self.tables c.rows.invariant.keeps c.in_ok-row.ensures.keeps;
-      writable = writable_then c.rows.invariant.writable c.in_ok-row.ensures.writable;
-      last = c.in_ok-row.ensures.last ∙ c.rows.invariant.last;
-      stays = kept_then c.args.line_strings.now c.rows.line_strings c.read_row.new.line_strings c.rows.invariant.stays c.in_ok-row.ensures.stays;
+      reads_on = reads_then c.rows.invariant.reads_on c.in_ok-row.ensures.reads_on;
+      last = c.in_ok-row.ensures.leaves.still ∙ c.rows.invariant.last;
     }
-
-pub returns-in_err-push-in-Some-Row-clause-stays : goal.returns-in_err-push-in-Some-Row-clause-stays
-returns-in_err-push-in-Some-Row-clause-stays g c =
-    kept_then c.args.line_strings.now c.rows.line_strings c.read_row.new.line_strings c.rows.invariant.stays c.in_ok-row.ensures.stays
 
 pub rows-smaller : goal.rows-smaller
 rows-smaller g c =
     let found = rw c.in-Some-SetAddress.is at c.in_ok-row.ensures.ok in
     let hands = rw c.in-Some-SetAddress.field-0-is at found in
-    one_fewer (still_to_read c.rows.self c.rows.line_strings) (still_to_read c.read_row.new.self c.read_row.new.line_strings) (SetAddress c.in-Some-SetAddress.address)
+    one_fewer (still_to_read c.rows.self c.rows.line_strings) (still_to_read c.read_row.new.self c.read_row.new.line_strings)
+    (SetAddress c.in-Some-SetAddress.address)
     (tables_of c.read_row.new.self c.read_row.new.line_strings) hands
 
 pub rows-preserved : goal.rows-preserved
@@ -70,14 +60,12 @@ rows-preserved g c =
     let none = nil_from_length c.rows.rows.items (sym c.rows.rows.ok.0 ∙ eqb-true c.rows.rows.len 0 (sym c.is_empty.ensures ∙ c.if-is_empty.true)) in
     record {
       same =
-          address_gathered c.rows.start c.rows.rows.items c.in-Some-SetAddress.address (still_to_read c.rows.self c.rows.line_strings) (still_to_read c.read_row.new.self c.read_row.new.line_strings)
+          address_gathered c.rows.start c.rows.rows.items c.in-Some-SetAddress.address (still_to_read c.rows.self c.rows.line_strings)
+          (still_to_read c.read_row.new.self c.read_row.new.line_strings)
           (tables_of c.read_row.new.self c.read_row.new.line_strings) hands none
           ∙ c.rows.invariant.same;
-      adds = added_then c.args.self.now.tables.program c.rows.self.tables.program c.read_row.new.self.tables.program c.rows.invariant.adds c.in_ok-row.ensures.adds;
-      keeps = files_then c.args.self.now.tables c.rows.self.tables c.read_row.new.self.tables c.rows.invariant.keeps c.in_ok-row.ensures.keeps;
-      writable = writable_then c.rows.invariant.writable c.in_ok-row.ensures.writable;
-      last = c.in_ok-row.ensures.last ∙ c.rows.invariant.last;
-      stays = kept_then c.args.line_strings.now c.rows.line_strings c.read_row.new.line_strings c.rows.invariant.stays c.in_ok-row.ensures.stays;
+      reads_on = reads_then c.rows.invariant.reads_on c.in_ok-row.ensures.reads_on;
+      last = c.in_ok-row.ensures.leaves.still ∙ c.rows.invariant.last;
     }
 
 pub returns-in-Some-SetAddress-2-clause-ok : goal.returns-in-Some-SetAddress-2-clause-ok
@@ -87,14 +75,14 @@ returns-in-Some-SetAddress-2-clause-ok g c =
     let a = c.in-Some-SetAddress.address in
     let some = ap (λ (n : ℕ). nat_eq n 0) (sym c.rows.rows.ok.0) ∙ sym c.is_empty.ensures ∙ c.if-is_empty.false in
     sym c.rows.invariant.same
-    ∙ address_ends c.rows.start c.rows.rows.items a (still_to_read c.rows.self c.rows.line_strings) (still_to_read c.read_row.new.self c.read_row.new.line_strings)
+    ∙ address_ends c.rows.start c.rows.rows.items a (still_to_read c.rows.self c.rows.line_strings)
+    (still_to_read c.read_row.new.self c.read_row.new.line_strings)
     (tables_of c.read_row.new.self c.read_row.new.line_strings) hands some
-    ∙ ap (λ (r : Reading). let answer : Result (Option SequenceRead × Reading) ConvertError = Ok (Some (sequence_with c.rows.start c.rows.rows.items (Address a)), r) in answer)
-    (given_back c.read_row.new.self c.give_back.new.self c.read_row.new.line_strings a c.in_ok-row.ensures.well c.in_ok-row.ensures.given c.give_back.ensures)
-
-pub returns-in-Some-SetAddress-2-clause-stays : goal.returns-in-Some-SetAddress-2-clause-stays
-returns-in-Some-SetAddress-2-clause-stays g c =
-    kept_then c.args.line_strings.now c.rows.line_strings c.read_row.new.line_strings c.rows.invariant.stays c.in_ok-row.ensures.stays
+    ∙ ap (λ (r : Reading).
+    let answer : Result (Option SequenceRead × Reading) ConvertError = Ok (Some (sequence_with c.rows.start c.rows.rows.items (Address a)), r) in
+    answer)
+    (given_back c.read_row.new.self c.give_back.new.self c.read_row.new.line_strings a c.in_ok-row.ensures.repeats.well c.in_ok-row.ensures.given
+    c.give_back.ensures)
 
 pub returns-in-Some-EndSequence-clause-ok : goal.returns-in-Some-EndSequence-clause-ok
 returns-in-Some-EndSequence-clause-ok g c =
@@ -102,50 +90,44 @@ returns-in-Some-EndSequence-clause-ok g c =
     let hands = rw c.in-Some-EndSequence.field-0-is at found in
     sym c.rows.invariant.same
     ∙ gathered_first c.rows.start c.rows.rows.items (still_to_read c.rows.self c.rows.line_strings)
-    (offers (EndSequence c.in-Some-EndSequence.length) (tables_of c.read_row.new.self c.read_row.new.line_strings) (still_to_read c.read_row.new.self c.read_row.new.line_strings)) hands
-
-pub returns-in-Some-EndSequence-clause-stays : goal.returns-in-Some-EndSequence-clause-stays
-returns-in-Some-EndSequence-clause-stays g c =
-    kept_then c.args.line_strings.now c.rows.line_strings c.read_row.new.line_strings c.rows.invariant.stays c.in_ok-row.ensures.stays
+    (offers (EndSequence c.in-Some-EndSequence.length) (tables_of c.read_row.new.self c.read_row.new.line_strings)
+    (still_to_read c.read_row.new.self c.read_row.new.line_strings))
+    hands
 
 pub returns-in-None-clause-ok : goal.returns-in-None-clause-ok
 returns-in-None-clause-ok g c =
     let end = rw c.in-None.is at c.in_ok-row.ensures.ok in
     let none = nil_from_length c.rows.rows.items (sym c.rows.rows.ok.0 ∙ eqb-true c.rows.rows.len 0 (sym c.if-is_empty-2.ensures)) in
     sym c.rows.invariant.same
-    ∙ nothing_gathered c.rows.start c.rows.rows.items (still_to_read c.rows.self c.rows.line_strings) (still_to_read c.read_row.new.self c.read_row.new.line_strings)
+    ∙ nothing_gathered c.rows.start c.rows.rows.items (still_to_read c.rows.self c.rows.line_strings)
+    (still_to_read c.read_row.new.self c.read_row.new.line_strings)
     (tables_of c.read_row.new.self c.read_row.new.line_strings) end.0 end.1 none
-
-pub returns-in-None-clause-stays : goal.returns-in-None-clause-stays
-returns-in-None-clause-stays g c =
-    kept_then c.args.line_strings.now c.rows.line_strings c.read_row.new.line_strings c.rows.invariant.stays c.in_ok-row.ensures.stays
 
 pub returns-in-None-2-clause-err : goal.returns-in-None-2-clause-err
 returns-in-None-2-clause-err g c =
     let end = rw c.in-None.is at c.in_ok-row.ensures.ok in
     let some = ap (λ (n : ℕ). nat_eq n 0) (sym c.rows.rows.ok.0) ∙ sym c.if-is_empty-2.ensures in
     inr (sym c.rows.invariant.same
-    ∙ rows_left c.rows.start c.rows.rows.items (still_to_read c.rows.self c.rows.line_strings) (tables_of c.read_row.new.self c.read_row.new.line_strings) end.0 some)
+    ∙ rows_left c.rows.start c.rows.rows.items (still_to_read c.rows.self c.rows.line_strings) (tables_of c.read_row.new.self c.read_row.new.line_strings) end.0
+    some)
 
-pub returns-in-None-2-clause-stays : goal.returns-in-None-2-clause-stays
-returns-in-None-2-clause-stays g c =
-    kept_then c.args.line_strings.now c.rows.line_strings c.read_row.new.line_strings c.rows.invariant.stays c.in_ok-row.ensures.stays
+pub returns-in_err-row-clause-reads_on : goal.returns-in_err-row-clause-reads_on
+returns-in_err-row-clause-reads_on g c = reads_then c.rows.invariant.reads_on c.in_err-row.ensures.reads_on
 
-pub returns-in_err-row-clause-writable : goal.returns-in_err-row-clause-writable
-returns-in_err-row-clause-writable g c = writable_then c.rows.invariant.writable c.in_err-row.ensures.writable
+pub returns-in_err-push-in-Some-Row-clause-reads_on : goal.returns-in_err-push-in-Some-Row-clause-reads_on
+returns-in_err-push-in-Some-Row-clause-reads_on g c = reads_then c.rows.invariant.reads_on c.in_ok-row.ensures.reads_on
 
-pub returns-in_err-push-in-Some-Row-clause-writable : goal.returns-in_err-push-in-Some-Row-clause-writable
-returns-in_err-push-in-Some-Row-clause-writable g c = writable_then c.rows.invariant.writable c.in_ok-row.ensures.writable
+pub returns-in-Some-SetAddress-2-clause-reads_on : goal.returns-in-Some-SetAddress-2-clause-reads_on
+returns-in-Some-SetAddress-2-clause-reads_on g c =
+    rw c.give_back.ensures
+    (reads_kept (beside c.args.line_strings.now c.args.self.now) (beside c.read_row.new.line_strings c.read_row.new.self) _ refl refl
+    (reads_then c.rows.invariant.reads_on c.in_ok-row.ensures.reads_on))
 
-pub returns-in-Some-EndSequence-clause-writable : goal.returns-in-Some-EndSequence-clause-writable
-returns-in-Some-EndSequence-clause-writable g c = writable_then c.rows.invariant.writable c.in_ok-row.ensures.writable
+pub returns-in-Some-EndSequence-clause-reads_on : goal.returns-in-Some-EndSequence-clause-reads_on
+returns-in-Some-EndSequence-clause-reads_on g c = reads_then c.rows.invariant.reads_on c.in_ok-row.ensures.reads_on
 
-pub returns-in-None-clause-writable : goal.returns-in-None-clause-writable
-returns-in-None-clause-writable g c = writable_then c.rows.invariant.writable c.in_ok-row.ensures.writable
+pub returns-in-None-clause-reads_on : goal.returns-in-None-clause-reads_on
+returns-in-None-clause-reads_on g c = reads_then c.rows.invariant.reads_on c.in_ok-row.ensures.reads_on
 
-pub returns-in-None-2-clause-writable : goal.returns-in-None-2-clause-writable
-returns-in-None-2-clause-writable g c = writable_then c.rows.invariant.writable c.in_ok-row.ensures.writable
-
-pub returns-in-Some-SetAddress-2-clause-writable : goal.returns-in-Some-SetAddress-2-clause-writable
-returns-in-Some-SetAddress-2-clause-writable g c =
-    rw c.give_back.ensures (writable_then c.rows.invariant.writable c.in_ok-row.ensures.writable)
+pub returns-in-None-2-clause-reads_on : goal.returns-in-None-2-clause-reads_on
+returns-in-None-2-clause-reads_on g c = reads_then c.rows.invariant.reads_on c.in_ok-row.ensures.reads_on

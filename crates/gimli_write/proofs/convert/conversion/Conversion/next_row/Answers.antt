@@ -5,17 +5,26 @@ use Rattle.gimli_write.specs.convert.Conversion.{Conversion}
 use Rattle.gimli_write.proofs.Conversions.{held_last, held_stops}
 use Rattle.gimli_write.proofs.convert.conversion.Conversion.next_row.Goals as goal
 
-pub returns-in_err-row_or_end-clause-stopped : goal.returns-in_err-row_or_end-clause-stopped
-returns-in_err-row_or_end-clause-stopped g c =
+pub returns-in_err-row_or_end-clause-leaves : goal.returns-in_err-row_or_end-clause-leaves
+returns-in_err-row_or_end-clause-leaves g c =
     let a = c.self.inside in
     let p = err_from_is_err_and c.from_residual.result c.from_residual.ensures.1 in
-    rw (← c.self.view_is) (rw p.1 (λ other.
-    held_stops a.sections a.source a.tables a.address c.take.new.self a.held c.take-2.new.self a.failed c.args.line_strings.now c.in-Some-take.row
-    (sym c.in-Some-take.ensures.value) (subst (λ (s : Conversion). s.failed ≡ None) (sym c.self.view_is) c.requires) (c.in_err-row_or_end.ensures.lacks c.args.line_strings.now)))
+    rw (← c.self.view_is) (rw p.1 (record {
+      still = tt;
+      ended = tt;
+      stopped = λ other.
+          held_stops a.sections a.source a.tables a.address c.take.new.self a.held c.take-2.new.self a.failed c.args.line_strings.now c.in-Some-take.row
+          (sym c.in-Some-take.ensures.value) (subst (λ (s : Conversion). s.failed ≡ None) (sym c.self.view_is) c.requires)
+          (c.in_err-row_or_end.ensures.lacks c.args.line_strings.now);
+    }))
 
-pub returns-in-Some-take-clause-last : goal.returns-in-Some-take-clause-last
-returns-in-Some-take-clause-last g c =
+pub returns-in-Some-take-clause-leaves : goal.returns-in-Some-take-clause-leaves
+returns-in-Some-take-clause-leaves g c =
     let a = c.self.inside in
-    rw (← c.self.view_is)
-    (held_last a.sections a.source a.tables a.address c.take.new.self a.held c.take-2.new.self a.failed c.args.line_strings.now c.in-Some-take.row
-    (sym c.in-Some-take.ensures.value) c.in-Some-take.ensures.after (c.in_ok-row_or_end.ensures.found c.args.line_strings.now))
+    rw (← c.self.view_is) (record {
+      still =
+          held_last a.sections a.source a.tables a.address c.take.new.self a.held c.take-2.new.self a.failed c.args.line_strings.now c.in-Some-take.row
+          (sym c.in-Some-take.ensures.value) c.in-Some-take.ensures.after (c.in_ok-row_or_end.ensures.found c.args.line_strings.now);
+      ended = λ none. absurd cc;
+      stopped = tt;
+    })

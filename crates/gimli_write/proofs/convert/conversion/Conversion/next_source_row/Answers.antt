@@ -3,7 +3,6 @@ use Rattle.std.specs.Prelude.{Result}
 use Rattle.std.proofs.lemmas.Result.{err_from_is_err_and}
 use Rattle.gimli_line.specs.header.File.{file_seen}
 use Rattle.gimli_line.specs.header.Header.{Header}
-use Rattle.gimli_build.specs.Built.{Built}
 use Rattle.gimli_write.specs.declared.convert_error.ConvertError.{ConvertError}
 use Rattle.gimli_write.specs.convert.SourceTables.{SourceTables, TablesAndTexts, tables_with, file_added}
 use Rattle.gimli_write.specs.convert.TablesAtEnd.{unless_refused, tables_at_end}
@@ -11,10 +10,8 @@ use Rattle.gimli_write.specs.convert.Items.{defines, defines_first, after_defini
 use Rattle.gimli_write.specs.convert.Conversion.{without_built, source_left}
 use Rattle.gimli_write.specs.convert.KeptTables.{final_tables_of_source}
 use Rattle.gimli_write.proofs.SourceSteps.{none_left}
-use Rattle.gimli_write.proofs.ConvertSteps.{kept_then}
 use Rattle.gimli_write.proofs.TablesAtEnd.{none_last, file_stopped}
-use Rattle.gimli_write.proofs.KeptFiles.{files_then}
-use Rattle.gimli_write.proofs.Writable.{writable_then}
+use Rattle.gimli_write.proofs.ReadLemmas.{reads_then}
 use Rattle.gimli_write.proofs.Conversions.{conversion, file_taken, file_refusal}
 use Rattle.gimli_write.proofs.convert.conversion.Conversion.next_source_row.Goals as goal
 
@@ -36,7 +33,8 @@ steps-preserved g c =
     let leaves = rw c.in-Defines.is at c.in_ok-step.ensures.tables in
     record {
       left =
-          sym (ap after_definitions (read a.sections (without_built before) ∙ ap defines (file_taken a.sections c.step.new.self before f after c.in_ok-add_file-in-Defines.ensures.ok)))
+          sym (ap after_definitions
+          (read a.sections (without_built before) ∙ ap defines (file_taken a.sections c.step.new.self before f after c.in_ok-add_file-in-Defines.ensures.ok)))
           ∙ c.steps.invariant.left;
       first = λ more. c.steps.invariant.first (ap defines_first (read a.sections (without_built before)));
       version = ap (λ (h : Header). h.parameters.encoding.version) c.in_ok-step.ensures.header ∙ c.steps.invariant.version;
@@ -44,17 +42,17 @@ steps-preserved g c =
       address = c.steps.invariant.address;
       held = c.steps.invariant.held;
       failed = c.steps.invariant.failed;
-      adds =
-          c.in_ok-add_file-in-Defines.ensures.adds
-          ∙ ap (λ (p : Built). let q : Built = record p { files = c.add_file.new.self.program.files } in q) c.steps.invariant.adds;
-      keeps = files_then c.args.self.now.tables a.tables c.add_file.new.self c.steps.invariant.keeps c.in_ok-add_file-in-Defines.ensures.keeps;
-      writable = writable_then c.steps.invariant.writable c.in_ok-add_file-in-Defines.ensures.writable;
+      reads_on = reads_then c.steps.invariant.reads_on (record {
+        adds = c.in_ok-add_file-in-Defines.ensures.adds;
+        keeps = c.in_ok-add_file-in-Defines.ensures.keeps;
+        texts = c.in_ok-add_file-in-Defines.ensures.stays;
+        writable = c.in_ok-add_file-in-Defines.ensures.writable;
+      });
       last =
           sym (leaves a.sections before
-          ∙ ap (λ (there : Result TablesAndTexts ConvertError). unless_refused before there (λ next. tables_at_end a.sections c.step.new.self next)) c.in_ok-add_file-in-Defines.ensures.ok)
+          ∙ ap (λ (there : Result TablesAndTexts ConvertError). unless_refused before there (λ next. tables_at_end a.sections c.step.new.self next))
+          c.in_ok-add_file-in-Defines.ensures.ok)
           ∙ c.steps.invariant.last;
-      stays = kept_then c.args.line_strings.now c.steps.line_strings c.add_file.new.line_strings
-          c.steps.invariant.stays c.in_ok-add_file-in-Defines.ensures.stays;
     }
 
 pub returns-in_err-add_file-in-Defines-clause-err : goal.returns-in_err-add_file-in-Defines-clause-err
@@ -66,13 +64,9 @@ returns-in_err-add_file-in-Defines-clause-err g c =
     let now = conversion a.sections a.source a.tables a.address a.held a.failed in
     let p = err_from_is_err_and c.from_residual-in_err-add_file-in-Defines.result c.from_residual-in_err-add_file-in-Defines.ensures.1 in
     rw (p.1, p.2)
-    (file_refusal a.sections c.step.new.self before f (source_left now c.steps.line_strings) (source_left c.args.self.now c.args.line_strings.now) c.in_err-add_file-in-Defines.field-0.0
+    (file_refusal a.sections c.step.new.self before f (source_left now c.steps.line_strings) (source_left c.args.self.now c.args.line_strings.now)
+    c.in_err-add_file-in-Defines.field-0.0
     (read a.sections (without_built before)) c.steps.invariant.left c.steps.invariant.first c.in_err-add_file-in-Defines.ensures.err)
-
-pub returns-in_err-add_file-in-Defines-clause-stays : goal.returns-in_err-add_file-in-Defines-clause-stays
-returns-in_err-add_file-in-Defines-clause-stays g c =
-    kept_then c.args.line_strings.now c.steps.line_strings c.add_file.new.line_strings
-    c.steps.invariant.stays c.in_err-add_file-in-Defines.ensures.stays
 
 pub returns-in-Done-clause-last : goal.returns-in-Done-clause-last
 returns-in-Done-clause-last g c =
@@ -96,11 +90,18 @@ returns-in_err-add_file-in-Defines-clause-stopped g c =
     let leaves = rw c.in-Defines.is at c.in_ok-step.ensures.tables in
     let p = err_from_is_err_and c.from_residual-in_err-add_file-in-Defines.result c.from_residual-in_err-add_file-in-Defines.ensures.1 in
     rw (p.1, p.2) (λ other.
-    file_stopped before (tables_with c.add_file.new.line_strings c.add_file.new.self) (final_tables_of_source c.args.self.now c.args.line_strings.now) (file_added a.sections before f)
+    file_stopped before (tables_with c.add_file.new.line_strings c.add_file.new.self) (final_tables_of_source c.args.self.now c.args.line_strings.now)
+    (file_added a.sections before f)
     (λ next. tables_at_end a.sections c.step.new.self next) c.in_err-add_file-in-Defines.field-0.0 c.in_err-add_file-in-Defines.ensures.err other
     (ap (λ (l : List (List ℕ)). tables_with l c.add_file.new.self) (c.in_err-add_file-in-Defines.ensures.texts other)
     ∙ ap (λ (x : SourceTables). tables_with c.steps.line_strings x) (c.in_err-add_file-in-Defines.ensures.kept other))
     (sym (leaves a.sections before) ∙ c.steps.invariant.last))
 
-pub returns-in_err-add_file-in-Defines-clause-writable : goal.returns-in_err-add_file-in-Defines-clause-writable
-returns-in_err-add_file-in-Defines-clause-writable g c = writable_then c.steps.invariant.writable c.in_err-add_file-in-Defines.ensures.writable
+pub returns-in_err-add_file-in-Defines-clause-reads_on : goal.returns-in_err-add_file-in-Defines-clause-reads_on
+returns-in_err-add_file-in-Defines-clause-reads_on g c =
+    reads_then c.steps.invariant.reads_on (record {
+      adds = c.in_err-add_file-in-Defines.ensures.adds;
+      keeps = c.in_err-add_file-in-Defines.ensures.keeps;
+      texts = c.in_err-add_file-in-Defines.ensures.stays;
+      writable = c.in_err-add_file-in-Defines.ensures.writable;
+    })

@@ -1,8 +1,8 @@
 use Rattle.std.proofs.Common.{◌≡◌, true, length}
-use Rattle.gimli_bytes.specs.Texts.{KeepsTexts}
-use Rattle.gimli_write.specs.convert.KeptTables.{KeepsFiles, StaysWritable, final_tables_of_source}
+use Rattle.gimli_write.specs.convert.KeptTables.{final_tables_of_source}
 use Rattle.gimli_write.specs.convert.Items.{defines_first, after_definitions}
-use Rattle.gimli_write.specs.convert.Conversion.{version_of_source, source_left, AddsFiles}
+use Rattle.gimli_write.specs.convert.Conversion.{beside, version_of_source, source_left}
+use Rattle.gimli_write.specs.convert.Reads.{ReadsOn}
 use Rattle.gimli_write.proofs.Conversions.{conversion}
 use Rattle.gimli_write.proofs.convert.conversion.Conversion.next_source_row.Given as goal
 
@@ -18,11 +18,8 @@ invariant-steps g l =
       address : a.address ≡ l.fn.self.address;
       held : a.held ≡ l.fn.self.held;
       failed : a.failed ≡ l.fn.self.failed;
-      adds : AddsFiles l.fn.self.tables.program a.tables.program;
-      keeps : KeepsFiles l.fn.self.tables a.tables;
-      writable : StaysWritable l.fn.self.tables l.fn.line_strings a.tables l.line_strings;
+      reads_on : ReadsOn (beside l.fn.line_strings l.fn.self) (beside l.line_strings now);
       last : final_tables_of_source now l.line_strings ≡ final_tables_of_source l.fn.self l.fn.line_strings;
-      stays : KeepsTexts l.fn.line_strings l.line_strings;
     }
 
 abbrev pub decreases-steps : goal.decreases-steps

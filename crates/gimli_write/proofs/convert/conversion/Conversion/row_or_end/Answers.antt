@@ -13,7 +13,8 @@ returns-in_err-file-clause-err g c =
     rw (← c.self.view_is) (rw (p.1, p.2) (λ line_strings rest.
     let tables = tables_with line_strings c.self.inside.tables in
     row_refused version (without_built tables) c.args.row.now rest (sym c.end_sequence.ensures ∙ c.if-end_sequence.false) c.in_err-file.field-0.0
-    (c.in_err-file.ensures line_strings ∙ ap (λ (v : ℕ). file_id v tables c.file_index.result) c.version.ensures ∙ ap (file_id version tables) c.file_index.ensures)))
+    (c.in_err-file.ensures line_strings ∙ ap (λ (v : ℕ). file_id v tables c.file_index.result) c.version.ensures
+    ∙ ap (file_id version tables) c.file_index.ensures)))
 
 pub returns-clause-ok : goal.returns-clause-ok
 returns-clause-ok g c =
@@ -21,7 +22,8 @@ returns-clause-ok g c =
     rw (← c.self.view_is) (rw c.built_row.ensures (λ line_strings rest.
     let tables = tables_with line_strings c.self.inside.tables in
     row_taken version (without_built tables) c.args.row.now rest (sym c.end_sequence.ensures ∙ c.if-end_sequence.false) c.in_ok-file.file
-    (c.in_ok-file.ensures line_strings ∙ ap (λ (v : ℕ). file_id v tables c.file_index.result) c.version.ensures ∙ ap (file_id version tables) c.file_index.ensures)))
+    (c.in_ok-file.ensures line_strings ∙ ap (λ (v : ℕ). file_id v tables c.file_index.result) c.version.ensures
+    ∙ ap (file_id version tables) c.file_index.ensures)))
 
 pub returns-in_err-file-clause-lacks : goal.returns-in_err-file-clause-lacks
 returns-in_err-file-clause-lacks g c =
@@ -30,7 +32,8 @@ returns-in_err-file-clause-lacks g c =
     rw (← c.self.view_is) (rw p.1 (λ line_strings.
     let tables = tables_with line_strings c.self.inside.tables in
     file_lacks version tables c.args.row.now (ends tables) (sym c.end_sequence.ensures ∙ c.if-end_sequence.false) c.in_err-file.field-0.0
-    (c.in_err-file.ensures line_strings ∙ ap (λ (v : ℕ). file_id v tables c.file_index.result) c.version.ensures ∙ ap (file_id version tables) c.file_index.ensures)))
+    (c.in_err-file.ensures line_strings ∙ ap (λ (v : ℕ). file_id v tables c.file_index.result) c.version.ensures
+    ∙ ap (file_id version tables) c.file_index.ensures)))
 
 pub returns-clause-found : goal.returns-clause-found
 returns-clause-found g c =
@@ -38,4 +41,5 @@ returns-clause-found g c =
     rw (← c.self.view_is) (λ line_strings.
     let tables = tables_with line_strings c.self.inside.tables in
     file_found version tables c.args.row.now (ends tables) (sym c.end_sequence.ensures ∙ c.if-end_sequence.false) c.in_ok-file.file
-    (c.in_ok-file.ensures line_strings ∙ ap (λ (v : ℕ). file_id v tables c.file_index.result) c.version.ensures ∙ ap (file_id version tables) c.file_index.ensures))
+    (c.in_ok-file.ensures line_strings ∙ ap (λ (v : ℕ). file_id v tables c.file_index.result) c.version.ensures
+    ∙ ap (file_id version tables) c.file_index.ensures))

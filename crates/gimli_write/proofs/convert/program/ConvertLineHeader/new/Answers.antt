@@ -18,8 +18,8 @@ returns-in_err-tables-clause-err g c =
     let refused = rw c.header.ensures at c.in_err-tables.ensures.err in
     rw (p.1, p.2) refused
 
-pub returns-clause-reads : goal.returns-clause-reads
-returns-clause-reads g c =
+pub returns-clause-ok : goal.returns-clause-ok
+returns-clause-ok g c =
     let sections : Sections = record { strings = g.R.Reader.bytes c.args.debug_str; line_strings = g.R.Reader.bytes c.args.debug_line_str } in
     let h = c.args.from_program.meaning in
     let notation = c.args.from_program.notation in
@@ -27,12 +27,14 @@ returns-clause-reads g c =
     let given = handed_of c.args.encoding c.args.line_encoding (option_map g.R.Reader.bytes c.args.from_comp_name) in
     let is = rw c.header.ensures at c.in_ok-tables.ensures.ok in
     let same : without_built tables ≡ tables = prepared_plain sections h given c.args.line_strings.now tables is in
-    rw c.start-conversion.ensures
-    (subst (λ (x : TablesAndTexts). ReadsItems notation sections h tables h.program (reading_left sections (start_of_source h (record { bytes = h.program; notation = notation })) x))
-    (sym same) (start_reads notation sections h tables h.program))
-
-pub returns-clause-unread : goal.returns-clause-unread
-returns-clause-unread g c = rw c.start-conversion.ensures refl
+    rw c.start-conversion.ensures (record {
+      prepared = is;
+      reads =
+          subst (λ (x : TablesAndTexts).
+          ReadsItems notation sections h tables h.program (reading_left sections (start_of_source h (record { bytes = h.program; notation = notation })) x))
+          (sym same) (start_reads notation sections h tables h.program);
+      unread = refl;
+    })
 
 pub returns-clause-writable : goal.returns-clause-writable
 returns-clause-writable g c =

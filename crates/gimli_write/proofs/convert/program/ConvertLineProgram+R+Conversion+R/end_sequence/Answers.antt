@@ -1,9 +1,7 @@
 use Rattle.std.proofs.Common.{refl}
-use Rattle.gimli_build.specs.Calls.{after_end}
-use Rattle.gimli_write.proofs.Writable.{writable_built}
+use Rattle.gimli_write.proofs.BuilderCalls.{builds}
 use Rattle.gimli_write.proofs.convert.program.ConvertLineProgram+R+Conversion+R.end_sequence.Goals as goal
 
-pub returns-clause-writable : goal.returns-clause-writable
-returns-clause-writable g c =
-    rw (← c.self.view_is)
-    (writable_built c.end_sequence.result c.self.inside.0.1.1.0.tables c.end_sequence.new.self c.self.inside.0.0.now (after_end c.args.address_offset c.self.inside.0.1.1.0.tables.program) refl c.end_sequence.ensures.ok c.end_sequence.ensures.kept)
+pub returns-clause-builds : goal.returns-clause-builds
+returns-clause-builds g c =
+    rw (← c.self.view_is) (builds c.end_sequence.result _ _ c.end_sequence.new.self refl c.end_sequence.ensures.ok c.end_sequence.ensures.kept)

@@ -14,7 +14,8 @@ returns-in_err-parts-clause-err g c =
     let p = err_from_is_err_and c.from_residual.result c.from_residual.ensures.1 in
     rw (p.1, p.2)
     (refused_first (file_parts (version_of tables) c.args.sections.now tables.directory_ids f)
-    (λ (parts : FileParts). let r : Result TablesAndTexts ConvertError = Ok (with_parts tables f parts) in r) c.in_err-parts.field-0.0 c.in_err-parts.ensures.err)
+    (λ (parts : FileParts). let r : Result TablesAndTexts ConvertError = Ok (with_parts tables f parts) in r) c.in_err-parts.field-0.0
+    c.in_err-parts.ensures.err)
 
 pub returns-clause-ok : goal.returns-clause-ok
 returns-clause-ok g c =

@@ -10,7 +10,8 @@ use Rattle.gimli_write.proofs.convert.tables.SourceTables.add_parts.Goals as goa
 
 pub returns-in_err-push-in-Ok-clause-stays : goal.returns-in_err-push-in-Ok-clause-stays
 returns-in_err-push-in-Ok-clause-stays g c =
-    kept_then c.args.line_strings.now c.program_text.new.line_strings c.optional_program_text.new.line_strings c.in_ok-path.ensures.stays c.in_ok-source.ensures.stays
+    kept_then c.args.line_strings.now c.program_text.new.line_strings c.optional_program_text.new.line_strings c.in_ok-path.ensures.stays
+    c.in_ok-source.ensures.stays
 
 pub returns-in_ok-push-in-Ok-clause-ok : goal.returns-in_ok-push-in-Ok-clause-ok
 returns-in_ok-push-in-Ok-clause-ok g c =
@@ -30,7 +31,16 @@ returns-in_ok-push-in-Ok-clause-ok g c =
     let after = rw (c.encoding-encoding.ensures.encoding, c.as_slice.ensures.value) at c.in_ok-path.ensures.table in
     let source_made = rw c.encoding-encoding.ensures.encoding at c.in_ok-source.ensures.ok in
     let source_after = rw c.encoding-encoding.ensures.encoding at c.in_ok-source.ensures.table in
-    rw (← c.self.view_is, ← c.parts.view_is, c.in-Ok.ensures.ok, c.in_ok-push-in-Ok.ensures.items, c.in-Ok.ensures.id, c.timestamp.ensures, c.size.ensures, c.md5.ensures)
+    rw (
+      ← c.self.view_is,
+      ← c.parts.view_is,
+      c.in-Ok.ensures.ok,
+      c.in_ok-push-in-Ok.ensures.items,
+      c.in-Ok.ensures.id,
+      c.timestamp.ensures,
+      c.size.ensures,
+      c.md5.ensures,
+    )
     (parts_are_added tables f parts (line_text c.in_ok-path.path) (option_map line_text c.in_ok-source.source)
     c.program_text.new.line_strings c.optional_program_text.new.line_strings made after source_made source_after)
 
@@ -50,12 +60,16 @@ returns-in_err-path-clause-writable g c = record {
 
 pub returns-in_err-source-clause-writable : goal.returns-in_err-source-clause-writable
 returns-in_err-source-clause-writable g c =
-    let kept = kept_then c.args.line_strings.now c.program_text.new.line_strings c.optional_program_text.new.line_strings c.in_ok-path.ensures.stays c.in_err-source.ensures.stays in
+    let kept =
+    kept_then c.args.line_strings.now c.program_text.new.line_strings c.optional_program_text.new.line_strings c.in_ok-path.ensures.stays
+    c.in_err-source.ensures.stays in
     record { still = λ strings. written_later strings c.args.line_strings.now c.optional_program_text.new.line_strings kept c.args.self.now.program }
 
 pub returns-in-Err-clause-writable : goal.returns-in-Err-clause-writable
 returns-in-Err-clause-writable g c =
-    let kept = kept_then c.args.line_strings.now c.program_text.new.line_strings c.optional_program_text.new.line_strings c.in_ok-path.ensures.stays c.in_ok-source.ensures.stays in
+    let kept =
+    kept_then c.args.line_strings.now c.program_text.new.line_strings c.optional_program_text.new.line_strings c.in_ok-path.ensures.stays
+    c.in_ok-source.ensures.stays in
     record {
       still = λ strings. rw (c.in-Err.ensures.err, ← c.self.view_is)
           (written_later strings c.args.line_strings.now c.optional_program_text.new.line_strings kept c.self.inside.program);
@@ -65,7 +79,8 @@ pub returns-in_err-push-in-Ok-clause-writable : goal.returns-in_err-push-in-Ok-c
 returns-in_err-push-in-Ok-clause-writable g c =
     record {
       still = λ strings. rw (c.in-Ok.ensures.ok, ← c.self.view_is)
-          (written_with_parts line_text c.self.inside.program strings c.args.line_strings.now c.program_text.new.line_strings c.optional_program_text.new.line_strings c.in_ok-path.path c.in_ok-source.source c.parts.inside.directory _ _ _
+          (written_with_parts line_text c.self.inside.program strings c.args.line_strings.now c.program_text.new.line_strings
+          c.optional_program_text.new.line_strings c.in_ok-path.path c.in_ok-source.source c.parts.inside.directory _ _ _
           c.in_ok-path.ensures.stays c.in_ok-source.ensures.stays c.in_ok-path.ensures.within c.in_ok-source.ensures.within c.in_ok-source.ensures.no_zero);
     }
 
@@ -73,6 +88,7 @@ pub returns-in_ok-push-in-Ok-clause-writable : goal.returns-in_ok-push-in-Ok-cla
 returns-in_ok-push-in-Ok-clause-writable g c =
     record {
       still = λ strings. rw (c.in-Ok.ensures.ok, ← c.self.view_is)
-          (written_with_parts line_text c.self.inside.program strings c.args.line_strings.now c.program_text.new.line_strings c.optional_program_text.new.line_strings c.in_ok-path.path c.in_ok-source.source c.parts.inside.directory _ _ _
+          (written_with_parts line_text c.self.inside.program strings c.args.line_strings.now c.program_text.new.line_strings
+          c.optional_program_text.new.line_strings c.in_ok-path.path c.in_ok-source.source c.parts.inside.directory _ _ _
           c.in_ok-path.ensures.stays c.in_ok-source.ensures.stays c.in_ok-path.ensures.within c.in_ok-source.ensures.within c.in_ok-source.ensures.no_zero);
     }

@@ -1,0 +1,28 @@
+use Rattle.std.proofs.Common.{refl, ap, ◌∙◌}
+use Rattle.gimli_line.specs.header.File.{FileHasOrder}
+use Rattle.gimli_line.specs.header.Header.{without_files}
+use Rattle.gimli_line.specs.run.Unread.{Unread}
+use Rattle.gimli_line.proofs.InstructionLaws.{reads_instruction}
+use Rattle.gimli_line.proofs.Steps.{keeps_run, reads_none, step_quiet, step_wants, steps_after}
+use Rattle.gimli_line.proofs.run.rows.LineRows.define_file.Goals as goal
+
+pub returns-in-Ok : goal.returns-in-Ok
+returns-in-Ok g c =
+    let n = (reads_instruction _ c.header-header.result.now.meaning).found _ _ _ c.in-Some.ensures.read in
+    rw (← c.self.view_is) (step_quiet _ _ _ c.header-header.ensures.meaning _ _ (refl, refl, refl) _ n c.in-Some.ensures.notation _ c.in-Ok.ensures.ok refl refl
+    refl (refl, refl, refl)
+    (keeps_run _ _ _ _ _ (refl, refl, refl) (refl, refl, refl) (ap without_files c.in-Ok.ensures.ok) c.in-Ok.ensures.notation c.in-Ok.ensures.offset
+    c.in-Ok.ensures.handed c.in-Some.ensures.notation
+    (λ big. FileHasOrder g.R.Reader.big big c.in-Some.file) c.in-Ok.ensures.order c.in-Some.ensures.order))
+
+pub returns-in-Err : goal.returns-in-Err
+returns-in-Err g c =
+    let n = (reads_instruction _ c.header-header.result.now.meaning).found _ _ _ c.in-Some.ensures.read in
+    let m = c.in-Err.ensures.memory in
+    rw (m.0, ← c.self.view_is)
+    (step_wants _ _ _ c.header-header.ensures.meaning _ _ (refl, refl, refl) _ c.next_defined_file.new.self n refl _ c.in-Err.ensures.err m.1
+    (ap (λ (s : Unread). s.bytes) c.clear.ensures) (refl, refl, refl)
+    (keeps_run _ _ _ _ _ (refl, refl, refl) (refl, refl, refl) (ap without_files c.in-Err.ensures.err) c.in-Err.ensures.notation c.in-Err.ensures.offset
+    c.in-Err.ensures.handed
+    (ap (λ (u : Unread). u.notation) c.clear.ensures ∙ c.in-Some.ensures.notation)
+    (λ big. FileHasOrder g.R.Reader.big big c.in-Some.file) c.in-Err.ensures.order c.in-Some.ensures.order))

@@ -1,0 +1,13 @@
+use Rattle.std.proofs.Common.{◌≡◌, length}
+use Rattle.gimli_line.specs.inside.run.Rows.{ReadsOn}
+use Rattle.gimli_line.proofs.Steps.{with_rest}
+use Rattle.gimli_line.proofs.run.rows.LineRows.execute_some.Given as goal
+
+abbrev pub invariant-common : goal.invariant-common
+invariant-common g l = record {
+  program : l.self-inside.program ≡ l.initial.self-inside.program;
+  reads : ReadsOn l.fn.self (with_rest l.fn.self l.self-inside.row l.instructions);
+}
+
+abbrev pub decreases-common : goal.decreases-common
+decreases-common g l = length l.instructions.bytes

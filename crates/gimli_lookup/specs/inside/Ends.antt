@@ -1,0 +1,29 @@
+-- How far what is found at an address goes on.
+use Rattle.std.specs.Prelude.{◌≡◌, ◌⊎◌, ◌≤◌, ◌<◌, ℕ, false, List, Option, Some, slice_get, All}
+use Rattle.std.specs.Prelude.{MatchOption}
+use Rattle.gimli_line.specs.declared.run.row.LineRow.{LineRow}
+use Rattle.gimli_lookup.specs.Probes.{never_go_down}
+use Rattle.gimli_lookup.specs.declared.index.Found.{Found}
+use Rattle.gimli_lookup.specs.FirstPair.{HasNoPair}
+use Rattle.gimli_lookup.specs.Ranges.{IsBefore}
+use Rattle.gimli_lookup.specs.inside.FirstPair.{IsFirstPairIn}
+
+-- an address isn't above `a`, or not below the end
+abbrev pub IsClear : ℕ → Option ℕ → ℕ → Type 0
+IsClear a end at = (at ≤ a) ⊎ ((b : ℕ) → IsBefore b end → b < at)
+
+-- so are those of all rows of a sequence
+abbrev pub AreRowsClear : ℕ → Option ℕ → List LineRow → Type 0
+AreRowsClear a end rows =
+    (k : ℕ) (r : LineRow) → slice_get rows k ≡ Some r → IsClear a end r.address
+
+-- so are those of a sequence whose addresses go down
+abbrev pub IsUnorderedClear : ℕ → Option ℕ → List LineRow → Type 0
+IsUnorderedClear a end rows = never_go_down rows ≡ false → AreRowsClear a end rows
+
+-- this is found at an address: the first rows round it and the index of their sequence, or None
+-- where no rows are round it
+abbrev pub IsFoundIn : ℕ → List (List LineRow) → Option Found → Type 0
+IsFoundIn a sequences found =
+    MatchOption found (All (HasNoPair a) sequences) (λ f.
+    IsFirstPairIn a sequences f.sequence f.row f.next)

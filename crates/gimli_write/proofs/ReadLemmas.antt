@@ -1,0 +1,29 @@
+-- Reads of a conversion, one after the other.
+use Rattle.std.proofs.Common.{◌≡◌, refl}
+use Rattle.gimli_write.specs.convert.Conversion.{Progress, built_so_far}
+use Rattle.gimli_write.specs.convert.Reads.{ReadsOn}
+use Rattle.gimli_write.proofs.ConvertSteps.{kept_self, kept_then}
+use Rattle.gimli_write.proofs.Gathers.{added_then}
+use Rattle.gimli_write.proofs.KeptFiles.{files_self, files_then}
+use Rattle.gimli_write.proofs.Writable.{writable_then}
+
+-- nothing was added
+pub reads_none : (a b : Progress) → b.conversion.tables ≡ a.conversion.tables → b.line_strings ≡ a.line_strings → ReadsOn a b
+reads_none a b tables texts = record {
+  adds = rw tables refl;
+  keeps = rw tables (files_self a.conversion.tables);
+  texts = rw texts (kept_self a.line_strings);
+  writable = rw (tables, texts) (record { still = λ strings can. can });
+}
+
+pub reads_then : {a b c : Progress} → ReadsOn a b → ReadsOn b c → ReadsOn a c
+reads_then {a = a} {b = b} {c = c} first second = record {
+  adds = added_then (built_so_far a) (built_so_far b) (built_so_far c) first.adds second.adds;
+  keeps = files_then a.conversion.tables b.conversion.tables c.conversion.tables first.keeps second.keeps;
+  texts = kept_then a.line_strings b.line_strings c.line_strings first.texts second.texts;
+  writable = writable_then first.writable second.writable;
+}
+
+-- what else changes in the conversion says nothing of a read
+pub reads_kept : (a b c : Progress) → c.conversion.tables ≡ b.conversion.tables → c.line_strings ≡ b.line_strings → ReadsOn a b → ReadsOn a c
+reads_kept a b c tables texts reads = reads_then reads (reads_none b c tables texts)
