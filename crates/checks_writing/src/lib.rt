@@ -15,3 +15,5 @@ mod errors;
 mod many;
 #[cfg(test)]
 mod own_writer;
+#[cfg(test)]
+mod relocations;

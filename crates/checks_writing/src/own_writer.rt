@@ -281,7 +281,7 @@ fn is_whole(
 }
 
 /// Adds texts to both tables, and returns those of the directory and of the file.
-fn add_texts(
+pub fn add_texts(
     strings: &mut StringTable,
     line_strings: &mut LineStringTable,
 ) -> Result<(LineStringId, StringId)> {
@@ -292,7 +292,7 @@ fn add_texts(
 }
 
 /// A program with these texts and a sequence.
-fn with_sequence(
+pub fn with_sequence(
     alloc: Global,
     strings: &StringTable,
     line_strings: &LineStringTable,

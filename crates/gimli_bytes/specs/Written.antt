@@ -1,8 +1,13 @@
--- What a call of a writer leaves. The bytes that a call is to write are "wanted": the bytes, or the refusal of the
--- value or the size.
-use Rattle.std.specs.Prelude.{◌≡◌, ◌⊎◌, ℕ, List, ◌++◌, length, Result, Ok, Err, ◌+◌, nat_lt, take, drop, if◌then◌else◌, IsTrue, OnOk, OnErr, IfErr}
+-- What a call of a writer leaves. The bytes that a call is to write are "wanted": the bytes, or the
+-- refusal of the value or the size.
+use Rattle.std.specs.Prelude.{◌≡◌, ◌⊎◌, ℕ, List, ◌++◌, length, Result, Ok, Err, ◌+◌, nat_lt, take}
+use Rattle.std.specs.Prelude.{drop, if◌then◌else◌, IsTrue, OnOk, OnErr, IfErr}
 use Rattle.gimli_bytes.specs.declared.error.Error.{Error}
-use Rattle.gimli_bytes.specs.declared.error.Error.TheVariants.{OutOfMemory, OffsetOutOfBounds, LengthOutOfBounds}
+use Rattle.gimli_bytes.specs.declared.error.Error.TheVariants.{
+  OutOfMemory,
+  OffsetOutOfBounds,
+  LengthOutOfBounds,
+}
 use Rattle.gimli_bytes.specs.declared.sink.Sink.{Ghosts}
 
 -- the old bytes are a beginning of the new ones
@@ -28,8 +33,8 @@ abbrev pub Untouched : Result (List ℕ) Error → List ℕ → List ℕ → Typ
 Untouched (Ok bytes) old new = Unit {0}
 Untouched (Err e) old new = new ≡ old
 
--- bytes put over the old ones from a place on, or the refusal of the place: it may be the end, and no byte may pass
--- the end
+-- bytes put over the old ones from a place on, or the refusal of the place: it may be the end, and
+-- no byte may pass the end
 abbrev pub overwrite_of : List ℕ → ℕ → List ℕ → Result (List ℕ) Error
 overwrite_of old at bytes =
     if nat_lt (length old) at then Err OffsetOutOfBounds
@@ -41,8 +46,8 @@ abbrev pub patch : Result (List ℕ) Error → List ℕ → ℕ → Result (List
 patch (Ok bytes) old at = overwrite_of old at bytes
 patch (Err e) old at = Err e
 
--- what a call over bytes that are there leaves where it returned Ok: the wanted bytes, from the place on, over the old
--- ones
+-- what a call over bytes that are there leaves where it returned Ok: the wanted bytes, from the
+-- place on, over the old ones
 abbrev pub Overwrites : ℕ → Result (List ℕ) Error → List ℕ → List ℕ → Type 0
 Overwrites at wanted old new = patch wanted old at ≡ Ok new
 
@@ -53,15 +58,19 @@ RefusesAt at wanted old e = patch wanted old at ≡ Err e
 -- ---- whole calls, each with the writer before and after it
 
 -- a call that appends, and makes at most one `write`
-pub record IsAppend {W X : Type 0} (sink : Ghosts W) (old new : W) (result : Result X Error) (wanted : Result (List ℕ) Error) : Type 0 where
-  -- whatever the writer, also where the call is refused: the old bytes are a beginning, and the order stays
+pub record IsAppend {W X : Type 0} (sink : Ghosts W) (old new : W) (result : Result X Error)
+    (wanted : Result (List ℕ) Error) : Type 0 where
+  -- whatever the writer, also where the call is refused: the old bytes are a beginning, and the
+  -- order stays
   pub keeps : Begins (sink.contents old) (sink.contents new)
   pub ordered : sink.big new ≡ sink.big old
   -- where it returns Ok, exactly the wanted bytes come after the old ones
-  pub ok : IsTrue sink.keeps_bytes → OnOk result (Appends wanted (sink.contents old) (sink.contents new))
+  pub ok : IsTrue sink.keeps_bytes
+      → OnOk result (Appends wanted (sink.contents old) (sink.contents new))
   -- where it refuses, it is for memory, or for what is wanted
   pub err : IsTrue sink.fails_for_memory_alone → IfErr result (Refuses wanted)
-  -- whatever the writer, where it refuses, it is for what is wanted, or with what a `write` of its own refused
+  -- whatever the writer, where it refuses, it is for what is wanted, or with what a `write` of its
+  -- own refused
   pub own : IfErr result (λ e. sink.refuses e ⊎ (wanted ≡ Err e))
   -- where the value or the size is refused, the bytes are as they were
   pub untouched : IsTrue sink.keeps_bytes → Untouched wanted (sink.contents old) (sink.contents new)
@@ -69,23 +78,29 @@ pub record IsAppend {W X : Type 0} (sink : Ghosts W) (old new : W) (result : Res
   pub none : IsTrue sink.all_or_none → OnErr result (sink.contents new ≡ sink.contents old)
 
 -- a call that appends, and may make more than one `write`: where it is refused, a part may be there
-pub record IsAppendInParts {W X : Type 0} (sink : Ghosts W) (old new : W) (result : Result X Error) (wanted : Result (List ℕ) Error) : Type 0 where
+pub record IsAppendInParts {W X : Type 0} (sink : Ghosts W) (old new : W) (result : Result X Error)
+    (wanted : Result (List ℕ) Error) : Type 0 where
   pub keeps : Begins (sink.contents old) (sink.contents new)
   pub ordered : sink.big new ≡ sink.big old
-  pub ok : IsTrue sink.keeps_bytes → OnOk result (Appends wanted (sink.contents old) (sink.contents new))
+  pub ok : IsTrue sink.keeps_bytes
+      → OnOk result (Appends wanted (sink.contents old) (sink.contents new))
   pub err : IsTrue sink.fails_for_memory_alone → IfErr result (Refuses wanted)
   pub own : IfErr result (λ e. sink.refuses e ⊎ (wanted ≡ Err e))
 
 -- a call that writes over bytes that are there, from a place on
-pub record IsOverwrite {W X : Type 0} (sink : Ghosts W) (old new : W) (result : Result X Error) (at : ℕ) (wanted : Result (List ℕ) Error) : Type 0 where
-  -- whatever the writer, also where the call is refused: the length, the bytes before the place, and the order stay
+pub record IsOverwrite {W X : Type 0} (sink : Ghosts W) (old new : W) (result : Result X Error)
+    (at : ℕ) (wanted : Result (List ℕ) Error) : Type 0 where
+  -- whatever the writer, also where the call is refused: the length, the bytes before the place,
+  -- and the order stay
   pub len : length (sink.contents new) ≡ length (sink.contents old)
   pub before : take at (sink.contents new) ≡ take at (sink.contents old)
   pub ordered : sink.big new ≡ sink.big old
   -- whatever the writer, where it refuses, no byte is changed
   pub refused : OnErr result (sink.contents new ≡ sink.contents old)
   -- where it returns Ok, exactly the wanted bytes stand from the place on
-  pub ok : IsTrue sink.keeps_bytes → OnOk result (Overwrites at wanted (sink.contents old) (sink.contents new))
+  pub ok : IsTrue sink.keeps_bytes
+      → OnOk result (Overwrites at wanted (sink.contents old) (sink.contents new))
   -- where it refuses, it is for what is wanted, else for the place
-  pub err : IsTrue sink.fails_for_memory_alone → IfErr result (RefusesAt at wanted (sink.contents old))
+  pub err : IsTrue sink.fails_for_memory_alone
+      → IfErr result (RefusesAt at wanted (sink.contents old))
   pub own : IfErr result (λ e. sink.refuses e ⊎ RefusesAt at wanted (sink.contents old) e)

@@ -1,6 +1,7 @@
 //! What a writer of a section does: appends, and writes over bytes that are there.
 
-ghost use Rattle.std.specs.Prelude.{◌≡◌, ◌+◌, ◌≤◌, Bool, true, false, IsTrue, IfOk, Ok, Err, length};
+ghost use Rattle.std.specs.Prelude.{◌≡◌, ◌+◌, ◌≤◌, Bool, true, false, IsTrue, IfOk, Ok, Err};
+ghost use Rattle.std.specs.Prelude.{length};
 ghost use Rattle.gimli_core.specs.Numbers.{number_bytes, word_size};
 ghost use Rattle.gimli_core.specs.Numbers.{SpellsUleb128, SpellsSleb128, IsShortest};
 ghost use Rattle.gimli_bytes.specs.Written.{IsAppend, IsAppendInParts, IsOverwrite};

@@ -18,7 +18,8 @@ pub use gimli_build::{
     laws,
 };
 pub use gimli_bytes::{
-    Address, DebugLine, DebugLineStr, DebugStr, EndianVec, Error, InitialLengthOffset, Leb128,
-    LineStringId, LineStringTable, PieceVec, Pieces, Result, Sink, StringId, StringTable, Writer,
+    Addends, Address, DebugLine, DebugLineStr, DebugStr, EndianVec, Error, InitialLengthOffset,
+    Leb128, LineStringId, LineStringTable, PieceVec, Pieces, RelocatableVec, Relocation,
+    RelocationTarget, Result, Sink, StringId, StringTable, Writer,
 };
 pub use read_back::{RoundTrip, RoundTripFile, round_trip};

@@ -4,6 +4,7 @@
 //! - `where_is FILE ADDRESS..` prints `path:line:column` of each address of an ELF file.
 //! - `ends LINES` prints all units of a section, and their sequences.
 //! - `make_unit` prints the bytes of a unit of version 5 that it builds, and those of its texts.
+//! - `make_object` prints the bytes of an object file whose line program has symbols.
 //! - `shift LINES OFFSET BY [DIRECTORY [NAME]]` prints the rows of a unit up to version 4 in
 //!   version 5, each address moved.
 //! - `index` prints what an index says that it makes of two lines.
@@ -18,6 +19,7 @@ mod converting;
 mod ends;
 mod index;
 mod lookup;
+mod make_object;
 mod make_unit;
 mod numbers;
 mod reading;
@@ -49,6 +51,7 @@ fn run(rt: &HostRuntime, command: &[String]) -> Result<()> {
     match program.as_str() {
         "where_is" => where_is::start(rt, words),
         "ends" => ends::start(rt, words),
+        "make_object" => make_object::start(rt, words),
         "make_unit" => make_unit::start(rt, words),
         "shift" => shift::start(rt, words),
         "index" => index::start(rt, words),

@@ -1,5 +1,6 @@
 -- Parts written one after the other.
-use Rattle.std.proofs.Common.{◌≡◌, ◌⊎◌, ℕ, ◌+◌, ◌<◌, ◌≤◌, List, [], ◌∷◌, ◌++◌, length, drop, drop-cons, take, map, slice_get, get_or, suc, add-one, Some, Ok, Err, OnOk, IfErr, refl, sym, ap, ◌∙◌, append_assoc, inl, inr, min, arith}
+use Rattle.std.proofs.Common.{◌≡◌, ◌⊎◌, ℕ, ◌+◌, ◌<◌, ◌≤◌, List, [], ◌∷◌, ◌++◌, length, drop, drop-cons, take, map, slice_get, get_or, suc, add-one, Some, Ok}
+use Rattle.std.proofs.Common.{Err, OnOk, IfErr, refl, sym, ap, ◌∙◌, append_assoc, inl, inr, min, arith}
 use Rattle.std.proofs.lemmas.List.{append-nil, drop-map, take-take, length-take}
 use Rattle.std.proofs.lemmas.Option.{slice_get_within, get_or_from_slice_get}
 use Rattle.std.proofs.Math.Seq.{take-length, take-suc}
@@ -79,24 +80,30 @@ none_so_far part all old = record { done = []; written = sym (append-nil old); p
     nothing (Ok bytes) = refl
     nothing (Err d) = refl
 
-pub one_more : {A : Type 0} (part : A → Result (List ℕ) Error) (all left : List A) (x : A) (old new newer : List ℕ) → SoFar part all (x ∷ left) old new → Appends (part x) new newer → SoFar part all left old newer
+pub one_more : {A : Type 0} (part : A → Result (List ℕ) Error) (all left : List A) (x : A) (old new newer : List ℕ) → SoFar part all (x ∷ left) old new
+    → Appends (part x) new newer → SoFar part all left old newer
 one_more part all left x old new newer so more =
     let a = appended_bytes (part x) new newer more in
     record {
       done = so.done ++ a.0;
       written = a.2 ∙ ap (λ (l : List ℕ). l ++ a.0) so.written ∙ append_assoc old so.done a.0;
-      parts = so.parts ∙ ap (λ (r : Result (List ℕ) Error). result_append (Ok so.done) (result_append r (result_concat part left))) a.1 ∙ joined-joined so.done a.0 (result_concat part left);
+      parts =
+          so.parts ∙ ap (λ (r : Result (List ℕ) Error). result_append (Ok so.done) (result_append r (result_concat part left))) a.1
+          ∙ joined-joined so.done a.0 (result_concat part left);
     }
 
-pub part_refused : {A : Type 0} (part : A → Result (List ℕ) Error) (all left : List A) (x : A) (old new : List ℕ) (e : Error) → SoFar part all (x ∷ left) old new → part x ≡ Err e → result_concat part all ≡ Err e
+pub part_refused : {A : Type 0} (part : A → Result (List ℕ) Error) (all left : List A) (x : A) (old new : List ℕ) (e : Error)
+    → SoFar part all (x ∷ left) old new → part x ≡ Err e → result_concat part all ≡ Err e
 part_refused part all left x old new e so is =
     so.parts ∙ ap (λ (r : Result (List ℕ) Error). result_append (Ok so.done) (result_append r (result_concat part left))) is
 
-pub one_refused : {A : Type 0} (part : A → Result (List ℕ) Error) (all left : List A) (x : A) (old new : List ℕ) (e : Error) → SoFar part all (x ∷ left) old new → RefusesFor (part x) e → RefusesFor (result_concat part all) e
+pub one_refused : {A : Type 0} (part : A → Result (List ℕ) Error) (all left : List A) (x : A) (old new : List ℕ) (e : Error) → SoFar part all (x ∷ left) old new
+    → RefusesFor (part x) e → RefusesFor (result_concat part all) e
 one_refused part all left x old new e so (inl memory) = inl memory
 one_refused part all left x old new e so (inr is) = inr (part_refused part all left x old new e so is)
 
-pub all_done : {A : Type 0} (part : A → Result (List ℕ) Error) (all : List A) (old new : List ℕ) → SoFar part all [] old new → Appends (result_concat part all) old new
+pub all_done : {A : Type 0} (part : A → Result (List ℕ) Error) (all : List A) (old new : List ℕ) → SoFar part all [] old new
+    → Appends (result_concat part all) old new
 all_done part all old new so =
     let is : result_concat part all ≡ Ok so.done = so.parts ∙ ap (λ (l : List ℕ). let s : Result (List ℕ) Error = Ok l in s) (append-nil so.done) in
     rw is so.written

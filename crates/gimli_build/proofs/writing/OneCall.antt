@@ -18,11 +18,13 @@ none_called {sink = sink} {w = w} = record {
 }
 
 -- the same bytes under another answer
-pub answered : {W X Y : Type 0} {sink : Ghosts W} {old new : W} {x : X} {y : Y} {xs : List ℕ} → Writes sink old new (Ok x) (Ok xs) → Writes sink old new (Ok y) (Ok xs)
+pub answered : {W X Y : Type 0} {sink : Ghosts W} {old new : W} {x : X} {y : Y} {xs : List ℕ} → Writes sink old new (Ok x) (Ok xs)
+    → Writes sink old new (Ok y) (Ok xs)
 answered so = record { keeps = so.keeps; ordered = so.ordered; ok = so.ok; err = λ keeps_bytes fails_for_memory_alone. tt; own = λ keeps_bytes. tt }
 
 -- where bytes are wanted, a refusal is for memory, whatever they are
-pub refused_alike : {W X Y : Type 0} {sink : Ghosts W} {old new : W} {e : Error} {xs : List ℕ} (ys : List ℕ) → Writes {X = X} sink old new (Err e) (Ok xs) → Writes {X = Y} sink old new (Err e) (Ok ys)
+pub refused_alike : {W X Y : Type 0} {sink : Ghosts W} {old new : W} {e : Error} {xs : List ℕ} (ys : List ℕ) → Writes {X = X} sink old new (Err e) (Ok xs)
+    → Writes {X = Y} sink old new (Err e) (Ok ys)
 refused_alike {e = e} {xs = xs} ys refused = record {
   keeps = refused.keeps;
   ordered = refused.ordered;

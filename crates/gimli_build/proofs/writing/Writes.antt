@@ -7,20 +7,25 @@ use Rattle.gimli_bytes.specs.declared.sink.Sink.{Ghosts}
 use Rattle.gimli_build.specs.Joined.{result_append, result_concat}
 use Rattle.gimli_build.specs.inside.Joined.{RefusesFor}
 use Rattle.gimli_build.specs.inside.Writes.{Writes}
-use Rattle.gimli_build.proofs.writing.Joined.{SoFar, none_so_far, one_more, one_refused, all_done, on_ok, if_err, or_wanted, handed_on, part_refused, second_refused, appends_joined, refuses_second, begins_self, begins_then}
+use Rattle.gimli_build.proofs.writing.Joined.{SoFar, none_so_far, one_more, one_refused, all_done, on_ok, if_err, or_wanted, handed_on, part_refused}
+use Rattle.gimli_build.proofs.writing.Joined.{second_refused, appends_joined, refuses_second, begins_self, begins_then}
 
 -- two calls
-pub joins : {W X Y : Type 0} {sink : Ghosts W} {old mid new : W} {x : X} {r : Result Y Error} {a b : Result (List ℕ) Error} → Writes sink old mid (Ok x) a → Writes sink mid new r b → Writes sink old new r (result_append a b)
+pub joins : {W X Y : Type 0} {sink : Ghosts W} {old mid new : W} {x : X} {r : Result Y Error} {a b : Result (List ℕ) Error} → Writes sink old mid (Ok x) a
+    → Writes sink mid new r b → Writes sink old new r (result_append a b)
 joins {sink = sink} {old = old} {mid = mid} {new = new} {r = r} {a = a} {b = b} first second = record {
   keeps = begins_then (sink.contents old) (sink.contents mid) (sink.contents new) first.keeps second.keeps;
   ordered = second.ordered ∙ first.ordered;
   ok = λ keeps_bytes. on_ok r (appends_joined a b (sink.contents old) (sink.contents mid) (sink.contents new) (first.ok keeps_bytes)) (second.ok keeps_bytes);
-  err = λ keeps_bytes fails_for_memory_alone. if_err r (λ e. refuses_second a b (sink.contents old) (sink.contents mid) e (first.ok keeps_bytes)) (second.err keeps_bytes fails_for_memory_alone);
+  err =
+      λ keeps_bytes fails_for_memory_alone.
+      if_err r (λ e. refuses_second a b (sink.contents old) (sink.contents mid) e (first.ok keeps_bytes)) (second.err keeps_bytes fails_for_memory_alone);
   own = λ keeps_bytes. if_err r (λ e. or_wanted (second_refused a b (sink.contents old) (sink.contents mid) e (first.ok keeps_bytes))) (second.own keeps_bytes);
 }
 
 -- a call of the writer itself
-pub writes : {W X : Type 0} {sink : Ghosts W} {old new : W} {r : Result X Error} (wanted : Result (List ℕ) Error) → IsAppend sink old new r wanted → Writes sink old new r wanted
+pub writes : {W X : Type 0} {sink : Ghosts W} {old new : W} {r : Result X Error} (wanted : Result (List ℕ) Error) → IsAppend sink old new r wanted
+    → Writes sink old new r wanted
 writes {r = r} wanted append = record {
   keeps = append.keeps;
   ordered = append.ordered;
@@ -34,7 +39,8 @@ writes {r = r} wanted append = record {
     for_it (Err d) e is = inr (ap (λ (x : Error). let s : Result (List ℕ) Error = Err x in s) (sym is))
 
 -- where bytes are wanted, a refusal is for memory, whatever they are
-pub unwritten : {W X Y Z : Type 0} {sink : Ghosts W} {old mid new : W} {x : X} {e : Error} {xs ys : List ℕ} (zs : List ℕ) → Writes sink old mid (Ok x) (Ok xs) → Writes {X = Y} sink mid new (Err e) (Ok ys) → Writes {X = Z} sink old new (Err e) (Ok zs)
+pub unwritten : {W X Y Z : Type 0} {sink : Ghosts W} {old mid new : W} {x : X} {e : Error} {xs ys : List ℕ} (zs : List ℕ) → Writes sink old mid (Ok x) (Ok xs)
+    → Writes {X = Y} sink mid new (Err e) (Ok ys) → Writes {X = Z} sink old new (Err e) (Ok zs)
 unwritten {sink = sink} {old = old} {mid = mid} {new = new} {e = e} {ys = ys} zs first refused = record {
   keeps = begins_then (sink.contents old) (sink.contents mid) (sink.contents new) first.keeps refused.keeps;
   ordered = refused.ordered ∙ first.ordered;
@@ -56,25 +62,34 @@ pub record WritesSoFar {W A : Type 0} (sink : Ghosts W) (part : A → Result (Li
   pub put : IsTrue sink.keeps_bytes → SoFar part all left (sink.contents old) (sink.contents new)
 
 pub none_written : {W A : Type 0} (sink : Ghosts W) (part : A → Result (List ℕ) Error) (all : List A) (old : W) → WritesSoFar sink part all all old old
-none_written sink part all old = record { keeps = begins_self (sink.contents old); ordered = refl; put = λ keeps_bytes. none_so_far part all (sink.contents old) }
+none_written sink part all old = record {
+  keeps = begins_self (sink.contents old);
+  ordered = refl;
+  put = λ keeps_bytes. none_so_far part all (sink.contents old);
+}
 
-pub one_written : {W A X : Type 0} {sink : Ghosts W} {part : A → Result (List ℕ) Error} {all left : List A} {x : A} {old mid new : W} {y : X} → WritesSoFar sink part all (x ∷ left) old mid → Writes sink mid new (Ok y) (part x) → WritesSoFar sink part all left old new
+pub one_written : {W A X : Type 0} {sink : Ghosts W} {part : A → Result (List ℕ) Error} {all left : List A} {x : A} {old mid new : W} {y : X}
+    → WritesSoFar sink part all (x ∷ left) old mid → Writes sink mid new (Ok y) (part x) → WritesSoFar sink part all left old new
 one_written {sink = sink} {part = part} {all = all} {left = left} {x = x} {old = old} {mid = mid} {new = new} so more = record {
   keeps = begins_then (sink.contents old) (sink.contents mid) (sink.contents new) so.keeps more.keeps;
   ordered = more.ordered ∙ so.ordered;
   put = λ keeps_bytes. one_more part all left x (sink.contents old) (sink.contents mid) (sink.contents new) (so.put keeps_bytes) (more.ok keeps_bytes);
 }
 
-pub one_unwritten : {W A X Y : Type 0} {sink : Ghosts W} {part : A → Result (List ℕ) Error} {all left : List A} {x : A} {old mid new : W} {e : Error} → WritesSoFar sink part all (x ∷ left) old mid → Writes {X = X} sink mid new (Err e) (part x) → Writes {X = Y} sink old new (Err e) (result_concat part all)
+pub one_unwritten : {W A X Y : Type 0} {sink : Ghosts W} {part : A → Result (List ℕ) Error} {all left : List A} {x : A} {old mid new : W} {e : Error}
+    → WritesSoFar sink part all (x ∷ left) old mid → Writes {X = X} sink mid new (Err e) (part x) → Writes {X = Y} sink old new (Err e) (result_concat part all)
 one_unwritten {sink = sink} {part = part} {all = all} {left = left} {x = x} {old = old} {mid = mid} {new = new} {e = e} so refused = record {
   keeps = begins_then (sink.contents old) (sink.contents mid) (sink.contents new) so.keeps refused.keeps;
   ordered = refused.ordered ∙ so.ordered;
   ok = λ keeps_bytes. tt;
-  err = λ keeps_bytes fails_for_memory_alone. one_refused part all left x (sink.contents old) (sink.contents mid) e (so.put keeps_bytes) (refused.err keeps_bytes fails_for_memory_alone);
+  err =
+      λ keeps_bytes fails_for_memory_alone.
+      one_refused part all left x (sink.contents old) (sink.contents mid) e (so.put keeps_bytes) (refused.err keeps_bytes fails_for_memory_alone);
   own = λ keeps_bytes. or_wanted (part_refused part all left x (sink.contents old) (sink.contents mid) e (so.put keeps_bytes)) (refused.own keeps_bytes);
 }
 
-pub all_written : {W A X : Type 0} {sink : Ghosts W} {part : A → Result (List ℕ) Error} {all : List A} {old new : W} {y : X} → WritesSoFar sink part all [] old new → Writes sink old new (Ok y) (result_concat part all)
+pub all_written : {W A X : Type 0} {sink : Ghosts W} {part : A → Result (List ℕ) Error} {all : List A} {old new : W} {y : X}
+    → WritesSoFar sink part all [] old new → Writes sink old new (Ok y) (result_concat part all)
 all_written {sink = sink} {part = part} {all = all} {old = old} {new = new} so = record {
   keeps = so.keeps;
   ordered = so.ordered;

@@ -5,12 +5,16 @@ use Rattle.gimli_bytes.specs.declared.error.Error.{Error}
 use Rattle.gimli_bytes.specs.declared.sink.Sink.{Ghosts}
 use Rattle.gimli_build.specs.inside.Joined.{RefusesFor}
 
--- as `IsAppendInParts`, but for the refusals: a part that is wanted late may be refused, and memory before it. So `err`
--- asks for a writer that keeps its bytes, and leaves it open which of the two it is
-pub record Writes {W X : Type 0} (sink : Ghosts W) (old new : W) (result : Result X Error) (wanted : Result (List ℕ) Error) : Type 0 where
+-- as `IsAppendInParts`, but for the refusals: a part that is wanted late may be refused, and memory
+-- before it. So `err` asks for a writer that keeps its bytes, and leaves it open which of the two
+-- it is
+pub record Writes {W X : Type 0} (sink : Ghosts W) (old new : W) (result : Result X Error)
+    (wanted : Result (List ℕ) Error) : Type 0 where
   pub keeps : Begins (sink.contents old) (sink.contents new)
   pub ordered : sink.big new ≡ sink.big old
-  pub ok : IsTrue sink.keeps_bytes → OnOk result (Appends wanted (sink.contents old) (sink.contents new))
-  pub err : IsTrue sink.keeps_bytes → IsTrue sink.fails_for_memory_alone → IfErr result (RefusesFor wanted)
+  pub ok : IsTrue sink.keeps_bytes
+      → OnOk result (Appends wanted (sink.contents old) (sink.contents new))
+  pub err : IsTrue sink.keeps_bytes → IsTrue sink.fails_for_memory_alone
+      → IfErr result (RefusesFor wanted)
   -- the same of any writer that keeps its bytes, or what a call of its own refused
   pub own : IsTrue sink.keeps_bytes → IfErr result (λ e. sink.refuses e ⊎ (wanted ≡ Err e))

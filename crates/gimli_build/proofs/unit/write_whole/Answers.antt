@@ -46,6 +46,8 @@ returns-clause-writes g c =
           (λ k. refl) (opened keeps_bytes) (at keeps_bytes) (written keeps_bytes) counted (λ word is. length_word_long big format n word is) e refused))
           (rw (ordered, c.format-format.ensures) at (c.write_initial_length_at.ensures.err fails_for_memory_alone));
       own = λ keeps_bytes. if_err c.write_initial_length_at.result
-          (λ e. or_wanted (λ refused. frame_refused whole (length_word big format) (escape_bytes big format) (open_word big format) old c1 c2 c3 start n bytes (λ k. refl) (opened keeps_bytes) (at keeps_bytes) (written keeps_bytes) counted (λ word is. length_word_long big format n word is) e refused))
+          (λ e. or_wanted (λ refused.
+          frame_refused whole (length_word big format) (escape_bytes big format) (open_word big format) old c1 c2 c3 start n bytes (λ k. refl)
+          (opened keeps_bytes) (at keeps_bytes) (written keeps_bytes) counted (λ word is. length_word_long big format n word is) e refused))
           (rw (ordered, c.format-format.ensures) at (c.write_initial_length_at.ensures.own));
     }

@@ -46,6 +46,8 @@ returns-clause-writes g c =
           (written keeps_bytes) counted (λ w is. header_word_long big format n w is) e refused))
           (rw (ordered, c.word_size-size.ensures, c.format.ensures, known) at (c.write_udata_at.ensures.err fails_for_memory_alone));
       own = λ keeps_bytes. if_err c.write_udata_at.result
-          (λ e. or_wanted (λ refused. frame_refused word word [] (open_word big format) old c1 c2 c3 start n bytes (λ k. no_escape (word k)) (opened keeps_bytes) at (written keeps_bytes) counted (λ w is. header_word_long big format n w is) e refused))
+          (λ e. or_wanted (λ refused.
+          frame_refused word word [] (open_word big format) old c1 c2 c3 start n bytes (λ k. no_escape (word k)) (opened keeps_bytes) at
+          (written keeps_bytes) counted (λ w is. header_word_long big format n w is) e refused))
           (rw (ordered, c.word_size-size.ensures, c.format.ensures, known) at (c.write_udata_at.ensures.own));
     }

@@ -13,7 +13,8 @@ use Rattle.gimli_build.proofs.built.line_program.LineProgram.write.Goals as goal
 
 pub write_whole-requires-clause-can : goal.write_whole-requires-clause-can
 write_whole-requires-clause-can g c =
-    rw (c.in_ok-empty.ensures.tables.strings, c.in_ok-empty.ensures.tables.line_strings) (can-write-after c.args.self.now (texts_in c.args.strings.now c.args.line_strings.now) c.requires)
+    rw (c.in_ok-empty.ensures.tables.strings, c.in_ok-empty.ensures.tables.line_strings)
+    (can-write-after c.args.self.now (texts_in c.args.strings.now c.args.line_strings.now) c.requires)
 
 pub returns-clause-reads_back : goal.returns-clause-reads_back
 returns-clause-reads_back g c = λ keeps_bytes.
@@ -37,7 +38,8 @@ returns-clause-reads_back g c = λ keeps_bytes.
       a.0,
       a.2,
       λ notation unit_entry sections well.
-          reads-back notation unit_entry sections big c.args.encoding p texts a.0 short c.in_ok-write_whole.ensures.built c.requires are_texts are_line_texts held line_held is well,
+          reads-back notation unit_entry sections big c.args.encoding p texts a.0 short c.in_ok-write_whole.ensures.built c.requires are_texts are_line_texts
+          held line_held is well,
     )
 
 pub returns-clause-no_cause : goal.returns-clause-no_cause
@@ -48,8 +50,11 @@ returns-clause-no_cause g c = λ keeps_bytes.
     let unit = c.args.encoding in
     let compatible : is_incompatible unit p.encoding ≡ false = search rules in
     let written = rw (c.in_ok-empty.ensures.tables.strings, c.in_ok-empty.ensures.tables.line_strings) at (c.in_ok-write_whole.ensures.writes.ok keeps_bytes) in
-    let appended : Appends (unit_bytes big unit p (texts_in c.args.strings.now c.args.line_strings.now)) (contents c.args.w.now.0) (contents c.write_whole.new.w) = rw compatible written in
-    no-cause big unit p (texts_in c.args.strings.now c.args.line_strings.now) (c.encoding.ensures.accepted c.requires.program).address_size (contents c.args.w.now.0) (contents c.write_whole.new.w) appended
+    let appended : Appends (unit_bytes big unit p (texts_in c.args.strings.now c.args.line_strings.now)) (contents c.args.w.now.0)
+    (contents c.write_whole.new.w) =
+    rw compatible written in
+    no-cause big unit p (texts_in c.args.strings.now c.args.line_strings.now) (c.encoding.ensures.accepted c.requires.program).address_size
+    (contents c.args.w.now.0) (contents c.write_whole.new.w) appended
 
 pub returns-in_err-write_whole-clause-err : goal.returns-in_err-write_whole-clause-err
 returns-in_err-write_whole-clause-err g c = λ keeps_bytes fails_for_memory_alone.
@@ -58,9 +63,13 @@ returns-in_err-write_whole-clause-err g c = λ keeps_bytes fails_for_memory_alon
     let unit = c.args.encoding in
     let compatible : is_incompatible unit p.encoding ≡ false = search rules in
     let q = err_from_is_err_and c.from_residual-in_err-write_whole.result c.from_residual-in_err-write_whole.ensures.1 in
-    let for_it = rw (c.in_ok-empty.ensures.tables.strings, c.in_ok-empty.ensures.tables.line_strings) at (c.in_err-write_whole.ensures.writes.err keeps_bytes fails_for_memory_alone) in
-    let refused : RefusesFor (unit_bytes big unit p (texts_in c.args.strings.now c.args.line_strings.now)) c.in_err-write_whole.field-0.0 = rw compatible for_it in
-    rw (q.1, q.2) (refused-for big unit p (texts_in c.args.strings.now c.args.line_strings.now) (c.encoding.ensures.accepted c.requires.program).address_size c.in_err-write_whole.field-0.0 refused)
+    let for_it =
+    rw (c.in_ok-empty.ensures.tables.strings, c.in_ok-empty.ensures.tables.line_strings) at
+    (c.in_err-write_whole.ensures.writes.err keeps_bytes fails_for_memory_alone) in
+    let refused : RefusesFor (unit_bytes big unit p (texts_in c.args.strings.now c.args.line_strings.now)) c.in_err-write_whole.field-0.0 =
+    rw compatible for_it in
+    rw (q.1, q.2) (refused-for big unit p (texts_in c.args.strings.now c.args.line_strings.now) (c.encoding.ensures.accepted c.requires.program).address_size
+    c.in_err-write_whole.field-0.0 refused)
 
 pub returns-in_err-write_whole-clause-own : goal.returns-in_err-write_whole-clause-own
 returns-in_err-write_whole-clause-own g c = λ keeps_bytes.
@@ -69,6 +78,11 @@ returns-in_err-write_whole-clause-own g c = λ keeps_bytes.
     let unit = c.args.encoding in
     let compatible : is_incompatible unit p.encoding ≡ false = search rules in
     let q = err_from_is_err_and c.from_residual-in_err-write_whole.result c.from_residual-in_err-write_whole.ensures.1 in
-    let for_it = rw (c.in_ok-empty.ensures.tables.strings, c.in_ok-empty.ensures.tables.line_strings) at (c.in_err-write_whole.ensures.writes.own keeps_bytes) in
-    let refused : g.W.Sink.refuses c.in_err-write_whole.field-0.0 ⊎ (unit_bytes big unit p (texts_in c.args.strings.now c.args.line_strings.now) ≡ Err c.in_err-write_whole.field-0.0) = rw compatible for_it in
-    rw (q.1, q.2) (or_wanted (λ is. refused-for big unit p (texts_in c.args.strings.now c.args.line_strings.now) (c.encoding.ensures.accepted c.requires.program).address_size c.in_err-write_whole.field-0.0 (inr is)) refused)
+    let for_it =
+    rw (c.in_ok-empty.ensures.tables.strings, c.in_ok-empty.ensures.tables.line_strings) at (c.in_err-write_whole.ensures.writes.own keeps_bytes) in
+    let refused : g.W.Sink.refuses c.in_err-write_whole.field-0.0
+    ⊎ (unit_bytes big unit p (texts_in c.args.strings.now c.args.line_strings.now) ≡ Err c.in_err-write_whole.field-0.0) = rw compatible for_it in
+    rw (q.1, q.2) (or_wanted
+    (λ is. refused-for big unit p (texts_in c.args.strings.now c.args.line_strings.now) (c.encoding.ensures.accepted c.requires.program).address_size
+    c.in_err-write_whole.field-0.0 (inr is))
+    refused)

@@ -1,0 +1,55 @@
+#!/usr/bin/env bash
+# Links the object file that `uses make_object` builds with a C program, and asks addr2line, llvm-symbolizer and
+# `lines where` for the lines of its two functions. All three have to answer what the object was built with.
+#
+#     compare/object.sh
+#
+# USES_PROGRAM=FILE and LINES_PROGRAM=FILE are asked in place of crates/uses and crates/lines. The last line is
+# 'object: N as wanted, M not'; the status is 1 where one isn't.
+set -u
+here=$(cd "$(dirname "$0")" && pwd)
+top=$(dirname "$here")
+for tool in gcc addr2line llvm-symbolizer nm python3; do
+    command -v "$tool" >/dev/null || { echo "object: passed over: without $tool"; exit 0; }
+done
+uses=${USES_PROGRAM-$top/crates/uses/out/uses}
+lines=${LINES_PROGRAM-$top/crates/lines/out/lines}
+for program in "$uses" "$lines"; do
+    [ -x "$program" ] || { echo "object: passed over: without $program"; exit 0; }
+done
+work=$(mktemp -d)
+trap 'rm -rf "$work"' EXIT
+cd "$work" || exit 1
+
+"$uses" make_object | python3 -c 'import sys; sys.stdout.buffer.write(bytes.fromhex(sys.stdin.read()))' >two.o
+cat >main.c <<'C'
+int first(void);
+int second(void);
+int main(void) { return first() * 10 + second() == 12 ? 0 : 1; }
+C
+gcc -z noexecstack -o program main.c two.o && ./program || { echo "object: the program isn't linked, or fails"; exit 1; }
+
+good=0
+bad=0
+wants() {
+    if [ "$2" = "$3" ]; then
+        good=$((good + 1))
+    else
+        bad=$((bad + 1))
+        echo "object: $1 says '$2', wanted '$3'"
+    fi
+}
+# The address of a symbol, and an offset.
+place() { printf '%x' $((0x$(nm program | awk -v name="$1" '$3 == name { print $1 }') + $2)); }
+for row in "first 0 3" "first 4 3" "first 5 4" "second 0 8" "second 5 9"; do
+    read -r symbol offset line <<<"$row"
+    address=$(place "$symbol" "$offset")
+    wanted=/made/two.c:$line
+    wants "addr2line of $symbol + $offset" "$(addr2line -e program "$address" | sed 's/ .*//')" "$wanted"
+    found=$(llvm-symbolizer --obj=program --no-inlines --functions=none "0x$address" | head -1)
+    wants "llvm-symbolizer of $symbol + $offset" "${found%:*}" "$wanted"
+    found=$("$lines" where program "$address")
+    wants "lines of $symbol + $offset" "${found%:*}" "$wanted"
+done
+echo "object: $good as wanted, $bad not"
+[ "$bad" = 0 ]
