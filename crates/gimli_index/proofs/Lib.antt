@@ -8,3 +8,7 @@ mod Slices
 mod ReadBack
 mod Near
 mod Puts
+mod OneFound
+mod Entered
+mod WrittenIndex
+mod Sources

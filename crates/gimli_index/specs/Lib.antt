@@ -8,3 +8,4 @@ pub mod Sound
 pub mod inside
 pub mod Contents
 pub mod Made
+pub mod Found

@@ -10,9 +10,7 @@ use Rattle.gimli_index.specs.declared.contents.Contents.{Contents as Made}
 use Rattle.gimli_index.specs.declared.contents.Entry.{Entry}
 use Rattle.gimli_index.specs.declared.error.IndexError.{IndexError}
 use Rattle.gimli_index.specs.declared.error.MakeError.{MakeError}
-use Rattle.gimli_index.specs.declared.error.MakeError.TheVariants.{NotAscending, TooManyEntries}
-use Rattle.gimli_index.specs.declared.error.MakeError.TheVariants.{TooManySources, PathsTooLarge}
-use Rattle.gimli_index.specs.declared.error.MakeError.TheVariants.{IdentityTooLarge, OutOfMemory}
+use Rattle.gimli_index.specs.declared.error.MakeError.TheVariants.{NotAscending, TooManyEntries, TooManySources, PathsTooLarge, IdentityTooLarge, LineTooLarge, ColumnTooLarge, OutOfMemory}
 use Rattle.gimli_index.specs.declared.header.StartSize.{StartSize}
 use Rattle.gimli_index.specs.declared.header.StartSize.TheVariants.{Four, Eight}
 
@@ -59,6 +57,8 @@ IsMakeFault c TooManyEntries = 2 ^ 32 ≤ length c.entries
 IsMakeFault c TooManySources = 2 ^ 32 ≤ length c.sources
 IsMakeFault c PathsTooLarge = 2 ^ 32 ≤ length c.paths
 IsMakeFault c IdentityTooLarge = 2 ^ 32 ≤ length c.identity
+IsMakeFault c LineTooLarge = ⊥
+IsMakeFault c ColumnTooLarge = ⊥
 IsMakeFault c OutOfMemory = Unit {0}
 
 -- bytes are read as an index that says what the entries say

@@ -1,2 +1,3 @@
 -- What no public clause reaches: private functions and proofs alone speak of it.
 pub mod Numbers
+pub mod Table

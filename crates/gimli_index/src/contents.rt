@@ -17,10 +17,10 @@ use crate::header::{MAGIC, StartSize, VERSION};
 use std::alloc::AllocError;
 
 /// The number of a source that none has: that of a gap.
-const NO_SOURCE: u32 = 0xffff_ffff;
+pub(crate) const NO_SOURCE: u32 = 0xffff_ffff;
 
 /// The most that 32 bits count.
-const MOST: usize = 0xffff_ffff;
+pub(crate) const MOST: usize = 0xffff_ffff;
 
 /// A file of a unit, which entries name by its index.
 ///

@@ -3,7 +3,7 @@
 ghost use Rattle.std.specs.Prelude.{◌≡◌};
 ghost use Rattle.gimli_index.specs.declared.error.MakeError.TheVariants.{OutOfMemory};
 
-use std::alloc::AllocError;
+use std::alloc::{AllocError, AllocFailed};
 use std::fmt;
 
 /// Why bytes aren't taken as an index.
@@ -79,6 +79,10 @@ pub enum MakeError {
     PathsTooLarge,
     /// The identity has `2^32` bytes or more.
     IdentityTooLarge,
+    /// A line is `2^32` or above.
+    LineTooLarge,
+    /// A column is `2^32` or above.
+    ColumnTooLarge,
     /// There was no memory for the index.
     OutOfMemory,
 }
@@ -91,6 +95,14 @@ impl From<AllocError> for MakeError {
     }
 }
 
+impl<T: Drop> From<AllocFailed<T>> for MakeError {
+    ghost from_gives = { λ _ e. e ≡ OutOfMemory };
+
+    fn from(_error: AllocFailed<T>) -> MakeError {
+        MakeError::OutOfMemory
+    }
+}
+
 impl fmt::Display for MakeError {
     fn fmt<W: fmt::Write>(&self, f: &mut fmt::Formatter<W>) -> fmt::Result {
         match self {
@@ -99,6 +111,8 @@ impl fmt::Display for MakeError {
             MakeError::TooManySources => write!(f, "there are too many sources for an index"),
             MakeError::PathsTooLarge => write!(f, "the paths are too large for an index"),
             MakeError::IdentityTooLarge => write!(f, "the identity is too large for an index"),
+            MakeError::LineTooLarge => write!(f, "a line is too large for an index"),
+            MakeError::ColumnTooLarge => write!(f, "a column is too large for an index"),
             MakeError::OutOfMemory => write!(f, "out of memory"),
         }
     }

@@ -12,10 +12,16 @@ mod error;
 mod header;
 pub mod laws;
 mod line_index;
+mod made;
 mod number;
+mod origin;
+mod path_bytes;
 mod place;
+mod source_hints;
+mod source_table;
 
 pub use contents::{Contents, Entry, Source, SourceLine};
 pub use error::{IndexError, MakeError};
 pub use line_index::LineIndex;
+pub use made::write_index;
 pub use place::{NoPath, Place, Start};

@@ -1,0 +1,154 @@
+-- The entries of an index in the making say what is found at each address so far.
+use Rattle.std.proofs.Common.{◌≡◌, ◌⊎◌, ℕ, zero, suc, ◌+◌, ◌-◌, ◌<◌, ◌≤◌, Bool, true, false, cond, leb, List, [], ◌∷◌, ◌++◌, length, map, Option, None, Some, refl, sym, ap, subst, ◌∙◌, inl, inr, arith}
+use Rattle.std.specs.Prelude.{IfSome, slice_get, fold, nat_le, if◌then◌else◌}
+use Rattle.std.specs.Option.{option_and_then}
+use Rattle.std.proofs.lemmas.Bool.{cases_lt, cond-true, cond-false, le-leb, lt-leb}
+use Rattle.std.proofs.lemmas.List.{map-append}
+use Rattle.std.proofs.lemmas.List.Sums.{fold-append}
+use Rattle.std.proofs.lemmas.Option.{slice_get_within}
+use Rattle.gimli_lookup.specs.Ranges.{IsBefore, IsFoundAt, AreFoundIn}
+use Rattle.gimli_lookup.specs.Section.{KeptUnit}
+use Rattle.gimli_lookup.specs.declared.ranges.CoveredRange.{CoveredRange}
+use Rattle.gimli_lookup.specs.declared.section_lookup.CoveringRows.{CoveringRows}
+use Rattle.gimli_index.specs.Contents.{Contents, entry_start, line_place}
+use Rattle.gimli_index.specs.Found.{Texts, found_place}
+use Rattle.gimli_index.specs.Made.{EntriesAscend}
+use Rattle.gimli_index.specs.Meaning.{Place, Start, place_at}
+use Rattle.gimli_index.specs.declared.contents.Entry.{Entry}
+use Rattle.gimli_index.specs.declared.contents.SourceLine.{SourceLine}
+use Rattle.gimli_index.specs.inside.Table.{Table, AreSources, Entered, IsInside, IsPushed, Keeps, last_said, place_in, starts_in, with_table}
+use Rattle.gimli_index.proofs.OneFound.{one_found}
+use Rattle.gimli_index.proofs.Sources.{get_pushed, inside_stays, place_stays}
+
+-- ---- what entries say of an address
+
+abbrev said_by : ℕ → Option Place → Start → Option Place
+said_by a current s = if nat_le s.address a then s.place else current
+
+at_pushed : (table : Table) (a : ℕ) (entries : List Entry) (e : Entry)
+    → place_at a (starts_in table (entries ++ e ∷ [])) ≡ cond (leb e.address a) (place_in table e.place) (place_at a (starts_in table entries))
+at_pushed table a entries e =
+    ap (place_at a) (map-append (entry_start (with_table table)) entries (e ∷ []))
+    ∙ fold-append (said_by a) None (starts_in table entries) (entry_start (with_table table) e ∷ [])
+
+at_last : (table : Table) (a : ℕ) (e : Entry) (entries : List Entry) (current : Option Place) (z : Entry) → ((k : ℕ) (x : Entry) → slice_get (e ∷ entries) k ≡ Some x → x.address ≤ a)
+    → slice_get (e ∷ entries) (length entries) ≡ Some z → fold (said_by a) current (starts_in table (e ∷ entries)) ≡ place_in table z.place
+at_last table a e [] current z below last =
+    let same : e ≡ z = cc in
+    cond-true (leb e.address a) (place_in table e.place) current (le-leb e.address a (below 0 e refl)) ∙ ap (λ (x : Entry). place_in table x.place) same
+at_last table a e (next ∷ entries) current z below last =
+    at_last table a next entries (cond (leb e.address a) (place_in table e.place) current) z (λ k x there. below (suc k) x there) last
+
+-- where all entries are at or below an address, it is the last one that says
+at_end : (table : Table) (a : ℕ) (entries : List Entry) → ((k : ℕ) (x : Entry) → slice_get entries k ≡ Some x → x.address ≤ a)
+    → place_at a (starts_in table entries) ≡ place_in table (last_said entries)
+at_end table a [] below = refl
+at_end table a (e ∷ entries) below = by_last (slice_get (e ∷ entries) (length entries)) refl
+  where
+    some_last : (x : Entry) (xs : List Entry) → slice_get (x ∷ xs) (length xs) ≡ None → ⊥
+    some_last x [] none = cc
+    some_last x (y ∷ xs) none = some_last y xs none
+
+    by_last : (o : Option Entry) → slice_get (e ∷ entries) (length entries) ≡ o → place_at a (starts_in table (e ∷ entries)) ≡ place_in table (last_said (e ∷ entries))
+    by_last None is = absurd (some_last e entries is)
+    by_last (Some z) is =
+        let back : length (e ∷ entries) - 1 ≡ length entries = omega arith in
+        at_last table a e entries None z below is
+        ∙ ap (λ (o : Option Entry). place_in table (option_and_then (λ (x : Entry). x.place) o)) (sym (ap (slice_get (e ∷ entries)) back ∙ is))
+
+-- ---- entries so far
+
+pub none_entered : (t : Texts) (units : List KeptUnit) (table : Table) → AreSources t units table → Entered t units table [] (Some 0)
+none_entered t units table are = record {
+  are = are;
+  inside = λ k e there. absurd cc;
+  below = λ k e there. absurd cc;
+  ascending = λ i j x y lt first second. absurd cc;
+  says = λ a found before is. absurd (omega (arith, before));
+}
+
+same_starts : (old new : Table) (entries : List Entry) → ((k : ℕ) (e : Entry) → slice_get entries k ≡ Some e → place_in new e.place ≡ place_in old e.place)
+    → starts_in new entries ≡ starts_in old entries
+same_starts old new [] each = refl
+same_starts old new (e ∷ entries) each =
+    ap (λ (p : Option Place). let s : Start = record { address = e.address; place = p } in s ∷ starts_in new entries) (each 0 e refl)
+    ∙ ap (λ (ss : List Start). let s : Start = record { address = e.address; place = place_in old e.place } in s ∷ ss) (same_starts old new entries (λ k x there. each (suc k) x there))
+
+-- the table goes on
+pub still_entered : (t : Texts) (units : List KeptUnit) (old new : Table) (entries : List Entry) (from : Option ℕ) → Entered t units old entries from → Keeps old new → AreSources t units new
+    → Entered t units new entries from
+still_entered t units old new entries from h keeps are = record {
+  are = are;
+  inside = λ k e there. inside_stays old new e.place keeps (h.inside k e there);
+  below = h.below;
+  ascending = h.ascending;
+  says = λ a found before is.
+      ap (place_at a) (same_starts old new entries (λ k e there. place_stays t units old new e.place h.are keeps (h.inside k e there))) ∙ h.says a found before is;
+}
+
+before_end : (a start : ℕ) (end : Option ℕ) → a < start → IfSome end (λ e. start < e) → IsBefore a end
+before_end a start None lt above = tt
+before_end a start (Some e) lt above = omega (arith, lt, above)
+
+start_before : (start : ℕ) (end : Option ℕ) → IfSome end (λ e. start < e) → IsBefore start end
+start_before start None above = tt
+start_before start (Some e) above = above
+
+-- an entry that is pushed for a range
+module _ (t : Texts) (units : List KeptUnit) (table : Table) (entries new : List Entry) (range : CoveredRange) (place : Option SourceLine) (h : Entered t units table entries (Some range.start))
+    (above : IfSome range.end (λ e. range.start < e)) (found : AreFoundIn units range) (inside : IsInside table place) (says : place_in table place ≡ found_place t units range.rows) where
+  abbrev entry : Entry
+  entry = record { address = range.start; place = place }
+
+  -- what is found from the start on
+  from_start : (a : ℕ) (f : Option CoveringRows) → range.start ≤ a → IsBefore a range.end → IsFoundAt units a f → place_in table place ≡ found_place t units f
+  from_start a f le before is = says ∙ ap (found_place t units) (one_found a units range.rows f (found a le before) is)
+
+  appended : Entered t units table (entries ++ entry ∷ []) range.end
+  appended = record {
+    are = h.are;
+    inside = λ k e there. elim (get_pushed entries entry k e there) [
+      | inl earlier ↦ h.inside k e earlier
+      | inr last ↦ subst (λ (x : Entry). IsInside table x.place) last.1 inside
+    ];
+    below = λ k e there. elim (get_pushed entries entry k e there) [
+      | inl earlier ↦ before_end e.address range.start range.end (h.below k e earlier) above
+      | inr last ↦ subst (λ (x : Entry). IsBefore x.address range.end) last.1 (start_before range.start range.end above)
+    ];
+    ascending = λ i j x y lt first second. rises i j x y lt (get_pushed entries entry i x first) (get_pushed entries entry j y second);
+    says = λ a f before is. at_pushed table a entries entry ∙ elim (cases_lt a range.start) [
+      | inl low ↦ cond-false (leb range.start a) (place_in table place) (place_at a (starts_in table entries)) (lt-leb range.start a low) ∙ h.says a f low is
+      | inr high ↦ cond-true (leb range.start a) (place_in table place) (place_at a (starts_in table entries)) (le-leb range.start a high) ∙ from_start a f high before is
+    ];
+  }
+    where
+      rises : (i j : ℕ) (x y : Entry) → i < j → (slice_get entries i ≡ Some x) ⊎ ((i ≡ length entries) × (entry ≡ x)) → (slice_get entries j ≡ Some y) ⊎ ((j ≡ length entries) × (entry ≡ y))
+          → x.address < y.address
+      rises i j x y lt (inl one) (inl other) = h.ascending i j x y lt one other
+      rises i j x y lt (inl one) (inr last) = omega (arith, h.below i x one, ap (λ (e : Entry). e.address) last.1)
+      rises i j x y lt (inr last) (inl other) = absurd (omega (arith, last.0, lt, slice_get_within entries j y other))
+      rises i j x y lt (inr last) (inr also) = absurd (omega (arith, last.0, also.0, lt))
+
+  same_said : place_in table (last_said entries) ≡ place_in table place → Entered t units table entries range.end
+  same_said same = record {
+    are = h.are;
+    inside = h.inside;
+    below = λ k e there. before_end e.address range.start range.end (h.below k e there) above;
+    ascending = h.ascending;
+    says = λ a f before is. elim (cases_lt a range.start) [
+      | inl low ↦ h.says a f low is
+      | inr high ↦ at_end table a entries (λ k e there. let low = h.below k e there in omega (arith, low, high)) ∙ same ∙ from_start a f high before is
+    ];
+  }
+
+  pub pushed : IsPushed table.sources entries new entry → Entered t units table new range.end
+  pushed (inl is) = subst (λ (es : List Entry). Entered t units table es range.end) (sym is) appended
+  pushed (inr is) = subst (λ (es : List Entry). Entered t units table es range.end) (sym is.0) (same_said (is.1 table refl))
+
+-- what is found in a range is found in a unit
+pub unit_within : (units : List KeptUnit) (range : CoveredRange) → IfSome range.end (λ e. range.start < e) → AreFoundIn units range → IfSome range.rows (λ f. f.unit < length units)
+unit_within units range above found = by_rows range.rows (found range.start (omega arith) (start_before range.start range.end above))
+  where
+    by_rows : (rows : Option CoveringRows) → IsFoundAt units range.start rows → IfSome rows (λ f. f.unit < length units)
+    by_rows None none = tt
+    by_rows (Some f) first = slice_get_within units f.unit first.unit first.there

@@ -1,0 +1,31 @@
+use Rattle.std.proofs.Common.{◌≡◌, ◌∙◌, ℕ, List, Option, Some, subst, sym}
+use Rattle.gimli_lookup.specs.Ranges.{AreFoundIn}
+use Rattle.gimli_lookup.specs.Section.{KeptUnit}
+use Rattle.gimli_index.specs.Found.{texts_of}
+use Rattle.gimli_index.specs.declared.contents.Entry.{Entry}
+use Rattle.gimli_index.specs.declared.contents.Source.{Source}
+use Rattle.gimli_index.specs.inside.Table.{Entered, IsPushed}
+use Rattle.gimli_index.proofs.Entered.{still_entered, pushed}
+use Rattle.gimli_index.proofs.made.take_ranges.Goals as goal
+
+pub ranges-2-preserved : goal.ranges-2-preserved
+ranges-2-preserved g c =
+    let t = texts_of g.R.Reader.bytes c.args.origin.now.strings.now c.args.origin.now.compilations.now in
+    let units = c.args.origin.now.lookup.now in
+    let old = c.ranges-2.table in
+    let new = c.place_of.new.self in
+    let before = c.ranges-2.entries.items in
+    let after = c.push.new.entries.items in
+    let range = c.in-Some.range in
+    let said = c.in-Some.ensures in
+    let placed = c.in_ok-place.ensures in
+    let place = c.in_ok-place.place in
+    let entry : Entry = record { address = range.start; place = place } in
+    let so_far : Entered t units old before (Some range.start) = subst (λ (o : Option ℕ). Entered t units old before o) said.start c.ranges-2.invariant.entered in
+    let found : AreFoundIn units range = subst (λ (us : List KeptUnit). AreFoundIn us range) c.ranges-2.invariant.units said.found in
+    let is_pushed : IsPushed new.sources before after entry = subst (λ (ss : List Source). IsPushed ss before after entry) c.sources.ensures c.in_ok-push.ensures in
+    record {
+      units = said.units ∙ c.ranges-2.invariant.units;
+      entered = subst (λ (o : Option ℕ). Entered t units new after o) (sym said.left)
+          (pushed t units new before after range place (still_entered t units old new before (Some range.start) so_far placed.keeps placed.are) said.end found placed.inside placed.place is_pushed);
+    }
