@@ -1,5 +1,6 @@
 -- The entries of an index in the making say what is found at each address so far.
-use Rattle.std.proofs.Common.{◌≡◌, ◌⊎◌, ℕ, zero, suc, ◌+◌, ◌-◌, ◌<◌, ◌≤◌, Bool, true, false, cond, leb, List, [], ◌∷◌, ◌++◌, length, map, Option, None, Some, refl, sym, ap, subst, ◌∙◌, inl, inr, arith}
+use Rattle.std.proofs.Common.{◌≡◌, ◌⊎◌, ℕ, zero, suc, ◌+◌, ◌-◌, ◌<◌, ◌≤◌, Bool, true, false, cond, leb, List, [], ◌∷◌, ◌++◌, length, map, Option, None, Some}
+use Rattle.std.proofs.Common.{refl, sym, ap, subst, ◌∙◌, inl, inr, arith}
 use Rattle.std.specs.Prelude.{IfSome, slice_get, fold, nat_le, if◌then◌else◌}
 use Rattle.std.specs.Option.{option_and_then}
 use Rattle.std.proofs.lemmas.Bool.{cases_lt, cond-true, cond-false, le-leb, lt-leb}
@@ -31,7 +32,8 @@ at_pushed table a entries e =
     ap (place_at a) (map-append (entry_start (with_table table)) entries (e ∷ []))
     ∙ fold-append (said_by a) None (starts_in table entries) (entry_start (with_table table) e ∷ [])
 
-at_last : (table : Table) (a : ℕ) (e : Entry) (entries : List Entry) (current : Option Place) (z : Entry) → ((k : ℕ) (x : Entry) → slice_get (e ∷ entries) k ≡ Some x → x.address ≤ a)
+at_last : (table : Table) (a : ℕ) (e : Entry) (entries : List Entry) (current : Option Place) (z : Entry)
+    → ((k : ℕ) (x : Entry) → slice_get (e ∷ entries) k ≡ Some x → x.address ≤ a)
     → slice_get (e ∷ entries) (length entries) ≡ Some z → fold (said_by a) current (starts_in table (e ∷ entries)) ≡ place_in table z.place
 at_last table a e [] current z below last =
     let same : e ≡ z = cc in
@@ -49,7 +51,8 @@ at_end table a (e ∷ entries) below = by_last (slice_get (e ∷ entries) (lengt
     some_last x [] none = cc
     some_last x (y ∷ xs) none = some_last y xs none
 
-    by_last : (o : Option Entry) → slice_get (e ∷ entries) (length entries) ≡ o → place_at a (starts_in table (e ∷ entries)) ≡ place_in table (last_said (e ∷ entries))
+    by_last : (o : Option Entry) → slice_get (e ∷ entries) (length entries) ≡ o
+        → place_at a (starts_in table (e ∷ entries)) ≡ place_in table (last_said (e ∷ entries))
     by_last None is = absurd (some_last e entries is)
     by_last (Some z) is =
         let back : length (e ∷ entries) - 1 ≡ length entries = omega arith in
@@ -72,10 +75,12 @@ same_starts : (old new : Table) (entries : List Entry) → ((k : ℕ) (e : Entry
 same_starts old new [] each = refl
 same_starts old new (e ∷ entries) each =
     ap (λ (p : Option Place). let s : Start = record { address = e.address; place = p } in s ∷ starts_in new entries) (each 0 e refl)
-    ∙ ap (λ (ss : List Start). let s : Start = record { address = e.address; place = place_in old e.place } in s ∷ ss) (same_starts old new entries (λ k x there. each (suc k) x there))
+    ∙ ap (λ (ss : List Start). let s : Start = record { address = e.address; place = place_in old e.place } in s ∷ ss)
+    (same_starts old new entries (λ k x there. each (suc k) x there))
 
 -- the table goes on
-pub still_entered : (t : Texts) (units : List KeptUnit) (old new : Table) (entries : List Entry) (from : Option ℕ) → Entered t units old entries from → Keeps old new → AreSources t units new
+pub still_entered : (t : Texts) (units : List KeptUnit) (old new : Table) (entries : List Entry) (from : Option ℕ) → Entered t units old entries from
+    → Keeps old new → AreSources t units new
     → Entered t units new entries from
 still_entered t units old new entries from h keeps are = record {
   are = are;
@@ -83,7 +88,8 @@ still_entered t units old new entries from h keeps are = record {
   below = h.below;
   ascending = h.ascending;
   says = λ a found before is.
-      ap (place_at a) (same_starts old new entries (λ k e there. place_stays t units old new e.place h.are keeps (h.inside k e there))) ∙ h.says a found before is;
+      ap (place_at a) (same_starts old new entries (λ k e there. place_stays t units old new e.place h.are keeps (h.inside k e there)))
+      ∙ h.says a found before is;
 }
 
 before_end : (a start : ℕ) (end : Option ℕ) → a < start → IfSome end (λ e. start < e) → IsBefore a end
@@ -95,8 +101,10 @@ start_before start None above = tt
 start_before start (Some e) above = above
 
 -- an entry that is pushed for a range
-module _ (t : Texts) (units : List KeptUnit) (table : Table) (entries new : List Entry) (range : CoveredRange) (place : Option SourceLine) (h : Entered t units table entries (Some range.start))
-    (above : IfSome range.end (λ e. range.start < e)) (found : AreFoundIn units range) (inside : IsInside table place) (says : place_in table place ≡ found_place t units range.rows) where
+module _ (t : Texts) (units : List KeptUnit) (table : Table) (entries new : List Entry) (range : CoveredRange) (place : Option SourceLine)
+    (h : Entered t units table entries (Some range.start))
+    (above : IfSome range.end (λ e. range.start < e)) (found : AreFoundIn units range) (inside : IsInside table place)
+    (says : place_in table place ≡ found_place t units range.rows) where
   abbrev entry : Entry
   entry = record { address = range.start; place = place }
 
@@ -118,11 +126,14 @@ module _ (t : Texts) (units : List KeptUnit) (table : Table) (entries new : List
     ascending = λ i j x y lt first second. rises i j x y lt (get_pushed entries entry i x first) (get_pushed entries entry j y second);
     says = λ a f before is. at_pushed table a entries entry ∙ elim (cases_lt a range.start) [
       | inl low ↦ cond-false (leb range.start a) (place_in table place) (place_at a (starts_in table entries)) (lt-leb range.start a low) ∙ h.says a f low is
-      | inr high ↦ cond-true (leb range.start a) (place_in table place) (place_at a (starts_in table entries)) (le-leb range.start a high) ∙ from_start a f high before is
+      | inr high ↦
+          cond-true (leb range.start a) (place_in table place) (place_at a (starts_in table entries)) (le-leb range.start a high)
+          ∙ from_start a f high before is
     ];
   }
     where
-      rises : (i j : ℕ) (x y : Entry) → i < j → (slice_get entries i ≡ Some x) ⊎ ((i ≡ length entries) × (entry ≡ x)) → (slice_get entries j ≡ Some y) ⊎ ((j ≡ length entries) × (entry ≡ y))
+      rises : (i j : ℕ) (x y : Entry) → i < j → (slice_get entries i ≡ Some x) ⊎ ((i ≡ length entries) × (entry ≡ x))
+          → (slice_get entries j ≡ Some y) ⊎ ((j ≡ length entries) × (entry ≡ y))
           → x.address < y.address
       rises i j x y lt (inl one) (inl other) = h.ascending i j x y lt one other
       rises i j x y lt (inl one) (inr last) = omega (arith, h.below i x one, ap (λ (e : Entry). e.address) last.1)
@@ -146,7 +157,8 @@ module _ (t : Texts) (units : List KeptUnit) (table : Table) (entries new : List
   pushed (inr is) = subst (λ (es : List Entry). Entered t units table es range.end) (sym is.0) (same_said (is.1 table refl))
 
 -- what is found in a range is found in a unit
-pub unit_within : (units : List KeptUnit) (range : CoveredRange) → IfSome range.end (λ e. range.start < e) → AreFoundIn units range → IfSome range.rows (λ f. f.unit < length units)
+pub unit_within : (units : List KeptUnit) (range : CoveredRange) → IfSome range.end (λ e. range.start < e) → AreFoundIn units range
+    → IfSome range.rows (λ f. f.unit < length units)
 unit_within units range above found = by_rows range.rows (found range.start (omega arith) (start_before range.start range.end above))
   where
     by_rows : (rows : Option CoveringRows) → IsFoundAt units range.start rows → IfSome rows (λ f. f.unit < length units)

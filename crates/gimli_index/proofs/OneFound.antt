@@ -12,15 +12,19 @@ use Rattle.gimli_lookup.specs.declared.section_lookup.CoveringRows.{CoveringRows
 use Rattle.gimli_lookup.proofs.OnePair.{one_pair, stands_there}
 
 -- what holds of the sequences of all units holds of those of each
-each_part : (P : List LineRow → Type 0) (units : List KeptUnit) (i : ℕ) (u : KeptUnit) → All P (all_sequences units) → slice_get units i ≡ Some u → All P u.sequences
+each_part : (P : List LineRow → Type 0) (units : List KeptUnit) (i : ℕ) (u : KeptUnit) → All P (all_sequences units) → slice_get units i ≡ Some u
+    → All P u.sequences
 each_part P [] i u all there = absurd cc
 each_part P (w ∷ units) zero u all there =
     let same : w ≡ u = cc in
     subst (λ (v : KeptUnit). All P v.sequences) same
-    (λ k d lt. subst P (get_or_append_left w.sequences (all_sequences units) d k lt) (all k d (omega (arith, lt, length-append w.sequences (all_sequences units)))))
+    (λ k d lt. subst P (get_or_append_left w.sequences (all_sequences units) d k lt)
+    (all k d (omega (arith, lt, length-append w.sequences (all_sequences units)))))
 each_part P (w ∷ units) (suc i) u all there =
     each_part P units i u
-    (λ k d lt. subst P (get_or-append-add w.sequences (all_sequences units) k d) (all (length w.sequences + k) d (omega (arith, lt, length-append w.sequences (all_sequences units))))) there
+    (λ k d lt. subst P (get_or-append-add w.sequences (all_sequences units) k d)
+    (all (length w.sequences + k) d (omega (arith, lt, length-append w.sequences (all_sequences units)))))
+    there
 
 -- sequences with a first pair aren't such that none has a pair
 not_none : (a : ℕ) (s : List (List LineRow)) (x y : LineRow) → IsFirstPair a s x y → All (HasNoPair a) s → ⊥

@@ -1,5 +1,6 @@
 -- The sources of an index in the making: they stay as more are added.
-use Rattle.std.proofs.Common.{◌≡◌, ◌⊎◌, ℕ, zero, suc, ◌+◌, ◌-◌, ◌<◌, ◌≤◌, Bool, true, false, cond, ltb, List, [], ◌∷◌, ◌++◌, length, take, drop, Option, None, Some, Result, Ok, Err, refl, sym, ap, subst, ◌∙◌, inl, inr, arith, length-append}
+use Rattle.std.proofs.Common.{◌≡◌, ◌⊎◌, ℕ, zero, suc, ◌+◌, ◌-◌, ◌<◌, ◌≤◌, Bool, true, false, cond, ltb, List, [], ◌∷◌, ◌++◌, length, take, drop, Option, None}
+use Rattle.std.proofs.Common.{Some, Result, Ok, Err, refl, sym, ap, subst, ◌∙◌, inl, inr, arith, length-append}
 use Rattle.std.specs.Prelude.{map, slice_get, slice_index_or, slice_range, nat_eq}
 use Rattle.std.specs.Option.{option_map}
 use Rattle.std.proofs.lemmas.Bool.{cases_lt, cases_Bool, cond-true, cond-false, lt-ltb, le-ltb, ltb-false}
@@ -36,7 +37,8 @@ pub get_last : {X : Type 0} (xs : List X) (y : X) → slice_get (xs ++ y ∷ [])
 get_last [] y = refl
 get_last (x ∷ xs) y = get_last xs y
 
-pub get_pushed : {X : Type 0} (xs : List X) (y : X) (k : ℕ) (x : X) → slice_get (xs ++ y ∷ []) k ≡ Some x → (slice_get xs k ≡ Some x) ⊎ ((k ≡ length xs) × (y ≡ x))
+pub get_pushed : {X : Type 0} (xs : List X) (y : X) (k : ℕ) (x : X) → slice_get (xs ++ y ∷ []) k ≡ Some x
+    → (slice_get xs k ≡ Some x) ⊎ ((k ≡ length xs) × (y ≡ x))
 get_pushed [] y zero x there = let same : y ≡ x = cc in inr (refl, same)
 get_pushed [] y (suc k) x there = absurd cc
 get_pushed (z ∷ xs) y zero x there = inl there
@@ -49,7 +51,9 @@ get_pushed (z ∷ xs) y (suc k) x there = elim (get_pushed xs y k x there) [
 
 path_fits : (paths : List ℕ) (first size : ℕ) → (path_in paths first size ≡ Err Outside → ⊥) → first + size ≤ length paths
 path_fits paths first size inside = elim (cases_lt (length paths) (first + size)) [
-  | inl short ↦ absurd (inside (cond-true (ltb (length paths) (first + size)) (Err Outside) (Ok (slice_range paths first (first + size))) (lt-ltb (length paths) (first + size) short)))
+  | inl short ↦
+      absurd (inside
+      (cond-true (ltb (length paths) (first + size)) (Err Outside) (Ok (slice_range paths first (first + size))) (lt-ltb (length paths) (first + size) short)))
   | inr fits ↦ fits
 ]
 
@@ -76,7 +80,8 @@ range_before : (xs ys : List ℕ) (first end : ℕ) → end ≤ length xs → sl
 range_before xs ys first end le = elim (cases_lt end first) [
   | inl none ↦
       let zero_is : end - first ≡ 0 = omega arith in
-      ap (λ (n : ℕ). take n (drop first (xs ++ ys))) zero_is ∙ take_none (drop first (xs ++ ys)) ∙ sym (take_none (drop first xs)) ∙ sym (ap (λ (n : ℕ). take n (drop first xs)) zero_is)
+      ap (λ (n : ℕ). take n (drop first (xs ++ ys))) zero_is ∙ take_none (drop first (xs ++ ys)) ∙ sym (take_none (drop first xs))
+      ∙ sym (ap (λ (n : ℕ). take n (drop first xs)) zero_is)
   | inr some ↦ part_before xs ys first (end - first) (omega arith)
 ]
 
@@ -84,7 +89,8 @@ pub append_none : {X : Type 0} (xs : List X) → xs ++ [] ≡ xs
 append_none [] = refl
 append_none {X} (x ∷ xs) = ap (λ (ys : List X). x ∷ ys) (append_none xs)
 
-path_goes_on : (paths more : List ℕ) (first size : ℕ) → (path_in paths first size ≡ Err Outside → ⊥) → path_in (paths ++ more) first size ≡ path_in paths first size
+path_goes_on : (paths more : List ℕ) (first size : ℕ) → (path_in paths first size ≡ Err Outside → ⊥)
+    → path_in (paths ++ more) first size ≡ path_in paths first size
 path_goes_on paths more first size inside =
     let fits = path_fits paths first size inside in
     path_there (paths ++ more) first size (omega (arith, fits, length-append paths more))
@@ -140,11 +146,13 @@ row_of file = record {
   discriminator = 0;
 }
 
-source_inside : (t : Texts) (units : List KeptUnit) (paths : List ℕ) (key : SourceKey) (s : Source) → IsSourceOf t units paths key s → source_path paths s ≡ Err Outside → ⊥
+source_inside : (t : Texts) (units : List KeptUnit) (paths : List ℕ) (key : SourceKey) (s : Source) → IsSourceOf t units paths key s
+    → source_path paths s ≡ Err Outside → ⊥
 source_inside t units paths key s of outside = unit_inside t of.unit.unit (row_of key.file) (sym (of.path (row_of key.file) refl) ∙ outside)
 
 -- a source is the same where the paths go on
-source_stays : (t : Texts) (units : List KeptUnit) (paths more : List ℕ) (key : SourceKey) (s : Source) → IsSourceOf t units paths key s → IsSourceOf t units (paths ++ more) key s
+source_stays : (t : Texts) (units : List KeptUnit) (paths more : List ℕ) (key : SourceKey) (s : Source) → IsSourceOf t units paths key s
+    → IsSourceOf t units (paths ++ more) key s
 source_stays t units paths more key s of = record {
   unit = of.unit;
   there = of.there;
@@ -153,22 +161,27 @@ source_stays t units paths more key s of = record {
 }
 
 -- one more source
-pub one_more : (t : Texts) (units : List KeptUnit) (old : Table) (new : List ℕ) (key : SourceKey) (s : Source) → AreSources t units old → GoesOn old.paths new → IsSourceOf t units new key s
+pub one_more : (t : Texts) (units : List KeptUnit) (old : Table) (new : List ℕ) (key : SourceKey) (s : Source) → AreSources t units old → GoesOn old.paths new
+    → IsSourceOf t units new key s
     → AreSources t units (record { keys = old.keys ++ key ∷ []; sources = old.sources ++ s ∷ []; paths = new })
 one_more t units old new key s are goes_on of = record {
   count = omega (arith, are.count, length-append old.keys (key ∷ []), length-append old.sources (s ∷ []));
   each = each;
 }
   where
-    each : (k : ℕ) (key' : SourceKey) (s' : Source) → slice_get (old.keys ++ key ∷ []) k ≡ Some key' → slice_get (old.sources ++ s ∷ []) k ≡ Some s' → IsSourceOf t units new key' s'
+    each : (k : ℕ) (key' : SourceKey) (s' : Source) → slice_get (old.keys ++ key ∷ []) k ≡ Some key' → slice_get (old.sources ++ s ∷ []) k ≡ Some s'
+        → IsSourceOf t units new key' s'
     each k key' s' there source = at_both (get_pushed old.keys key k key' there) (get_pushed old.sources s k s' source)
       where
-        at_both : (slice_get old.keys k ≡ Some key') ⊎ ((k ≡ length old.keys) × (key ≡ key')) → (slice_get old.sources k ≡ Some s') ⊎ ((k ≡ length old.sources) × (s ≡ s')) → IsSourceOf t units new key' s'
+        at_both : (slice_get old.keys k ≡ Some key') ⊎ ((k ≡ length old.keys) × (key ≡ key'))
+            → (slice_get old.sources k ≡ Some s') ⊎ ((k ≡ length old.sources) × (s ≡ s')) → IsSourceOf t units new key' s'
         at_both (inl before) (inl also) =
-            subst (λ (p : List ℕ). IsSourceOf t units p key' s') (sym goes_on.1) (source_stays t units old.paths goes_on.0 key' s' (are.each k key' s' before also))
+            subst (λ (p : List ℕ). IsSourceOf t units p key' s') (sym goes_on.1)
+            (source_stays t units old.paths goes_on.0 key' s' (are.each k key' s' before also))
         at_both (inl before) (inr last) = absurd (omega (arith, slice_get_within old.keys k key' before, last.0, are.count))
         at_both (inr last) (inl before) = absurd (omega (arith, slice_get_within old.sources k s' before, last.0, are.count))
-        at_both (inr last) (inr also) = subst (λ (q : SourceKey). IsSourceOf t units new q s') last.1 (subst (λ (q : Source). IsSourceOf t units new key q) also.1 of)
+        at_both (inr last) (inr also) =
+            subst (λ (q : SourceKey). IsSourceOf t units new q s') last.1 (subst (λ (q : Source). IsSourceOf t units new key q) also.1 of)
 
 pub keeps_same : (table : Table) → Keeps table table
 keeps_same table = record { sources = ([], sym (append_none table.sources)); paths = ([], sym (append_none table.paths)) }
@@ -176,9 +189,11 @@ keeps_same table = record { sources = ([], sym (append_none table.sources)); pat
 -- ---- places
 
 -- the place of a line of a known source
-pub place_known : (t : Texts) (units : List KeptUnit) (table : Table) (number : ℕ) (line column : ℕ) (key : SourceKey) (u : KeptUnit) (r : LineRow) → AreSources t units table
+pub place_known : (t : Texts) (units : List KeptUnit) (table : Table) (number : ℕ) (line column : ℕ) (key : SourceKey) (u : KeptUnit) (r : LineRow)
+    → AreSources t units table
     → slice_get table.keys number ≡ Some key → slice_get units key.unit ≡ Some u → r.file ≡ key.file → line ≡ r.line → column ≡ r.column
-    → place_in table (let l : SourceLine = record { source = number; line = line; column = column } in Some l) ≡ Some (let p : Place = record { path = unit_path t u.unit r; line = r.line; column = r.column; unit = u.unit.offset } in p)
+    → place_in table (let l : SourceLine = record { source = number; line = line; column = column } in Some l)
+    ≡ Some (let p : Place = record { path = unit_path t u.unit r; line = r.line; column = r.column; unit = u.unit.offset } in p)
 place_known t units table number line column key u r are there unit file lines columns =
     let known = get_inside table.sources number (omega (arith, slice_get_within table.keys number key there, are.count)) in
     let s = known.0 in
@@ -187,19 +202,23 @@ place_known t units table number line column key u r are there unit file lines c
     let same : of.unit ≡ u = cc in
     let l : SourceLine = record { source = number; line = line; column = column } in
     ap (option_map (line_in table.paths l)) known.1
-    ∙ ap (λ (p : Result (List ℕ) NoPath). let q : Place = record { path = p; line = line; column = column; unit = s.unit } in Some q) (of.path r file ∙ ap (λ (v : KeptUnit). unit_path t v.unit r) same)
-    ∙ ap (λ (n : ℕ). let q : Place = record { path = unit_path t u.unit r; line = line; column = column; unit = n } in Some q) (of.offset ∙ ap (λ (v : KeptUnit). v.unit.offset) same)
+    ∙ ap (λ (p : Result (List ℕ) NoPath). let q : Place = record { path = p; line = line; column = column; unit = s.unit } in Some q)
+    (of.path r file ∙ ap (λ (v : KeptUnit). unit_path t v.unit r) same)
+    ∙ ap (λ (n : ℕ). let q : Place = record { path = unit_path t u.unit r; line = line; column = column; unit = n } in Some q)
+    (of.offset ∙ ap (λ (v : KeptUnit). v.unit.offset) same)
     ∙ ap (λ (n : ℕ). let q : Place = record { path = unit_path t u.unit r; line = n; column = column; unit = u.unit.offset } in Some q) lines
     ∙ ap (λ (n : ℕ). let q : Place = record { path = unit_path t u.unit r; line = r.line; column = n; unit = u.unit.offset } in Some q) columns
 
 -- a place stays where a table goes on
-pub place_stays : (t : Texts) (units : List KeptUnit) (old new : Table) (place : Option SourceLine) → AreSources t units old → Keeps old new → IsInside old place → place_in new place ≡ place_in old place
+pub place_stays : (t : Texts) (units : List KeptUnit) (old new : Table) (place : Option SourceLine) → AreSources t units old → Keeps old new
+    → IsInside old place → place_in new place ≡ place_in old place
 place_stays t units old new None are keeps inside = refl
 place_stays t units old new (Some l) are keeps inside =
     let source = get_inside old.sources l.source inside in
     let key = get_inside old.keys l.source (omega (arith, inside, are.count)) in
     let s = source.0 in
-    let there : slice_get new.sources l.source ≡ Some s = ap (λ (ss : List Source). slice_get ss l.source) keeps.sources.1 ∙ get_before old.sources keeps.sources.0 l.source s source.1 in
+    let there : slice_get new.sources l.source ≡ Some s = ap (λ (ss : List Source). slice_get ss l.source) keeps.sources.1
+    ∙ get_before old.sources keeps.sources.0 l.source s source.1 in
     let path : source_path new.paths s ≡ source_path old.paths s =
     ap (λ (ps : List ℕ). source_path ps s) keeps.paths.1
     ∙ source_goes_on old.paths keeps.paths.0 s (source_inside t units old.paths key.0 s (are.each l.source key.0 s key.1 source.1)) in
@@ -209,11 +228,13 @@ place_stays t units old new (Some l) are keeps inside =
 
 pub inside_stays : (old new : Table) (place : Option SourceLine) → Keeps old new → IsInside old place → IsInside new place
 inside_stays old new None keeps inside = inside
-inside_stays old new (Some l) keeps inside = omega (arith, inside, ap (λ (ss : List Source). length ss) keeps.sources.1, length-append old.sources keeps.sources.0)
+inside_stays old new (Some l) keeps inside =
+    omega (arith, inside, ap (λ (ss : List Source). length ss) keeps.sources.1, length-append old.sources keeps.sources.0)
 
 -- ---- one more source, by its parts
 
-pub listed_at : (units : List KeptUnit) (k : ℕ) (d : ListedUnit) (u : KeptUnit) → slice_get units k ≡ Some u → slice_index_or (map (λ (v : KeptUnit). v.unit) units) k d ≡ u.unit
+pub listed_at : (units : List KeptUnit) (k : ℕ) (d : ListedUnit) (u : KeptUnit) → slice_get units k ≡ Some u
+    → slice_index_or (map (λ (v : KeptUnit). v.unit) units) k d ≡ u.unit
 listed_at [] k d u there = absurd cc
 listed_at (v ∷ units) zero d u there = let same : v ≡ u = cc in ap (λ (w : KeptUnit). w.unit) same
 listed_at (v ∷ units) (suc k) d u there = listed_at units k d u there
@@ -223,7 +244,8 @@ same_file : (t : Texts) (u : ListedUnit) (r s : LineRow) → r.file ≡ s.file �
 same_file t u r s same = ap (λ (n : ℕ). unit_path t u (row_of n)) same
 
 -- the source of a row's file in the unit at an index
-pub source_made : (t : Texts) (units : List KeptUnit) (paths : List ℕ) (k file : ℕ) (s : Source) (listed : ListedUnit) (r : LineRow) (d : ListedUnit) → k < length units
+pub source_made : (t : Texts) (units : List KeptUnit) (paths : List ℕ) (k file : ℕ) (s : Source) (listed : ListedUnit) (r : LineRow) (d : ListedUnit)
+    → k < length units
     → listed ≡ slice_index_or (map (λ (v : KeptUnit). v.unit) units) k d → file ≡ r.file → s.unit ≡ listed.offset → source_path paths s ≡ unit_path t listed r
     → IsSourceOf t units paths (record { unit = k; file = file }) s
 source_made t units paths k file s listed r d lt is file_is offset path =
@@ -238,7 +260,8 @@ source_made t units paths k file s listed r d lt is file_is offset path =
     }
 
 module _ (old : Table) (keys new_keys : List SourceKey) (sources new_sources : List Source) (paths new_paths : List ℕ) (key : SourceKey) (s : Source)
-    (is : (let o : Table = record { keys = keys; sources = sources; paths = paths } in o) ≡ old) (keys_are : new_keys ≡ keys ++ key ∷ []) (sources_are : new_sources ≡ sources ++ s ∷ []) (goes_on : GoesOn paths new_paths) where
+    (is : (let o : Table = record { keys = keys; sources = sources; paths = paths } in o) ≡ old) (keys_are : new_keys ≡ keys ++ key ∷ [])
+    (sources_are : new_sources ≡ sources ++ s ∷ []) (goes_on : GoesOn paths new_paths) where
   pub added_are : (t : Texts) (units : List KeptUnit) → AreSources t units old → IsSourceOf t units new_paths key s
       → AreSources t units (record { keys = new_keys; sources = new_sources; paths = new_paths })
   added_are t units are of =

@@ -39,8 +39,10 @@ index_appended given old new appended rest =
     subst (λ (bs : List ℕ). IsIndexOf given (bs ++ rest)) (sym left) (index_of given appended.contents rest appended.are)
 
 -- contents of all entries say what is found at each address
-pub contents_say : (t : Texts) (units : List KeptUnit) (table : Table) (entries es : List Entry) (sources : List Source) (paths : List ℕ) → Entered t units table entries None
-    → sources ≡ table.sources → es ≡ entries → paths ≡ table.paths → SayWhatIsFound t units (starts_in (record { keys = []; sources = sources; paths = paths }) es)
+pub contents_say : (t : Texts) (units : List KeptUnit) (table : Table) (entries es : List Entry) (sources : List Source) (paths : List ℕ)
+    → Entered t units table entries None
+    → sources ≡ table.sources → es ≡ entries → paths ≡ table.paths
+    → SayWhatIsFound t units (starts_in (record { keys = []; sources = sources; paths = paths }) es)
 contents_say t units table entries es sources paths h sources_are entries_are paths_are a found is =
     ap (λ (ss : List Source). place_at a (starts_in (record { keys = []; sources = ss; paths = paths }) es)) sources_are
     ∙ ap (λ (ps : List ℕ). place_at a (starts_in (record { keys = []; sources = table.sources; paths = ps }) es)) paths_are

@@ -1,5 +1,6 @@
 -- What a lookup finds at an address, as an index says it.
-use Rattle.std.specs.Prelude.{◌≡◌, ◌≤◌, ◌^◌, ◌++◌, ℕ, List, length, drop, map, slice_get, Option, None, Some, Result, Ok, Err}
+use Rattle.std.specs.Prelude.{◌≡◌, ◌≤◌, ◌^◌, ◌++◌, ℕ, List, length, drop, map, slice_get, Option}
+use Rattle.std.specs.Prelude.{None, Some, Result, Ok, Err}
 use Rattle.std.specs.Option.{option_map, option_map_or}
 use Rattle.gimli_compilation.specs.Directories.{directory_for}
 use Rattle.gimli_index.specs.Contents.{Contents, Fits, entry_start, index_bytes}
@@ -15,7 +16,16 @@ use Rattle.gimli_lookup.specs.Ranges.{IsFoundAt}
 use Rattle.gimli_lookup.specs.Section.{KeptHeader, KeptUnit, ListedUnit}
 use Rattle.gimli_lookup.specs.Strings.{Strings, strings}
 use Rattle.gimli_lookup.specs.declared.path_error.PathError.{PathError}
-use Rattle.gimli_lookup.specs.declared.path_error.PathError.TheVariants.{UnsupportedStringIndex, UnsupportedSupplementaryString, StringOffsetOutOfBounds, UnterminatedString, ExpectedStringAttributeValue, InvalidDirectoryIndex, InvalidFileIndex, OutOfMemory}
+use Rattle.gimli_lookup.specs.declared.path_error.PathError.TheVariants.{
+  UnsupportedStringIndex,
+  UnsupportedSupplementaryString,
+  StringOffsetOutOfBounds,
+  UnterminatedString,
+  ExpectedStringAttributeValue,
+  InvalidDirectoryIndex,
+  InvalidFileIndex,
+  OutOfMemory,
+}
 use Rattle.gimli_lookup.specs.declared.section_lookup.CoveringRows.{CoveringRows}
 use Rattle.gimli_lookup.specs.declared.string_sections.StringSections.{StringSections}
 
@@ -38,7 +48,8 @@ texts_of bytes sections compilations = record {
 abbrev pub unit_paths : Texts → ℕ → Header → Paths
 unit_paths t offset h = record { sections = t.strings; header = h; comp_dir = t.directory offset }
 
--- the number of the reason why a path can't be told (docs/INDEX.md, "Sources"). Missing memory is none: then nothing is made
+-- the number of the reason why a path can't be told (docs/INDEX.md, "Sources"). Missing memory is
+-- none: then nothing is made
 abbrev pub reason_of : PathError → ℕ
 reason_of UnsupportedStringIndex = 1
 reason_of UnsupportedSupplementaryString = 2
@@ -56,7 +67,9 @@ path_said (Err e) = Err (Reason (reason_of e))
 
 -- the path of a row's file; the reason 8 where the header of the unit isn't known
 abbrev pub path_by : Texts → ℕ → Option KeptHeader → LineRow → Result (List ℕ) NoPath
-path_by t offset header r = option_map_or (λ (h : KeptHeader). path_said (row_path (unit_paths t offset h.meaning) r)) header (Err (Reason 8))
+path_by t offset header r =
+    option_map_or (λ (h : KeptHeader). path_said (row_path (unit_paths t offset h.meaning) r))
+    header (Err (Reason 8))
 
 abbrev pub unit_path : Texts → ListedUnit → LineRow → Result (List ℕ) NoPath
 unit_path t u r = path_by t u.offset u.header r
@@ -64,16 +77,24 @@ unit_path t u r = path_by t u.offset u.header r
 -- ---- places
 
 abbrev pub row_place : Texts → ListedUnit → LineRow → Place
-row_place t u r = record { path = unit_path t u r; line = r.line; column = r.column; unit = u.offset }
+row_place t u r = record {
+  path = unit_path t u r;
+  line = r.line;
+  column = r.column;
+  unit = u.offset;
+}
 
 -- the place of what is found in units
 abbrev pub found_place : Texts → List KeptUnit → Option CoveringRows → Option Place
 found_place t units None = None
-found_place t units (Some f) = option_map (λ (u : KeptUnit). row_place t u.unit f.row) (slice_get units f.unit)
+found_place t units (Some f) =
+    option_map (λ (u : KeptUnit). row_place t u.unit f.row) (slice_get units f.unit)
 
 -- what starts say of each address is what is found there
 abbrev pub SayWhatIsFound : Texts → List KeptUnit → List Start → Type 0
-SayWhatIsFound t units starts = (a : ℕ) (found : Option CoveringRows) → IsFoundAt units a found → place_at a starts ≡ found_place t units found
+SayWhatIsFound t units starts =
+    (a : ℕ) (found : Option CoveringRows) → IsFoundAt units a found
+    → place_at a starts ≡ found_place t units found
 
 -- ---- the index of a lookup
 

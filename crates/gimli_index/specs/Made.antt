@@ -10,7 +10,10 @@ use Rattle.gimli_index.specs.declared.contents.Contents.{Contents as Made}
 use Rattle.gimli_index.specs.declared.contents.Entry.{Entry}
 use Rattle.gimli_index.specs.declared.error.IndexError.{IndexError}
 use Rattle.gimli_index.specs.declared.error.MakeError.{MakeError}
-use Rattle.gimli_index.specs.declared.error.MakeError.TheVariants.{NotAscending, TooManyEntries, TooManySources, PathsTooLarge, IdentityTooLarge, LineTooLarge, ColumnTooLarge, OutOfMemory}
+use Rattle.gimli_index.specs.declared.error.MakeError.TheVariants.{NotAscending, TooManyEntries}
+use Rattle.gimli_index.specs.declared.error.MakeError.TheVariants.{TooManySources, PathsTooLarge}
+use Rattle.gimli_index.specs.declared.error.MakeError.TheVariants.{IdentityTooLarge, LineTooLarge}
+use Rattle.gimli_index.specs.declared.error.MakeError.TheVariants.{ColumnTooLarge, OutOfMemory}
 use Rattle.gimli_index.specs.declared.header.StartSize.{StartSize}
 use Rattle.gimli_index.specs.declared.header.StartSize.TheVariants.{Four, Eight}
 

@@ -10,7 +10,13 @@ pub returns-clause-bytes : goal.returns-clause-bytes
 returns-clause-bytes g c =
     let t = texts_of g.R.Reader.bytes c.args.strings.now c.args.compilations.now in
     let given : Given = record { texts = t; units = c.args.lookup.now; size = c.args.address_size; name = c.args.identity.now } in
-    let parts : Parts = record { address_size = c.args.address_size; sources = c.sources.result; entries = c.as_slice.result; paths = c.paths.result; identity = c.args.identity } in
+    let parts : Parts = record {
+      address_size = c.args.address_size;
+      sources = c.sources.result;
+      entries = c.as_slice.result;
+      paths = c.paths.result;
+      identity = c.args.identity;
+    } in
     let contents = contents_of parts in
     let old = c.args.out.now.items in
     let new = c.write.new.out.items in
@@ -22,7 +28,9 @@ returns-clause-bytes g c =
       are = record {
         fits = fits;
         ascending = ascending;
-        says = contents_say t c.args.lookup.now c.entries_of.new.table c.in_ok-entries.entries.items contents.entries contents.sources contents.paths c.in_ok-entries.ensures
+        says =
+            contents_say t c.args.lookup.now c.entries_of.new.table c.in_ok-entries.entries.items contents.entries contents.sources contents.paths
+            c.in_ok-entries.ensures
             c.sources.ensures c.as_slice.ensures.value c.paths.ensures;
         address_size = refl;
         identity = refl;
@@ -36,5 +44,6 @@ returns-clause-index g c =
     let old = c.args.out.now.items in
     let new = c.write.new.out.items in
     let appended = returns-clause-bytes g c in
-    with_ok c.write.result (IsAppended given old new) (IsAppended given old new) (IsAppended given old new) (IsIndexAppended given old new) appended appended appended
+    with_ok c.write.result (IsAppended given old new) (IsAppended given old new) (IsAppended given old new) (IsIndexAppended given old new) appended appended
+    appended
     (λ a b d. index_appended given old new a)

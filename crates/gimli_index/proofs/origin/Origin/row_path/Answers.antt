@@ -37,7 +37,9 @@ returns-clause-ok g c =
     let sections = strings g.R.Reader.bytes c.args.self.now.strings.now in
     let some : directory (number c.args.header.now.offset.0) ≡ Some c.in-Some.directory =
     ap (λ o. directory (number o.0)) (sym c.offset.ensures) ∙ ap directory (sym c.into_u64-offset.ensures) ∙ sym c.directory_of.ensures ∙ c.in-Some.is in
-    let handed = ap (λ (xs : List ℕ). let q : Paths = record { sections = sections; header = c.args.header.now.meaning; comp_dir = Some xs } in q) (c.deref.ensures.value ∙ c.in-Ok.ensures.ok) in
+    let handed =
+    ap (λ (xs : List ℕ). let q : Paths = record { sections = sections; header = c.args.header.now.meaning; comp_dir = Some xs } in q)
+    (c.deref.ensures.value ∙ c.in-Ok.ensures.ok) in
     let same = c.new-2.ensures ∙ handed ∙ sym (ap (paths_by g.R.Reader.bytes sections c.args.header.now.meaning) some) in
     rw same at c.of_row-2.ensures.ok
 
@@ -48,6 +50,8 @@ returns-clause-err g c =
     let sections = strings g.R.Reader.bytes c.args.self.now.strings.now in
     let some : directory (number c.args.header.now.offset.0) ≡ Some c.in-Some.directory =
     ap (λ o. directory (number o.0)) (sym c.offset.ensures) ∙ ap directory (sym c.into_u64-offset.ensures) ∙ sym c.directory_of.ensures ∙ c.in-Some.is in
-    let handed = ap (λ (xs : List ℕ). let q : Paths = record { sections = sections; header = c.args.header.now.meaning; comp_dir = Some xs } in q) (c.deref.ensures.value ∙ c.in-Ok.ensures.ok) in
+    let handed =
+    ap (λ (xs : List ℕ). let q : Paths = record { sections = sections; header = c.args.header.now.meaning; comp_dir = Some xs } in q)
+    (c.deref.ensures.value ∙ c.in-Ok.ensures.ok) in
     let same = c.new-2.ensures ∙ handed ∙ sym (ap (paths_by g.R.Reader.bytes sections c.args.header.now.meaning) some) in
     rw same at c.of_row-2.ensures.err

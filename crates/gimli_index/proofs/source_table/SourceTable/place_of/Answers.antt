@@ -14,6 +14,7 @@ returns-clause-place g c =
     let rows = c.in-Some.rows in
     let within : rows.unit < length units = subst (λ (o : Option CoveringRows). IfSome o (λ f. f.unit < length units)) c.in-Some.is c.requires.unit in
     let known = get_inside units rows.unit within in
-    place_known t units c.source_of.new.self c.in_ok-source.source c.in_ok-line.line c.in_ok-column.column (record { unit = rows.unit; file = rows.row.file }) known.0 rows.row
+    place_known t units c.source_of.new.self c.in_ok-source.source c.in_ok-line.line c.in_ok-column.column (record { unit = rows.unit; file = rows.row.file })
+    known.0 rows.row
     c.in_ok-source.ensures.are c.in_ok-source.ensures.number known.1 refl c.in_ok-line.ensures c.in_ok-column.ensures
     ∙ sym (ap (found_place t units) c.in-Some.is ∙ ap (option_map (λ (u : KeptUnit). row_place t u.unit rows.row)) known.1)
