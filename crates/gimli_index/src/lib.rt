@@ -14,8 +14,10 @@ pub mod laws;
 mod line_index;
 mod number;
 mod place;
+mod span;
 
 pub use contents::{Contents, Entry, Source, SourceLine};
 pub use error::{IndexError, MakeError};
 pub use line_index::LineIndex;
 pub use place::{NoPath, Place, Start};
+pub use span::{PlaceSpan, Span};
