@@ -22,12 +22,12 @@ pub data HasEncodingFault (e : GimliEncoding) (status : ℕ) : Type 0 where
 
 -- all bytes of a text stand among these
 abbrev pub StandsAmong : List ℕ → GimliName → Type 0
-StandsAmong texts name = name.place + name.size ≤ length texts
+StandsAmong texts name = name.first + name.size ≤ length texts
 
 -- why a text is refused: it doesn't stand among the bytes; or it does, and has a zero byte, which would end it, or is empty,
 -- which would end a table up to version 4
 pub data HasTextFault (version : ℕ) (texts : List ℕ) (name : GimliName) (status : ℕ) : Type 0 where
-  out_of_bounds : status ≡ TEXT_OUT_OF_BOUNDS → length texts < name.place + name.size → HasTextFault version texts name status
+  out_of_bounds : status ≡ TEXT_OUT_OF_BOUNDS → length texts < name.first + name.size → HasTextFault version texts name status
   zero_byte : status ≡ ZERO_IN_TEXT → StandsAmong texts name → Any (λ b. b ≡ 0) (text_handed texts name) → HasTextFault version texts name status
   empty_text : status ≡ EMPTY_TEXT → StandsAmong texts name → version ≤ 4 → name.size ≡ 0 → HasTextFault version texts name status
 

@@ -1,5 +1,5 @@
 -- What an index keeps, and what it answers.
-use Rattle.std.specs.Prelude.{◌≡◌, ◌^◌, ◌⊎◌, ℕ, Bool, true, List, length, map, take, All, Some, None, Ok, Err, nat_eq, slice_get}
+use Rattle.std.specs.Prelude.{◌≡◌, ◌^◌, ◌⊎◌, ℕ, Bool, true, List, length, map, All, Some, None, Ok, Err, nat_eq, slice_get}
 use Rattle.std.specs.List.{AllZip}
 use Rattle.gimli_core.specs.Notation.{notation_of}
 use Rattle.gimli_core.specs.Numbers.{is_address_size}
@@ -22,11 +22,13 @@ use Rattle.gimli_c.specs.declared.index.find.GimliPlace.{GimliPlace}
 use Rattle.gimli_c.specs.declared.index.units.GimliIndexUnit.{GimliIndexUnit}
 use Rattle.gimli_c.specs.declared.index.kept.SectionIndex.{SectionIndex}
 use Rattle.gimli_c.specs.declared.row.GimliRow.{GimliRow}
-use Rattle.gimli_c.specs.declared.status.TheConstants.{NOT_FOUND, UNKNOWN_PATH}
+use Rattle.gimli_c.specs.declared.status.TheConstants.{NO_SUCH_FILE, NO_SUCH_UNIT, UNKNOWN_PATH}
+use Rattle.gimli_c.specs.declared.unit.GimliUnit.{GimliUnit}
 use Rattle.gimli_c.specs.FileSeen.{GivesDirectory, GivesFile, GivesNoDirectory, GivesNoFile, HasFiles}
 use Rattle.gimli_c.specs.Location.{Location, location, HasNoUnit}
 use Rattle.gimli_c.specs.Seen.{row_seen}
 use Rattle.gimli_c.specs.Status.{fault_status}
+use Rattle.gimli_c.specs.Unit.{GivesUnit}
 use Rattle.gimli_c.specs.Written.{slots_with}
 
 -- ---- what an index is made of
@@ -83,24 +85,24 @@ pub record GivesPlace (units : List KeptUnit) (address : ℕ) (seen : GimliPlace
   pub x : LineRow
   pub y : LineRow
   pub is_first : IsFirstPairOfUnit address units seen.unit x y
+  pub address_is : seen.address ≡ address
   pub row_is : seen.row ≡ row_seen x
   pub end_is : seen.end ≡ y.address
 
--- what stands in place of a row, and of a place, where there is none: all numbers are 0
+-- what stands in place of a row, and of the place of an address, where there is none: all other numbers are 0
 abbrev pub no_row : GimliRow
 no_row = record { address = 0; op_index = 0; file = 0; line = 0; column = 0; isa = 0; discriminator = 0; flags = 0 }
 
-abbrev pub no_place : GimliPlace
-no_place = record { row = no_row; end = 0; unit = 0 }
+abbrev pub no_place : ℕ → GimliPlace
+no_place address = record { address = address; row = no_row; end = 0; unit = 0 }
 
 -- the answer to an address: its place, which ends above it, or where no row covers it the one of zeros
 abbrev pub IsAnswer : List KeptUnit → ℕ → GimliPlace → Type 0
-IsAnswer units address seen = GivesPlace units address seen ⊎ ((seen ≡ no_place) × All (HasNoPair address) (all_sequences units))
+IsAnswer units address seen = GivesPlace units address seen ⊎ ((seen ≡ no_place address) × All (HasNoPair address) (all_sequences units))
 
--- the answers to the addresses, one for each as far as there is room, in an array of the caller that held others
-abbrev pub WritesAnswers : SectionIndex → List ℕ → List GimliPlace → List GimliPlace → Type 0
-WritesAnswers i addresses old new =
-    (answers : List GimliPlace) × AllZip (IsAnswer i.units) (take (length old) addresses) answers × (new ≡ slots_with answers old)
+-- each place of an array of the caller has the answer to the address that it had
+abbrev pub WritesAnswers : SectionIndex → List GimliPlace → List GimliPlace → Type 0
+WritesAnswers i old new = AllZip (λ asked seen. IsAnswer i.units asked.address seen) old new
 
 -- where the unit of an index stands
 abbrev pub unit_location : SectionIndex → KeptUnit → Location
@@ -145,13 +147,13 @@ pub record CantTellPath (i : SectionIndex) (unit file : ℕ) (comp_dir : List �
 abbrev pub IsUnit : SectionIndex → ℕ → KeptUnit → Type 0
 IsUnit i unit kept = slice_get i.units unit ≡ Some kept
 
--- the index has no such unit, or the unit no such file
+-- the unit has no such file
 abbrev pub HasNoFile : SectionIndex → ℕ → ℕ → Type 0
-HasNoFile i unit file = (slice_get i.units unit ≡ None) ⊎ ((kept : KeptUnit) × IsUnit i unit kept × GivesNoFile (unit_location i kept) file)
+HasNoFile i unit file = (kept : KeptUnit) × IsUnit i unit kept × GivesNoFile (unit_location i kept) file
 
--- the index has no such unit, or the unit no such directory
+-- the unit has no such directory
 abbrev pub HasNoDirectory : SectionIndex → ℕ → ℕ → Type 0
-HasNoDirectory i unit directory = (slice_get i.units unit ≡ None) ⊎ ((kept : KeptUnit) × IsUnit i unit kept × GivesNoDirectory (unit_location i kept) directory)
+HasNoDirectory i unit directory = (kept : KeptUnit) × IsUnit i unit kept × GivesNoDirectory (unit_location i kept) directory
 
 -- the file of an index of a unit, and the bytes of its path and directory where they stand in the section itself
 pub record GivesFileOf (i : SectionIndex) (unit file : ℕ) (seen : GimliFile) (path_old path_new directory_old directory_new : List ℕ) : Type 0 where
@@ -171,11 +173,19 @@ pub record UnitRefused (i : SectionIndex) (unit status : ℕ) : Type 0 where
   pub is_unit : IsUnit i unit kept
   pub refused : HasNoUnit (unit_location i kept) status
 
--- why the path of a file isn't answered, memory aside: there is no such file, its path can't be told, or the unit can't be read
+-- why the path of a file isn't answered, memory aside: there is no such unit, or no such file in it, its path can't be told, or the
+-- unit can't be read
 abbrev pub HasNoPath : SectionIndex → ℕ → ℕ → List ℕ → ℕ → Type 0
 HasNoPath i unit file comp_dir status =
-    ((status ≡ NOT_FOUND) × HasNoFile i unit file)
-    ⊎ (((status ≡ UNKNOWN_PATH) × CantTellPath i unit file comp_dir) ⊎ UnitRefused i unit status)
+    ((status ≡ NO_SUCH_UNIT) × (slice_get i.units unit ≡ None))
+    ⊎ (((status ≡ NO_SUCH_FILE) × HasNoFile i unit file)
+    ⊎ (((status ≡ UNKNOWN_PATH) × CantTellPath i unit file comp_dir) ⊎ UnitRefused i unit status))
+
+-- what is read of a unit
+pub record GivesUnitIn (i : SectionIndex) (unit : ℕ) (seen : GimliUnit) : Type 0 where
+  pub kept : KeptUnit
+  pub is_unit : IsUnit i unit kept
+  pub gives : GivesUnit (unit_location i kept) seen
 
 -- where a unit stands, and the number of what is wrong with it
 pub record GivesIndexUnit (i : SectionIndex) (unit : ℕ) (seen : GimliIndexUnit) : Type 0 where
@@ -200,9 +210,9 @@ abbrev pub WritesAddresses : SectionIndex → ℕ → ℕ → ℕ → ℕ → Li
 WritesAddresses i unit file asked line old new count =
     (addresses : List ℕ) × GivesAddresses i unit file asked line addresses × (new ≡ slots_with addresses old) × (count ≡ length addresses)
 
--- the index has no such unit, or no line from the asked one on has an address
+-- no line of the unit from the asked one on has an address
 abbrev pub HasNoAddress : SectionIndex → ℕ → ℕ → ℕ → Type 0
-HasNoAddress i unit file asked = (slice_get i.units unit ≡ None) ⊎ ((kept : KeptUnit) × IsUnit i unit kept × HasNoLine (addresses_in kept file) asked)
+HasNoAddress i unit file asked = (kept : KeptUnit) × IsUnit i unit kept × HasNoLine (addresses_in kept file) asked
 
 -- ---- by a path
 

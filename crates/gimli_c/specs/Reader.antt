@@ -7,7 +7,7 @@ use Rattle.gimli_lookup.specs.Section.{KeptUnit}
 use Rattle.gimli_c.specs.declared.index.kept.SectionIndex.{SectionIndex}
 use Rattle.gimli_c.specs.declared.row.GimliRow.{GimliRow}
 use Rattle.gimli_c.specs.declared.row_reader.kept.UnitRows.{UnitRows}
-use Rattle.gimli_c.specs.declared.status.TheConstants.{OK, NOT_FOUND}
+use Rattle.gimli_c.specs.declared.status.TheConstants.{OK, NO_SUCH_UNIT}
 use Rattle.gimli_c.specs.Indexed.{unit_location, IsUnit, UnitRefused}
 use Rattle.gimli_c.specs.Location.{Location}
 use Rattle.gimli_c.specs.Run.{rows_of, fault_of, HasEvents}
@@ -48,4 +48,4 @@ pub record IsAtFirstRowOfUnit (i : SectionIndex) (unit : ℕ) (r : UnitRows) : T
 
 -- why the rows of a unit aren't answered, memory aside: there is no such unit, or it can't be read
 abbrev pub HasNoRows : SectionIndex → ℕ → ℕ → Type 0
-HasNoRows i unit status = ((status ≡ NOT_FOUND) × (slice_get i.units unit ≡ None)) ⊎ UnitRefused i unit status
+HasNoRows i unit status = ((status ≡ NO_SUCH_UNIT) × (slice_get i.units unit ≡ None)) ⊎ UnitRefused i unit status

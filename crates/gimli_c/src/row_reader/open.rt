@@ -126,7 +126,7 @@ fn rows_in(alloc: Global, index: &SectionIndex, unit: u64) -> Result<Box<UnitRow
 }
 
 /// Does what `gimli_line_rows_open` does for a unit of an index, by its copy of the section: all rows of the unit come, those of
-/// sequences that the index leaves out too. `NOT_FOUND` where there is no such unit, and `CLOSED` where the handle of the index is.
+/// sequences that the index leaves out too. `NO_SUCH_UNIT` where there is no such unit, and `CLOSED` where the handle of the index is.
 /// Where another number than 0 is returned, the handle of the reader has what it had.
 #[unsafe(no_mangle)]
 pub extern "C" fn gimli_line_index_rows_open(

@@ -26,4 +26,4 @@ returns-in-None-clause-err c =
     ap (λ (k : ℕ). slice_index_or units k there.kept) ok.0 ∙ there.at there.kept in
     let are = subst (λ (u : KeptUnit). AreAddressesFrom (addresses_of (nat_eq c.args.file) u.sequences) c.args.line c.in-Ok.found) kept (c.in-Ok.ensures.ok there.kept) in
     let none = subst (λ (o : Option Addresses). AreAddressesFrom (addresses_of (nat_eq c.args.file) there.kept.sequences) c.args.line o) c.in-None.is are in
-    inr (refl, inr (there.kept, there.there, none))
+    inr (inr (refl, (there.kept, there.there, none)))
