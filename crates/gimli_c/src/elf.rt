@@ -46,8 +46,8 @@ fn lowest_in(elf: &Elf<'_>) -> u64
     }
 }
 
-/// Tells what an ELF file says of itself. `NO_ELF` where the bytes are none that can be read; then nothing is written. Takes no
-/// memory.
+/// Tells what an ELF file says of itself. `NO_ELF` where the bytes are none that can be read; then
+/// nothing is written. Takes no memory.
 #[unsafe(no_mangle)]
 pub extern "C" fn gimli_elf_open(file: &[u8], found: &mut GimliElf) -> u32
     ensures found { result ≡ OK → SeesElf file.now found.new }
@@ -79,9 +79,10 @@ fn section_status(error: ElfError) -> u32
     }
 }
 
-/// Puts what the first section of a name of an ELF file holds into `bytes`, as far as there is room: made whole where it is
-/// compressed, and relocated where it is an object file, whose sections all stand at 0. `size` is how many bytes there are.
-/// `NO_SECTION` where there is none, `BAD_SECTION` where it can't be read, and `NO_ELF` where the file is none. Where another number
+/// Puts what the first section of a name of an ELF file holds into `bytes`, as far as there is
+/// room: made whole where it is compressed, and relocated where it is an object file, whose
+/// sections all stand at 0. `size` is how many bytes there are. `NO_SECTION` where there is none,
+/// `BAD_SECTION` where it can't be read, and `NO_ELF` where the file is none. Where another number
 /// than 0 is returned, nothing is written.
 #[unsafe(no_mangle)]
 pub extern "C" fn gimli_elf_section(

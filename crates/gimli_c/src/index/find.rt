@@ -60,10 +60,11 @@ fn place_in(index: &SectionIndex, address: u64) -> Option<GimliPlace>
     })
 }
 
-/// Looks an address up in all units. `place` is the row that it belongs to, the address up to which that holds, and its unit:
-/// the first two adjacent rows of one sequence of which the first has an address at most the one that is looked up, and the
-/// second one above it, in the order of the units and of their sequences. `NO_ROW` where there are none, and `CLOSED` where
-/// the handle is. Where another number than 0 is returned, `place` stays as it was. Takes no memory.
+/// Looks an address up in all units. `place` is the row that it belongs to, the address up to which
+/// that holds, and its unit: the first two adjacent rows of one sequence of which the first has an
+/// address at most the one that is looked up, and the second one above it, in the order of the
+/// units and of their sequences. `NO_ROW` where there are none, and `CLOSED` where the handle is.
+/// Where another number than 0 is returned, `place` stays as it was. Takes no memory.
 #[unsafe(no_mangle)]
 pub extern "C" fn gimli_line_index_find(
     alloc: Global,
@@ -113,9 +114,10 @@ fn answer_all(index: &SectionIndex, places: &mut [GimliPlace])
     }
 }
 
-/// Looks many addresses up, each as `gimli_line_index_find` does: that of `places[0]` and so on. Where no row covers an address, all
-/// other numbers of its place are 0; else the `end` of a place is above the address, and so isn't 0. `CLOSED` where the handle is; then
-/// `places` stays as it was. Takes no memory.
+/// Looks many addresses up, each as `gimli_line_index_find` does: that of `places[0]` and so on.
+/// Where no row covers an address, all other numbers of its place are 0; else the `end` of a place
+/// is above the address, and so isn't 0. `CLOSED` where the handle is; then `places` stays as it
+/// was. Takes no memory.
 #[unsafe(no_mangle)]
 pub extern "C" fn gimli_line_index_find_all(
     alloc: Global,

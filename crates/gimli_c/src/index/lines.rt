@@ -70,10 +70,11 @@ fn addresses_in(
     }
 }
 
-/// Tells the addresses for a breakpoint at a line of a path, over all units: as `gimli_line_index_addresses` does, of the files that
-/// have this whole path, without the directory of the compilation where the unit doesn't have it, as up to version 4. The headers
-/// of all units are read and their programs are run for each call. `NO_CODE` where no line from it on has any; `CLOSED` where the
-/// handle is. Where another number than 0 is returned, nothing is written.
+/// Tells the addresses for a breakpoint at a line of a path, over all units: as
+/// `gimli_line_index_addresses` does, of the files that have this whole path, without the directory
+/// of the compilation where the unit doesn't have it, as up to version 4. The headers of all units
+/// are read and their programs are run for each call. `NO_CODE` where no line from it on has any;
+/// `CLOSED` where the handle is. Where another number than 0 is returned, nothing is written.
 #[unsafe(no_mangle)]
 pub extern "C" fn gimli_line_index_addresses_of(
     alloc: Global,

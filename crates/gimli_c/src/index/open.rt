@@ -97,12 +97,14 @@ fn index_of(
     }
 }
 
-/// Makes an index over all units of the section `.debug_line`, and puts it behind the handle; an index that stood there is
-/// closed. `line_strings` and `strings` are the sections `.debug_line_str` and `.debug_str`, or no bytes. The index has copies of
-/// all three. A unit that can't be read has no rows; of one whose run has a fault it has the sequences
-/// before that. Rows below the address `lowest` are left out; 0 leaves none out. `UNKNOWN_OPTIONS` where the options have another
-/// size. Where another number than 0 is returned, that, `OUT_OF_MEMORY` or `UNSUPPORTED_ADDRESS_SIZE`, the handle has the index that
-/// it had. For `address_size` and the order see `gimli_line_unit`.
+/// Makes an index over all units of the section `.debug_line`, and puts it behind the handle; an
+/// index that stood there is closed. `line_strings` and `strings` are the sections
+/// `.debug_line_str` and `.debug_str`, or no bytes. The index has copies of all three. A unit that
+/// can't be read has no rows; of one whose run has a fault it has the sequences before that. Rows
+/// below the address `lowest` are left out; 0 leaves none out. `UNKNOWN_OPTIONS` where the options
+/// have another size. Where another number than 0 is returned, that, `OUT_OF_MEMORY` or
+/// `UNSUPPORTED_ADDRESS_SIZE`, the handle has the index that it had. For `address_size` and the
+/// order see `gimli_line_unit`.
 #[unsafe(no_mangle)]
 pub extern "C" fn gimli_line_index_open(
     alloc: Global,

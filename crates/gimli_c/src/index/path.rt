@@ -90,10 +90,10 @@ fn path_of(
 /// up to the directory of the compilation, `comp_dir` (`DW_AT_comp_dir`). In version 5 the unit has
 /// that one too, and `comp_dir` counts where it is relative; where `comp_dir` has no bytes, such a
 /// path stays relative. The bytes go into `path`, as far as there is room; `size` is how many there
-/// are. `NO_SUCH_UNIT` where there is no such unit, `NO_SUCH_FILE` where its table has no such file, `UNKNOWN_PATH`
-/// where a string of the path can't be told, and `CLOSED` where the handle is; the number of the
-/// refusal where the unit can't be read. Where another number than 0 is returned, nothing is
-/// written.
+/// are. `NO_SUCH_UNIT` where there is no such unit, `NO_SUCH_FILE` where its table has no such
+/// file, `UNKNOWN_PATH` where a string of the path can't be told, and `CLOSED` where the handle is;
+/// the number of the refusal where the unit can't be read. Where another number than 0 is returned,
+/// nothing is written.
 #[unsafe(no_mangle)]
 pub extern "C" fn gimli_line_index_path(
     alloc: Global,

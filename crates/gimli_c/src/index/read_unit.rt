@@ -31,9 +31,10 @@ fn read_in(alloc: Global, index: &SectionIndex, unit: u64, read: &mut GimliUnit)
     )
 }
 
-/// Does what `gimli_line_unit` does for a unit of an index, by its copy of the section: tells its version, its sizes, and how many
-/// directories, files and rows it has. `NO_SUCH_UNIT` where there is no such unit, and `CLOSED` where the handle is; the number of the
-/// refusal where the unit can't be read. Where another number than 0 is returned, nothing is written.
+/// Does what `gimli_line_unit` does for a unit of an index, by its copy of the section: tells its
+/// version, its sizes, and how many directories, files and rows it has. `NO_SUCH_UNIT` where there
+/// is no such unit, and `CLOSED` where the handle is; the number of the refusal where the unit
+/// can't be read. Where another number than 0 is returned, nothing is written.
 #[unsafe(no_mangle)]
 pub extern "C" fn gimli_line_index_read_unit(
     alloc: Global,

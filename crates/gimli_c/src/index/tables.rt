@@ -47,9 +47,10 @@ fn file_in(
     )
 }
 
-/// Reads the file of an index of a unit, as `gimli_line_file` does, by the index's copy of the section. `NO_SUCH_UNIT` where there is
-/// no such unit, `NO_SUCH_FILE` where the unit has no such file, and `CLOSED` where the handle is; the number of the refusal where the unit can't be
-/// read. Where another number than 0 is returned, nothing is written.
+/// Reads the file of an index of a unit, as `gimli_line_file` does, by the index's copy of the
+/// section. `NO_SUCH_UNIT` where there is no such unit, `NO_SUCH_FILE` where the unit has no such
+/// file, and `CLOSED` where the handle is; the number of the refusal where the unit can't be read.
+/// Where another number than 0 is returned, nothing is written.
 #[unsafe(no_mangle)]
 pub extern "C" fn gimli_line_index_file(
     alloc: Global,
@@ -115,8 +116,8 @@ fn directory_in(
     )
 }
 
-/// Reads the directory of an index of a unit, as `gimli_line_directory` does, by the index's copy of the section. Returns else as
-/// `gimli_line_index_file` does.
+/// Reads the directory of an index of a unit, as `gimli_line_directory` does, by the index's copy
+/// of the section. Returns else as `gimli_line_index_file` does.
 #[unsafe(no_mangle)]
 pub extern "C" fn gimli_line_index_directory(
     alloc: Global,

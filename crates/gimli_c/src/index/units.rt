@@ -92,8 +92,8 @@ fn unit_in(index: &SectionIndex, unit: u64) -> Result<GimliIndexUnit, u32>
     })
 }
 
-/// Tells where a unit stands, and what is wrong with it. `NO_SUCH_UNIT` where there is no such unit, and `CLOSED` where the handle
-/// is; then nothing is written.
+/// Tells where a unit stands, and what is wrong with it. `NO_SUCH_UNIT` where there is no such
+/// unit, and `CLOSED` where the handle is; then nothing is written.
 #[unsafe(no_mangle)]
 pub extern "C" fn gimli_line_index_unit(
     alloc: Global,
@@ -152,11 +152,12 @@ fn addresses_in(index: &SectionIndex, unit: u64, file: u64, line: u64) -> Result
     }
 }
 
-/// Tells the addresses for a breakpoint at a line of a file of one unit: of each run of rows of that line that stand
-/// side by side in a sequence, that of the first with `IS_STMT`. Where the line has none, those of the next line that
-/// has; `found_line` is that line. The addresses go into `addresses`, as far as there is room; `count` is how many
-/// there are. `NO_SUCH_UNIT` where there is no such unit, `NO_CODE` where no line from it on has any; `CLOSED` where the handle is.
-/// Where another number than 0 is returned, nothing is written.
+/// Tells the addresses for a breakpoint at a line of a file of one unit: of each run of rows of
+/// that line that stand side by side in a sequence, that of the first with `IS_STMT`. Where the
+/// line has none, those of the next line that has; `found_line` is that line. The addresses go into
+/// `addresses`, as far as there is room; `count` is how many there are. `NO_SUCH_UNIT` where there
+/// is no such unit, `NO_CODE` where no line from it on has any; `CLOSED` where the handle is. Where
+/// another number than 0 is returned, nothing is written.
 #[unsafe(no_mangle)]
 pub extern "C" fn gimli_line_index_addresses(
     alloc: Global,

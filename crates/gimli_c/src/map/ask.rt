@@ -68,9 +68,9 @@ fn answer_all(map: &[u8], index: &LineIndex<'_>, places: &mut [GimliMapPlace])
     }
 }
 
-/// Asks for many addresses, each as `gimli_line_map_find` does: that of `places[0]` and so on. Where
-/// the map says nothing of an address, `known` and all other numbers of its place are 0. Where
-/// another number than 0 is returned, nothing is written. Takes no memory.
+/// Asks for many addresses, each as `gimli_line_map_find` does: that of `places[0]` and so on.
+/// Where the map says nothing of an address, `known` and all other numbers of its place are 0.
+/// Where another number than 0 is returned, nothing is written. Takes no memory.
 #[unsafe(no_mangle)]
 pub extern "C" fn gimli_line_map_find_all(map: &[u8], places: &mut [GimliMapPlace]) -> u32
     ensures found { result ≡ OK → WritesMapAnswers map.now places.old places.new }
