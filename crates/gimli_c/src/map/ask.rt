@@ -16,7 +16,6 @@ fn place_in(map: &[u8], index: &LineIndex<'_>, address: u64) -> Option<GimliMapP
     requires stands { StandsIn map.now (index_of index.now) }
     ensures { MatchOption result (HasNoPlace map.now address) (SeesPlaceAt map.now address) }
 {
-    let _whole = map.len();
     let place = index.find_span(address)?;
     Some(place_seen(index, address, place))
 }
