@@ -32,7 +32,7 @@ fn main() -> Result<(), Box<dyn Error>> {
         debug_str_offsets: &[],
         big_endian: false,
     };
-    let mut index = Index::open(&sections, 0)?;
+    let index = Index::open(&sections, 1)?;
     for address in addresses {
         let Some(place) = index.find(u64::from_str_radix(address, 16)?) else {
             println!("none");

@@ -25,6 +25,10 @@ impl CompilationSections<'_> {
     /// The directory of the compilation whose line program begins at an offset of `.debug_line`, as
     /// `Index::unit` gives it. None where no unit that can be read has one. The first entry of each
     /// unit is read for each call: ask once for each unit of an index.
+    ///
+    /// # Errors
+    ///
+    /// [`Error::OUT_OF_MEMORY`].
     pub fn comp_dir(&self, offset: u64) -> Result<Option<Vec<u8>>, Error> {
         let mut directory = vec![0; 256];
         loop {
@@ -49,12 +53,12 @@ impl CompilationSections<'_> {
                     &mut size,
                 )
             });
-            if answer == Err(Error::NOT_FOUND) {
+            if answer == Err(Error::NO_COMP_DIR) {
                 return Ok(None);
             }
             answer?;
-            let fits = size as usize <= directory.len();
-            directory.resize(size as usize, 0);
+            let fits = size <= directory.len();
+            directory.resize(size, 0);
             if fits {
                 return Ok(Some(directory));
             }

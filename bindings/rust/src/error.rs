@@ -7,12 +7,92 @@ use std::fmt;
 pub struct Error(u32);
 
 impl Error {
+    /// Bytes are missing.
+    pub const UNEXPECTED_EOF: Error = Error(1);
+    /// An unsigned LEB128 number is too large or too long.
+    pub const BAD_UNSIGNED_LEB128: Error = Error(2);
+    /// A signed LEB128 number is too large or too long.
+    pub const BAD_SIGNED_LEB128: Error = Error(3);
+    /// The length of a unit is a reserved one.
+    pub const UNKNOWN_RESERVED_LENGTH: Error = Error(4);
+    /// The version of a unit is none of 2 to 5.
+    pub const UNKNOWN_VERSION: Error = Error(5);
+    /// The size of addresses isn't 1, 2, 4 or 8.
+    pub const UNSUPPORTED_ADDRESS_SIZE: Error = Error(6);
+    /// The size of segment selectors isn't 0.
+    pub const UNSUPPORTED_SEGMENT_SIZE: Error = Error(7);
+    /// The minimum instruction length is 0.
+    pub const MINIMUM_INSTRUCTION_LENGTH_ZERO: Error = Error(8);
+    /// The maximum number of operations of an instruction is 0.
+    pub const MAXIMUM_OPERATIONS_PER_INSTRUCTION_ZERO: Error = Error(9);
+    /// The line range is 0.
+    pub const LINE_RANGE_ZERO: Error = Error(10);
+    /// The opcode base is 0.
+    pub const OPCODE_BASE_ZERO: Error = Error(11);
+    /// A table of version 5 doesn't have exactly one path format.
+    pub const MISSING_FILE_ENTRY_FORMAT_PATH: Error = Error(12);
+    /// A form isn't one that line programs know.
+    pub const UNKNOWN_FORM: Error = Error(13);
+    /// An address passes the greatest one of its size.
+    pub const ADDRESS_OVERFLOW: Error = Error(14);
+    /// A number doesn't fit an offset.
+    pub const UNSUPPORTED_OFFSET: Error = Error(15);
+    /// A value that stands for a text is of another kind.
+    pub const EXPECTED_STRING_ATTRIBUTE_VALUE: Error = Error(16);
     /// Not enough memory.
     pub const OUT_OF_MEMORY: Error = Error(17);
-    /// What was looked up isn't there.
-    pub const NOT_FOUND: Error = Error(18);
+    /// No row covers the address.
+    pub const NO_ROW: Error = Error(18);
+    /// The size of offsets isn't 4 or 8.
+    pub const UNSUPPORTED_OFFSET_SIZE: Error = Error(19);
+    /// Rows can't be written by the line encoding.
+    pub const UNSUPPORTED_LINE_ENCODING: Error = Error(20);
+    /// A text isn't within the texts.
+    pub const TEXT_OUT_OF_BOUNDS: Error = Error(21);
+    /// A text has a zero byte.
+    pub const ZERO_IN_TEXT: Error = Error(22);
+    /// A text is empty, up to version 4.
+    pub const EMPTY_TEXT: Error = Error(23);
+    /// No directory or no file, in version 5.
+    pub const NO_SOURCE_FILE: Error = Error(24);
+    /// No directory has this number.
+    pub const NO_SUCH_DIRECTORY: Error = Error(25);
+    /// No file has this number.
+    pub const NO_SUCH_FILE: Error = Error(26);
+    /// A row can't follow the one before it.
+    pub const ROW_OUT_OF_ORDER: Error = Error(27);
+    /// A row has a flag that isn't known.
+    pub const UNKNOWN_FLAG: Error = Error(28);
+    /// Several operations in an instruction, before version 4.
+    pub const NEED_VERSION_4: Error = Error(29);
+    /// A length or the first address of a sequence doesn't fit its word.
+    pub const UNIT_TOO_LONG: Error = Error(30);
+    /// The unit is longer than the room for it.
+    pub const NO_ROOM: Error = Error(31);
+    /// The handle is closed.
+    pub const CLOSED: Error = Error(32);
     /// A string of a path can't be told.
     pub const UNKNOWN_PATH: Error = Error(33);
+    /// The bytes don't begin as a map does.
+    pub const NO_MAP: Error = Error(34);
+    /// The version of a map is unknown.
+    pub const UNKNOWN_MAP_VERSION: Error = Error(35);
+    /// A map ends before its parts do.
+    pub const MAP_CUT: Error = Error(36);
+    /// A size or the base in the header of a map is one that can't be.
+    pub const MAP_HEADER: Error = Error(37);
+    /// The ranges of a map don't ascend.
+    pub const MAP_DISORDERED: Error = Error(38);
+    /// A path isn't inside its map.
+    pub const MAP_PATH_OUTSIDE: Error = Error(39);
+    /// An index has no unit of this number.
+    pub const NO_SUCH_UNIT: Error = Error(40);
+    /// No line from the one asked for on has code.
+    pub const NO_CODE: Error = Error(41);
+    /// No unit of .debug_info tells the directory of the compilation.
+    pub const NO_COMP_DIR: Error = Error(42);
+    /// Options have a size that this library doesn't know.
+    pub const UNKNOWN_OPTIONS: Error = Error(43);
 
     /// The number of the header.
     pub fn number(self) -> u32 {
@@ -39,7 +119,7 @@ impl Error {
 }
 
 /// A sentence for each number, as `gimli_status_sentence` of the header has it.
-const SENTENCES: [&str; 34] = [
+const SENTENCES: [&str; 44] = [
     "the call did what it says",
     "bytes are missing",
     "an unsigned LEB128 number is too large or too long",
@@ -58,15 +138,15 @@ const SENTENCES: [&str; 34] = [
     "a number doesn't fit an offset",
     "a value that stands for a text is of another kind",
     "not enough memory",
-    "what was looked up isn't there",
+    "no row covers the address",
     "the size of offsets isn't 4 or 8",
     "rows can't be written by the line encoding",
     "a text isn't within the texts",
     "a text has a zero byte",
     "a text is empty, up to version 4",
     "no directory or no file, in version 5",
-    "a file has the index of no directory",
-    "a row has the number of no file",
+    "no directory has this number",
+    "no file has this number",
     "a row can't follow the one before it",
     "a row has a flag that isn't known",
     "several operations in an instruction, before version 4",
@@ -74,6 +154,16 @@ const SENTENCES: [&str; 34] = [
     "the unit is longer than the room for it",
     "the handle is closed",
     "a string of a path can't be told",
+    "the bytes don't begin as a map does",
+    "the version of a map is unknown",
+    "a map ends before its parts do",
+    "a size or the base in the header of a map is one that can't be",
+    "the ranges of a map don't ascend",
+    "a path isn't inside its map",
+    "an index has no unit of this number",
+    "no line from the one asked for on has code",
+    "no unit of .debug_info tells the directory of the compilation",
+    "options have a size that this library doesn't know",
 ];
 
 impl fmt::Display for Error {

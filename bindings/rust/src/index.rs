@@ -2,9 +2,12 @@
 
 use crate::calls;
 use crate::error::Error;
+use crate::file::{File, Text};
 use crate::row::LineRow;
 use crate::rows::Rows;
 use crate::Sections;
+use std::cell::RefCell;
+use std::mem::size_of;
 use std::ptr::null_mut;
 
 /// Where an address belongs.
@@ -39,53 +42,71 @@ pub struct Addresses {
 
 /// An index over all units of a section. It has copies of what it needs: the sections may go.
 ///
-/// It stays on its thread: that it may go to another one isn't proved.
+/// It stays on its thread: that it may go to another one isn't proved, so it is neither `Send` nor `Sync`. A [`Map`](crate::Map) is
+/// for threads.
+///
+/// ```compile_fail
+/// fn is_for_threads<T: Send>() {}
+/// is_for_threads::<gimli_line_proved::Index>();
+/// ```
+///
+/// ```compile_fail
+/// fn is_shared<T: Sync>() {}
+/// is_shared::<gimli_line_proved::Index>();
+/// ```
 pub struct Index {
-    handle: calls::Index,
+    // Each call takes the handle for itself, those that only read too.
+    handle: RefCell<calls::Index>,
 }
 
 impl Index {
     /// Runs all units of a program once. Rows below the address `lowest` are left out, since a linker leaves
-    /// code that it drops at low addresses; 0 leaves none out.
+    /// code that it drops at low addresses, mostly at 0: so 1 is the least that answers right there, and 0 leaves none out.
+    ///
+    /// # Errors
+    ///
+    /// [`Error::OUT_OF_MEMORY`], and [`Error::UNSUPPORTED_ADDRESS_SIZE`] where that of the sections is none of 1, 2, 4 and 8. A unit
+    /// that can't be read is no error: [`Index::unit`] tells its fault.
     pub fn open(sections: &Sections<'_>, lowest: u64) -> Result<Index, Error> {
-        let mut index = Index {
-            handle: calls::Index { at: null_mut() },
+        let mut handle = calls::Index { at: null_mut() };
+        let options = calls::OpenOptions {
+            size: size_of::<calls::OpenOptions>(),
+            lowest,
+            address_size: sections.address_size,
+            big: sections.big_endian,
         };
         // The pointers are those of slices, and the handle is a closed one.
         Error::of(unsafe {
             calls::gimli_line_index_open(
                 sections.debug_line.as_ptr(),
                 sections.debug_line.len(),
-                sections.big_endian,
-                sections.address_size,
-                lowest,
                 sections.debug_line_str.as_ptr(),
                 sections.debug_line_str.len(),
                 sections.debug_str.as_ptr(),
                 sections.debug_str.len(),
-                &mut index.handle,
+                &options,
+                &mut handle,
             )
         })?;
-        Ok(index)
+        Ok(Index { handle: RefCell::new(handle) })
     }
 
     /// Looks an address up. None where no row covers it.
-    pub fn find(&mut self, address: u64) -> Option<Place> {
+    pub fn find(&self, address: u64) -> Option<Place> {
         let mut place = calls::Place::default();
         // The handle is an open one, which no other call uses.
-        let status = unsafe { calls::gimli_line_index_find(&mut self.handle, address, &mut place) };
+        let status = unsafe { calls::gimli_line_index_find(&mut *self.handle.borrow_mut(), address, &mut place) };
         (status == 0).then(|| Place::new(&place))
     }
 
     /// Looks many addresses up: the place of each, none where no row covers it.
-    pub fn find_all(&mut self, addresses: &[u64]) -> Vec<Option<Place>> {
-        let mut places = vec![calls::Place::default(); addresses.len()];
+    pub fn find_all(&self, addresses: &[u64]) -> Vec<Option<Place>> {
+        let asked = |address: &u64| calls::Place { address: *address, ..Default::default() };
+        let mut places: Vec<_> = addresses.iter().map(asked).collect();
         // The pointers are those of slices.
         let _ok = unsafe {
             calls::gimli_line_index_find_all(
-                &mut self.handle,
-                addresses.as_ptr(),
-                addresses.len(),
+                &mut *self.handle.borrow_mut(),
                 places.as_mut_ptr(),
                 places.len(),
             )
@@ -93,9 +114,13 @@ impl Index {
         places.iter().map(|place| (place.end != 0).then(|| Place::new(place))).collect()
     }
 
-    /// All rows of a unit, one after the other.
-    pub fn rows(&mut self, unit: u64) -> Result<Rows, Error> {
-        Rows::of_index(&mut self.handle, unit)
+    /// All rows of a unit, one after the other. Its program is run once.
+    ///
+    /// # Errors
+    ///
+    /// [`Error::NO_SUCH_UNIT`], [`Error::OUT_OF_MEMORY`], or why the unit can't be read.
+    pub fn rows(&self, unit: u64) -> Result<Rows, Error> {
+        Rows::of_index(&mut self.handle.borrow_mut(), unit)
     }
 
     /// The whole path of the file of a unit. `comp_dir` is the directory of the compilation
@@ -103,13 +128,18 @@ impl Index {
     /// goes on up to version 4. In version 5 the unit has the directory too, and `comp_dir` counts
     /// where that one is relative: then each relative directory goes on from it. Where it has no
     /// bytes, such a path stays relative.
-    pub fn path(&mut self, unit: u64, file: u64, comp_dir: &[u8]) -> Result<Vec<u8>, Error> {
+    ///
+    /// # Errors
+    ///
+    /// [`Error::NO_SUCH_UNIT`], [`Error::NO_SUCH_FILE`], [`Error::UNKNOWN_PATH`] where a string of the path can't be told,
+    /// [`Error::OUT_OF_MEMORY`], or why the unit can't be read.
+    pub fn path(&self, unit: u64, file: u64, comp_dir: &[u8]) -> Result<Vec<u8>, Error> {
         let mut path = vec![0; 256];
         loop {
             let mut size = 0;
             Error::of(unsafe {
                 calls::gimli_line_index_path(
-                    &mut self.handle,
+                    &mut *self.handle.borrow_mut(),
                     unit,
                     file,
                     comp_dir.as_ptr(),
@@ -119,8 +149,8 @@ impl Index {
                     &mut size,
                 )
             })?;
-            let fits = size as usize <= path.len();
-            path.resize(size as usize, 0);
+            let fits = size <= path.len();
+            path.resize(size, 0);
             if fits {
                 return Ok(path);
             }
@@ -128,24 +158,88 @@ impl Index {
     }
 
     /// How many units there are.
-    pub fn unit_count(&mut self) -> u64 {
+    pub fn unit_count(&self) -> u64 {
         let mut count = 0;
-        let _ok = unsafe { calls::gimli_line_index_unit_count(&mut self.handle, &mut count) };
-        count
+        let _ok = unsafe { calls::gimli_line_index_unit_count(&mut *self.handle.borrow_mut(), &mut count) };
+        count as u64
     }
 
     /// The offset of a unit, and why it can't be read, or the first fault of its program.
-    pub fn unit(&mut self, unit: u64) -> Option<(u64, Option<Error>)> {
+    pub fn unit(&self, unit: u64) -> Option<(u64, Option<Error>)> {
         let mut found = calls::IndexUnit::default();
-        let status = unsafe { calls::gimli_line_index_unit(&mut self.handle, unit, &mut found) };
+        let status = unsafe { calls::gimli_line_index_unit(&mut *self.handle.borrow_mut(), unit, &mut found) };
         (status == 0).then(|| (found.offset, Error::fault(found.fault)))
     }
 
-    /// The addresses for a breakpoint at a line of a file of one unit, or at the next line that has any.
-    pub fn addresses(&mut self, unit: u64, file: u64, line: u64) -> Result<Option<Addresses>, Error> {
+    /// The file of a number of a unit, as rows have it. The header is read for each call.
+    ///
+    /// # Errors
+    ///
+    /// [`Error::NO_SUCH_UNIT`], [`Error::NO_SUCH_FILE`], [`Error::OUT_OF_MEMORY`], or why the unit can't be read.
+    pub fn file(&self, unit: u64, number: u64) -> Result<File, Error> {
+        let (mut path, mut directory) = (vec![0; 256], vec![0; 256]);
+        loop {
+            let mut file = calls::File::default();
+            // The pointers are those of vectors and of a local.
+            Error::of(unsafe {
+                calls::gimli_line_index_file(
+                    &mut *self.handle.borrow_mut(),
+                    unit,
+                    number,
+                    &mut file,
+                    path.as_mut_ptr(),
+                    path.len(),
+                    directory.as_mut_ptr(),
+                    directory.len(),
+                )
+            })?;
+            let fits = file.path.size as usize <= path.len() && file.directory.size as usize <= directory.len();
+            path.resize(file.path.size as usize, 0);
+            directory.resize(file.directory.size as usize, 0);
+            if fits {
+                return Ok(File::new(&file, path, directory));
+            }
+        }
+    }
+
+    /// The directory of a number of a unit, as files have it; none where its text is of no known kind.
+    ///
+    /// # Errors
+    ///
+    /// [`Error::NO_SUCH_UNIT`], [`Error::NO_SUCH_DIRECTORY`], [`Error::OUT_OF_MEMORY`], or why the unit can't be read.
+    pub fn directory(&self, unit: u64, number: u64) -> Result<Option<Text>, Error> {
+        let mut bytes = vec![0; 256];
+        loop {
+            let mut text = calls::Text::default();
+            // The pointers are those of a vector and of a local.
+            Error::of(unsafe {
+                calls::gimli_line_index_directory(
+                    &mut *self.handle.borrow_mut(),
+                    unit,
+                    number,
+                    &mut text,
+                    bytes.as_mut_ptr(),
+                    bytes.len(),
+                )
+            })?;
+            let fits = text.size as usize <= bytes.len();
+            bytes.resize(text.size as usize, 0);
+            if fits {
+                return Ok(Text::new(&text, bytes));
+            }
+        }
+    }
+
+    /// The addresses for a breakpoint at a line of a file of one unit, or at the next line that has any. None where no line from it
+    /// on has code.
+    ///
+    /// # Errors
+    ///
+    /// [`Error::NO_SUCH_UNIT`] and [`Error::OUT_OF_MEMORY`].
+    pub fn addresses(&self, unit: u64, file: u64, line: u64) -> Result<Option<Addresses>, Error> {
         all_addresses(|room, found_line, count| unsafe {
             calls::gimli_line_index_addresses(
-                &mut self.handle,
+                &mut *self.handle.borrow_mut(),
                 unit,
                 file,
                 line,
@@ -158,11 +252,15 @@ impl Index {
     }
 
     /// The same at a line of a path, over all units: of the files that have this whole path, without the directory of the
-    /// compilation up to version 4. The programs of all units are run for each call.
-    pub fn addresses_of(&mut self, path: &[u8], line: u64) -> Result<Option<Addresses>, Error> {
+    /// compilation up to version 4. The programs of all units are run for each call. None where no line from it on has code.
+    ///
+    /// # Errors
+    ///
+    /// [`Error::OUT_OF_MEMORY`].
+    pub fn addresses_of(&self, path: &[u8], line: u64) -> Result<Option<Addresses>, Error> {
         all_addresses(|room, found_line, count| unsafe {
             calls::gimli_line_index_addresses_of(
-                &mut self.handle,
+                &mut *self.handle.borrow_mut(),
                 path.as_ptr(),
                 path.len(),
                 line,
@@ -177,18 +275,18 @@ impl Index {
 
 /// What a call answers that writes addresses: it is made again where there are more than it had room for.
 fn all_addresses(
-    mut call: impl FnMut(&mut [u64], &mut u64, &mut u64) -> u32,
+    mut call: impl FnMut(&mut [u64], &mut u64, &mut usize) -> u32,
 ) -> Result<Option<Addresses>, Error> {
     let mut addresses = vec![0; 16];
     loop {
         let (mut line, mut count) = (0, 0);
         let answer = Error::of(call(&mut addresses, &mut line, &mut count));
-        if answer == Err(Error::NOT_FOUND) {
+        if answer == Err(Error::NO_CODE) {
             return Ok(None);
         }
         answer?;
-        let fits = count as usize <= addresses.len();
-        addresses.resize(count as usize, 0);
+        let fits = count <= addresses.len();
+        addresses.resize(count, 0);
         if fits {
             return Ok(Some(Addresses { line, addresses }));
         }
@@ -197,6 +295,6 @@ fn all_addresses(
 
 impl Drop for Index {
     fn drop(&mut self) {
-        let _ok = unsafe { calls::gimli_line_index_close(&mut self.handle) };
+        let _ok = unsafe { calls::gimli_line_index_close(self.handle.get_mut()) };
     }
 }

@@ -2,6 +2,7 @@
 
 use crate::calls;
 use crate::error::Error;
+use crate::rows::Rows;
 use crate::Sections;
 use std::num::NonZeroU64;
 
@@ -38,6 +39,50 @@ impl LineRow {
             isa: row.isa,
             discriminator: row.discriminator,
             flags: row.flags,
+        }
+    }
+
+    /// A row at an address, of no file, no line and no flags: to be written.
+    pub fn at(address: u64) -> LineRow {
+        LineRow::new(&calls::Row { address, ..Default::default() })
+    }
+
+    /// The same of a file.
+    pub fn with_file(self, file: u64) -> LineRow {
+        LineRow { file, ..self }
+    }
+
+    /// The same of a line, 0 for none.
+    pub fn with_line(self, line: u64) -> LineRow {
+        LineRow { line, ..self }
+    }
+
+    /// The same of a column, 0 for the left edge.
+    pub fn with_column(self, column: u64) -> LineRow {
+        LineRow { column, ..self }
+    }
+
+    /// The same as a good place for a breakpoint.
+    pub fn with_statement(self) -> LineRow {
+        LineRow { flags: self.flags | 1, ..self }
+    }
+
+    /// The same as the end of its sequence.
+    pub fn with_end(self) -> LineRow {
+        LineRow { flags: self.flags | 4, ..self }
+    }
+
+    /// The row as the library has it.
+    pub(crate) fn call(&self) -> calls::Row {
+        calls::Row {
+            address: self.address,
+            op_index: self.op_index,
+            file: self.file,
+            line: self.line,
+            column: self.column,
+            isa: self.isa,
+            discriminator: self.discriminator,
+            flags: self.flags,
         }
     }
 
@@ -117,51 +162,51 @@ pub struct Unit {
 }
 
 impl Unit {
-    /// Reads the unit at an offset, and runs its program.
+    /// Reads the unit at an offset, and runs its program once.
+    ///
+    /// # Errors
+    ///
+    /// Why the unit can't be read, as [`Error::UNEXPECTED_EOF`] and [`Error::UNKNOWN_VERSION`], or [`Error::OUT_OF_MEMORY`]. A fault
+    /// of the program is none: `fault` has it.
     pub fn read(sections: &Sections<'_>, offset: usize) -> Result<Unit, Error> {
-        let section = sections.debug_line;
-        let mut unit = calls::Unit::default();
-        // The pointers are those of a slice and of a local.
-        Error::of(unsafe {
-            calls::gimli_line_unit(
-                section.as_ptr(),
-                section.len(),
-                sections.big_endian,
-                sections.address_size,
-                offset,
-                &mut unit,
-            )
-        })?;
-        let mut rows = vec![calls::Row::default(); unit.rows as usize];
-        let mut count = 0;
-        let status = unsafe {
-            calls::gimli_line_rows(
-                section.as_ptr(),
-                section.len(),
-                sections.big_endian,
-                sections.address_size,
-                offset,
-                0,
-                rows.as_mut_ptr(),
-                rows.len(),
-                &mut count,
-            )
-        };
-        if status != unit.fault {
-            Error::of(status)?;
+        let (mut rows, mut fault) = (Vec::new(), None);
+        for row in Rows::open(sections, offset)? {
+            match row {
+                Ok(row) => rows.push(row),
+                Err(first) => fault = Some(first),
+            }
         }
-        Ok(Unit {
-            offset,
-            next: unit.next as usize,
-            version: unit.version,
-            fault: Error::fault(unit.fault),
-            rows: rows.iter().map(LineRow::new).collect(),
-        })
+        let start = Start::read(sections, offset).ok_or(Error::UNEXPECTED_EOF)?;
+        Ok(Unit { offset, next: start.next, version: start.version, fault, rows })
     }
 
     /// Its rows.
     pub fn rows(&self) -> std::slice::Iter<'_, LineRow> {
         self.rows.iter()
+    }
+}
+
+/// What the first words of a unit that was read say (DWARF 5, sections 6.2.4 and 7.4).
+struct Start {
+    next: usize,
+    version: u32,
+}
+
+impl Start {
+    fn read(sections: &Sections<'_>, offset: usize) -> Option<Start> {
+        let number = |at: usize, size: usize| -> Option<u64> {
+            let bytes = sections.debug_line.get(at..at.checked_add(size)?)?;
+            let joined = |number: u64, byte: &u8| number << 8 | u64::from(*byte);
+            let number = if sections.big_endian { bytes.iter().fold(0, joined) } else { bytes.iter().rev().fold(0, joined) };
+            Some(number)
+        };
+        let (words, length) = match number(offset, 4)? {
+            0xffff_ffff => (12, number(offset.checked_add(4)?, 8)?),
+            length => (4, length),
+        };
+        let version = offset.checked_add(words)?;
+        let next = version.checked_add(usize::try_from(length).ok()?)?;
+        Some(Start { next, version: number(version, 2)? as u32 })
     }
 }
 

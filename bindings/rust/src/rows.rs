@@ -23,7 +23,12 @@ pub struct Rows {
 }
 
 impl Rows {
-    /// Runs the program of the unit at an offset. The rows are its own: the section may go.
+    /// Runs the program of the unit at an offset, once. The rows are its own: the section may go.
+    ///
+    /// # Errors
+    ///
+    /// Why the unit can't be read, as [`Error::UNEXPECTED_EOF`] and [`Error::UNKNOWN_VERSION`], or [`Error::OUT_OF_MEMORY`]. A fault
+    /// of the program is none: it comes after the rows before it.
     pub fn open(sections: &Sections<'_>, offset: usize) -> Result<Rows, Error> {
         let section = sections.debug_line;
         // The pointers are those of a slice and of a closed handle.
@@ -64,7 +69,7 @@ impl Rows {
             calls::gimli_line_rows_next(&mut self.reader, self.rows.as_mut_ptr(), CHUNK, &mut count)
         };
         self.given = 0;
-        self.count = count as usize;
+        self.count = count;
         self.end = (self.count < CHUNK).then(|| Error::of(status));
     }
 }

@@ -2,7 +2,7 @@
 //! says so, and ends well.
 
 use gimli_line_proved::{
-    version, ColumnType, CompilationSections, Error, Index, LineRow, Rows, Sections,
+    version, ColumnType, CompilationSections, Contents, Encoding, Error, Index, LineRow, Rows, Sections, Text,
 };
 use std::collections::BTreeSet;
 use std::fs;
@@ -112,7 +112,7 @@ impl Built {
 #[test]
 fn places_are_those_of_addr2line() {
     for built in built() {
-        let mut index = Index::open(&built.sections(), 0).expect("the index is made");
+        let index = Index::open(&built.sections(), 0).expect("the index is made");
         let addresses = built.addresses();
         assert!(addresses.len() > 4);
         for address in addresses {
@@ -159,7 +159,7 @@ fn a_unit_that_is_cut_has_no_directory() {
 #[test]
 fn many_addresses_are_found_as_one_is() {
     for built in built() {
-        let mut index = Index::open(&built.sections(), 0).expect("the index is made");
+        let index = Index::open(&built.sections(), 0).expect("the index is made");
         let mut addresses: Vec<u64> = built.addresses().into_iter().flat_map(|address| [address, address + 1]).collect();
         addresses.extend([0, u64::MAX]);
         let each: Vec<_> = addresses.iter().map(|address| index.find(*address)).collect();
@@ -207,7 +207,7 @@ fn rows_as_they_come_are_those_of_linetool() {
     }
     for built in built() {
         let section = built.program.with_extension("debug_line");
-        let mut index = Index::open(&built.sections(), 0).expect("the index is made");
+        let index = Index::open(&built.sections(), 0).expect("the index is made");
         for (place, unit) in built.sections().units().enumerate() {
             let unit = unit.expect("the unit is read");
             let output = Command::new(&linetool)
@@ -266,18 +266,18 @@ fn file_that_a_program_defines_has_a_path() {
     let section = unit_of(&[
         0, 8, 3, b'd', b'.', b'c', 0, 0, 0, 0, 0, 9, 2, 0x10, 0, 0, 0, 0, 0, 0, 0, 1, 2, 4, 0, 1, 1,
     ]);
-    let mut index = Index::open(&sections_of(&section), 0).expect("the index is made");
+    let index = Index::open(&sections_of(&section), 0).expect("the index is made");
     let place = index.find(0x13).expect("the row covers it");
     assert_eq!((place.unit, place.row.file_index(), place.end), (0, 1, 0x14));
     assert_eq!(index.path(0, 1, b"/comp"), Ok(b"/comp/d.c".to_vec()));
-    assert_eq!(index.path(0, 2, b"/comp"), Err(Error::NOT_FOUND));
+    assert_eq!(index.path(0, 2, b"/comp"), Err(Error::NO_SUCH_FILE));
 }
 
 #[test]
 fn index_outlives_sections() {
     for built in built() {
         let address = *built.addresses().first().expect("there is a row");
-        let mut index = Index::open(&built.sections(), 0).expect("the index is made");
+        let index = Index::open(&built.sections(), 0).expect("the index is made");
         drop(built);
         assert!(index.find(address).is_some());
         assert!(index.find(u64::MAX).is_none());
@@ -287,7 +287,7 @@ fn index_outlives_sections() {
 #[test]
 fn units_are_those_of_the_section() {
     for built in built() {
-        let mut index = Index::open(&built.sections(), 0).expect("the index is made");
+        let index = Index::open(&built.sections(), 0).expect("the index is made");
         let units: Vec<_> = built.sections().units().map(|unit| unit.expect("the unit is read")).collect();
         assert_eq!(index.unit_count(), units.len() as u64);
         for (place, unit) in units.iter().enumerate() {
@@ -300,7 +300,7 @@ fn units_are_those_of_the_section() {
 #[test]
 fn addresses_of_a_line_have_that_line() {
     for built in built() {
-        let mut index = Index::open(&built.sections(), 0).expect("the index is made");
+        let index = Index::open(&built.sections(), 0).expect("the index is made");
         for address in built.addresses() {
             let place = index.find(address).expect("a row covers it");
             let Some(line) = place.row.line() else { continue };
@@ -334,11 +334,54 @@ fn what_is_bad_is_refused() {
         big_endian: false,
         address_size: 8,
     };
-    let mut index = Index::open(&sections, 0).expect("a section of no unit has an index");
+    let index = Index::open(&sections, 0).expect("a section of no unit has an index");
     assert_eq!(index.find(0), None);
-    assert_eq!(index.path(7, 0, &[]), Err(Error::NOT_FOUND));
+    assert_eq!(index.path(7, 0, &[]), Err(Error::NO_SUCH_UNIT));
     let size = Sections { address_size: 3, ..sections };
     assert_eq!(Index::open(&size, 0).map(|_| ()).map_err(Error::number), Err(6));
     assert_eq!(sections.units().next().expect("bytes are left").map(|_| ()).map_err(Error::number), Err(1));
     assert_eq!(version(), 100);
+}
+
+#[test]
+fn files_and_directories_are_told() {
+    // The file d.c of directory 0, which the program defines.
+    let section = unit_of(&[
+        0, 8, 3, b'd', b'.', b'c', 0, 0, 0, 0, 0, 9, 2, 0x10, 0, 0, 0, 0, 0, 0, 0, 1, 2, 4, 0, 1, 1,
+    ]);
+    let index = Index::open(&sections_of(&section), 0).expect("the index is made");
+    let file = index.file(0, 1).expect("there is such a file");
+    assert_eq!((file.path, file.directory, file.directory_number), (Some(Text::Here(b"d.c".to_vec())), None, 0));
+    assert_eq!((file.timestamp, file.size, file.md5), (Some(0), Some(0), None));
+    assert_eq!(index.file(0, 2).map(|_| ()), Err(Error::NO_SUCH_FILE));
+    assert_eq!(index.file(1, 1).map(|_| ()), Err(Error::NO_SUCH_UNIT));
+    assert_eq!(index.directory(0, 0), Err(Error::NO_SUCH_DIRECTORY));
+    assert_eq!(index.directory(1, 0), Err(Error::NO_SUCH_UNIT));
+    assert_eq!(index.addresses(1, 1, 1), Err(Error::NO_SUCH_UNIT));
+    assert_eq!(index.rows(1).map(|_| ()), Err(Error::NO_SUCH_UNIT));
+}
+
+#[test]
+fn what_is_written_is_read() {
+    for version in 2..=5 {
+        let mut contents = Contents::new(Encoding::new(version));
+        let first = u64::from(version <= 4);
+        contents.directory(b"/source");
+        contents.file(b"main.c", first);
+        let rows: Vec<LineRow> = (0..200)
+            .map(|i| LineRow::at(0x1000 + i * 3).with_file(first).with_line(1 + i % 50).with_column(i % 7).with_statement())
+            .collect();
+        rows.iter().for_each(|row| contents.row(*row));
+        contents.row(LineRow::at(0x2000).with_end());
+        let unit = contents.write().expect("it can be written");
+        let read = sections_of(&unit).units().next().expect("there is a unit").expect("it is read");
+        assert_eq!((read.version, read.next, read.fault), (u32::from(version), unit.len(), None));
+        let again: Vec<LineRow> = read.rows().copied().collect();
+        assert_eq!(again[..200], rows);
+        let index = Index::open(&sections_of(&unit), 1).expect("the index is made");
+        assert_eq!(index.path(0, first, &[]), Ok(b"/source/main.c".to_vec()));
+        contents.row(LineRow::at(0).with_file(9));
+        assert_eq!(contents.write(), Err(Error::NO_SUCH_FILE));
+    }
+    assert_eq!(Contents::new(Encoding::new(6)).write(), Err(Error::UNKNOWN_VERSION));
 }

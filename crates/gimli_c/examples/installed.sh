@@ -1,6 +1,7 @@
 #!/usr/bin/env bash
 # Installs the library into an empty folder, builds the example by what pkg-config says of it, shared and static, and runs both;
-# reads the header by each standard of C and C++ that the compilers know; and looks at the symbols of both libraries. `make check`
+# reads the header by each standard of C and C++ that the compilers know; looks at the symbols of both libraries; and unpacks what
+# `make dist` makes where there is no `rt`. `make check`
 # calls it after `make`. Where a tool is missing it says so, and passes over what needs it.
 set -eu
 here=$(cd "$(dirname "$0")" && pwd)
@@ -14,7 +15,10 @@ installed=$work/root/opt/gimli
 
 # Each symbol that is seen from outside is a call of the header.
 declared() { grep -oE '^(uint32_t) gimli_[a-z_]+' "$crate/include/gimli_line.h" | cut -d' ' -f2 | sort -u; }
-nm -D --defined-only "$installed/lib/libgimli_line.so" | awk '$2 == "T" {print $3}' | sort -u >"$work/shared"
+nm -D --defined-only "$installed/lib/libgimli_line.so" | awk '$2 == "T" {print $3}' | sort -u >"$work/versions"
+# Each has the version of its symbols.
+! grep -vE '@@GIMLI_LINE_0\.1$' "$work/versions"
+sed 's/@.*//' "$work/versions" >"$work/shared"
 nm --defined-only -g "$installed/lib/libgimli_line.a" | awk '$2 == "T" {print $3}' | sort -u >"$work/static"
 declared | cmp - "$work/shared"
 declared | cmp - "$work/static"
@@ -48,8 +52,42 @@ if have pkg-config "a program built by it"; then
     [ "$(LD_LIBRARY_PATH=$installed/lib "$work/by_shared" "$work/by_static" "$main")" = "$place" ]
 fi
 
+# The same by CMake.
+if have cmake "a program built by it"; then
+    mkdir -p "$work/cmake"
+    printf '%s\n' 'cmake_minimum_required(VERSION 3.10)' 'project(where_is C)' 'find_package(gimli_line 0.1 REQUIRED)' \
+        "add_executable(where_is \"$here/c/where_is.c\")" 'target_link_libraries(where_is gimli_line::gimli_line_static)' >"$work/cmake/CMakeLists.txt"
+    cmake -S "$work/cmake" -B "$work/cmake/build" -DCMAKE_PREFIX_PATH="$installed" >"$work/said" && cmake --build "$work/cmake/build" >>"$work/said" ||
+        { cat "$work/said"; exit 1; }
+    [ ! -x "$work/by_static" ] || [ "$("$work/cmake/build/where_is" "$work/by_static" "$main")" = "$place" ]
+fi
+
+# What `make dist` makes, unpacked into an empty folder on a machine without the kit: it is installed, and each example is built.
+make -C "$crate" -s dist
+mkdir "$work/unpacked" "$work/words"
+tar -C "$work/unpacked" -xzf "$crate"/build/gimli_line-*.tar.gz
+for word in make cc gcc c++ g++ as ld ar objcopy sed install ln rm mkdir cp tar gzip sh bash env dirname find cat; do
+    path=$(command -v "$word" || true)
+    [ -z "$path" ] || ln -s "$path" "$work/words/$word"
+done
+(
+    cd "$work"/unpacked/gimli_line-*
+    export PATH=$work/words
+    ! command -v rt
+    make -s install DESTDIR="$work/other" PREFIX=/opt/gimli
+    for file in examples/c/*.c; do
+        case $file in */fuzz.c) continue ;; esac
+        cc -std=c11 -O1 -Wall -Wextra -Werror -I "$work/other/opt/gimli/include" "$file" "$work/other/opt/gimli/lib/libgimli_line.a" -lpthread \
+            -o "$work/other_$(sed 's,.*/,,; s,\.c$,,' <<<"$file")"
+    done
+    [ -z "$(command -v c++)" ] || c++ -std=c++11 -O1 -I "$work/other/opt/gimli/include" examples/cpp/where_is.cc \
+        "$work/other/opt/gimli/lib/libgimli_line.a" -o "$work/other_where_is_cpp"
+)
+cmp "$installed/lib/libgimli_line.a" "$work/other/opt/gimli/lib/libgimli_line.a"
+[ "$("$work/other_directories")" -gt 0 ]
+
 # No memory is lost or misused.
 if have valgrind "memory by it" && [ -x "$work/by_static" ]; then
     valgrind -q --error-exitcode=9 --leak-check=full --errors-for-leak-kinds=all "$work/by_static" "$work/by_static" "$main" 0 >/dev/null
 fi
-echo "gimli_c: installed, $(wc -l <"$work/static") calls and no other symbol, built by pkg-config"
+echo "gimli_c: installed, $(wc -l <"$work/static") calls and no other symbol, built by pkg-config and CMake, and from the tar without rt"

@@ -1,7 +1,8 @@
 #!/usr/bin/env bash
 # Looks for misused memory: the example where_is under valgrind; all examples built with the address sanitiser; each call over buffers
-# that end at a page that can't be read (guarded.c); and many threads, each with an index of its own (threads.c), also under helgrind
-# of valgrind. Over compiled programs of versions 2 to 5. What a machine lacks is said, and passed over. The library is that of
+# that end at a page that can't be read (guarded.c); many threads, each with an index of its own (threads.c), also under helgrind
+# of valgrind; and maps (maps.c): many threads and a signal handler over one, with a malloc that ends the program where a question
+# asks for memory, and maps with bytes that were changed or cut. Over compiled programs of versions 2 to 5. What a machine lacks is said, and passed over. The library is that of
 # `make`, or of .ci/library.
 set -eu
 here=$(cd "$(dirname "$0")" && pwd)
@@ -46,12 +47,27 @@ build threads threads
 for version in 2 3 4 5; do "$work/threads" "$work/line$version" 16 >/dev/null; done
 echo "gimli_c: 16 threads, each with an index of its own, find what one finds"
 
+build maps maps
+echo "gimli_c: maps: $("$work/maps"), without memory"
+if build raced maps -fsanitize=thread -DSANITISED 2>/dev/null && "$work/raced" >"$work/said" 2>&1; then
+    echo "gimli_c: the thread sanitiser finds nothing in the questions to one map"
+else
+    # It needs addresses that some machines don't give.
+    ! grep -q 'WARNING: ThreadSanitizer' "$work/said" || { cat "$work/said"; exit 1; }
+    echo "gimli_c: the thread sanitiser doesn't run here: it isn't tried"
+fi
+
 # Some machines have the compiler's word, and no library for it.
 if build sanitised where_is -fsanitize=address,undefined 2>/dev/null; then
     build sanitised_rows addr2line -fsanitize=address,undefined
     build sanitised_rewrite rewrite -fsanitize=address,undefined
     build sanitised_directories directories -fsanitize=address,undefined
     "$work/sanitised_directories" >/dev/null
+    build sanitised_maps maps -fsanitize=address,undefined -DSANITISED
+    "$work/sanitised_maps" >/dev/null
+    build sanitised_map map -fsanitize=address,undefined
+    "$work/maps" "$work/small.map"
+    "$work/sanitised_map" "$work/small.map" 400000 400015 400020 >/dev/null
     for version in 2 3 4 5; do
         # shellcheck disable=SC2086
         "$work/sanitised" "$work/built$version" $addresses >/dev/null

@@ -16,6 +16,7 @@ top=$(cd "$crate/../.." && pwd)
 # and in file.rt.
 diff <(sed -nE 's/^ +GIMLI_([A-Z0-9_]+) = ([0-9]+).*/\1 \2/p' "$crate/include/gimli_line.h") \
     <(cd "$crate/src" && sed -nE 's/^pub const ([A-Z0-9_]+): u[0-9]+ = ([0-9]+);/\1 \2/p' status.rt row.rt file.rt)
+[ "$(sed -nE 's/^pub const OPTIONS_SIZE: usize = ([0-9]+);/\1/p' "$crate/src/index/open.rt")" = 24 ] # sizeof(gimli_open_options), below
 # So is its version.
 [ "$(sed -nE 's/^#define GIMLI_VERSION_[A-Z]+ ([0-9]+)$/\1/p' "$crate/include/gimli_line.h" | awk '{v = v * 100 + $1} END {print v}')" = \
     "$(sed -nE 's/^pub const VERSION: u32 = ([0-9]+);/\1/p' "$crate/src/version.rt")" ]
@@ -37,6 +38,9 @@ cc -std=c11 -Wall -Wextra -Werror -O2 -I "$crate/include" "$here/c/where_is.c" "
 cc -std=c11 -Wall -Wextra -Werror -O2 -I "$crate/include" "$here/c/first.c" "$library" "$kit/liblibc_c.a" -o "$work/first"
 cc -std=c11 -Wall -Wextra -Werror -O2 -I "$crate/include" "$here/c/directories.c" "$library" \
     "$kit/liblibc_c.a" -o "$work/directories"
+cc -std=c11 -Wall -Wextra -Werror -O2 -I "$crate/include" "$here/c/opened.c" "$library" "$kit/liblibc_c.a" -o "$work/opened"
+cc -std=c11 -Wall -Wextra -Werror -O2 -I "$crate/include" "$here/c/map.c" "$library" "$kit/liblibc_c.a" -o "$work/map"
+cc -std=c11 -Wall -Wextra -Werror -O2 -I "$crate/include" "$here/c/maps.c" "$library" "$kit/liblibc_c.a" -lpthread -o "$work/maps"
 indexed=where_is
 if command -v c++ >/dev/null; then
     c++ -std=c++11 -Wall -Wextra -Werror -O2 -I "$crate/include" "$here/cpp/where_is.cc" "$library" "$kit/liblibc_c.a" -o "$work/where_is_cpp"
@@ -90,6 +94,12 @@ for version in 2 3 4 5; do
     done < <("$program" units "$work/line.bin" little 8)
     printf '%s\n%s rows\n' "$(head -n 1 "$work/places")" "$count" >"$work/first_place"
     "$work/first" "$work/built" "$address" | cmp "$work/first_place" -
+    # The same where the sections are compressed, and of the index that is made of the file by itself.
+    objcopy --compress-debug-sections=zlib "$work/built" "$work/compressed"
+    # shellcheck disable=SC2086
+    "$work/where_is" "$work/compressed" $covered | sed -E "s,:[0-9]+\$,," | cmp "$work/places" -
+    # shellcheck disable=SC2086
+    "$work/opened" "$work/compressed" $covered | cmp <(sed -E 's,.*:,,' "$work/places") -
     echo "$covered" | "$work/where_is" "$work/built" | sed -E "s,:[0-9]+\$,," | cmp "$work/places" -
     [ "$("$work/where_is" "$work/built" 0 ffffffffffffffff)" = "none
 none" ]
@@ -98,7 +108,18 @@ none" ]
     "$work/addr2line" "$work/line.bin" $addresses 0 ffffffffffffffff | cmp "$work/pairs" -
     compared=$((compared + $(cat "$work/rows" "$work/pairs" | wc -l)))
 done
+# A map that is written by the page of its format alone: the ranges from 400000 on have 16 bytes each, and each third is a gap.
+"$work/maps" "$work/small.map"
+printf '%s\n' /source/0.c:1:0 '??:2:1' none /source/0.c:4:3 none >"$work/expected_map"
+"$work/map" "$work/small.map" 400000 40001f 400020 400037 3fffff | cmp "$work/expected_map" -
+! "$work/map" "$crate/include/gimli_line.h" 400000 2>"$work/said"
+[ "$(cat "$work/said")" = "map: the bytes don't begin as a map does" ]
+# What is no ELF file, and a file without lines.
+[ "$("$work/opened" "$crate/include/gimli_line.h" 0 2>&1 || true)" = "opened: the bytes are no ELF file that can be read" ]
+objcopy --strip-debug "$work/built" "$work/stripped"
+[ "$("$work/opened" "$work/stripped" 0 2>&1 || true)" = "opened: the ELF file has no section of this name" ]
 directories=$("$work/directories")
+echo "gimli_c: a map that was written by docs/INDEX.md alone is read as it was written"
 echo "gimli_c: $directories answers on directories of compilations are as made by hand"
 echo "gimli_c: $rewritten rows were written as they were read"
 echo "gimli_c: $places paths and lines of the examples ($indexed) are addr2line's"

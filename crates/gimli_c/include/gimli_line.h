@@ -1,12 +1,15 @@
 /* Line number programs of DWARF, versions 2 to 5, for C and C++. The calls are those of libgimli_line.a, which is proved: called
  * as this page says, none has undefined behaviour, each returns, and each answers what is said here, with the exceptions that
- * CALLING.md names.
+ * CALLING.md names. The functions in this page itself, which are `static inline`, hand their arguments on, and aren't proved.
  *
  * `make` in crates/gimli_c builds the library, and `make install` puts it where pkg-config finds it:
  *
  *   cc program.c $(pkg-config --cflags --libs gimli_line)
  *
- * For the path, line and column of many addresses: gimli_line_index_open once, gimli_line_index_find for each address or
+ * For the path, line and column of many addresses, from many threads or a signal handler: a map, which is an index as bytes, made
+ * once and then mapped from a file: gimli_line_map_find, gimli_line_map_find_all. examples/c/map.c does this.
+ *
+ * For the same from the sections, on one thread: gimli_line_index_open once, gimli_line_index_find for each address or
  * gimli_line_index_find_all for an array of them, and gimli_line_index_path for the path of the row's file, by the directory
  * of gimli_line_comp_dir. examples/c/where_is.c does this.
  *
@@ -22,23 +25,50 @@
  * aren't applied. Addresses are those of the file: of an address of a process take off the base at which the program was loaded.
  *
  * What a caller has to keep:
- * - A pointer is never null, also where its length is 0: hand in any place then. (In C++ data() of what is empty may be null.)
+ * - A pointer is never null, also where its length is 0: GIMLI_BYTES(pointer) is the pointer, and some other place where it is
+ *   null. (In C++ data() of what is empty may be null.)
  * - What a call writes to overlaps neither the section nor anything else that it writes to.
- * - No call is made from a signal handler, or in the forked child of a process with threads.
+ * - No call but those of maps is made from a signal handler, or in the forked child of a process with threads.
  * - A handle is as GIMLI_LINE_INDEX_CLOSED or GIMLI_ROW_READER_CLOSED, or as the last call on it left it: its field isn't
  *   touched, and of a copy and its original only one is used on. So a class may move it, and leave a closed one.
- * - A handle stays on the thread that opened it: threads open one each, and may share the sections. (That it may go to another
- *   thread isn't proved.)
- * Nothing of the caller is kept after a call. Calls with handles of their own, or without any, may run in several threads at once. */
+ * - A handle stays on the thread that opened it: threads ask one map, or open a handle each, and may share the sections. (That a
+ *   handle may be shared, or go to another thread, isn't proved: see gimli_line_index.)
+ * Nothing of the caller is kept after a call. Calls with handles of their own, or without any, may run in several threads at once.
+ *
+ * What stays from 0.1 to the last 0.1.x: each name, struct and number of this page, and the symbols of the shared library, which
+ * have the version GIMLI_LINE_0.1. A new call or status may come. Words: a `number` is that of a unit, file or directory; `first` is
+ * where bytes begin, `size` how many there are; `room` is how many elements an array has. Numbers that no name has are never
+ * answered. 0.2 may change any of this, has another version of its symbols and another name of its file, and CHANGELOG tells each. */
 #ifndef GIMLI_LINE_H
 #define GIMLI_LINE_H
 
 #include <stdbool.h>
 #include <stddef.h>
 #include <stdint.h>
+#include <stdlib.h>
+#include <string.h>
 
 #ifdef __cplusplus
 extern "C" {
+#endif
+
+/* What the compiler is told, where it knows the words: that no pointer is null, that an answer is looked at, and which array a call
+ * reads or writes, by the number of its parameter and of its length's. */
+#if defined(__GNUC__)
+#define GIMLI_CALL __attribute__((nonnull, warn_unused_result, nothrow))
+#define GIMLI_CLOSE __attribute__((nonnull, nothrow))
+#else
+#define GIMLI_CALL
+#define GIMLI_CLOSE
+#endif
+#if defined(__GNUC__) && !defined(__clang__) && __GNUC__ >= 10
+#define GIMLI_READS(array, length) __attribute__((access(read_only, array, length)))
+#define GIMLI_WRITES(array, length) __attribute__((access(write_only, array, length)))
+#define GIMLI_CHANGES(array, length) __attribute__((access(read_write, array, length)))
+#else
+#define GIMLI_READS(array, length)
+#define GIMLI_WRITES(array, length)
+#define GIMLI_CHANGES(array, length)
 #endif
 
 /* The version of this header. gimli_version() answers that of the library. */
@@ -49,6 +79,12 @@ extern "C" {
 
 /* The version of the library: GIMLI_VERSION of the header that it was built with. */
 uint32_t gimli_version(void);
+
+/* Bytes whose pointer may be null where there are none. */
+static inline const uint8_t *gimli_bytes(const void *bytes) {
+    return bytes != NULL ? (const uint8_t *)bytes : (const uint8_t *)"";
+}
+#define GIMLI_BYTES(pointer) gimli_bytes(pointer)
 
 /* What a call answers. gimli_status_name and gimli_status_sentence, at the end of this page, put it into words. */
 enum gimli_status {
@@ -70,31 +106,46 @@ enum gimli_status {
     GIMLI_UNSUPPORTED_OFFSET = 15,
     GIMLI_EXPECTED_STRING_ATTRIBUTE_VALUE = 16,
     GIMLI_OUT_OF_MEMORY = 17,
-    GIMLI_NOT_FOUND = 18,                              /* what was looked up isn't there */
-    /* 19 to 31 are answered by gimli_line_write alone. */
+    GIMLI_NO_ROW = 18,                                 /* no row covers the address, or a map says nothing of it */
+    /* 19 to 31 are answered by gimli_line_write alone, but for 25 and 26. */
     GIMLI_UNSUPPORTED_OFFSET_SIZE = 19,                /* the size of offsets isn't 4 or 8 */
     GIMLI_UNSUPPORTED_LINE_ENCODING = 20,              /* rows can't be written by the line encoding */
     GIMLI_TEXT_OUT_OF_BOUNDS = 21,                     /* a text isn't within the texts */
     GIMLI_ZERO_IN_TEXT = 22,                           /* a text has a zero byte */
     GIMLI_EMPTY_TEXT = 23,                             /* a text is empty, up to version 4 */
     GIMLI_NO_SOURCE_FILE = 24,                         /* no directory or no file, in version 5 */
-    GIMLI_NO_SUCH_DIRECTORY = 25,                      /* a file has the index of no directory */
-    GIMLI_NO_SUCH_FILE = 26,                           /* a row has the number of no file */
+    GIMLI_NO_SUCH_DIRECTORY = 25,                      /* no directory has the number: the one asked for, or that a file has */
+    GIMLI_NO_SUCH_FILE = 26,                           /* no file has the number: the one asked for, or that a row has */
     GIMLI_ROW_OUT_OF_ORDER = 27,                       /* a row can't follow the one before it, or its line or op_index is too large */
     GIMLI_UNKNOWN_FLAG = 28,                           /* a row has a flag that isn't known */
     GIMLI_NEED_VERSION_4 = 29,                         /* several operations in an instruction, before version 4 */
     GIMLI_UNIT_TOO_LONG = 30,                          /* a length, or the first address of a sequence, doesn't fit its word */
     GIMLI_NO_ROOM = 31,                                /* the unit is longer than the room for it */
     GIMLI_CLOSED = 32,                                 /* the handle is closed */
-    GIMLI_UNKNOWN_PATH = 33                            /* a string of a path can't be told */
+    GIMLI_UNKNOWN_PATH = 33,                           /* a string of a path can't be told */
+    /* 34 to 39 are answered by the calls of maps alone. */
+    GIMLI_NO_MAP = 34,                                 /* the bytes don't begin as a map does */
+    GIMLI_UNKNOWN_MAP_VERSION = 35,                    /* the version of a map is unknown */
+    GIMLI_MAP_CUT = 36,                                /* a map ends before its parts do */
+    GIMLI_MAP_HEADER = 37,                             /* a size or the base in the header of a map is one that can't be */
+    GIMLI_MAP_DISORDERED = 38,                         /* the ranges of a map don't ascend */
+    GIMLI_MAP_PATH_OUTSIDE = 39,                       /* a path isn't inside its map */
+    GIMLI_NO_SUCH_UNIT = 40,                           /* an index has no unit of this number */
+    GIMLI_NO_CODE = 41,                                /* no line from the one asked for on has code */
+    GIMLI_NO_COMP_DIR = 42,                            /* no unit of .debug_info tells the directory of the compilation */
+    GIMLI_UNKNOWN_OPTIONS = 43,                        /* options have a size that this library doesn't know */
+    /* 44 to 46 are answered by the calls over ELF files alone. */
+    GIMLI_NO_ELF = 44,                                 /* the bytes are no ELF file that can be read */
+    GIMLI_NO_SECTION = 45,                             /* an ELF file has no section of this name */
+    GIMLI_BAD_SECTION = 46                             /* a section is cut, or its compression or relocations are unknown */
 };
 
 /* A unit of the section .debug_line. */
 typedef struct gimli_unit {
     uint64_t length;       /* in bytes, without the length itself */
     uint64_t next;         /* the offset of what follows it in the section */
-    uint64_t directories;  /* how many its table has: indices from 1 on up to version 4, and from 0 on in version 5 */
-    uint64_t files;        /* how many it has, those that its program defines included; indices as those of directories */
+    uint64_t directories;  /* how many its table has: numbers from 1 on up to version 4, and from 0 on in version 5 */
+    uint64_t files;        /* how many it has, those that its program defines included; numbers as those of directories */
     uint64_t rows;         /* how many its program gives before its first fault */
     uint32_t version;      /* 2 to 5 */
     uint32_t address_size; /* in bytes: 1, 2, 4 or 8 */
@@ -115,7 +166,7 @@ enum gimli_row_flag {
 typedef struct gimli_row {
     uint64_t address;       /* of the machine instruction, in bytes */
     uint64_t op_index;      /* which operation of the machine instruction, from 0 on */
-    uint64_t file;          /* the index of the source file: from 1 on up to version 4, from 0 on in version 5 */
+    uint64_t file;          /* the number of the source file: from 1 on up to version 4, from 0 on in version 5 */
     uint64_t line;          /* from 1 on; 0 where the instruction belongs to no line */
     uint64_t column;        /* from 1 on; 0 for the left edge of the line */
     uint64_t isa;           /* the instruction set, by the machine's own numbers */
@@ -135,7 +186,7 @@ enum gimli_text_kind {
 
 typedef struct gimli_text {
     uint64_t kind;  /* one of gimli_text_kind */
-    uint64_t place; /* the offset in another section, or the index */
+    uint64_t first; /* the offset in another section, or the index */
     uint64_t size;  /* the number of bytes of a text that stands in the section itself */
 } gimli_text;
 
@@ -150,9 +201,9 @@ enum gimli_file_detail {
 /* A source file. */
 typedef struct gimli_file {
     gimli_text path;          /* full, or from the directory on */
-    gimli_text directory;     /* none where its index is that of no directory, as index 0 is up to version 4: that is DW_AT_comp_dir */
+    gimli_text directory;     /* none where its number is that of no directory, as number 0 is up to version 4: that is DW_AT_comp_dir */
     gimli_text source;        /* the text of the file; none where it isn't known */
-    uint64_t directory_index;
+    uint64_t directory_number;
     uint64_t timestamp;       /* when the file was last changed, in a measure of the producer's own; 0 where it isn't known */
     uint64_t size;            /* in bytes; 0 where it isn't known */
     uint64_t details;         /* the sum of those of gimli_file_detail that hold */
@@ -168,39 +219,120 @@ typedef struct gimli_file {
  * another number than 0 is answered, *unit stays as it was, and where the next unit is isn't known; an index goes on after a unit
  * whose length can be read (gimli_line_index_unit). */
 uint32_t gimli_line_unit(const uint8_t *section, size_t length, bool big, uint8_t address_size, size_t offset,
-                         gimli_unit *unit);
+                         gimli_unit *unit) GIMLI_CALL GIMLI_READS(1, 2);
 
 /* Runs the program of the unit at an offset. Its rows from the skip-th on, from 0, go into rows[0] and so on, as far as
  * there is room; *count is how many rows it has in all. The first fault ends the run: its number is answered, and the rows
  * before it are there. Where no unit can be read *count is 0. Where memory is missing, *count is 0, and the first rows may
  * have been written. */
 uint32_t gimli_line_rows(const uint8_t *section, size_t length, bool big, uint8_t address_size, size_t offset,
-                         uint64_t skip, gimli_row *rows, size_t room, uint64_t *count);
+                         uint64_t skip, gimli_row *rows, size_t room, uint64_t *count) GIMLI_CALL GIMLI_READS(1, 2)
+    GIMLI_WRITES(7, 8);
 
-/* Reads the file of an index, as rows have it: up to version 4 from 1 on, in version 5 from 0 on. Where the unit's table has no
+/* Reads the file of a number, as rows have it: up to version 4 from 1 on, in version 5 from 0 on. Where the unit's table has no
  * such file, the program is run to its end, past its faults, for the files that it defines. The bytes of the path and of the
  * directory go into `path` and `directory`, as far as they stand in the section itself and there is room; file->path.size and
- * file->directory.size say how many there are. Too little room is no refusal, and no zero byte is added. GIMLI_NOT_FOUND where
+ * file->directory.size say how many there are. Too little room is no refusal, and no zero byte is added. GIMLI_NO_SUCH_FILE where
  * there is no such file. Where another number than 0 is answered, nothing is written. */
 uint32_t gimli_line_file(const uint8_t *section, size_t length, bool big, uint8_t address_size, size_t offset,
-                         uint64_t index, gimli_file *file, uint8_t *path, size_t path_room, uint8_t *directory,
-                         size_t directory_room);
+                         uint64_t number, gimli_file *file, uint8_t *path, size_t path_room, uint8_t *directory,
+                         size_t directory_room) GIMLI_CALL GIMLI_READS(1, 2) GIMLI_WRITES(8, 9) GIMLI_WRITES(10, 11);
 
-/* Reads the directory of an index, as files have it: up to version 4 from 1 on, in version 5 from 0 on. Its bytes go into
+/* Reads the directory of a number, as files have it: up to version 4 from 1 on, in version 5 from 0 on. Its bytes go into
  * `bytes`, as far as they stand in the section itself and there is room; directory->size says how many there are.
- * GIMLI_NOT_FOUND where there is no such directory, as there is none of index 0 up to version 4. Where another number than 0 is
- * answered, nothing is written. */
+ * GIMLI_NO_SUCH_DIRECTORY where there is no such directory, as there is none of number 0 up to version 4. Where another number than
+ * 0 is answered, nothing is written. */
 uint32_t gimli_line_directory(const uint8_t *section, size_t length, bool big, uint8_t address_size, size_t offset,
-                              uint64_t index, gimli_text *directory, uint8_t *bytes, size_t room);
+                              uint64_t number, gimli_text *directory, uint8_t *bytes, size_t room)
+    GIMLI_CALL GIMLI_READS(1, 2) GIMLI_WRITES(8, 9);
 
 /* Looks an address up in the unit at an offset: *first is the row that it belongs to, *second the next row, up to whose
  * address that holds. They are the first two adjacent rows of one sequence of which the first has an address at most the
- * one that is looked up, and the second one above it. GIMLI_NOT_FOUND where there are none. A program whose run has a fault
+ * one that is looked up, and the second one above it. GIMLI_NO_ROW where there are none. A program whose run has a fault
  * can't be looked up in: its first fault is answered. Where another number than 0 is answered, both rows stay as they were. */
 uint32_t gimli_line_find(const uint8_t *section, size_t length, bool big, uint8_t address_size, size_t offset,
-                         uint64_t address, gimli_row *first, gimli_row *second);
+                         uint64_t address, gimli_row *first, gimli_row *second) GIMLI_CALL GIMLI_READS(1, 2);
 
-/* The handle of an index. It owns the index; a closed one owns nothing. */
+/* A map: an index as bytes (docs/INDEX.md), from some addresses on a file, a line and a column, made once, and then mapped from a
+ * file or linked into a program. It is for threads and for signal handlers. Each call below takes the bytes of a map, and
+ *
+ * - any number of threads may ask one map at once;
+ * - it is async-signal-safe: a handler of SIGPROF may ask, whatever the program was doing;
+ * - it takes no memory, keeps nothing, and writes nothing but its answer.
+ *
+ * On any bytes whatever it returns. What it finds is known where the ranges of the map ascend: they do in each map that this library
+ * made, and gimli_line_map_check tells it of others. The bytes must not change while they are asked. */
+
+/* What a map says of itself. */
+typedef struct gimli_map {
+    size_t ranges;         /* how many it has */
+    size_t identity;       /* where its identity begins, from the map's first byte on: a build id or a checksum of what it was made of */
+    size_t identity_size;  /* in bytes; 0 where it has none */
+    uint32_t address_size; /* in bytes: 1, 2, 4 or 8 */
+} gimli_map;
+
+/* Tells what a map says of itself, by its header and its length alone. Bytes after the map aren't looked at. Where another number
+ * than 0 is answered, one of GIMLI_NO_MAP to GIMLI_MAP_HEADER, the bytes begin with no map, and nothing is written. */
+uint32_t gimli_line_map_open(const uint8_t *map, size_t length, gimli_map *found) GIMLI_CALL GIMLI_READS(1, 2);
+
+/* Checks a map that nobody vouches for: that its ranges ascend (GIMLI_MAP_DISORDERED), and that each path is inside it
+ * (GIMLI_MAP_PATH_OUTSIDE). Looks at each range and each path. */
+uint32_t gimli_line_map_check(const uint8_t *map, size_t length) GIMLI_CALL GIMLI_READS(1, 2);
+
+/* Where code comes from, by a map. */
+typedef struct gimli_map_place {
+    uint64_t address; /* the address that is asked for */
+    uint64_t unit;    /* the offset in .debug_line of the unit that says so: the DW_AT_stmt_list of its compilation */
+    size_t path;      /* where the whole path begins, from the map's first byte on; 0 where there is none */
+    size_t path_size; /* in bytes: no zero byte follows */
+    uint32_t line;    /* from 1 on; 0 where none is known */
+    uint32_t column;  /* from 1 on; 0 for the left edge of the line */
+    uint32_t no_path; /* 0 where the path is there, else why not: a number of docs/INDEX.md, or GIMLI_NO_PATH_OUTSIDE */
+    uint32_t known;   /* 1; 0 where the map says nothing of the address */
+} gimli_map_place;
+
+/* The path isn't inside the map, which is damaged. */
+#define GIMLI_NO_PATH_OUTSIDE UINT32_C(0xffffffff)
+
+/* Tells where the code at an address comes from. GIMLI_NO_ROW where the map says nothing of it; one of GIMLI_NO_MAP to GIMLI_MAP_HEADER
+ * where the bytes begin with no map. Where another number than 0 is answered, nothing is written. Looks at as many ranges as their
+ * number has binary digits. */
+uint32_t gimli_line_map_find(const uint8_t *map, size_t length, uint64_t address, gimli_map_place *place)
+    GIMLI_CALL GIMLI_READS(1, 2);
+
+/* Asks for `count` addresses, each as gimli_line_map_find does: that of places[0] and so on. Where the map says nothing of an address,
+ * `known` and all other numbers of its place are 0. Where another number than 0 is answered, nothing is written. */
+uint32_t gimli_line_map_find_all(const uint8_t *map, size_t length, gimli_map_place *places, size_t count)
+    GIMLI_CALL GIMLI_READS(1, 2) GIMLI_CHANGES(3, 4);
+
+/* The bytes of the path of a place, of which there are place->path_size; null where it has none. */
+static inline const char *gimli_map_path(const uint8_t *map, const gimli_map_place *place) {
+    return place->path != 0 ? (const char *)map + place->path : NULL;
+}
+
+/* What an ELF file says of itself. */
+typedef struct gimli_elf {
+    uint64_t lowest;      /* the lowest address of a section of code that isn't empty; 0 where there is none */
+    uint8_t address_size; /* in bytes: 4 or 8 */
+    bool big;             /* the most significant byte of a number comes first */
+    bool relocatable;     /* an object file, whose sections all stand at 0 */
+} gimli_elf;
+
+/* Tells what an ELF file says of itself, of which `file` has the bytes. GIMLI_NO_ELF where they are none that can be read: then nothing
+ * is written. Takes no memory. */
+uint32_t gimli_elf_open(const uint8_t *file, size_t length, gimli_elf *found) GIMLI_CALL GIMLI_READS(1, 2);
+
+/* Puts what the first section of a name (".debug_line", without a zero byte) holds into bytes[0] and so on, as far as there is room:
+ * made whole where it is compressed by zlib (SHF_COMPRESSED, or .zdebug_line), and relocated where the file is an object file, whose
+ * sections all stand at 0. *size is how many bytes there are; too little room is no refusal. GIMLI_NO_SECTION where there is no such
+ * section, GIMLI_BAD_SECTION where it can't be read, as one that Zstandard compressed, GIMLI_NO_ELF where the file is none. Where another
+ * number than 0 is answered, nothing is written. */
+uint32_t gimli_elf_section(const uint8_t *file, size_t length, const uint8_t *name, size_t name_length, uint8_t *bytes, size_t room,
+                           size_t *size) GIMLI_CALL GIMLI_READS(1, 2) GIMLI_READS(3, 4) GIMLI_WRITES(5, 6);
+
+/* The handle of an index. It owns the index; a closed one owns nothing. It is for one thread: each call takes the handle for itself,
+ * those that only read too, and a handle stays on the thread that opened it. For threads there are maps. (How a call could share what a
+ * handle owns can't be proved of a type that crosses to C: docs/DECISIONS.md says what was tried.) */
 typedef struct gimli_line_index {
     void *at; /* null where it is closed */
 } gimli_line_index;
@@ -208,37 +340,95 @@ typedef struct gimli_line_index {
 /* What a handle begins with. */
 #define GIMLI_LINE_INDEX_CLOSED {0}
 
+/* How an index is made. GIMLI_OPEN_OPTIONS begins one: addresses of 8 bytes, the least significant byte first, no code at 0. */
+typedef struct gimli_open_options {
+    size_t size;          /* sizeof(gimli_open_options), by which a later library knows the struct */
+    uint64_t lowest;      /* the lowest address of code: sequences that begin below it are left out, since a linker leaves code that
+                           * it drops at low addresses, mostly at 0. 1 is the least that answers right there; 0 leaves none out,
+                           * as for code that does begin at 0 */
+    uint8_t address_size; /* in bytes: 1, 2, 4 or 8. It counts up to version 4; version 5 says its own */
+    bool big;             /* the most significant byte of a number comes first */
+} gimli_open_options;
+#define GIMLI_OPEN_OPTIONS {sizeof(gimli_open_options), 1, 8, false}
+
 /* Makes an index over all units of the section .debug_line, and puts it behind the handle; an index that stood there is closed.
  * `line_strings` and `strings` are the sections .debug_line_str and .debug_str, or no bytes. The index has copies of all three:
  * the caller's may go. A unit that can't be read has no rows; of one whose run has a fault it has the sequences that end before
  * that. Rows that no end row follows are in no sequence, and that is no fault. Bytes behind the last unit count as one that can't
- * be read. Rows below the address `lowest` are left out, since a linker leaves code that it drops at low
- * addresses; 0 leaves none out. Where another number than 0 is answered, GIMLI_OUT_OF_MEMORY or GIMLI_UNSUPPORTED_ADDRESS_SIZE,
- * the handle has what it had. */
-uint32_t gimli_line_index_open(const uint8_t *section, size_t length, bool big, uint8_t address_size, uint64_t lowest,
-                               const uint8_t *line_strings, size_t line_strings_length, const uint8_t *strings,
-                               size_t strings_length, gimli_line_index *index);
+ * be read. It is GIMLI_OK for any bytes: gimli_line_index_unit tells what is wrong with a unit. Where another number than 0 is
+ * answered, GIMLI_OUT_OF_MEMORY, GIMLI_UNSUPPORTED_ADDRESS_SIZE or GIMLI_UNKNOWN_OPTIONS, the handle has what it had. */
+uint32_t gimli_line_index_open(const uint8_t *section, size_t length, const uint8_t *line_strings, size_t line_strings_length,
+                               const uint8_t *strings, size_t strings_length, const gimli_open_options *options,
+                               gimli_line_index *index)
+    GIMLI_CALL GIMLI_READS(1, 2) GIMLI_READS(3, 4) GIMLI_READS(5, 6);
+
+/* A section of an ELF file in memory of its own, which free() gives back; null with a size of 0 where the file has no such section, and
+ * *status is why it can't be read, else 0. */
+static inline uint8_t *gimli_elf_copy(const uint8_t *file, size_t length, const char *name, size_t *size, uint32_t *status) {
+    uint8_t none = 0, *bytes = NULL;
+    size_t name_length = strlen(name), room = 0;
+    *size = 0;
+    for (;;) {
+        *status = gimli_elf_section(file, length, (const uint8_t *)name, name_length, bytes != NULL ? bytes : &none, room, size);
+        if (*status == GIMLI_NO_SECTION) *status = GIMLI_OK;
+        if (*status == GIMLI_OK && *size <= room) return bytes;
+        free(bytes);
+        if (*status != GIMLI_OK) return NULL;
+        room = *size;
+        bytes = (uint8_t *)malloc(room);
+        if (bytes == NULL) {
+            *size = 0;
+            *status = GIMLI_OUT_OF_MEMORY;
+            return NULL;
+        }
+    }
+}
+
+/* Makes an index of an ELF file: of its .debug_line, .debug_line_str and .debug_str, each made whole, by its order of bytes, its size of
+ * addresses and its lowest address of code (in an object file, none is left out). GIMLI_NO_ELF where it is none, GIMLI_NO_SECTION where it
+ * has no .debug_line, GIMLI_BAD_SECTION where one of these can't be read; else it answers as gimli_line_index_open does. Where another
+ * number than 0 is answered, the handle has what it had. For the directories of compilations hand the file's .debug_info and its like,
+ * by gimli_elf_copy, to gimli_line_comp_dir. */
+static inline uint32_t gimli_line_index_open_elf(const uint8_t *file, size_t length, gimli_line_index *index) {
+    static const char *const names[3] = {".debug_line", ".debug_line_str", ".debug_str"};
+    uint8_t *sections[3] = {NULL, NULL, NULL};
+    size_t sizes[3] = {0, 0, 0};
+    gimli_elf elf;
+    gimli_open_options options = GIMLI_OPEN_OPTIONS;
+    uint32_t status = gimli_elf_open(file, length, &elf);
+    for (int i = 0; i < 3 && status == GIMLI_OK; i++) sections[i] = gimli_elf_copy(file, length, names[i], &sizes[i], &status);
+    if (status == GIMLI_OK && sections[0] == NULL) status = GIMLI_NO_SECTION;
+    if (status == GIMLI_OK) {
+        options.lowest = elf.relocatable ? 0 : elf.lowest;
+        options.address_size = elf.address_size;
+        options.big = elf.big;
+        status = gimli_line_index_open(sections[0], sizes[0], gimli_bytes(sections[1]), sizes[1], gimli_bytes(sections[2]), sizes[2],
+                                       &options, index);
+    }
+    for (int i = 0; i < 3; i++) free(sections[i]);
+    return status;
+}
 
 /* Closes a handle: all memory of its index is given back. A closed one stays closed. The answer is 0. */
-uint32_t gimli_line_index_close(gimli_line_index *index);
+uint32_t gimli_line_index_close(gimli_line_index *index) GIMLI_CLOSE;
 
 /* Where an address belongs. */
 typedef struct gimli_place {
-    gimli_row row;  /* the row of the address */
-    uint64_t end;   /* the address up to which the row holds: that of the next row of its sequence */
-    uint64_t unit;  /* the index of the unit, from 0 on */
+    uint64_t address; /* the address that is asked for */
+    gimli_row row;    /* the row of the address */
+    uint64_t end;     /* the address up to which the row holds: that of the next row of its sequence */
+    uint64_t unit;    /* the number of the unit, from 0 on */
 } gimli_place;
 
 /* Looks an address up in all units. The row is the first of the first two adjacent rows of one sequence of which the first has
  * an address at most the one that is looked up, and the second one above it, in the order of the units and of their sequences.
- * GIMLI_NOT_FOUND where there are none, and GIMLI_CLOSED where the handle is: then *place stays as it was. Takes no memory. */
-uint32_t gimli_line_index_find(gimli_line_index *index, uint64_t address, gimli_place *place);
+ * GIMLI_NO_ROW where there are none, and GIMLI_CLOSED where the handle is: then *place stays as it was. Takes no memory. */
+uint32_t gimli_line_index_find(gimli_line_index *index, uint64_t address, gimli_place *place) GIMLI_CALL;
 
-/* Looks `count` addresses up, each as gimli_line_index_find does. The place of addresses[0] goes into places[0] and so on, as far
- * as there is room. Where no row covers an address, all numbers of its place are 0; else `end` of the place is above the address,
- * and so isn't 0. GIMLI_CLOSED where the handle is: then no place is written. Takes no memory. */
-uint32_t gimli_line_index_find_all(gimli_line_index *index, const uint64_t *addresses, size_t count, gimli_place *places,
-                                   size_t room);
+/* Looks `count` addresses up, each as gimli_line_index_find does: that of places[0] and so on. Where no row covers an address, all
+ * other numbers of its place are 0; else `end` of the place is above the address, and so isn't 0. GIMLI_CLOSED where the handle is:
+ * then no place is written. Takes no memory. */
+uint32_t gimli_line_index_find_all(gimli_line_index *index, gimli_place *places, size_t count) GIMLI_CALL GIMLI_CHANGES(2, 3);
 
 /* Tells the whole path of the file of a unit: its path, with the directories that it goes on from,
  * up to the directory of the compilation. `comp_dir` is that one (DW_AT_comp_dir, as
@@ -246,15 +436,15 @@ uint32_t gimli_line_index_find_all(gimli_line_index *index, const uint64_t *addr
  * unit has the directory too, as its directory 0: where that is absolute, `comp_dir` isn't looked
  * at; where it is relative, each relative directory goes on from `comp_dir`, directory 0 too. Where
  * `comp_dir` has no bytes, such a path stays relative. The bytes go into path[0] and so on, as far
- * as there is room, without a zero byte; *size is how many there are. GIMLI_NOT_FOUND where there
- * is no such unit, or the unit has no such file, GIMLI_UNKNOWN_PATH where a string of the path
- * can't be told, and GIMLI_CLOSED where the handle is; the number of the refusal where the unit
- * can't be read. Where another number than 0 is answered, nothing is written. The header of the
+ * as there is room, without a zero byte; *size is how many there are. GIMLI_NO_SUCH_UNIT where there
+ * is no such unit, GIMLI_NO_SUCH_FILE where the unit has no such file, GIMLI_UNKNOWN_PATH where a
+ * string of the path can't be told, and GIMLI_CLOSED where the handle is; the number of the refusal
+ * where the unit can't be read. Where another number than 0 is answered, nothing is written. The header of the
  * unit is read for each call, and the program is run where only that defines the file
  * (DW_LNE_define_file, up to version 4): keep the paths of files that come often. */
 uint32_t gimli_line_index_path(gimli_line_index *index, uint64_t unit, uint64_t file,
                                const uint8_t *comp_dir, size_t comp_dir_length, uint8_t *path,
-                               size_t room, uint64_t *size);
+                               size_t room, size_t *size) GIMLI_CALL GIMLI_READS(4, 5) GIMLI_WRITES(6, 7);
 
 /* Tells the directory in which the compilation ran (DW_AT_comp_dir) whose line program begins at an
  * offset of .debug_line, as gimli_line_index_unit gives it: that of the first unit of .debug_info
@@ -263,18 +453,19 @@ uint32_t gimli_line_index_path(gimli_line_index *index, uint64_t unit, uint64_t 
  * .debug_str and .debug_str_offsets, or no bytes. The bytes go into directory[0] and so on, as far
  * as there is room, without a zero byte; *size is how many there are. A unit that can't be read has
  * no directory, and the next one counts; what comes after a unit whose length can't be read, or
- * passes the end of the section, isn't read. GIMLI_NOT_FOUND where no unit has one. Where another
- * number than 0 is answered, GIMLI_NOT_FOUND or GIMLI_OUT_OF_MEMORY, nothing is written. The first
+ * passes the end of the section, isn't read. GIMLI_NO_COMP_DIR where no unit has one. Where another
+ * number than 0 is answered, GIMLI_NO_COMP_DIR or GIMLI_OUT_OF_MEMORY, nothing is written. The first
  * entry of each unit is read for each call: ask once for each unit of an index. */
 uint32_t gimli_line_comp_dir(const uint8_t *info, size_t info_length, const uint8_t *abbreviations,
                              size_t abbreviations_length, const uint8_t *line_strings,
                              size_t line_strings_length, const uint8_t *strings,
                              size_t strings_length, const uint8_t *string_offsets,
                              size_t string_offsets_length, bool big, uint64_t offset,
-                             uint8_t *directory, size_t room, uint64_t *size);
+                             uint8_t *directory, size_t room, size_t *size)
+    GIMLI_CALL GIMLI_READS(1, 2) GIMLI_READS(3, 4) GIMLI_READS(5, 6) GIMLI_READS(7, 8) GIMLI_READS(9, 10) GIMLI_WRITES(13, 14);
 
 /* Tells how many units an index has. GIMLI_CLOSED where the handle is; then nothing is written. */
-uint32_t gimli_line_index_unit_count(gimli_line_index *index, uint64_t *count);
+uint32_t gimli_line_index_unit_count(gimli_line_index *index, size_t *count) GIMLI_CALL;
 
 /* A unit of an index. */
 typedef struct gimli_index_unit {
@@ -283,33 +474,45 @@ typedef struct gimli_index_unit {
                       * can be read is opened by gimli_line_index_rows_open */
 } gimli_index_unit;
 
-/* Tells where a unit stands, and what is wrong with it. GIMLI_NOT_FOUND where there is no such unit, and GIMLI_CLOSED where the
+/* Tells where a unit stands, and what is wrong with it. GIMLI_NO_SUCH_UNIT where there is no such unit, and GIMLI_CLOSED where the
  * handle is; then nothing is written. */
-uint32_t gimli_line_index_unit(gimli_line_index *index, uint64_t unit, gimli_index_unit *found);
+uint32_t gimli_line_index_unit(gimli_line_index *index, uint64_t unit, gimli_index_unit *found) GIMLI_CALL;
 
 /* Tells the addresses for a breakpoint at a line of a file of one unit: of each run of rows of that line that stand side by side
  * in a sequence, that of the first with GIMLI_IS_STMT. They come in the order of the sequences and rows; one address may come more
  * than once. Sequences that the index leaves out give none. Where the line has none, those of the next line that has; *found_line
  * is that line. The addresses go into addresses[0] and so on, as far as there is room; *count is how many there are.
- * GIMLI_NOT_FOUND where there is no such unit, or no line from it on has any; GIMLI_CLOSED where the handle is. Where another
- * number than 0 is answered, nothing is written. */
+ * GIMLI_NO_SUCH_UNIT where there is no such unit, GIMLI_NO_CODE where no line from it on has any; GIMLI_CLOSED where the handle is.
+ * Where another number than 0 is answered, nothing is written. */
 uint32_t gimli_line_index_addresses(gimli_line_index *index, uint64_t unit, uint64_t file, uint64_t line,
-                                    uint64_t *found_line, uint64_t *addresses, size_t room, uint64_t *count);
+                                    uint64_t *found_line, uint64_t *addresses, size_t room, size_t *count)
+    GIMLI_CALL GIMLI_WRITES(6, 7);
 
 /* The same at a line of a path, over all units: of the files that have this whole path, byte by byte as gimli_line_index_path
  * tells it without a comp_dir. Up to version 4 a unit doesn't have the directory of the compilation, so a path that goes on from
- * there is given without it. The headers of all units are read and their programs are run for each call. GIMLI_NOT_FOUND where no
+ * there is given without it. The headers of all units are read and their programs are run for each call. GIMLI_NO_CODE where no
  * line from it on has any; GIMLI_CLOSED where the handle is. Where another number than 0 is answered, nothing is written. */
 uint32_t gimli_line_index_addresses_of(gimli_line_index *index, const uint8_t *path, size_t path_length, uint64_t line,
-                                       uint64_t *found_line, uint64_t *addresses, size_t room, uint64_t *count);
+                                       uint64_t *found_line, uint64_t *addresses, size_t room, size_t *count)
+    GIMLI_CALL GIMLI_READS(2, 3) GIMLI_WRITES(6, 7);
+
+/* Does what gimli_line_unit does, for a unit of an index: its version, its sizes, and how many directories, files and rows it has.
+ * The program is run for each call. GIMLI_NO_SUCH_UNIT where there is no such unit, GIMLI_CLOSED where the handle is, and the number
+ * of the refusal where the unit can't be read. Where another number than 0 is answered, *read stays as it was. */
+uint32_t gimli_line_index_read_unit(gimli_line_index *index, uint64_t unit, gimli_unit *read) GIMLI_CALL;
+
+/* The number of the first directory and of the first file of a unit: 1 up to version 4, 0 in version 5. */
+static inline uint64_t gimli_first_number(const gimli_unit *unit) { return unit->version <= 4; }
 
 /* Do what gimli_line_file and gimli_line_directory do, for a unit of an index: the header is read again for each call.
- * GIMLI_NOT_FOUND where there is no such unit, or the unit has no such file or directory, GIMLI_CLOSED where the handle is, and
- * the number of the refusal where the unit can't be read. Where another number than 0 is answered, nothing is written. */
+ * GIMLI_NO_SUCH_UNIT where there is no such unit, GIMLI_NO_SUCH_FILE or GIMLI_NO_SUCH_DIRECTORY where the unit has no such file or
+ * directory, GIMLI_CLOSED where the handle is, and the number of the refusal where the unit can't be read. Where another number than
+ * 0 is answered, nothing is written. */
 uint32_t gimli_line_index_file(gimli_line_index *index, uint64_t unit, uint64_t number, gimli_file *file, uint8_t *path,
-                               size_t path_room, uint8_t *directory, size_t directory_room);
+                               size_t path_room, uint8_t *directory, size_t directory_room)
+    GIMLI_CALL GIMLI_WRITES(5, 6) GIMLI_WRITES(7, 8);
 uint32_t gimli_line_index_directory(gimli_line_index *index, uint64_t unit, uint64_t number, gimli_text *directory,
-                                    uint8_t *bytes, size_t room);
+                                    uint8_t *bytes, size_t room) GIMLI_CALL GIMLI_WRITES(5, 6);
 
 /* The handle of a reader of rows. It owns the rows of a unit; a closed one owns nothing. */
 typedef struct gimli_row_reader {
@@ -323,21 +526,22 @@ typedef struct gimli_row_reader {
  * handle's own: the section may go. A fault of the program is no refusal: it comes after the rows before it. Where another number
  * than 0 is answered, the handle has what it had. */
 uint32_t gimli_line_rows_open(const uint8_t *section, size_t length, bool big, uint8_t address_size, size_t offset,
-                              gimli_row_reader *reader);
+                              gimli_row_reader *reader) GIMLI_CALL GIMLI_READS(1, 2);
 
 /* Does the same for a unit of an index. All rows of the unit come, those of sequences that the index leaves out too.
- * GIMLI_NOT_FOUND where there is no such unit, GIMLI_CLOSED where the handle of the index is, and the number of the refusal where
+ * GIMLI_NO_SUCH_UNIT where there is no such unit, GIMLI_CLOSED where the handle of the index is, and the number of the refusal where
  * the unit can't be read. */
-uint32_t gimli_line_index_rows_open(gimli_line_index *index, uint64_t unit, gimli_row_reader *reader);
+uint32_t gimli_line_index_rows_open(gimli_line_index *index, uint64_t unit, gimli_row_reader *reader) GIMLI_CALL;
 
 /* Gives the next rows, from the first on: into rows[0] and so on, as far as there is room; *count is how many they are. Where
  * *count is less than `room`, the rows are at their end, and the answer is the number of the program's first fault, 0 where it has
  * none; such a call may come again. Before the end the answer is 0. `room` is above 0: with none, none come, and it never ends.
  * GIMLI_CLOSED where the handle is: then nothing is written. Takes no memory. */
-uint32_t gimli_line_rows_next(gimli_row_reader *reader, gimli_row *rows, size_t room, uint64_t *count);
+uint32_t gimli_line_rows_next(gimli_row_reader *reader, gimli_row *rows, size_t room, size_t *count)
+    GIMLI_CALL GIMLI_WRITES(2, 3);
 
 /* Closes a handle: all memory of its rows is given back. A closed one stays closed. The answer is 0. */
-uint32_t gimli_line_rows_close(gimli_row_reader *reader);
+uint32_t gimli_line_rows_close(gimli_row_reader *reader) GIMLI_CLOSE;
 
 /* What a unit that is written is encoded by. */
 typedef struct gimli_encoding {
@@ -357,7 +561,7 @@ typedef struct gimli_encoding {
 
 /* A text among the bytes of texts that are handed over. */
 typedef struct gimli_name {
-    uint64_t place; /* where it begins */
+    uint64_t first; /* where it begins */
     uint64_t size;  /* how many bytes it has */
 } gimli_name;
 
@@ -397,7 +601,36 @@ typedef struct gimli_file_name {
 uint32_t gimli_line_write(const gimli_encoding *encoding, bool big, uint64_t details, const uint8_t *texts, size_t text_length,
                           const gimli_name *directories, size_t directory_count, const gimli_file_name *files,
                           size_t file_count, const gimli_row *rows, size_t row_count, uint8_t *unit, size_t room,
-                          uint64_t *size);
+                          size_t *size)
+    GIMLI_CALL GIMLI_READS(4, 5) GIMLI_READS(6, 7) GIMLI_READS(8, 9) GIMLI_READS(10, 11) GIMLI_WRITES(12, 13);
+
+/* What is written, as one value. Set all of it to 0 first; an array of no elements may stay null. */
+typedef struct gimli_contents {
+    gimli_encoding encoding;
+    bool big;                         /* the most significant byte of a number comes first */
+    uint64_t details;                 /* what version 5 has of files */
+    const uint8_t *texts;             /* the bytes that names are among */
+    size_t text_length;
+    const gimli_name *directories;
+    size_t directory_count;
+    const gimli_file_name *files;
+    size_t file_count;
+    const gimli_row *rows;
+    size_t row_count;
+} gimli_contents;
+
+/* Does what gimli_line_write does, for contents. */
+static inline uint32_t gimli_line_write_contents(const gimli_contents *contents, uint8_t *unit, size_t room, size_t *size) {
+    static const gimli_name no_name = {0, 0};
+    static const gimli_file_name no_file = {{0, 0}, 0, 0, 0, {0}};
+    static const gimli_row no_row = {0, 0, 0, 0, 0, 0, 0, 0};
+    uint8_t none = 0;
+    return gimli_line_write(&contents->encoding, contents->big, contents->details, gimli_bytes(contents->texts),
+                            contents->text_length, contents->directories != NULL ? contents->directories : &no_name,
+                            contents->directory_count, contents->files != NULL ? contents->files : &no_file,
+                            contents->file_count, contents->rows != NULL ? contents->rows : &no_row, contents->row_count,
+                            unit != NULL ? unit : &none, room, size);
+}
 
 /* The name of a number that a call answered. */
 static inline const char *gimli_status_name(uint32_t status) {
@@ -420,7 +653,7 @@ static inline const char *gimli_status_name(uint32_t status) {
     case GIMLI_UNSUPPORTED_OFFSET: return "GIMLI_UNSUPPORTED_OFFSET";
     case GIMLI_EXPECTED_STRING_ATTRIBUTE_VALUE: return "GIMLI_EXPECTED_STRING_ATTRIBUTE_VALUE";
     case GIMLI_OUT_OF_MEMORY: return "GIMLI_OUT_OF_MEMORY";
-    case GIMLI_NOT_FOUND: return "GIMLI_NOT_FOUND";
+    case GIMLI_NO_ROW: return "GIMLI_NO_ROW";
     case GIMLI_UNSUPPORTED_OFFSET_SIZE: return "GIMLI_UNSUPPORTED_OFFSET_SIZE";
     case GIMLI_UNSUPPORTED_LINE_ENCODING: return "GIMLI_UNSUPPORTED_LINE_ENCODING";
     case GIMLI_TEXT_OUT_OF_BOUNDS: return "GIMLI_TEXT_OUT_OF_BOUNDS";
@@ -436,6 +669,19 @@ static inline const char *gimli_status_name(uint32_t status) {
     case GIMLI_NO_ROOM: return "GIMLI_NO_ROOM";
     case GIMLI_CLOSED: return "GIMLI_CLOSED";
     case GIMLI_UNKNOWN_PATH: return "GIMLI_UNKNOWN_PATH";
+    case GIMLI_NO_MAP: return "GIMLI_NO_MAP";
+    case GIMLI_UNKNOWN_MAP_VERSION: return "GIMLI_UNKNOWN_MAP_VERSION";
+    case GIMLI_MAP_CUT: return "GIMLI_MAP_CUT";
+    case GIMLI_MAP_HEADER: return "GIMLI_MAP_HEADER";
+    case GIMLI_MAP_DISORDERED: return "GIMLI_MAP_DISORDERED";
+    case GIMLI_MAP_PATH_OUTSIDE: return "GIMLI_MAP_PATH_OUTSIDE";
+    case GIMLI_NO_SUCH_UNIT: return "GIMLI_NO_SUCH_UNIT";
+    case GIMLI_NO_CODE: return "GIMLI_NO_CODE";
+    case GIMLI_NO_COMP_DIR: return "GIMLI_NO_COMP_DIR";
+    case GIMLI_UNKNOWN_OPTIONS: return "GIMLI_UNKNOWN_OPTIONS";
+    case GIMLI_NO_ELF: return "GIMLI_NO_ELF";
+    case GIMLI_NO_SECTION: return "GIMLI_NO_SECTION";
+    case GIMLI_BAD_SECTION: return "GIMLI_BAD_SECTION";
     default: return "unknown status";
     }
 }
@@ -461,15 +707,15 @@ static inline const char *gimli_status_sentence(uint32_t status) {
     case GIMLI_UNSUPPORTED_OFFSET: return "a number doesn't fit an offset";
     case GIMLI_EXPECTED_STRING_ATTRIBUTE_VALUE: return "a value that stands for a text is of another kind";
     case GIMLI_OUT_OF_MEMORY: return "not enough memory";
-    case GIMLI_NOT_FOUND: return "what was looked up isn't there";
+    case GIMLI_NO_ROW: return "no row covers the address";
     case GIMLI_UNSUPPORTED_OFFSET_SIZE: return "the size of offsets isn't 4 or 8";
     case GIMLI_UNSUPPORTED_LINE_ENCODING: return "rows can't be written by the line encoding";
     case GIMLI_TEXT_OUT_OF_BOUNDS: return "a text isn't within the texts";
     case GIMLI_ZERO_IN_TEXT: return "a text has a zero byte";
     case GIMLI_EMPTY_TEXT: return "a text is empty, up to version 4";
     case GIMLI_NO_SOURCE_FILE: return "no directory or no file, in version 5";
-    case GIMLI_NO_SUCH_DIRECTORY: return "a file has the index of no directory";
-    case GIMLI_NO_SUCH_FILE: return "a row has the number of no file";
+    case GIMLI_NO_SUCH_DIRECTORY: return "no directory has this number";
+    case GIMLI_NO_SUCH_FILE: return "no file has this number";
     case GIMLI_ROW_OUT_OF_ORDER: return "a row can't follow the one before it";
     case GIMLI_UNKNOWN_FLAG: return "a row has a flag that isn't known";
     case GIMLI_NEED_VERSION_4: return "several operations in an instruction, before version 4";
@@ -477,6 +723,19 @@ static inline const char *gimli_status_sentence(uint32_t status) {
     case GIMLI_NO_ROOM: return "the unit is longer than the room for it";
     case GIMLI_CLOSED: return "the handle is closed";
     case GIMLI_UNKNOWN_PATH: return "a string of a path can't be told";
+    case GIMLI_NO_MAP: return "the bytes don't begin as a map does";
+    case GIMLI_UNKNOWN_MAP_VERSION: return "the version of a map is unknown";
+    case GIMLI_MAP_CUT: return "a map ends before its parts do";
+    case GIMLI_MAP_HEADER: return "a size or the base in the header of a map is one that can't be";
+    case GIMLI_MAP_DISORDERED: return "the ranges of a map don't ascend";
+    case GIMLI_MAP_PATH_OUTSIDE: return "a path isn't inside its map";
+    case GIMLI_NO_SUCH_UNIT: return "an index has no unit of this number";
+    case GIMLI_NO_CODE: return "no line from the one asked for on has code";
+    case GIMLI_NO_COMP_DIR: return "no unit of .debug_info tells the directory of the compilation";
+    case GIMLI_UNKNOWN_OPTIONS: return "options have a size that this library doesn't know";
+    case GIMLI_NO_ELF: return "the bytes are no ELF file that can be read";
+    case GIMLI_NO_SECTION: return "the ELF file has no section of this name";
+    case GIMLI_BAD_SECTION: return "a section is cut, or its compression or relocations are unknown";
     default: return "the number is none that a call answers";
     }
 }

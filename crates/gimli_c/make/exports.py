@@ -15,6 +15,8 @@ import sys
 CRATE = os.path.join(os.path.dirname(os.path.abspath(__file__)), "..")
 HEAD = "//! Exports of gimli_c, made by exports.py.\n\n"
 MARK = "#[unsafe(no_mangle)]"
+# Constants that aren't statuses.
+OTHERS = ["OPTIONS_SIZE", "VERSION"]
 CALL = re.compile(r'((?:^///[^\n]*\n)*^' + re.escape(MARK) + r'\npub extern "C" fn (\w+)\(([^)]*)\).*?)\n\{\n', re.M | re.S)
 
 
@@ -30,8 +32,8 @@ def module(path, source):
         sys.exit(f"{path}: a call for C isn't laid out as this script reads it")
     lines = re.findall(r"^ghost use [^;]*;\n", source, re.M)
     told = re.sub(r"///.*", "", "".join(signature for signature, _, _ in calls))
-    statuses = [name for name in named(told, r"\b[A-Z][A-Z0-9_]+\b") if name != "VERSION"]
-    lines += [f"use gimli_c::{name};\n" for name in named(told, r"\bGimli\w+|\bVERSION\b")]
+    statuses = [name for name in named(told, r"\b[A-Z][A-Z0-9_]+\b") if name not in OTHERS]
+    lines += [f"use gimli_c::{name};\n" for name in named(told, r"\bGimli\w+|\b(?:" + "|".join(OTHERS) + r")\b")]
     lines += [f"use gimli_c::status::{name};\n" for name in statuses]
     lines += ["use std::alloc::Global;\n"] * ("Global" in told)
     for signature, name, parameters in calls:

@@ -115,10 +115,35 @@ pub unit_not_ok : (p : Location) → HasNoUnit p 0 → ⊥
 unit_not_ok p (inl q) = let z : 0 ≡ 6 = q.1 in omega (arith, z)
 unit_not_ok p (inr q) = error_not_ok q.1 q.3
 
+-- nor that of a unit that isn't there
+error_not_missing : (e : Error) → 40 ≡ error_status e → ⊥
+error_not_missing (UnexpectedEof _) p = omega (arith, p)
+error_not_missing BadUnsignedLeb128 p = omega (arith, p)
+error_not_missing BadSignedLeb128 p = omega (arith, p)
+error_not_missing UnknownReservedLength p = omega (arith, p)
+error_not_missing (UnknownVersion _) p = omega (arith, p)
+error_not_missing (UnsupportedAddressSize _) p = omega (arith, p)
+error_not_missing (UnsupportedSegmentSize _) p = omega (arith, p)
+error_not_missing MinimumInstructionLengthZero p = omega (arith, p)
+error_not_missing MaximumOperationsPerInstructionZero p = omega (arith, p)
+error_not_missing LineRangeZero p = omega (arith, p)
+error_not_missing OpcodeBaseZero p = omega (arith, p)
+error_not_missing MissingFileEntryFormatPath p = omega (arith, p)
+error_not_missing (UnknownForm _) p = omega (arith, p)
+error_not_missing AddressOverflow p = omega (arith, p)
+error_not_missing UnsupportedOffset p = omega (arith, p)
+error_not_missing ExpectedStringAttributeValue p = omega (arith, p)
+error_not_missing OutOfMemory p = omega (arith, p)
+
+pub unit_not_missing : (p : Location) → HasNoUnit p 40 → ⊥
+unit_not_missing p (inl q) = let z : 40 ≡ 6 = q.1 in omega (arith, z)
+unit_not_missing p (inr q) = error_not_missing q.1 q.3
+
 pub path_not_ok : (i : SectionIndex) (unit file : ℕ) (comp_dir : List ℕ) → HasNoPath i unit file comp_dir 0 → ⊥
-path_not_ok i unit file comp_dir (inl p) = let z : 0 ≡ 18 = p.0 in omega (arith, z)
-path_not_ok i unit file comp_dir (inr (inl p)) = let z : 0 ≡ 33 = p.0 in omega (arith, z)
-path_not_ok i unit file comp_dir (inr (inr r)) = unit_not_ok (unit_location i r.kept) r.refused
+path_not_ok i unit file comp_dir (inl p) = let z : 0 ≡ 40 = p.0 in omega (arith, z)
+path_not_ok i unit file comp_dir (inr (inl p)) = let z : 0 ≡ 26 = p.0 in omega (arith, z)
+path_not_ok i unit file comp_dir (inr (inr (inl p))) = let z : 0 ≡ 33 = p.0 in omega (arith, z)
+path_not_ok i unit file comp_dir (inr (inr (inr r))) = unit_not_ok (unit_location i r.kept) r.refused
 
 -- the path of a file that is looked up where it is known
 pub same_path : (i : SectionIndex) (start now : RunState) (h : Header) (index : ℕ) (comp_dir : List ℕ) (f : File) → IsLookedUp start now h index

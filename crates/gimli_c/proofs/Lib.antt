@@ -12,3 +12,4 @@ pub mod ReaderHandles
 pub mod CompDirs
 pub mod Indexes
 pub mod Readers
+pub mod Maps

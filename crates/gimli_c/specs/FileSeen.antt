@@ -19,7 +19,7 @@ use Rattle.gimli_c.specs.Seen.{flag}
 use Rattle.gimli_c.specs.Written.{slots_with}
 
 abbrev pub text_at : ℕ → ℕ → ℕ → GimliText
-text_at kind place size = record { kind = kind; place = place; size = size }
+text_at kind first size = record { kind = kind; first = first; size = size }
 
 -- a text: 1 in the section itself, 2 to 4 in another one, 5 by an index; 0 is none
 abbrev pub text_seen : Value → GimliText
@@ -56,7 +56,7 @@ file_seen_by_c h f = record {
   path = text_seen f.path_name;
   directory = optional_text_seen (directory_of h f.directory_index);
   source = optional_text_seen f.source;
-  directory_index = f.directory_index;
+  directory_number = f.directory_index;
   timestamp = f.timestamp;
   size = f.size;
   details = details_of h;

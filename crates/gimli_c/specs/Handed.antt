@@ -45,7 +45,7 @@ line_encoding_of e = record {
 
 -- the bytes of a text, which stands among these
 abbrev pub text_handed : List ℕ → GimliName → List ℕ
-text_handed texts name = slice_range texts name.place (name.place + name.size)
+text_handed texts name = slice_range texts name.first (name.first + name.size)
 
 -- ---- rows
 

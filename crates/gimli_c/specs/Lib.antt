@@ -16,4 +16,6 @@ pub mod Owned
 pub mod Indexed
 pub mod Reader
 pub mod CompDir
+pub mod Mapped
+pub mod ElfSeen
 pub mod inside

@@ -1,44 +1,8 @@
 -- The number of each constant of `status`.
 use Rattle.std.specs.Prelude.{◌≡◌}
-use Rattle.gimli_c.specs.declared.status.TheConstants.{
-  OK,
-  UNEXPECTED_EOF,
-  BAD_UNSIGNED_LEB128,
-  BAD_SIGNED_LEB128,
-  UNKNOWN_RESERVED_LENGTH,
-  UNKNOWN_VERSION,
-  UNSUPPORTED_ADDRESS_SIZE,
-  UNSUPPORTED_SEGMENT_SIZE,
-  MINIMUM_INSTRUCTION_LENGTH_ZERO,
-  MAXIMUM_OPERATIONS_PER_INSTRUCTION_ZERO,
-  LINE_RANGE_ZERO,
-  OPCODE_BASE_ZERO,
-  MISSING_FILE_ENTRY_FORMAT_PATH,
-  UNKNOWN_FORM,
-  ADDRESS_OVERFLOW,
-  UNSUPPORTED_OFFSET,
-  EXPECTED_STRING_ATTRIBUTE_VALUE,
-  OUT_OF_MEMORY,
-  NOT_FOUND,
-  UNSUPPORTED_OFFSET_SIZE,
-  UNSUPPORTED_LINE_ENCODING,
-  TEXT_OUT_OF_BOUNDS,
-  ZERO_IN_TEXT,
-  EMPTY_TEXT,
-  NO_SOURCE_FILE,
-  NO_SUCH_DIRECTORY,
-  NO_SUCH_FILE,
-  ROW_OUT_OF_ORDER,
-  UNKNOWN_FLAG,
-  NEED_VERSION_4,
-  UNIT_TOO_LONG,
-  NO_ROOM,
-  CLOSED,
-  UNKNOWN_PATH,
-}
+use Rattle.gimli_c.specs.declared.status.TheConstants.{OK, UNEXPECTED_EOF, BAD_UNSIGNED_LEB128, BAD_SIGNED_LEB128, UNKNOWN_RESERVED_LENGTH, UNKNOWN_VERSION, UNSUPPORTED_ADDRESS_SIZE, UNSUPPORTED_SEGMENT_SIZE, MINIMUM_INSTRUCTION_LENGTH_ZERO, MAXIMUM_OPERATIONS_PER_INSTRUCTION_ZERO, LINE_RANGE_ZERO, OPCODE_BASE_ZERO, MISSING_FILE_ENTRY_FORMAT_PATH, UNKNOWN_FORM, ADDRESS_OVERFLOW, UNSUPPORTED_OFFSET, EXPECTED_STRING_ATTRIBUTE_VALUE, OUT_OF_MEMORY, NO_ROW, UNSUPPORTED_OFFSET_SIZE, UNSUPPORTED_LINE_ENCODING, TEXT_OUT_OF_BOUNDS, ZERO_IN_TEXT, EMPTY_TEXT, NO_SOURCE_FILE, NO_SUCH_DIRECTORY, NO_SUCH_FILE, ROW_OUT_OF_ORDER, UNKNOWN_FLAG, NEED_VERSION_4, UNIT_TOO_LONG, NO_ROOM, CLOSED, UNKNOWN_PATH, NO_MAP, UNKNOWN_MAP_VERSION, MAP_CUT, MAP_HEADER, MAP_DISORDERED, MAP_PATH_OUTSIDE, NO_SUCH_UNIT, NO_CODE, NO_COMP_DIR, UNKNOWN_OPTIONS, NO_ELF, NO_SECTION, BAD_SECTION}
 
--- the constants are these numbers, which the enum `gimli_status` of include/gimli_line.h has under
--- the same names
+-- the constants are these numbers, which the enum `gimli_status` of include/gimli_line.h has under the same names
 pub record AreNumbered : Type 0 where
   pub ok : OK ≡ 0
   pub unexpected_eof : UNEXPECTED_EOF ≡ 1
@@ -58,7 +22,7 @@ pub record AreNumbered : Type 0 where
   pub unsupported_offset : UNSUPPORTED_OFFSET ≡ 15
   pub expected_string_attribute_value : EXPECTED_STRING_ATTRIBUTE_VALUE ≡ 16
   pub out_of_memory : OUT_OF_MEMORY ≡ 17
-  pub not_found : NOT_FOUND ≡ 18
+  pub no_row : NO_ROW ≡ 18
   pub unsupported_offset_size : UNSUPPORTED_OFFSET_SIZE ≡ 19
   pub unsupported_line_encoding : UNSUPPORTED_LINE_ENCODING ≡ 20
   pub text_out_of_bounds : TEXT_OUT_OF_BOUNDS ≡ 21
@@ -74,3 +38,16 @@ pub record AreNumbered : Type 0 where
   pub no_room : NO_ROOM ≡ 31
   pub closed : CLOSED ≡ 32
   pub unknown_path : UNKNOWN_PATH ≡ 33
+  pub no_map : NO_MAP ≡ 34
+  pub unknown_map_version : UNKNOWN_MAP_VERSION ≡ 35
+  pub map_cut : MAP_CUT ≡ 36
+  pub map_header : MAP_HEADER ≡ 37
+  pub map_disordered : MAP_DISORDERED ≡ 38
+  pub map_path_outside : MAP_PATH_OUTSIDE ≡ 39
+  pub no_such_unit : NO_SUCH_UNIT ≡ 40
+  pub no_code : NO_CODE ≡ 41
+  pub no_comp_dir : NO_COMP_DIR ≡ 42
+  pub unknown_options : UNKNOWN_OPTIONS ≡ 43
+  pub no_elf : NO_ELF ≡ 44
+  pub no_section : NO_SECTION ≡ 45
+  pub bad_section : BAD_SECTION ≡ 46

@@ -7,7 +7,7 @@ ghost use Rattle.gimli_c.specs.CompDir.{sections_handed, TellsDirectory, WritesD
 
 use crate::file::copy_bytes;
 use crate::location::order;
-use crate::status::{NOT_FOUND, OK, OUT_OF_MEMORY};
+use crate::status::{NO_COMP_DIR, OK, OUT_OF_MEMORY};
 use gimli_compilation::{CompilationSections, Compilations};
 use gimli_core::{EndianSlice, RunTimeEndian};
 use std::alloc::Global;
@@ -38,7 +38,7 @@ fn sections_in<'s>(
 /// Tells the directory of the compilation (`DW_AT_comp_dir`) whose line program begins at an offset
 /// of `.debug_line`: that of the first unit of `.debug_info` that names this line program and has a
 /// directory. The bytes go into `directory`, as far as there is room; `size` is how many there are.
-/// `NOT_FOUND` where no unit that can be read has one. Where another number than 0 is returned,
+/// `NO_COMP_DIR` where no unit that can be read has one. Where another number than 0 is returned,
 /// nothing is written. The first entry of each unit is read for each call.
 #[unsafe(no_mangle)]
 pub extern "C" fn gimli_line_comp_dir(
@@ -51,15 +51,15 @@ pub extern "C" fn gimli_line_comp_dir(
     big: bool,
     offset: u64,
     directory: &mut [u8],
-    size: &mut u64,
+    size: &mut usize,
 ) -> u32
     ensures found { let sections = sections_handed info.now abbreviations.now
         line_strings.now strings.now string_offsets.now big in
         result ≡ OK → WritesDirectory sections offset directory.old directory.new size.new }
     ensures none { let sections = sections_handed info.now abbreviations.now
         line_strings.now strings.now string_offsets.now big in
-        result ≡ NOT_FOUND → TellsDirectory sections offset None }
-    ensures refused { result ≢ OK → (result ≡ NOT_FOUND) ⊎ (result ≡ OUT_OF_MEMORY) }
+        result ≡ NO_COMP_DIR → TellsDirectory sections offset None }
+    ensures refused { result ≢ OK → (result ≡ NO_COMP_DIR) ⊎ (result ≡ OUT_OF_MEMORY) }
     ensures kept { result ≢ OK → (directory.new ≡ directory.old) × (size.new ≡ size.old) }
 {
     let sections = sections_in(
@@ -74,9 +74,9 @@ pub extern "C" fn gimli_line_comp_dir(
         return OUT_OF_MEMORY;
     };
     let Some(text) = compilations.directory_of(offset) else {
-        return NOT_FOUND;
+        return NO_COMP_DIR;
     };
-    *size = text.slice().len() as u64;
+    *size = text.slice().len();
     copy_bytes(text.slice(), directory);
     OK
 }

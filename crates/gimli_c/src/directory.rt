@@ -7,14 +7,13 @@ ghost use Rattle.gimli_c.specs.Location.{location, HasNoUnit};
 
 use crate::file::{GimliText, copy_bytes, text_here};
 use crate::location::program_at;
-use crate::status::{NOT_FOUND, OK, OUT_OF_MEMORY, UNSUPPORTED_ADDRESS_SIZE};
+use crate::status::{NO_SUCH_DIRECTORY, OK, OUT_OF_MEMORY, UNSUPPORTED_ADDRESS_SIZE};
 use std::alloc::Global;
 
-/// Reads the directory of an index, as files have it: up to version 4 from 1 on, in version 5 from
-/// 0 on. Its bytes go into `bytes`, as far as they stand in the section itself, and there is room.
-/// `NOT_FOUND` where there is no such directory, as there is none of index 0 up to version 4. Where
-/// another number than 0 is returned, nothing is written. For `address_size` and the order see
-/// `gimli_line_unit`.
+/// Reads the directory of a number, as files have it: up to version 4 from 1 on, in version 5 from 0 on. Its bytes go into
+/// `bytes`, as far as they stand in the section itself, and there is room. `NO_SUCH_DIRECTORY` where there is no such directory, as
+/// there is none of number 0 up to version 4. Where another number than 0 is returned, nothing is written. For
+/// `address_size` and the order see `gimli_line_unit`.
 #[unsafe(no_mangle)]
 pub extern "C" fn gimli_line_directory(
     alloc: Global,
@@ -22,15 +21,15 @@ pub extern "C" fn gimli_line_directory(
     big: bool,
     address_size: u8,
     offset: usize,
-    index: u64,
+    number: u64,
     directory: &mut GimliText,
     bytes: &mut [u8],
 ) -> u32
     ensures found { result ≡ OK → GivesDirectory (location section.now big address_size offset)
-        index directory.new bytes.old bytes.new }
-    ensures none { result ≡ NOT_FOUND →
-        GivesNoDirectory (location section.now big address_size offset) index }
-    ensures refused { result ≢ OK → result ≢ NOT_FOUND → result ≢ OUT_OF_MEMORY →
+        number directory.new bytes.old bytes.new }
+    ensures none { result ≡ NO_SUCH_DIRECTORY →
+        GivesNoDirectory (location section.now big address_size offset) number }
+    ensures refused { result ≢ OK → result ≢ NO_SUCH_DIRECTORY → result ≢ OUT_OF_MEMORY →
         HasNoUnit (location section.now big address_size offset) result }
     ensures size { is_address_size address_size ≡ false → result ≡ UNSUPPORTED_ADDRESS_SIZE }
     ensures kept { result ≢ OK → (directory.new ≡ directory.old) × (bytes.new ≡ bytes.old) }
@@ -39,9 +38,9 @@ pub extern "C" fn gimli_line_directory(
         Ok(program) => program,
         Err(status) => return status,
     };
-    let value = match program.header().directory(index) {
+    let value = match program.header().directory(number) {
         Some(value) => value,
-        None => return NOT_FOUND,
+        None => return NO_SUCH_DIRECTORY,
     };
     *directory = GimliText::new(Some(value));
     if let Some(text) = text_here(Some(value)) {

@@ -4,15 +4,14 @@ ghost use Rattle.std.specs.Prelude.{◌≡◌, ◌≢◌, false, option_map};
 ghost use Rattle.gimli_core.specs.Numbers.{is_address_size};
 ghost use Rattle.gimli_core.specs.Values.{value_seen};
 ghost use Rattle.gimli_line.specs.header.File.{file_seen};
-ghost use Rattle.gimli_c.specs.FileSeen.{details_of, file_seen_by_c, optional_text_seen, text_here};
-ghost use Rattle.gimli_c.specs.FileSeen.{GivesFile, GivesNoFile};
+ghost use Rattle.gimli_c.specs.FileSeen.{details_of, file_seen_by_c, optional_text_seen, text_here, GivesFile, GivesNoFile};
 ghost use Rattle.gimli_c.specs.Location.{location, HasNoUnit};
 ghost use Rattle.gimli_c.specs.Written.{slots_with};
 
 use crate::location::program_at;
 use crate::row::flag;
 use crate::run::run_to_file;
-use crate::status::{NOT_FOUND, OK, OUT_OF_MEMORY, UNSUPPORTED_ADDRESS_SIZE, error_status};
+use crate::status::{NO_SUCH_FILE, OK, OUT_OF_MEMORY, UNSUPPORTED_ADDRESS_SIZE, error_status};
 use gimli_core::{AttributeValue, Reader, ReaderOffset};
 use gimli_line::{FileEntry, LineProgramHeader};
 use std::alloc::Global;
@@ -21,11 +20,10 @@ use std::alloc::Global;
 #[repr(C)]
 #[derive(Clone, Copy)]
 pub struct GimliText {
-    /// `TEXT_NONE`, `TEXT_HERE`, `TEXT_DEBUG_LINE_STR`, `TEXT_DEBUG_STR`, `TEXT_DEBUG_STR_SUP` or
-    /// `TEXT_INDEX`.
+    /// `TEXT_NONE`, `TEXT_HERE`, `TEXT_DEBUG_LINE_STR`, `TEXT_DEBUG_STR`, `TEXT_DEBUG_STR_SUP` or `TEXT_INDEX`.
     pub kind: u64,
     /// The offset in another section, or the index.
-    pub place: u64,
+    pub first: u64,
     /// The number of bytes of a text that stands in the section itself.
     pub size: u64,
 }
@@ -49,18 +47,17 @@ pub const TEXT_INDEX: u64 = 5;
 pub struct GimliFile {
     /// The path, which is full or starts at the directory.
     pub path: GimliText,
-    /// The directory; none where its index is that of no directory, as index 0 is up to version 4.
+    /// The directory; none where its number is that of no directory, as number 0 is up to version 4.
     pub directory: GimliText,
     /// The text of the file; none where it isn't known.
     pub source: GimliText,
-    /// The index of the directory.
-    pub directory_index: u64,
+    /// The number of the directory.
+    pub directory_number: u64,
     /// When the file was last changed, in a measure of the producer's own; 0 where it isn't known.
     pub timestamp: u64,
     /// The size in bytes; 0 where it isn't known.
     pub size: u64,
-    /// The sum of `HAS_TIMESTAMP`, `HAS_SIZE`, `HAS_MD5` and `HAS_SOURCE`, each where the unit's
-    /// files have that detail.
+    /// The sum of `HAS_TIMESTAMP`, `HAS_SIZE`, `HAS_MD5` and `HAS_SOURCE`, each where the unit's files have that detail.
     pub details: u64,
     /// The MD5 digest; zeros where it isn't known.
     pub md5: [u8; 16],
@@ -75,12 +72,10 @@ pub const HAS_MD5: u64 = 4;
 /// The files have a source text.
 pub const HAS_SOURCE: u64 = 8;
 
-/// Reads the file of an index, as rows have it: up to version 4 from 1 on, in version 5 from 0 on.
-/// Where the unit's table has no such file, the program is run to its end, past its faults, for the
-/// files that it defines. The bytes of the path and of the directory go into `path` and
-/// `directory`, as far as they stand in the section itself, and there is room. `NOT_FOUND` where
-/// there is no such file. Where another number than 0 is returned, nothing is written. For
-/// `address_size` and the order see `gimli_line_unit`.
+/// Reads the file of a number, as rows have it: up to version 4 from 1 on, in version 5 from 0 on. Where the unit's table has no
+/// such file, the program is run to its end, past its faults, for the files that it defines. The bytes of the path and of the directory go into `path` and
+/// `directory`, as far as they stand in the section itself, and there is room. `NO_SUCH_FILE` where there is no such file.
+/// Where another number than 0 is returned, nothing is written. For `address_size` and the order see `gimli_line_unit`.
 #[unsafe(no_mangle)]
 pub extern "C" fn gimli_line_file(
     alloc: Global,
@@ -88,16 +83,16 @@ pub extern "C" fn gimli_line_file(
     big: bool,
     address_size: u8,
     offset: usize,
-    index: u64,
+    number: u64,
     file: &mut GimliFile,
     path: &mut [u8],
     directory: &mut [u8],
 ) -> u32
     ensures found { result ≡ OK → GivesFile (location section.now big address_size offset)
-        index file.new path.old path.new directory.old directory.new }
-    ensures none { result ≡ NOT_FOUND →
-        GivesNoFile (location section.now big address_size offset) index }
-    ensures refused { result ≢ OK → result ≢ NOT_FOUND → result ≢ OUT_OF_MEMORY →
+        number file.new path.old path.new directory.old directory.new }
+    ensures none { result ≡ NO_SUCH_FILE →
+        GivesNoFile (location section.now big address_size offset) number }
+    ensures refused { result ≢ OK → result ≢ NO_SUCH_FILE → result ≢ OUT_OF_MEMORY →
         HasNoUnit (location section.now big address_size offset) result }
     ensures size { is_address_size address_size ≡ false → result ≡ UNSUPPORTED_ADDRESS_SIZE }
     ensures kept { result ≢ OK →
@@ -108,14 +103,14 @@ pub extern "C" fn gimli_line_file(
         Err(status) => return status,
     };
     let mut rows = program.rows();
-    match run_to_file(&mut rows, index) {
+    match run_to_file(&mut rows, number) {
         Ok(()) => {}
         Err(e) => return error_status(e),
     }
     let header = rows.header();
-    let entry = match header.file(index) {
+    let entry = match header.file(number) {
         Some(entry) => entry,
-        None => return NOT_FOUND,
+        None => return NO_SUCH_FILE,
     };
     *file = GimliFile::new(header, entry);
     if let Some(text) = text_here(Some(entry.path_name())) {
@@ -137,7 +132,7 @@ impl GimliFile {
             path: GimliText::new(Some(file.path_name())),
             directory: GimliText::new(file.directory(header)),
             source: GimliText::new(file.source()),
-            directory_index: file.directory_index(),
+            directory_number: file.directory_index(),
             timestamp: file.timestamp(),
             size: file.size(),
             details: details(header),
@@ -152,7 +147,7 @@ impl GimliText {
         ensures { result
             ≡ optional_text_seen (option_map (value_seen R.bytes R.Offset.number) value) }
     {
-        let (kind, place, size) = match value {
+        let (kind, first, size) = match value {
             Some(AttributeValue::String(text)) => (TEXT_HERE, 0, text.len().into_u64()),
             Some(AttributeValue::DebugLineStrRef(offset)) => {
                 (TEXT_DEBUG_LINE_STR, offset.0.into_u64(), 0)
@@ -168,7 +163,7 @@ impl GimliText {
             ),
             _ => (TEXT_NONE, 0, 0),
         };
-        GimliText { kind, place, size }
+        GimliText { kind, first, size }
     }
 }
 

@@ -7,16 +7,15 @@ ghost use Rattle.gimli_c.specs.Location.{location};
 
 use crate::location::program_at;
 use crate::row::GimliRow;
-use crate::status::{NOT_FOUND, OK, OUT_OF_MEMORY, UNSUPPORTED_ADDRESS_SIZE, error_status};
+use crate::status::{NO_ROW, OK, OUT_OF_MEMORY, UNSUPPORTED_ADDRESS_SIZE, error_status};
 use gimli_lookup::find_in_run;
 use std::alloc::Global;
 
-/// Looks an address up in the unit at an offset: `first` is the row that it belongs to, and
-/// `second` the next row, up to whose address that holds. They are the first two adjacent rows of
-/// one sequence of which the first has an address at most the one that is looked up, and the second
-/// one above it. `NOT_FOUND` where there are none. A program whose run has a fault has no
-/// sequences, and its first fault is returned. Where another number than 0 is returned, both rows
-/// stay as they were. For `address_size` and the order see `gimli_line_unit`.
+/// Looks an address up in the unit at an offset: `first` is the row that it belongs to, and `second` the next row, up
+/// to whose address that holds. They are the first two adjacent rows of one sequence of which the first has an address
+/// at most the one that is looked up, and the second one above it. `NO_ROW` where there are none. A program whose
+/// run has a fault has no sequences, and its first fault is returned. Where another number than 0 is returned, both
+/// rows stay as they were. For `address_size` and the order see `gimli_line_unit`.
 #[unsafe(no_mangle)]
 pub extern "C" fn gimli_line_find(
     alloc: Global,
@@ -30,9 +29,9 @@ pub extern "C" fn gimli_line_find(
 ) -> u32
     ensures found { result ≡ OK →
         GivesPair (location section.now big address_size offset) address first.new second.new }
-    ensures none { result ≡ NOT_FOUND →
+    ensures none { result ≡ NO_ROW →
         GivesNoPair (location section.now big address_size offset) address }
-    ensures refused { result ≢ OK → result ≢ NOT_FOUND → result ≢ OUT_OF_MEMORY →
+    ensures refused { result ≢ OK → result ≢ NO_ROW → result ≢ OUT_OF_MEMORY →
         HasNoSequences (location section.now big address_size offset) result }
     ensures size { is_address_size address_size ≡ false → result ≡ UNSUPPORTED_ADDRESS_SIZE }
     ensures kept { result ≢ OK → (first.new ≡ first.old) × (second.new ≡ second.old) }
@@ -47,7 +46,7 @@ pub extern "C" fn gimli_line_find(
             *second = GimliRow::new(&y);
             OK
         }
-        Ok(None) => NOT_FOUND,
+        Ok(None) => NO_ROW,
         Err(e) => error_status(e),
     }
 }

@@ -7,6 +7,7 @@ mod kept;
 mod lines;
 mod open;
 mod path;
+mod read_unit;
 mod tables;
 mod units;
 
@@ -15,8 +16,9 @@ pub use find::{GimliPlace, gimli_line_index_find, gimli_line_index_find_all};
 pub use handle::GimliLineIndex;
 pub use kept::SectionIndex;
 pub use lines::gimli_line_index_addresses_of;
-pub use open::gimli_line_index_open;
+pub use open::{GimliOpenOptions, OPTIONS_SIZE, gimli_line_index_open};
 pub use path::gimli_line_index_path;
+pub use read_unit::gimli_line_index_read_unit;
 pub use tables::{gimli_line_index_directory, gimli_line_index_file};
 pub use units::{
     GimliIndexUnit, gimli_line_index_addresses, gimli_line_index_unit, gimli_line_index_unit_count,

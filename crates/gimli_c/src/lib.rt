@@ -1,12 +1,13 @@
 //! Line number programs of DWARF, versions 2 to 5, for programs in C and in Rust.
 //!
-//! Each call takes the bytes of a section, or the handle of an index, and numbers, and returns a
-//! number of [`status`]; what it found goes into places of the caller. Nothing of the caller is
-//! kept after a call. `include/gimli_line.h` declares all of it.
+//! Each call takes the bytes of a section or of a map, or the handle of an index, and numbers, and returns a number of [`status`];
+//! what it found goes into places of the caller. Nothing of the caller is kept after a call. `include/gimli_line.h`
+//! declares all of it.
 #![tactic(auto)]
 
 mod comp_dir;
 mod directory;
+mod elf;
 mod encoding;
 mod file;
 mod find;
@@ -15,6 +16,7 @@ mod items;
 pub mod laws;
 mod location;
 mod loose;
+mod map;
 mod row;
 mod row_reader;
 mod rows;
@@ -28,6 +30,7 @@ mod write;
 
 pub use comp_dir::gimli_line_comp_dir;
 pub use directory::gimli_line_directory;
+pub use elf::{GimliElf, gimli_elf_open, gimli_elf_section};
 pub use encoding::GimliEncoding;
 pub use file::{
     GimliFile, GimliText, HAS_MD5, HAS_SIZE, HAS_SOURCE, HAS_TIMESTAMP, TEXT_DEBUG_LINE_STR,
@@ -35,10 +38,15 @@ pub use file::{
 };
 pub use find::gimli_line_find;
 pub use index::{
-    GimliIndexUnit, GimliLineIndex, GimliPlace, SectionIndex, gimli_line_index_addresses,
-    gimli_line_index_addresses_of, gimli_line_index_close, gimli_line_index_directory,
-    gimli_line_index_file, gimli_line_index_find, gimli_line_index_find_all, gimli_line_index_open,
-    gimli_line_index_path, gimli_line_index_unit, gimli_line_index_unit_count,
+    GimliIndexUnit, GimliLineIndex, GimliOpenOptions, GimliPlace, OPTIONS_SIZE, SectionIndex,
+    gimli_line_index_addresses, gimli_line_index_addresses_of, gimli_line_index_close,
+    gimli_line_index_directory, gimli_line_index_file, gimli_line_index_find,
+    gimli_line_index_find_all, gimli_line_index_open, gimli_line_index_path,
+    gimli_line_index_read_unit, gimli_line_index_unit, gimli_line_index_unit_count,
+};
+pub use map::{
+    GimliMap, GimliMapPlace, NO_PATH_OUTSIDE, gimli_line_map_check, gimli_line_map_find,
+    gimli_line_map_find_all, gimli_line_map_open,
 };
 pub use row::{BASIC_BLOCK, END_SEQUENCE, EPILOGUE_BEGIN, GimliRow, IS_STMT, PROLOGUE_END};
 pub use row_reader::{

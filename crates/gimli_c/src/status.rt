@@ -42,8 +42,8 @@ pub const UNSUPPORTED_OFFSET: u32 = 15;
 pub const EXPECTED_STRING_ATTRIBUTE_VALUE: u32 = 16;
 /// Not enough memory.
 pub const OUT_OF_MEMORY: u32 = 17;
-/// What was looked up isn't there.
-pub const NOT_FOUND: u32 = 18;
+/// No row covers the address, or a map says nothing of it.
+pub const NO_ROW: u32 = 18;
 /// The size of offsets, in bytes, isn't 4 or 8.
 pub const UNSUPPORTED_OFFSET_SIZE: u32 = 19;
 /// Rows can't be written by this line encoding.
@@ -56,9 +56,9 @@ pub const ZERO_IN_TEXT: u32 = 22;
 pub const EMPTY_TEXT: u32 = 23;
 /// No directory or no file, in version 5.
 pub const NO_SOURCE_FILE: u32 = 24;
-/// No directory has the index that a file has.
+/// No directory has this number: the one that is asked for, or that a file has.
 pub const NO_SUCH_DIRECTORY: u32 = 25;
-/// No file has the number that a row has.
+/// No file has this number: the one that is asked for, or that a row has.
 pub const NO_SUCH_FILE: u32 = 26;
 /// A row can't follow the one before: its address is lower, or its operation at the same address
 /// is; or its address isn't a whole number of shortest instructions after the first of its
@@ -79,6 +79,34 @@ pub const CLOSED: u32 = 32;
 /// A string of a path can't be told: it is given by an index, stands in the supplementary file or
 /// outside its section, or has no zero byte at its end; or a file's directory isn't there.
 pub const UNKNOWN_PATH: u32 = 33;
+
+/// The bytes don't begin as a map does.
+pub const NO_MAP: u32 = 34;
+/// The version of a map is unknown.
+pub const UNKNOWN_MAP_VERSION: u32 = 35;
+/// A map ends before its parts do.
+pub const MAP_CUT: u32 = 36;
+/// A size or the base in the header of a map is one that can't be.
+pub const MAP_HEADER: u32 = 37;
+/// The ranges of a map don't ascend.
+pub const MAP_DISORDERED: u32 = 38;
+/// A path isn't inside its map.
+pub const MAP_PATH_OUTSIDE: u32 = 39;
+
+/// An index has no unit of this number.
+pub const NO_SUCH_UNIT: u32 = 40;
+/// No line from the one that is asked for on has code.
+pub const NO_CODE: u32 = 41;
+/// No unit of `.debug_info` that can be read tells the directory of the compilation.
+pub const NO_COMP_DIR: u32 = 42;
+/// Options have a size that this library doesn't know.
+pub const UNKNOWN_OPTIONS: u32 = 43;
+/// The bytes are no ELF file that can be read.
+pub const NO_ELF: u32 = 44;
+/// An ELF file has no section of this name.
+pub const NO_SECTION: u32 = 45;
+/// A section of an ELF file can't be read: it is cut, compressed in a way that is unknown, or its relocations are.
+pub const BAD_SECTION: u32 = 46;
 
 /// The number of a refusal.
 pub(crate) fn error_status(error: Error) -> u32

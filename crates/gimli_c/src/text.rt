@@ -15,7 +15,7 @@ use std::alloc::Global;
 #[derive(Clone, Copy)]
 pub struct GimliName {
     /// Where it begins.
-    pub place: u64,
+    pub first: u64,
     /// How many bytes it has.
     pub size: u64,
 }
@@ -36,10 +36,10 @@ pub(crate) fn text_of(
     ensures cause { IfErr result (λ s. s ≢ OUT_OF_MEMORY → HasTextFault version texts.now name s) }
 {
     let count = texts.len() as u64;
-    if name.place > count || name.size > count - name.place {
+    if name.first > count || name.size > count - name.first {
         return Err(TEXT_OUT_OF_BOUNDS);
     }
-    let bytes = &texts[name.place as usize..(name.place + name.size) as usize];
+    let bytes = &texts[name.first as usize..(name.first + name.size) as usize];
     if has_zero(bytes) {
         return Err(ZERO_IN_TEXT);
     }

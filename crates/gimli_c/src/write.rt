@@ -50,7 +50,7 @@ pub extern "C" fn gimli_line_write(
     files: &[GimliFileName],
     rows: &[GimliRow],
     unit: &mut [u8],
-    size: &mut u64,
+    size: &mut usize,
 ) -> u32
     ensures ok { result ≡ OK → GivesUnitOf (handed_of encoding.now big details texts.now
         directories.now files.now rows.now) unit.old unit.new size.new }
@@ -76,7 +76,7 @@ pub extern "C" fn gimli_line_write(
         Err(e) => return write_status(e),
     };
     let bytes = section.slice();
-    *size = bytes.len() as u64;
+    *size = bytes.len();
     if bytes.len() > unit.len() {
         return NO_ROOM;
     }

@@ -4,6 +4,7 @@ pub mod Header
 pub mod Parts
 pub mod Meaning
 pub mod Views
+pub mod Spans
 pub mod Sound
 pub mod inside
 pub mod Contents

@@ -19,9 +19,11 @@ mod path_bytes;
 mod place;
 mod source_hints;
 mod source_table;
+mod span;
 
 pub use contents::{Contents, Entry, Source, SourceLine};
 pub use error::{IndexError, MakeError};
 pub use line_index::LineIndex;
 pub use made::write_index;
 pub use place::{NoPath, Place, Start};
+pub use span::{PlaceSpan, Span};

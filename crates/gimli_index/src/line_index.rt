@@ -2,13 +2,14 @@
 
 ghost use Rattle.std.specs.Prelude.{◌≡◌, ◌*◌, ◌<◌, ◌≤◌, ◌+◌, ◌^◌, ◌↔◌, []};
 ghost use Rattle.std.specs.Prelude.{ℕ, length, drop, slice_get};
-ghost use Rattle.std.specs.Prelude.{option_map, IsTrue};
+ghost use Rattle.std.specs.Prelude.{option_map, IfOk, IsTrue};
 ghost use Rattle.gimli_core.specs.Reading.{result_map};
 ghost use Rattle.gimli_index.specs.Header.{size_of, highest_base};
 ghost use Rattle.gimli_index.specs.Parts.{index_at, parts_at};
 ghost use Rattle.gimli_index.specs.Meaning.{entry_place, path_in, path_of, place_at, place_from};
 ghost use Rattle.gimli_index.specs.Meaning.{source_at, start_at, start_number, starts_of};
 ghost use Rattle.gimli_index.specs.Meaning.{AreAscending};
+ghost use Rattle.gimli_index.specs.Spans.{StandsIn};
 ghost use Rattle.gimli_index.specs.inside.Numbers.{NumbersAscend};
 
 use crate::error::IndexError;
@@ -17,7 +18,7 @@ use crate::number::{long, word};
 use crate::place::{NoPath, Place, Start};
 
 /// The bytes of an entry: the number of its source, the line and the column.
-const ENTRY_SIZE: usize = 12;
+pub(crate) const ENTRY_SIZE: usize = 12;
 
 /// The bytes of a source: the offset of its unit, where its path is, and why there is none.
 const SOURCE_SIZE: usize = 24;
@@ -35,14 +36,18 @@ const SOURCE_SIZE: usize = 24;
 pub struct LineIndex<'a> {
     address_size: u16,
     start_size: StartSize,
-    base: u64,
+    pub(crate) base: u64,
     pub(crate) starts: usize,
     pub(crate) sources: usize,
     source_bytes: &'a [u8],
     start_bytes: &'a [u8],
-    entry_bytes: &'a [u8],
+    pub(crate) entry_bytes: &'a [u8],
     pub(crate) path_bytes: &'a [u8],
     identity: &'a [u8],
+    pub(crate) paths_offset: usize,
+    pub(crate) identity_offset: usize,
+    ghost identity_there: { identity_offset ≡ paths_offset + length path_bytes.now },
+    ghost paths_there: { paths_offset ≡ 40 + 24 * sources + size_of start_size * starts + 12 * starts },
     ghost low: { base ≤ highest_base start_size },
     ghost all_sources: { length source_bytes.now ≡ 24 * sources },
     ghost all_starts: { length start_bytes.now ≡ size_of start_size * starts },
@@ -82,7 +87,8 @@ impl<'a> LineIndex<'a> {
     /// base that is too high for addresses of 64 bits (`Base`), and an index that ends before its
     /// header or its parts do (`HeaderCut`, `Cut`). Bytes after the index aren't looked at.
     pub fn open(bytes: &'a [u8]) -> Result<LineIndex<'a>, IndexError>
-        ensures { result_map index_of result ≡ index_at bytes.now }
+        ensures index { result_map index_of result ≡ index_at bytes.now }
+        ensures stands { IfOk result (λ index. StandsIn bytes.now (index_of index)) }
     {
         let header = Header::parse(bytes)?;
         LineIndex::parts(bytes, header)
@@ -91,7 +97,8 @@ impl<'a> LineIndex<'a> {
     /// The index of a header.
     fn parts(bytes: &'a [u8], header: Header) -> Result<LineIndex<'a>, IndexError>
         requires { header.base ≤ highest_base header.start_size }
-        ensures { result_map index_of result ≡ parts_at bytes.now header }
+        ensures index { result_map index_of result ≡ parts_at bytes.now header }
+        ensures stands { IfOk result (λ index. StandsIn bytes.now (index_of index)) }
     {
         let starts = HEADER_SIZE + SOURCE_SIZE * header.sources as usize;
         let entries = starts + header.start_size.bytes_of(header.starts);
@@ -112,6 +119,8 @@ impl<'a> LineIndex<'a> {
             entry_bytes: &bytes[entries..paths],
             path_bytes: &bytes[paths..identity],
             identity: &bytes[identity..end],
+            paths_offset: paths,
+            identity_offset: identity,
         })
     }
 
@@ -207,7 +216,7 @@ impl<'a> LineIndex<'a> {
     }
 
     /// How many starts are at most so far above the base, where they ascend.
-    fn starts_up_to(&self, number: u64) -> usize
+    pub(crate) fn starts_up_to(&self, number: u64) -> usize
         ensures within { result ≤ self.now.starts }
         ensures before { NumbersAscend (index_of self.now) → (k : ℕ) → k < result
             → start_number (index_of self.now) k ≤ number }

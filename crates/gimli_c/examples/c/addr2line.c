@@ -38,11 +38,11 @@ static void print_row(const gimli_row *row) {
 static uint32_t print_rows(const uint8_t *section, size_t length, size_t offset) {
     gimli_row_reader reader = GIMLI_ROW_READER_CLOSED;
     uint32_t status = gimli_line_rows_open(section, length, false, 8, offset, &reader);
-    uint64_t count = ROOM;
+    size_t count = ROOM;
     while (status == GIMLI_OK && count == ROOM) {
         gimli_row rows[ROOM];
         status = gimli_line_rows_next(&reader, rows, ROOM, &count);
-        for (uint64_t i = 0; i < count; i++) print_row(&rows[i]);
+        for (size_t i = 0; i < count; i++) print_row(&rows[i]);
     }
     gimli_line_rows_close(&reader);
     return status;
@@ -66,9 +66,9 @@ int main(int argc, char **argv) {
     }
     for (int i = 2; i < argc; i++) {
         uint64_t address = strtoull(argv[i], NULL, 16);
-        uint32_t status = GIMLI_NOT_FOUND;
+        uint32_t status = GIMLI_NO_ROW;
         gimli_row first, second;
-        for (size_t offset = 0; status == GIMLI_NOT_FOUND && offset < length; offset = unit.next) {
+        for (size_t offset = 0; status == GIMLI_NO_ROW && offset < length; offset = unit.next) {
             if (gimli_line_unit(section, length, false, 8, offset, &unit) != GIMLI_OK) return 1;
             status = gimli_line_find(section, length, false, 8, offset, address, &first, &second);
         }

@@ -51,7 +51,7 @@ static const section table = {declaration, sizeof declaration};
 
 /* Asks for the directory of the line program at an offset, into some room. */
 static uint32_t ask(section info, section abbreviations, uint64_t offset, uint8_t *directory,
-                    size_t room, uint64_t *size) {
+                    size_t room, size_t *size) {
     return gimli_line_comp_dir(info.bytes, info.length, abbreviations.bytes, abbreviations.length,
                                none, 0, none, 0, none, 0, false, offset, directory, room, size);
 }
@@ -59,10 +59,10 @@ static uint32_t ask(section info, section abbreviations, uint64_t offset, uint8_
 /* No directory is told, and nothing is written. */
 static void expect_none(section info, section abbreviations, uint64_t offset, const char *what) {
     uint8_t directory[ROOM], before[ROOM];
-    uint64_t size = 77;
+    size_t size = 77;
     memset(directory, 0xaa, ROOM);
     memset(before, 0xaa, ROOM);
-    expect(ask(info, abbreviations, offset, directory, ROOM, &size) == GIMLI_NOT_FOUND, what);
+    expect(ask(info, abbreviations, offset, directory, ROOM, &size) == GIMLI_NO_COMP_DIR, what);
     expect(size == 77 && memcmp(directory, before, ROOM) == 0, what);
 }
 
@@ -70,7 +70,7 @@ static void expect_none(section info, section abbreviations, uint64_t offset, co
 static void expect_directory(section info, const char *wanted) {
     for (size_t room = 0; room <= ROOM; room++) {
         uint8_t directory[ROOM + 1];
-        uint64_t size = 77;
+        size_t size = 77;
         size_t some = room < strlen(wanted) ? room : strlen(wanted);
         memset(directory, 0xaa, sizeof directory);
         expect(ask(info, table, 0, directory, room, &size) == GIMLI_OK, wanted);
@@ -83,7 +83,7 @@ static void expect_directory(section info, const char *wanted) {
 static void expect_path(gimli_line_index *index, uint64_t file, const char *directory,
                         const char *wanted) {
     uint8_t path[ROOM];
-    uint64_t size = 0;
+    size_t size = 0;
     uint32_t status = gimli_line_index_path(index, 0, file, (const uint8_t *)directory,
                                             strlen(directory), path, ROOM, &size);
     expect(status == GIMLI_OK && size == strlen(wanted) && memcmp(path, wanted, size) == 0, wanted);
@@ -91,8 +91,9 @@ static void expect_path(gimli_line_index *index, uint64_t file, const char *dire
 
 static gimli_line_index opened(section lines) {
     gimli_line_index index = GIMLI_LINE_INDEX_CLOSED;
-    uint32_t status = gimli_line_index_open(lines.bytes, lines.length, false, 8, 0, none, 0, none, 0,
-                                            &index);
+    gimli_open_options options = GIMLI_OPEN_OPTIONS;
+    options.lowest = 0;
+    uint32_t status = gimli_line_index_open(lines.bytes, lines.length, none, 0, none, 0, &options, &index);
     expect(status == GIMLI_OK, "gimli_line_index_open");
     return index;
 }

@@ -17,11 +17,11 @@ __attribute__((section("__libfuzzer_extra_counters"))) static uint8_t counters[C
 static void count(unsigned kind, uint64_t value) {
     unsigned bits = 0;
     while (value >> bits != 0 && bits < 16) bits++;
-    counters[(kind * 64 + (value < 40 ? (unsigned)value : 40 + bits)) % COUNTERS] = 1;
+    counters[(kind * 64 + (value < 47 ? (unsigned)value : 47 + bits)) % COUNTERS] = 1;
 }
 
 static uint32_t answered(unsigned call, uint32_t status) {
-    if (status > GIMLI_UNKNOWN_PATH) abort();
+    if (status > GIMLI_BAD_SECTION) abort();
     count(call, status);
     return status;
 }
@@ -34,7 +34,8 @@ static void same(bool holds) {
 static void read_rows(const uint8_t *data, size_t size, bool big, uint8_t address_size, size_t offset, gimli_line_index *index,
                       uint64_t unit) {
     static gimli_row all[MOST_ROWS], some[ROOM];
-    uint64_t rows = 0, given = ROOM, skip = 0;
+    uint64_t rows = 0, skip = 0;
+    size_t given = ROOM;
     gimli_row_reader reader = GIMLI_ROW_READER_CLOSED;
     uint32_t status = answered(1, gimli_line_rows(data, size, big, address_size, offset, 0, all, MOST_ROWS, &rows));
     uint32_t opened = answered(2, gimli_line_index_rows_open(index, unit, &reader));
@@ -45,7 +46,7 @@ static void read_rows(const uint8_t *data, size_t size, bool big, uint8_t addres
     count(3, rows);
     while (given == ROOM) {
         uint32_t end = answered(4, gimli_line_rows_next(&reader, some, ROOM, &given));
-        for (uint64_t i = 0; i < given && skip + i < MOST_ROWS; i++) same(memcmp(&all[skip + i], &some[i], sizeof *all) == 0);
+        for (size_t i = 0; i < given && skip + i < MOST_ROWS; i++) same(memcmp(&all[skip + i], &some[i], sizeof *all) == 0);
         skip += given;
         same(end == (given < ROOM ? status : (uint32_t)GIMLI_OK));
     }
@@ -57,17 +58,17 @@ static void read_rows(const uint8_t *data, size_t size, bool big, uint8_t addres
     }
     gimli_line_rows_close(&reader);
     same(reader.at == NULL);
-    uint64_t addresses[ROOM];
     gimli_place places[ROOM];
     uint64_t asked = rows < ROOM ? rows : ROOM;
-    for (uint64_t i = 0; i < asked; i++) addresses[i] = all[i].address + i % 3;
-    same(gimli_line_index_find_all(index, addresses, asked, places, ROOM) == GIMLI_OK);
+    for (uint64_t i = 0; i < asked; i++) places[i].address = all[i].address + i % 3;
+    same(gimli_line_index_find_all(index, places, asked) == GIMLI_OK);
     for (uint64_t i = 0; i < asked; i++) {
         gimli_place place;
         memset(&place, 0, sizeof place);
-        uint32_t found = answered(8, gimli_line_index_find(index, addresses[i], &place));
-        same(memcmp(&place, &places[i], sizeof place) == 0 && (found == GIMLI_OK) == (place.end > addresses[i]));
-        if (found == GIMLI_OK) same(place.row.address <= addresses[i]);
+        const uint64_t address = place.address = places[i].address;
+        uint32_t found = answered(8, gimli_line_index_find(index, address, &place));
+        same(memcmp(&place, &places[i], sizeof place) == 0 && (found == GIMLI_OK) == (place.end > address));
+        if (found == GIMLI_OK) same(place.row.address <= address);
     }
 }
 
@@ -87,7 +88,8 @@ static void read_tables(const uint8_t *data, size_t size, bool big, uint8_t addr
         }
         status = answered(12, gimli_line_directory(data, size, big, address_size, offset, number, &text, directory, 64));
         same(gimli_line_index_directory(index, unit, number, &text, directory, 64) == status);
-        uint64_t length = 0, found = 0, line = 0, addresses[4];
+        size_t length = 0, found = 0;
+        uint64_t line = 0, addresses[4];
         status = answered(13, gimli_line_index_path(index, unit, number, (const uint8_t *)"/comp", 5, path, 64, &length));
         if (status == GIMLI_OK) {
             count(14, length);
@@ -100,7 +102,7 @@ static void read_tables(const uint8_t *data, size_t size, bool big, uint8_t addr
 /* The directory for the first line program, by the bytes as .debug_info and the others as each other
  * section; into some room. */
 static uint32_t directory_in(const uint8_t *data, size_t size, size_t others, bool big, size_t room,
-                             uint64_t *length) {
+                             size_t *length) {
     const uint8_t *other = data + size;
     uint8_t directory[64];
     return gimli_line_comp_dir(data, size, other, others, other, others, other, others, other,
@@ -109,12 +111,32 @@ static uint32_t directory_in(const uint8_t *data, size_t size, size_t others, bo
 
 /* The same with room and without any. */
 static void read_directory(const uint8_t *data, size_t size, size_t others, bool big) {
-    uint64_t some = UINT64_MAX, none = UINT64_MAX;
+    size_t some = SIZE_MAX, none = SIZE_MAX;
     uint32_t status = answered(23, directory_in(data, size, others, big, 64, &some));
     same(directory_in(data, size, others, big, 0, &none) == status && some == none);
-    same((status == GIMLI_OK) == (some != UINT64_MAX));
-    same(status == GIMLI_OK || status == GIMLI_NOT_FOUND);
+    same((status == GIMLI_OK) == (some != SIZE_MAX));
+    same(status == GIMLI_OK || status == GIMLI_NO_COMP_DIR);
     count(24, some);
+}
+
+/* The bytes as a map, and as an ELF file. */
+static void read_file(const uint8_t *data, size_t size) {
+    gimli_map map;
+    uint32_t opened = answered(25, gimli_line_map_open(data, size, &map));
+    uint32_t checked = answered(26, gimli_line_map_check(data, size));
+    same(opened == GIMLI_OK || checked == opened);
+    for (uint64_t address = 0; address < 3; address++) {
+        gimli_map_place place;
+        uint32_t status = answered(27, gimli_line_map_find(data, size, address << 22, &place));
+        same(opened == GIMLI_OK ? status == GIMLI_OK || status == GIMLI_NO_ROW : status == opened);
+        if (status == GIMLI_OK) same(place.path <= size && place.path_size <= size - place.path);
+    }
+    gimli_elf elf;
+    uint8_t bytes[64];
+    size_t length = 0;
+    uint32_t is_elf = answered(28, gimli_elf_open(data, size, &elf));
+    uint32_t status = answered(29, gimli_elf_section(data, size, (const uint8_t *)".debug_line", 11, bytes, 64, &length));
+    same(is_elf == GIMLI_OK ? status != GIMLI_NO_ELF : status == GIMLI_NO_ELF);
 }
 
 int LLVMFuzzerTestOneInput(const uint8_t *data, size_t size);
@@ -128,9 +150,11 @@ int LLVMFuzzerTestOneInput(const uint8_t *data, size_t size) {
     data += 2;
     size -= 2 + strings;
     read_directory(data, size, strings, big);
+    read_file(data, size);
     gimli_line_index index = GIMLI_LINE_INDEX_CLOSED;
-    uint64_t units = 0;
-    if (answered(17, gimli_line_index_open(data, size, big, address_size, 0, data + size, strings, data + size, strings, &index)) !=
+    gimli_open_options options = {sizeof options, 0, address_size, big};
+    size_t units = 0;
+    if (answered(17, gimli_line_index_open(data, size, data + size, strings, data + size, strings, &options, &index)) !=
         GIMLI_OK) {
         same(index.at == NULL);
         return 0;

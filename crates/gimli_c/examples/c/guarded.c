@@ -69,7 +69,8 @@ static void read_rows(section lines, size_t offset, uint64_t all) {
         gimli_row *rows = guarded(room * sizeof *rows), *next = guarded(room * sizeof *next);
         gimli_row_reader reader = GIMLI_ROW_READER_CLOSED;
         expect(gimli_line_rows_open(lines.bytes, lines.length, false, 8, offset, &reader) == GIMLI_OK, "gimli_line_rows_open");
-        uint64_t count = 0, given = 0, skip = 0;
+        uint64_t count = 0, skip = 0;
+        size_t given = 0;
         do {
             expect(gimli_line_rows(lines.bytes, lines.length, false, 8, offset, skip, rows, room, &count) == GIMLI_OK && count == all,
                    "gimli_line_rows");
@@ -97,15 +98,16 @@ static void read_tables(section lines, gimli_line_index *index, size_t offset, u
                "gimli_line_file");
         expect(gimli_line_index_file(index, unit, number, same, other, room, directory, room) == GIMLI_OK, "gimli_line_index_file");
         expect(memcmp(file, same, sizeof *file) == 0 && memcmp(path, other, room) == 0, "the file of gimli_line_index_file");
-        uint32_t status = gimli_line_directory(lines.bytes, lines.length, false, 8, offset, file->directory_index, text, directory, room);
-        expect(gimli_line_index_directory(index, unit, file->directory_index, text, directory, room) == status, "gimli_line_index_directory");
-        uint64_t *size = guarded(sizeof *size);
+        uint32_t status = gimli_line_directory(lines.bytes, lines.length, false, 8, offset, file->directory_number, text, directory, room);
+        expect(gimli_line_index_directory(index, unit, file->directory_number, text, directory, room) == status, "gimli_line_index_directory");
+        size_t *size = guarded(sizeof *size);
         expect(gimli_line_index_path(index, unit, number, directory, 0, path, room, size) == GIMLI_OK, "gimli_line_index_path");
-        uint64_t *count = guarded(sizeof *count), *line = guarded(sizeof *line), *addresses = guarded(room * sizeof *addresses);
+        size_t *count = guarded(sizeof *count);
+        uint64_t *line = guarded(sizeof *line), *addresses = guarded(room * sizeof *addresses);
         status = gimli_line_index_addresses(index, unit, number, 1, line, addresses, room, count);
-        expect(status == GIMLI_OK || status == GIMLI_NOT_FOUND, "gimli_line_index_addresses");
+        expect(status == GIMLI_OK || status == GIMLI_NO_CODE, "gimli_line_index_addresses");
         status = gimli_line_index_addresses_of(index, path, room, 1, line, addresses, room, count);
-        expect(status == GIMLI_OK || status == GIMLI_NOT_FOUND, "gimli_line_index_addresses_of");
+        expect(status == GIMLI_OK || status == GIMLI_NO_CODE, "gimli_line_index_addresses_of");
         give_back(path, room);
         give_back(directory, room);
         give_back(other, room);
@@ -123,22 +125,21 @@ static void read_tables(section lines, gimli_line_index *index, size_t offset, u
 static void look_up(gimli_line_index *index, uint64_t unit) {
     gimli_row_reader reader = GIMLI_ROW_READER_CLOSED;
     gimli_row rows[ROOM];
-    uint64_t count = 0;
+    size_t count = 0;
     expect(gimli_line_index_rows_open(index, unit, &reader) == GIMLI_OK, "gimli_line_index_rows_open");
     expect(gimli_line_rows_next(&reader, rows, ROOM, &count) == GIMLI_OK, "gimli_line_rows_next");
     gimli_line_rows_close(&reader);
     for (size_t room = 0; room <= count; room++) {
-        uint64_t *addresses = guarded(count * sizeof *addresses);
         gimli_place *places = guarded(room * sizeof *places), *place = guarded(sizeof *place);
-        for (uint64_t i = 0; i < count; i++) addresses[i] = rows[i].address;
-        expect(gimli_line_index_find_all(index, addresses, count, places, room) == GIMLI_OK, "gimli_line_index_find_all");
+        for (size_t i = 0; i < room; i++) places[i].address = rows[i].address;
+        expect(gimli_line_index_find_all(index, places, room) == GIMLI_OK, "gimli_line_index_find_all");
         for (size_t i = 0; i < room; i++) {
             memset(place, 0, sizeof *place);
-            uint32_t status = gimli_line_index_find(index, addresses[i], place);
+            place->address = rows[i].address;
+            uint32_t status = gimli_line_index_find(index, rows[i].address, place);
             expect(memcmp(place, &places[i], sizeof *place) == 0 && (status == GIMLI_OK) == (place->end != 0),
                    "the places of gimli_line_index_find_all");
         }
-        give_back(addresses, count * sizeof *addresses);
         give_back(places, room * sizeof *places);
         give_back(place, sizeof *place);
     }
@@ -149,7 +150,7 @@ static uint32_t directory_of(const section *sections, size_t length, size_t offs
     section lines = sections[0], line_strings = sections[1], info = sections[2];
     section abbrev = sections[3], str = sections[4];
     uint8_t *cut = guarded(length), *directory = guarded(room);
-    uint64_t *size = guarded(sizeof *size);
+    size_t *size = guarded(sizeof *size);
     memcpy(cut, info.bytes, length);
     memset(directory, 0xaa, room);
     *size = 77;
@@ -157,7 +158,7 @@ static uint32_t directory_of(const section *sections, size_t length, size_t offs
                                           line_strings.bytes, line_strings.length, str.bytes,
                                           str.length, lines.bytes, 0, false, offset, directory,
                                           room, size);
-    expect(status == GIMLI_OK || status == GIMLI_NOT_FOUND, "gimli_line_comp_dir");
+    expect(status == GIMLI_OK || status == GIMLI_NO_COMP_DIR, "gimli_line_comp_dir");
     bool is_as_before = *size == 77;
     for (size_t i = 0; i < room; i++) is_as_before = is_as_before && directory[i] == 0xaa;
     expect(status == GIMLI_OK || is_as_before, "what gimli_line_comp_dir writes at a refusal");
@@ -177,7 +178,7 @@ static void read_directory(const section *sections, size_t offset) {
     size_t first = 4 + (info.bytes[0] | (size_t)info.bytes[1] << 8 | (size_t)info.bytes[2] << 16);
     for (size_t length = 0; length < info.length; length++) {
         uint32_t status = directory_of(sections, length, offset, ROOM);
-        expect(length >= first || status == GIMLI_NOT_FOUND, "the status where .debug_info is cut");
+        expect(length >= first || status == GIMLI_NO_COMP_DIR, "the status where .debug_info is cut");
     }
 }
 
@@ -190,8 +191,13 @@ int main(int argc, char **argv) {
     for (int i = 0; i < 5; i++) sections[i] = read_file(argv[i + 1]);
     section lines = sections[0], line_strings = sections[1];
     gimli_line_index index = GIMLI_LINE_INDEX_CLOSED;
-    expect(gimli_line_index_open(lines.bytes, lines.length, false, 8, 0, line_strings.bytes, line_strings.length, lines.bytes, 0, &index) ==
+    gimli_open_options options = GIMLI_OPEN_OPTIONS;
+    options.lowest = 0;
+    expect(gimli_line_index_open(lines.bytes, lines.length, line_strings.bytes, line_strings.length, lines.bytes, 0, &options, &index) ==
                GIMLI_OK, "gimli_line_index_open");
+    options.size--;
+    expect(gimli_line_index_open(lines.bytes, 0, lines.bytes, 0, lines.bytes, 0, &options, &index) == GIMLI_UNKNOWN_OPTIONS,
+           "the size of options");
     uint64_t number = 0;
     gimli_unit *unit = guarded(sizeof *unit);
     for (size_t offset = 0; offset < lines.length; offset = unit->next) {

@@ -50,10 +50,10 @@ typedef struct contents {
 static gimli_name add_name(contents *to, const gimli_text *text, const uint8_t *here, section line_strings) {
     const uint8_t *from = here;
     size_t size = text->size;
-    if (text->kind == GIMLI_TEXT_DEBUG_LINE_STR && text->place < line_strings.length) {
-        from = line_strings.bytes + text->place;
-        const uint8_t *end = memchr(from, 0, line_strings.length - text->place);
-        size = end != NULL ? (size_t)(end - from) : line_strings.length - text->place;
+    if (text->kind == GIMLI_TEXT_DEBUG_LINE_STR && text->first < line_strings.length) {
+        from = line_strings.bytes + text->first;
+        const uint8_t *end = memchr(from, 0, line_strings.length - text->first);
+        size = end != NULL ? (size_t)(end - from) : line_strings.length - text->first;
     } else if (text->kind != GIMLI_TEXT_HERE) {
         size = 0;
     }
@@ -81,7 +81,7 @@ static contents read_unit(section lines, section line_strings, size_t offset) {
                                 NAME_ROOM), "gimli_line_file");
         read.files[i].path = add_name(&read, &file.path, path, line_strings);
         read.directories[i] = add_name(&read, &file.directory, directory, line_strings);
-        read.files[i].directory = first && file.directory_index == 0 ? 0 : i + first;
+        read.files[i].directory = first && file.directory_number == 0 ? 0 : i + first;
         read.files[i].timestamp = file.timestamp;
         read.files[i].size = file.size;
         memcpy(read.files[i].md5, file.md5, sizeof file.md5);
@@ -99,7 +99,7 @@ static section write_unit(const contents *read) {
     encoding.version = (uint16_t)read->unit.version;
     encoding.offset_size = (uint8_t)read->unit.offset_size;
     section written = {malloc(1), 0};
-    uint64_t size = 0;
+    size_t size = 0;
     uint32_t status = GIMLI_NO_ROOM;
     while (status == GIMLI_NO_ROOM) {
         status = gimli_line_write(&encoding, false, read->details, read->texts, read->text_length, read->directories,
@@ -116,7 +116,7 @@ static section write_unit(const contents *read) {
 }
 
 static bool same_name(const contents *a, gimli_name x, const contents *b, gimli_name y) {
-    return x.size == y.size && memcmp(a->texts + x.place, b->texts + y.place, x.size) == 0;
+    return x.size == y.size && memcmp(a->texts + x.first, b->texts + y.first, x.size) == 0;
 }
 
 static bool same_file(const contents *a, uint64_t i, const contents *b, uint64_t j) {

@@ -19,17 +19,19 @@ static size_t length;
 static uint64_t summed(void) {
     gimli_line_index index = GIMLI_LINE_INDEX_CLOSED;
     gimli_row_reader reader = GIMLI_ROW_READER_CLOSED;
-    uint64_t sum = 0, units = 0;
-    if (gimli_line_index_open(section, length, false, 8, 0, section, 0, section, 0, &index) != GIMLI_OK) exit(1);
+    gimli_open_options options = GIMLI_OPEN_OPTIONS;
+    size_t units = 0;
+    uint64_t sum = 0;
+    if (gimli_line_index_open(section, length, section, 0, section, 0, &options, &index) != GIMLI_OK) exit(1);
     if (gimli_line_index_unit_count(&index, &units) != GIMLI_OK) exit(1);
     for (uint64_t unit = 0; unit < units; unit++) {
-        uint64_t count = ROOM;
+        size_t count = ROOM;
         if (gimli_line_index_rows_open(&index, unit, &reader) != GIMLI_OK) exit(1);
         while (count == ROOM) {
             gimli_row rows[ROOM];
             gimli_place place;
             if (gimli_line_rows_next(&reader, rows, ROOM, &count) != GIMLI_OK) exit(1);
-            for (uint64_t i = 0; i < count; i++) {
+            for (size_t i = 0; i < count; i++) {
                 sum = sum * 31 + rows[i].address + rows[i].line;
                 if (gimli_line_index_find(&index, rows[i].address, &place) == GIMLI_OK) sum = sum * 31 + place.end + place.row.line;
             }

@@ -4,7 +4,7 @@
  *
  * One index is made of the whole program; each address is looked up in it, and a path is asked for once. The directory of the
  * compilation, which whole paths go on from, is taken from .debug_info: once for paths of one unit that follow each other.
- * Sections that are compressed aren't read: `objcopy --decompress-debug-sections` writes them out. */
+ * Compressed sections are made whole. */
 #include <inttypes.h>
 #include <stdio.h>
 #include <stdlib.h>
@@ -18,7 +18,8 @@
 enum { PATHS = 1024, BATCH = 256, DIRECTORY = 4096 };
 
 typedef struct path {
-    uint64_t unit, file, size;
+    uint64_t unit, file;
+    size_t size;
     uint8_t *bytes; /* null where there is none yet */
 } path;
 
@@ -29,7 +30,7 @@ typedef struct places {
     path paths[PATHS];
     uint64_t unit;                /* the unit whose directory is kept */
     uint8_t directory[DIRECTORY]; /* that in which it was compiled */
-    uint64_t directory_size;      /* 0 where it isn't known */
+    size_t directory_size;        /* 0 where it isn't known */
 } places;
 
 static void stop_if(uint32_t status, const char *call) {
@@ -46,23 +47,23 @@ static void read_directory(places *all, uint64_t unit) {
     const elf_sections *program = &all->program;
     uint32_t status = gimli_line_comp_dir(program->info.bytes, program->info.length, program->abbrev.bytes, program->abbrev.length,
                                           program->line_str.bytes, program->line_str.length, program->str.bytes, program->str.length,
-                                          program->str_offsets.bytes, program->str_offsets.length, program->big, found.offset,
+                                          program->str_offsets.bytes, program->str_offsets.length, program->elf.big, found.offset,
                                           all->directory, DIRECTORY, &all->directory_size);
-    if (status != GIMLI_NOT_FOUND) stop_if(status, "gimli_line_comp_dir");
-    if (status == GIMLI_NOT_FOUND || all->directory_size > DIRECTORY) all->directory_size = 0;
+    if (status != GIMLI_NO_COMP_DIR) stop_if(status, "gimli_line_comp_dir");
+    if (status == GIMLI_NO_COMP_DIR || all->directory_size > DIRECTORY) all->directory_size = 0;
     all->unit = unit;
 }
 
 /* Asks for a path with some room, and again where it is longer. */
 static void read_path(places *all, path *found) {
-    uint64_t room = 256;
+    size_t room = 256;
     read_directory(all, found->unit);
     for (;;) {
         found->bytes = realloc(found->bytes, room);
         if (found->bytes == NULL) stop_if(GIMLI_OUT_OF_MEMORY, "realloc");
         uint32_t status = gimli_line_index_path(&all->index, found->unit, found->file, all->directory, all->directory_size,
                                                 found->bytes, room, &found->size);
-        if (status == GIMLI_UNKNOWN_PATH || status == GIMLI_NOT_FOUND) {
+        if (status == GIMLI_UNKNOWN_PATH || status == GIMLI_NO_SUCH_FILE) {
             memcpy(found->bytes, "??", 2);
             found->size = 2;
             return;
@@ -87,7 +88,7 @@ static void print_place(places *all, const gimli_place *place) {
 static void look_up(places *all, uint64_t address) {
     gimli_place place;
     uint32_t status = gimli_line_index_find(&all->index, address, &place);
-    if (status == GIMLI_NOT_FOUND) {
+    if (status == GIMLI_NO_ROW) {
         puts("none");
         return;
     }
@@ -97,12 +98,11 @@ static void look_up(places *all, uint64_t address) {
 
 /* The addresses of the input, many at once: the place of one that no row covers has the end 0. */
 static void look_input_up(places *all) {
-    static uint64_t addresses[BATCH];
     static gimli_place found[BATCH];
     char line[64];
     for (size_t count = BATCH; count == BATCH;) {
-        for (count = 0; count < BATCH && fgets(line, sizeof line, stdin) != NULL; count++) addresses[count] = strtoull(line, NULL, 16);
-        stop_if(gimli_line_index_find_all(&all->index, addresses, count, found, BATCH), "gimli_line_index_find_all");
+        for (count = 0; count < BATCH && fgets(line, sizeof line, stdin) != NULL; count++) found[count].address = strtoull(line, NULL, 16);
+        stop_if(gimli_line_index_find_all(&all->index, found, count), "gimli_line_index_find_all");
         for (size_t i = 0; i < count; i++) {
             if (found[i].end == 0)
                 puts("none");
@@ -123,9 +123,9 @@ int main(int argc, char **argv) {
         return 1;
     }
     const elf_sections *program = &all.program;
-    stop_if(gimli_line_index_open(program->line.bytes, program->line.length, program->big, program->address_size, program->lowest,
-                                  program->line_str.bytes, program->line_str.length, program->str.bytes, program->str.length,
-                                  &all.index),
+    gimli_open_options options = elf_options(program);
+    stop_if(gimli_line_index_open(program->line.bytes, program->line.length, program->line_str.bytes, program->line_str.length,
+                                  program->str.bytes, program->str.length, &options, &all.index),
             "gimli_line_index_open");
     for (int i = 2; i < argc; i++) look_up(&all, strtoull(argv[i], NULL, 16));
     if (argc == 2) look_input_up(&all);

@@ -1,6 +1,7 @@
 // Prints the path, line and column of addresses of a program, as examples/c/where_is.c does: an index as a class.
 //
 //   where_is PROGRAM ADDRESS..      in hexadecimal
+#include <cstddef>
 #include <cstdint>
 #include <cstdlib>
 #include <iostream>
@@ -19,9 +20,9 @@ namespace {
 class Index {
 public:
     explicit Index(const elf_sections &sections) : program(sections) {
-        require(gimli_line_index_open(program.line.bytes, program.line.length, program.big, program.address_size, program.lowest,
-                                      program.line_str.bytes, program.line_str.length, program.str.bytes, program.str.length,
-                                      &handle));
+        const gimli_open_options options = elf_options(&program);
+        require(gimli_line_index_open(program.line.bytes, program.line.length, program.line_str.bytes, program.line_str.length,
+                                      program.str.bytes, program.str.length, &options, &handle));
     }
     Index(const Index &) = delete;
     Index &operator=(const Index &) = delete;
@@ -30,7 +31,7 @@ public:
     // Whether a row covers the address; `place` is where it belongs then.
     bool find(std::uint64_t address, gimli_place &place) {
         const std::uint32_t status = gimli_line_index_find(&handle, address, &place);
-        if (status == GIMLI_NOT_FOUND) return false;
+        if (status == GIMLI_NO_ROW) return false;
         require(status);
         return true;
     }
@@ -59,13 +60,13 @@ private:
         gimli_index_unit found;
         require(gimli_line_index_unit(&handle, unit, &found));
         std::vector<std::uint8_t> room(256);
-        std::uint64_t size = 0;
+        std::size_t size = 0;
         for (;;) {
             const std::uint32_t status = gimli_line_comp_dir(
                 program.info.bytes, program.info.length, program.abbrev.bytes, program.abbrev.length, program.line_str.bytes,
                 program.line_str.length, program.str.bytes, program.str.length, program.str_offsets.bytes,
-                program.str_offsets.length, program.big, found.offset, room.data(), room.size(), &size);
-            if (status != GIMLI_NOT_FOUND) require(status);
+                program.str_offsets.length, program.elf.big, found.offset, room.data(), room.size(), &size);
+            if (status != GIMLI_NO_COMP_DIR) require(status);
             const bool is_whole = size <= room.size();
             room.resize(size);
             if (is_whole) return room;
@@ -75,12 +76,11 @@ private:
     std::string read_path(std::uint64_t unit, std::uint64_t file) {
         std::vector<std::uint8_t> room(256);
         const std::vector<std::uint8_t> &from = directory(unit);
-        const std::uint8_t no_bytes[1] = {0};
-        const std::uint8_t *bytes = from.empty() ? no_bytes : from.data();
-        std::uint64_t size = 0;
+        const std::uint8_t *bytes = gimli_bytes(from.data());
+        std::size_t size = 0;
         for (;;) {
             const std::uint32_t status = gimli_line_index_path(&handle, unit, file, bytes, from.size(), room.data(), room.size(), &size);
-            if (status == GIMLI_UNKNOWN_PATH || status == GIMLI_NOT_FOUND) return "??";
+            if (status == GIMLI_UNKNOWN_PATH || status == GIMLI_NO_SUCH_FILE) return "??";
             require(status);
             if (size <= room.size()) return std::string(room.begin(), room.begin() + static_cast<std::ptrdiff_t>(size));
             room.resize(size);

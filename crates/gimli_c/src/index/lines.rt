@@ -3,14 +3,13 @@
 ghost use Rattle.std.specs.Prelude.{◌≡◌, ◌≢◌, ◌⊎◌, false, IfErr, IfOk, IfSome, None};
 ghost use Rattle.gimli_core.specs.Numbers.{is_address_size};
 ghost use Rattle.gimli_lookup.specs.Strings.{strings};
-ghost use Rattle.gimli_c.specs.Indexed.{strings_in, AreUnitsIn, GivesAddressesOf, HasNoAddressOf};
-ghost use Rattle.gimli_c.specs.Indexed.{WritesAddressesOf};
+ghost use Rattle.gimli_c.specs.Indexed.{strings_in, AreUnitsIn, GivesAddressesOf, HasNoAddressOf, WritesAddressesOf};
 
 use crate::index::handle::GimliLineIndex;
 use crate::index::kept::SectionIndex;
 use crate::index::units::copy_addresses;
 use crate::location::{is_address_size, order};
-use crate::status::{CLOSED, NOT_FOUND, OK, OUT_OF_MEMORY, UNSUPPORTED_ADDRESS_SIZE};
+use crate::status::{CLOSED, NO_CODE, OK, OUT_OF_MEMORY, UNSUPPORTED_ADDRESS_SIZE};
 use gimli_core::{EndianSlice, RunTimeEndian};
 use gimli_line::DebugLine;
 use gimli_lookup::{Addresses, SectionLookup, StringSections};
@@ -57,7 +56,7 @@ fn addresses_in(
         (λ a. GivesAddressesOf index.now path.now line a.line a.addresses.items) }
     ensures err { IfErr result (λ s. ((s ≡ OUT_OF_MEMORY)
         ⊎ ((s ≡ UNSUPPORTED_ADDRESS_SIZE) × (is_address_size index.now.address_size ≡ false)))
-        ⊎ ((s ≡ NOT_FOUND) × HasNoAddressOf index.now path.now line)) }
+        ⊎ ((s ≡ NO_CODE) × HasNoAddressOf index.now path.now line)) }
 {
     let units = units_in(alloc, index)?;
     let sections = strings_in(index);
@@ -67,14 +66,14 @@ fn addresses_in(
     };
     match found {
         Some(addresses) => Ok(addresses),
-        None => Err(NOT_FOUND),
+        None => Err(NO_CODE),
     }
 }
 
 /// Tells the addresses for a breakpoint at a line of a path, over all units: as
 /// `gimli_line_index_addresses` does, of the files that have this whole path, without the directory
 /// of the compilation where the unit doesn't have it, as up to version 4. The headers of all units
-/// are read and their programs are run for each call. `NOT_FOUND` where no line from it on has any;
+/// are read and their programs are run for each call. `NO_CODE` where no line from it on has any;
 /// `CLOSED` where the handle is. Where another number than 0 is returned, nothing is written.
 #[unsafe(no_mangle)]
 pub extern "C" fn gimli_line_index_addresses_of(
@@ -84,14 +83,14 @@ pub extern "C" fn gimli_line_index_addresses_of(
     line: u64,
     found_line: &mut u64,
     addresses: &mut [u64],
-    count: &mut u64,
+    count: &mut usize,
 ) -> u32
     ensures found { result ≡ OK → IfSome index.old.index (λ i. WritesAddressesOf i path.now line
         found_line.new addresses.old addresses.new count.new) }
-    ensures none { result ≡ NOT_FOUND →
+    ensures none { result ≡ NO_CODE →
         IfSome index.old.index (λ i. HasNoAddressOf i path.now line) }
     ensures closed { index.old.index ≡ None → result ≡ CLOSED }
-    ensures refused { result ≢ OK → result ≢ CLOSED → result ≢ NOT_FOUND → result ≢ OUT_OF_MEMORY →
+    ensures refused { result ≢ OK → result ≢ CLOSED → result ≢ NO_CODE → result ≢ OUT_OF_MEMORY →
         IfSome index.old.index (λ i. is_address_size i.address_size ≡ false) }
     ensures kept { result ≢ OK → (found_line.new ≡ found_line.old) × (addresses.new ≡ addresses.old)
         × (count.new ≡ count.old) }
@@ -105,7 +104,7 @@ pub extern "C" fn gimli_line_index_addresses_of(
     match found {
         Ok(found) => {
             *found_line = found.line;
-            *count = found.addresses.len() as u64;
+            *count = found.addresses.len();
             copy_addresses(&found.addresses, addresses);
             OK
         }

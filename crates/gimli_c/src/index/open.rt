@@ -7,7 +7,7 @@ ghost use Rattle.gimli_c.specs.Indexed.{program, AreUnitsOf, IsIndexOf};
 use crate::index::handle::GimliLineIndex;
 use crate::index::kept::SectionIndex;
 use crate::location::{is_address_size, order};
-use crate::status::{OK, OUT_OF_MEMORY, UNSUPPORTED_ADDRESS_SIZE};
+use crate::status::{OK, OUT_OF_MEMORY, UNKNOWN_OPTIONS, UNSUPPORTED_ADDRESS_SIZE};
 use gimli_core::{EndianSlice, RunTimeEndian};
 use gimli_line::DebugLine;
 use gimli_lookup::SectionLookup;
@@ -45,6 +45,23 @@ fn units_of(
         Err(_) => Err(OUT_OF_MEMORY),
     }
 }
+
+/// How an index is made.
+#[repr(C)]
+#[derive(Clone, Copy)]
+pub struct GimliOpenOptions {
+    /// `OPTIONS_SIZE`: the number of bytes of this struct, by which a later library knows it.
+    pub size: usize,
+    /// The address below which there is no code; 0 leaves no rows out.
+    pub lowest: u64,
+    /// The number of bytes of an address up to version 4: 1, 2, 4 or 8.
+    pub address_size: u8,
+    /// Whether the most significant byte of a number comes first.
+    pub big: bool,
+}
+
+/// The number of bytes of `GimliOpenOptions`.
+pub const OPTIONS_SIZE: usize = 24;
 
 /// The index of a program.
 fn index_of(
@@ -84,34 +101,39 @@ fn index_of(
 /// index that stood there is closed. `line_strings` and `strings` are the sections
 /// `.debug_line_str` and `.debug_str`, or no bytes. The index has copies of all three. A unit that
 /// can't be read has no rows; of one whose run has a fault it has the sequences before that. Rows
-/// below the address `lowest` are left out; 0 leaves none out. Where another number than 0 is
-/// returned, `OUT_OF_MEMORY` or `UNSUPPORTED_ADDRESS_SIZE`, the handle has the index that it had.
-/// For `address_size` and the order see `gimli_line_unit`.
+/// below the address `lowest` are left out; 0 leaves none out. `UNKNOWN_OPTIONS` where the options
+/// have another size. Where another number than 0 is returned, that, `OUT_OF_MEMORY` or
+/// `UNSUPPORTED_ADDRESS_SIZE`, the handle has the index that it had. For `address_size` and the
+/// order see `gimli_line_unit`.
 #[unsafe(no_mangle)]
 pub extern "C" fn gimli_line_index_open(
     alloc: Global,
     section: &[u8],
-    big: bool,
-    address_size: u8,
-    lowest: u64,
     line_strings: &[u8],
     strings: &[u8],
+    options: &GimliOpenOptions,
     index: &mut GimliLineIndex,
 ) -> u32
-    ensures ok { result ≡ OK → IfSome index.new.index (IsIndexOf
-        (program section.now big address_size lowest line_strings.now strings.now)) }
+    ensures ok { result ≡ OK → IfSome index.new.index (IsIndexOf (program section.now
+        options.now.big options.now.address_size options.now.lowest line_strings.now strings.now)) }
     ensures open { result ≡ OK → IsSome index.new.index }
-    ensures size { is_address_size address_size ≡ false → result ≡ UNSUPPORTED_ADDRESS_SIZE }
+    ensures options { options.now.size ≢ OPTIONS_SIZE → result ≡ UNKNOWN_OPTIONS }
+    ensures size { options.now.size ≡ OPTIONS_SIZE →
+        is_address_size options.now.address_size ≡ false → result ≡ UNSUPPORTED_ADDRESS_SIZE }
     ensures refused { result ≢ OK → (result ≡ OUT_OF_MEMORY)
-        ⊎ ((result ≡ UNSUPPORTED_ADDRESS_SIZE) × (is_address_size address_size ≡ false)) }
+        ⊎ ((result ≡ UNSUPPORTED_ADDRESS_SIZE) × (is_address_size options.now.address_size ≡ false))
+        ⊎ ((result ≡ UNKNOWN_OPTIONS) × (options.now.size ≢ OPTIONS_SIZE)) }
     ensures kept { result ≢ OK → index.new.index ≡ index.old.index }
 {
+    if options.size != OPTIONS_SIZE {
+        return UNKNOWN_OPTIONS;
+    }
     match index_of(
         alloc,
         section,
-        big,
-        address_size,
-        lowest,
+        options.big,
+        options.address_size,
+        options.lowest,
         line_strings,
         strings,
     ) {

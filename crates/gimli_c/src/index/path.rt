@@ -12,7 +12,7 @@ use crate::index::handle::GimliLineIndex;
 use crate::index::kept::SectionIndex;
 use crate::location::{order, program_at};
 use crate::run::run_to_file;
-use crate::status::{CLOSED, NOT_FOUND, OK, OUT_OF_MEMORY, UNKNOWN_PATH, error_status};
+use crate::status::{CLOSED, NO_SUCH_FILE, OK, OUT_OF_MEMORY, UNKNOWN_PATH, error_status};
 use gimli_core::{EndianSlice, RunTimeEndian};
 use gimli_line::{FileEntry, LineProgramHeader};
 use gimli_lookup::{PathError, Paths, StringSections};
@@ -81,7 +81,7 @@ fn path_of(
     let header = rows.header();
     let entry = match header.file(file) {
         Some(entry) => entry,
-        None => return Err(NOT_FOUND),
+        None => return Err(NO_SUCH_FILE),
     };
     path_in_header(alloc, index, header, entry, comp_dir)
 }
@@ -90,10 +90,10 @@ fn path_of(
 /// up to the directory of the compilation, `comp_dir` (`DW_AT_comp_dir`). In version 5 the unit has
 /// that one too, and `comp_dir` counts where it is relative; where `comp_dir` has no bytes, such a
 /// path stays relative. The bytes go into `path`, as far as there is room; `size` is how many there
-/// are. `NOT_FOUND` where there is no such unit, or its table has no such file, `UNKNOWN_PATH`
-/// where a string of the path can't be told, and `CLOSED` where the handle is; the number of the
-/// refusal where the unit can't be read. Where another number than 0 is returned, nothing is
-/// written.
+/// are. `NO_SUCH_UNIT` where there is no such unit, `NO_SUCH_FILE` where its table has no such
+/// file, `UNKNOWN_PATH` where a string of the path can't be told, and `CLOSED` where the handle is;
+/// the number of the refusal where the unit can't be read. Where another number than 0 is returned,
+/// nothing is written.
 #[unsafe(no_mangle)]
 pub extern "C" fn gimli_line_index_path(
     alloc: Global,
@@ -102,7 +102,7 @@ pub extern "C" fn gimli_line_index_path(
     file: u64,
     comp_dir: &[u8],
     path: &mut [u8],
-    size: &mut u64,
+    size: &mut usize,
 ) -> u32
     ensures found { result ≡ OK → IfSome index.old.index
         (λ i. WritesPath i unit file comp_dir.now path.old path.new size.new) }
@@ -120,7 +120,7 @@ pub extern "C" fn gimli_line_index_path(
     drop(index.swap(alloc, Some(kept)));
     match found {
         Ok(whole) => {
-            *size = whole.len() as u64;
+            *size = whole.len();
             copy_bytes(&whole, path);
             OK
         }

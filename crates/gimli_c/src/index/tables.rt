@@ -1,14 +1,13 @@
 //! The files and the directories of the units of an index.
 
-ghost use Rattle.std.specs.Prelude.{◌≡◌, ◌≢◌, IfSome, None};
-ghost use Rattle.gimli_c.specs.Indexed.{GivesDirectoryOf, GivesFileOf, HasNoDirectory, HasNoFile};
-ghost use Rattle.gimli_c.specs.Indexed.{UnitRefused};
+ghost use Rattle.std.specs.Prelude.{◌≡◌, ◌≢◌, IfSome, None, slice_get};
+ghost use Rattle.gimli_c.specs.Indexed.{GivesDirectoryOf, GivesFileOf, HasNoDirectory, HasNoFile, UnitRefused};
 
 use crate::directory::gimli_line_directory;
 use crate::file::{GimliFile, GimliText, gimli_line_file};
 use crate::index::handle::GimliLineIndex;
 use crate::index::kept::SectionIndex;
-use crate::status::{CLOSED, NOT_FOUND, OK, OUT_OF_MEMORY};
+use crate::status::{CLOSED, NO_SUCH_DIRECTORY, NO_SUCH_FILE, NO_SUCH_UNIT, OK, OUT_OF_MEMORY};
 use std::alloc::Global;
 
 /// The file of an index of a unit.
@@ -23,8 +22,10 @@ fn file_in(
 ) -> u32
     ensures found { result ≡ OK → GivesFileOf index.now unit number
         file.new path.old path.new directory.old directory.new }
-    ensures none { result ≡ NOT_FOUND → HasNoFile index.now unit number }
-    ensures refused { result ≢ OK → result ≢ NOT_FOUND → result ≢ OUT_OF_MEMORY →
+    ensures no_unit { result ≡ NO_SUCH_UNIT → slice_get index.now.units unit ≡ None }
+    ensures none { result ≡ NO_SUCH_FILE → HasNoFile index.now unit number }
+    ensures refused { result ≢ OK → result ≢ NO_SUCH_UNIT → result ≢ NO_SUCH_FILE →
+        result ≢ OUT_OF_MEMORY →
         UnitRefused index.now unit result }
     ensures kept { result ≢ OK →
         (file.new ≡ file.old) × (path.new ≡ path.old) × (directory.new ≡ directory.old) }
@@ -47,9 +48,9 @@ fn file_in(
 }
 
 /// Reads the file of an index of a unit, as `gimli_line_file` does, by the index's copy of the
-/// section. `NOT_FOUND` where there is no such unit, or the unit has no such file, and `CLOSED`
-/// where the handle is; the number of the refusal where the unit can't be read. Where another
-/// number than 0 is returned, nothing is written.
+/// section. `NO_SUCH_UNIT` where there is no such unit, `NO_SUCH_FILE` where the unit has no such
+/// file, and `CLOSED` where the handle is; the number of the refusal where the unit can't be read.
+/// Where another number than 0 is returned, nothing is written.
 #[unsafe(no_mangle)]
 pub extern "C" fn gimli_line_index_file(
     alloc: Global,
@@ -62,9 +63,12 @@ pub extern "C" fn gimli_line_index_file(
 ) -> u32
     ensures found { result ≡ OK → IfSome index.old.index (λ i. GivesFileOf i unit number
         file.new path.old path.new directory.old directory.new) }
-    ensures none { result ≡ NOT_FOUND → IfSome index.old.index (λ i. HasNoFile i unit number) }
+    ensures no_unit { result ≡ NO_SUCH_UNIT →
+        IfSome index.old.index (λ i. slice_get i.units unit ≡ None) }
+    ensures none { result ≡ NO_SUCH_FILE → IfSome index.old.index (λ i. HasNoFile i unit number) }
     ensures closed { index.old.index ≡ None → result ≡ CLOSED }
-    ensures refused { result ≢ OK → result ≢ NOT_FOUND → result ≢ OUT_OF_MEMORY →
+    ensures refused { result ≢ OK → result ≢ NO_SUCH_UNIT → result ≢ NO_SUCH_FILE →
+        result ≢ OUT_OF_MEMORY →
         IfSome index.old.index (λ i. UnitRefused i unit result) }
     ensures kept { result ≢ OK →
         (file.new ≡ file.old) × (path.new ≡ path.old) × (directory.new ≡ directory.old) }
@@ -89,8 +93,10 @@ fn directory_in(
 ) -> u32
     ensures found { result ≡ OK →
         GivesDirectoryOf index.now unit number directory.new bytes.old bytes.new }
-    ensures none { result ≡ NOT_FOUND → HasNoDirectory index.now unit number }
-    ensures refused { result ≢ OK → result ≢ NOT_FOUND → result ≢ OUT_OF_MEMORY →
+    ensures no_unit { result ≡ NO_SUCH_UNIT → slice_get index.now.units unit ≡ None }
+    ensures none { result ≡ NO_SUCH_DIRECTORY → HasNoDirectory index.now unit number }
+    ensures refused { result ≢ OK → result ≢ NO_SUCH_UNIT → result ≢ NO_SUCH_DIRECTORY →
+        result ≢ OUT_OF_MEMORY →
         UnitRefused index.now unit result }
     ensures kept { result ≢ OK → (directory.new ≡ directory.old) × (bytes.new ≡ bytes.old) }
 {
@@ -123,9 +129,12 @@ pub extern "C" fn gimli_line_index_directory(
 ) -> u32
     ensures found { result ≡ OK → IfSome index.old.index
         (λ i. GivesDirectoryOf i unit number directory.new bytes.old bytes.new) }
-    ensures none { result ≡ NOT_FOUND → IfSome index.old.index (λ i. HasNoDirectory i unit number) }
+    ensures no_unit { result ≡ NO_SUCH_UNIT →
+        IfSome index.old.index (λ i. slice_get i.units unit ≡ None) }
+    ensures none { result ≡ NO_SUCH_DIRECTORY → IfSome index.old.index (λ i. HasNoDirectory i unit number) }
     ensures closed { index.old.index ≡ None → result ≡ CLOSED }
-    ensures refused { result ≢ OK → result ≢ NOT_FOUND → result ≢ OUT_OF_MEMORY →
+    ensures refused { result ≢ OK → result ≢ NO_SUCH_UNIT → result ≢ NO_SUCH_DIRECTORY →
+        result ≢ OUT_OF_MEMORY →
         IfSome index.old.index (λ i. UnitRefused i unit result) }
     ensures kept { result ≢ OK → (directory.new ≡ directory.old) × (bytes.new ≡ bytes.old) }
     ensures same { index.new.index ≡ index.old.index }

@@ -1,15 +1,13 @@
 //! The units of an index.
 
-ghost use Rattle.std.specs.Prelude.{◌≡◌, ◌≢◌, ◌⊎◌, ◌<◌, IfErr, IfOk, IfSome, None, length};
-ghost use Rattle.std.specs.Prelude.{slice_get};
-ghost use Rattle.gimli_c.specs.Indexed.{GivesAddresses, GivesIndexUnit, HasNoAddress, IsUnit};
-ghost use Rattle.gimli_c.specs.Indexed.{WritesAddresses};
+ghost use Rattle.std.specs.Prelude.{◌≡◌, ◌≢◌, ◌⊎◌, ◌<◌, IfErr, IfOk, IfSome, None, length, slice_get};
+ghost use Rattle.gimli_c.specs.Indexed.{GivesAddresses, GivesIndexUnit, HasNoAddress, IsUnit, WritesAddresses};
 ghost use Rattle.gimli_c.specs.Written.{slots_with};
 
 use crate::index::handle::GimliLineIndex;
 use crate::index::kept::SectionIndex;
 use crate::run::fault_status;
-use crate::status::{CLOSED, NOT_FOUND, OK, OUT_OF_MEMORY};
+use crate::status::{CLOSED, NO_CODE, NO_SUCH_UNIT, OK, OUT_OF_MEMORY};
 use gimli_core::{EndianSlice, RunTimeEndian};
 use gimli_lookup::{Addresses, UnitLookup};
 use std::alloc::Global;
@@ -17,36 +15,36 @@ use std::alloc::Global;
 impl SectionIndex {
     ghost use Rattle.gimli_lookup.specs.Section.{KeptUnit};
 
-    /// The index of a unit, or `NOT_FOUND` where there is none.
+    /// The index of a unit, or `NO_SUCH_UNIT` where there is none.
     fn unit_at(&self, unit: u64) -> Result<usize, u32>
         ensures ok { IfOk result (λ index. (index ≡ unit) × (unit < length self.now.units)) }
-        ensures err { IfErr result (λ s. (s ≡ NOT_FOUND) × (slice_get self.now.units unit ≡ None)) }
+        ensures err { IfErr result (λ s. (s ≡ NO_SUCH_UNIT) × (slice_get self.now.units unit ≡ None)) }
     {
         if unit < self.units.units().len() as u64 {
             Ok(unit as usize)
         } else {
-            Err(NOT_FOUND)
+            Err(NO_SUCH_UNIT)
         }
     }
 
-    /// A unit, or `NOT_FOUND` where there is none.
+    /// A unit, or `NO_SUCH_UNIT` where there is none.
     fn listed_unit(
         &self,
         unit: u64,
     ) -> Result<&UnitLookup<EndianSlice<'static, RunTimeEndian>>, u32>
         ensures ok { IfOk result (λ found. (kept : KeptUnit) × IsUnit self.now unit kept
             × (found.now ≡ kept.unit)) }
-        ensures err { IfErr result (λ s. (s ≡ NOT_FOUND) × (slice_get self.now.units unit ≡ None)) }
+        ensures err { IfErr result (λ s. (s ≡ NO_SUCH_UNIT) × (slice_get self.now.units unit ≡ None)) }
     {
         let index = self.unit_at(unit)?;
         Ok(&self.units.units()[index])
     }
 
-    /// The offset of a unit in its section, or `NOT_FOUND` where there is none.
+    /// The offset of a unit in its section, or `NO_SUCH_UNIT` where there is none.
     pub(crate) fn offset_of(&self, unit: u64) -> Result<usize, u32>
         ensures ok { IfOk result (λ offset. (kept : KeptUnit) × IsUnit self.now unit kept
             × (offset ≡ kept.unit.offset)) }
-        ensures err { IfErr result (λ s. (s ≡ NOT_FOUND) × (slice_get self.now.units unit ≡ None)) }
+        ensures err { IfErr result (λ s. (s ≡ NO_SUCH_UNIT) × (slice_get self.now.units unit ≡ None)) }
     {
         let found = self.listed_unit(unit)?;
         Ok(found.offset().0)
@@ -68,7 +66,7 @@ pub struct GimliIndexUnit {
 pub extern "C" fn gimli_line_index_unit_count(
     alloc: Global,
     index: &mut GimliLineIndex,
-    count: &mut u64,
+    count: &mut usize,
 ) -> u32
     ensures ok { IfSome index.old.index (λ i. (result ≡ OK) × (count.new ≡ length i.units)) }
     ensures closed { index.old.index ≡ None → (result ≡ CLOSED) × (count.new ≡ count.old) }
@@ -77,15 +75,15 @@ pub extern "C" fn gimli_line_index_unit_count(
     let Some(kept) = index.swap(alloc, None) else {
         return CLOSED;
     };
-    *count = kept.units.units().len() as u64;
+    *count = kept.units.units().len();
     drop(index.swap(alloc, Some(kept)));
     OK
 }
 
-/// A unit of an index, or `NOT_FOUND` where there is none.
+/// A unit of an index, or `NO_SUCH_UNIT` where there is none.
 fn unit_in(index: &SectionIndex, unit: u64) -> Result<GimliIndexUnit, u32>
     ensures ok { IfOk result (GivesIndexUnit index.now unit) }
-    ensures err { IfErr result (λ s. (s ≡ NOT_FOUND) × (slice_get index.now.units unit ≡ None)) }
+    ensures err { IfErr result (λ s. (s ≡ NO_SUCH_UNIT) × (slice_get index.now.units unit ≡ None)) }
 {
     let found = index.listed_unit(unit)?;
     Ok(GimliIndexUnit {
@@ -94,8 +92,8 @@ fn unit_in(index: &SectionIndex, unit: u64) -> Result<GimliIndexUnit, u32>
     })
 }
 
-/// Tells where a unit stands, and what is wrong with it. `NOT_FOUND` where there is no such unit,
-/// and `CLOSED` where the handle is; then nothing is written.
+/// Tells where a unit stands, and what is wrong with it. `NO_SUCH_UNIT` where there is no such
+/// unit, and `CLOSED` where the handle is; then nothing is written.
 #[unsafe(no_mangle)]
 pub extern "C" fn gimli_line_index_unit(
     alloc: Global,
@@ -104,7 +102,7 @@ pub extern "C" fn gimli_line_index_unit(
     found: &mut GimliIndexUnit,
 ) -> u32
     ensures found { result ≡ OK → IfSome index.old.index (λ i. GivesIndexUnit i unit found.new) }
-    ensures none { result ≡ NOT_FOUND →
+    ensures none { result ≡ NO_SUCH_UNIT →
         IfSome index.old.index (λ i. slice_get i.units unit ≡ None) }
     ensures closed { index.old.index ≡ None → result ≡ CLOSED }
     ensures kept { result ≢ OK → found.new ≡ found.old }
@@ -138,10 +136,10 @@ pub(crate) fn copy_addresses(addresses: &[u64], room: &mut [u64])
 
 /// The addresses of a line of a file of a unit, or the number of a refusal.
 fn addresses_in(index: &SectionIndex, unit: u64, file: u64, line: u64) -> Result<Addresses, u32>
-    ensures ok { IfOk result (λ a.
-        GivesAddresses index.now unit file line a.line a.addresses.items) }
+    ensures ok { IfOk result (λ a. GivesAddresses index.now unit file line a.line a.addresses.items) }
     ensures err { IfErr result (λ s. (s ≡ OUT_OF_MEMORY)
-        ⊎ ((s ≡ NOT_FOUND) × HasNoAddress index.now unit file line)) }
+        ⊎ (((s ≡ NO_SUCH_UNIT) × (slice_get index.now.units unit ≡ None))
+        ⊎ ((s ≡ NO_CODE) × HasNoAddress index.now unit file line))) }
 {
     let unit_index = index.unit_at(unit)?;
     let found = match index.units.addresses_of_file(unit_index, file, line) {
@@ -150,16 +148,16 @@ fn addresses_in(index: &SectionIndex, unit: u64, file: u64, line: u64) -> Result
     };
     match found {
         Some(addresses) => Ok(addresses),
-        None => Err(NOT_FOUND),
+        None => Err(NO_CODE),
     }
 }
 
 /// Tells the addresses for a breakpoint at a line of a file of one unit: of each run of rows of
 /// that line that stand side by side in a sequence, that of the first with `IS_STMT`. Where the
 /// line has none, those of the next line that has; `found_line` is that line. The addresses go into
-/// `addresses`, as far as there is room; `count` is how many there are. `NOT_FOUND` where there is
-/// no such unit, or no line from it on has any; `CLOSED` where the handle is. Where another number
-/// than 0 is returned, nothing is written.
+/// `addresses`, as far as there is room; `count` is how many there are. `NO_SUCH_UNIT` where there
+/// is no such unit, `NO_CODE` where no line from it on has any; `CLOSED` where the handle is. Where
+/// another number than 0 is returned, nothing is written.
 #[unsafe(no_mangle)]
 pub extern "C" fn gimli_line_index_addresses(
     alloc: Global,
@@ -169,16 +167,17 @@ pub extern "C" fn gimli_line_index_addresses(
     line: u64,
     found_line: &mut u64,
     addresses: &mut [u64],
-    count: &mut u64,
+    count: &mut usize,
 ) -> u32
     ensures found { result ≡ OK → IfSome index.old.index
-        (λ i. WritesAddresses i unit file line found_line.new addresses.old addresses.new
-        count.new) }
-    ensures none { result ≡ NOT_FOUND →
+        (λ i. WritesAddresses i unit file line found_line.new addresses.old addresses.new count.new) }
+    ensures no_unit { result ≡ NO_SUCH_UNIT →
+        IfSome index.old.index (λ i. slice_get i.units unit ≡ None) }
+    ensures none { result ≡ NO_CODE →
         IfSome index.old.index (λ i. HasNoAddress i unit file line) }
     ensures closed { index.old.index ≡ None → result ≡ CLOSED }
-    ensures number { result ≢ OK
-        → (result ≡ CLOSED) ⊎ (result ≡ NOT_FOUND) ⊎ (result ≡ OUT_OF_MEMORY) }
+    ensures number { result ≢ OK → (result ≡ CLOSED) ⊎ (result ≡ NO_SUCH_UNIT)
+        ⊎ (result ≡ NO_CODE) ⊎ (result ≡ OUT_OF_MEMORY) }
     ensures kept { result ≢ OK → (found_line.new ≡ found_line.old) × (addresses.new ≡ addresses.old)
         × (count.new ≡ count.old) }
     ensures same { index.new.index ≡ index.old.index }
@@ -191,7 +190,7 @@ pub extern "C" fn gimli_line_index_addresses(
     match found {
         Ok(found) => {
             *found_line = found.line;
-            *count = found.addresses.len() as u64;
+            *count = found.addresses.len();
             copy_addresses(&found.addresses, addresses);
             OK
         }

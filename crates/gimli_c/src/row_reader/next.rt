@@ -71,7 +71,7 @@ pub extern "C" fn gimli_line_rows_next(
     alloc: Global,
     reader: &mut GimliRowReader,
     rows: &mut [GimliRow],
-    count: &mut u64,
+    count: &mut usize,
 ) -> u32
     ensures rows { IfSome reader.old.rows
         (λ r. GivesNextRows r rows.old rows.new count.new result) }
@@ -86,6 +86,6 @@ pub extern "C" fn gimli_line_rows_next(
     kept.copy_to(rows);
     let (given, status) = kept.advance(rows.len());
     drop(reader.swap(alloc, Some(kept)));
-    *count = given as u64;
+    *count = given;
     status
 }

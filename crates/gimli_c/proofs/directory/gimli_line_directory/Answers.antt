@@ -11,7 +11,7 @@ returns-in-None-clause-none c = λ _.
     record {
       header = c.in-Ok.program.meaning;
       unit = c.in-Ok.ensures.unit;
-      none = ap (λ p. directory_of p.meaning c.args.index) (sym c.header.ensures) ∙ sym c.in-None.ensures.directory;
+      none = ap (λ p. directory_of p.meaning c.args.number) (sym c.header.ensures) ∙ sym c.in-None.ensures.directory;
     }
 
 pub returns-clause-found : goal.returns-clause-found
@@ -20,7 +20,7 @@ returns-clause-found c = λ _.
       header = c.in-Ok.program.meaning;
       unit = c.in-Ok.ensures.unit;
       directory = _;
-      is_directory = ap (λ p. directory_of p.meaning c.args.index) (sym c.header.ensures) ∙ sym c.in-Some.ensures.directory;
+      is_directory = ap (λ p. directory_of p.meaning c.args.number) (sym c.header.ensures) ∙ sym c.in-Some.ensures.directory;
       seen_is = c.new.ensures;
       bytes_is = elim c.match-text_here.branch [
         | in-Some-text_here w ↦

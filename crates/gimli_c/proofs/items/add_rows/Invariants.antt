@@ -1,4 +1,4 @@
-use Rattle.std.proofs.Common.{◌≡◌, ℕ, ◌++◌, [], None, length, drop}
+use Rattle.std.proofs.Common.{◌≡◌, ℕ, ◌++◌, None, length, drop}
 use Rattle.gimli_bytes.specs.Texts.{no_texts}
 use Rattle.gimli_build.specs.Conditions.{CanWrite}
 use Rattle.gimli_build.specs.Built.{previous_position}

@@ -1,4 +1,4 @@
-use Rattle.std.proofs.Common.{[], sym, subst, refl}
+use Rattle.std.proofs.Common.{sym, subst, refl}
 use Rattle.gimli_bytes.specs.Texts.{no_texts}
 use Rattle.gimli_build.specs.Built.{Built}
 use Rattle.gimli_build.specs.Conditions.{CanWrite}

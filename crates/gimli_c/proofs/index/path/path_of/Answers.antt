@@ -7,7 +7,7 @@ use Rattle.gimli_c.proofs.index.path.path_of.Goals as goal
 pub returns-in-Err-clause-err : goal.returns-in-Err-clause-err
 returns-in-Err-clause-err c = λ other.
     let at = c.in_ok-offset.ensures.ok in
-    inr (inr (refused_here c.args.index.now c.args.unit at.0 _ _ _ at.1 c.deref.ensures.value at.2 (c.in-Err.ensures.refused other)))
+    inr (inr (inr (refused_here c.args.index.now c.args.unit at.0 _ _ _ at.1 c.deref.ensures.value at.2 (c.in-Err.ensures.refused other))))
 
 pub returns-in-None-clause-err : goal.returns-in-None-clause-err
 returns-in-None-clause-err c = λ other.
@@ -18,9 +18,9 @@ returns-in-None-clause-err c = λ other.
     looked_up start c.run_to_file.new.rows h c.args.file c.header-header.ensures.header c.header-header.ensures.files c.run_to_file.ensures.fixed
     c.in-Ok-run_to_file.ensures.file in
     let unit = unit_here c.args.index.now at.0 _ _ c.in-Ok.program.meaning _ c.deref.ensures.value at.2 refl c.in-Ok.ensures.unit in
-    inl (
+    inr (inl (
       refl,
-      inr (
+      (
         at.0,
         at.1,
         record {
@@ -29,7 +29,7 @@ returns-in-None-clause-err c = λ other.
           none = sym (file_is start c.run_to_file.new.rows h c.args.file l) ∙ sym c.in-None.ensures.file;
         },
       ),
-    )
+    ))
 
 pub returns-clause-ok : goal.returns-clause-ok
 returns-clause-ok c =
@@ -63,7 +63,7 @@ returns-clause-err c =
     c.in-Ok-run_to_file.ensures.file in
     let unit = unit_here c.args.index.now at.0 _ _ c.in-Ok.program.meaning _ c.deref.ensures.value at.2 refl c.in-Ok.ensures.unit in
     let seen = file_seen (λ s. s.slice.now) (λ n. n) c.in-Some.entry.now in
-    err_more c.path_in_header.result (λ status is other. let told = is other in inr (inl (
+    err_more c.path_in_header.result (λ status is other. let told = is other in inr (inr (inl (
       told.0,
       record {
         header = complete start;
@@ -77,4 +77,4 @@ returns-clause-err c =
         error = told.1.0;
         is_error = sym (same_path c.args.index.now start c.run_to_file.new.rows h c.args.file c.args.comp_dir.now seen l) ∙ told.1.1;
       },
-    ))) c.path_in_header.ensures.err
+    )))) c.path_in_header.ensures.err

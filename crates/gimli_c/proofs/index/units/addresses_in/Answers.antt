@@ -30,4 +30,4 @@ returns-in-None-clause-err c =
     subst (λ (u : KeptUnit). AreAddressesFrom (addresses_of (nat_eq c.args.file) u.sequences) c.args.line c.in-Ok.found) kept
     (c.in-Ok.ensures.ok there.kept) in
     let none = subst (λ (o : Option Addresses). AreAddressesFrom (addresses_of (nat_eq c.args.file) there.kept.sequences) c.args.line o) c.in-None.is are in
-    inr (refl, inr (there.kept, there.there, none))
+    inr (inr (refl, (there.kept, there.there, none)))

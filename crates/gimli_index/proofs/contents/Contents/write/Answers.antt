@@ -1,7 +1,7 @@
 use Rattle.std.proofs.Common.{◌≡◌, ◌++◌, ap, ◌∙◌}
 use Rattle.std.specs.Prelude.{flat_map}
 use Rattle.gimli_index.specs.Contents.{header_bytes, source_bytes, start_bytes, entry_bytes}
-use Rattle.gimli_index.specs.Made.{contents_of, base_for, size_for, first_address, last_address}
+use Rattle.gimli_index.specs.Made.{contents_of, base_for, size_for, first_address}
 use Rattle.gimli_index.proofs.Puts.{then_put}
 use Rattle.gimli_index.proofs.contents.Contents.write.Goals as goal
 

@@ -1,0 +1,25 @@
+/* By a map, of which FILE is one. */
+#define _DEFAULT_SOURCE
+#include <fcntl.h>
+#include <sys/mman.h>
+#include <sys/stat.h>
+#include <unistd.h>
+
+#include "ask.h"
+#include "gimli_line.h"
+
+int main(int argc, char **argv) {
+    struct stat about;
+    int file = argc != 5 ? -1 : open(argv[1], O_RDONLY);
+    if (file < 0 || fstat(file, &about) != 0) return 2;
+    size_t length = (size_t)about.st_size;
+    const uint8_t *map = mmap(NULL, length, PROT_READ, MAP_SHARED, file, 0);
+    gimli_map found;
+    if (map == MAP_FAILED || gimli_line_map_open(map, length, &found) != GIMLI_OK) return 2;
+    uint64_t lowest = strtoull(argv[3], NULL, 16), highest = strtoull(argv[4], NULL, 16);
+    for (long i = atol(argv[2]); i > 0; i--) {
+        gimli_map_place place;
+        if (gimli_line_map_find(map, length, next_address(lowest, highest), &place) == GIMLI_OK) told(place.line, place.path_size);
+    }
+    return print_sums();
+}

@@ -1,0 +1,127 @@
+//! Maps: an index of lines that is bytes.
+
+use crate::calls;
+use crate::error::Error;
+
+/// Why a place of a map has no path.
+#[derive(Clone, Copy, Debug, PartialEq, Eq, Hash)]
+pub enum NoPath {
+    /// It couldn't be told when the map was made, for the reason of this number of `docs/INDEX.md`.
+    Reason(u32),
+    /// It isn't inside the map, which is damaged.
+    Outside,
+}
+
+/// Where code comes from, by a map.
+#[derive(Clone, Copy, Debug, PartialEq, Eq, Hash)]
+pub struct MapPlace<'a> {
+    /// The whole path of the file, or why there is none. It need not be UTF-8.
+    pub path: Result<&'a [u8], NoPath>,
+    /// The line, from 1 on; 0 where none is known.
+    pub line: u32,
+    /// The column, from 1 on; 0 for the left edge of the line.
+    pub column: u32,
+    /// The offset in `.debug_line` of the unit that says so.
+    pub unit: u64,
+}
+
+/// A map: from some addresses on a file, a line and a column, as bytes that are mapped from a file or linked into a program
+/// (`docs/INDEX.md`). Asking takes no memory and writes nothing but its answer: so threads ask one map at once, and a signal
+/// handler may.
+///
+/// ```
+/// fn is_for_threads<T: Send + Sync + Copy>() {}
+/// is_for_threads::<gimli_line_proved::Map<'static>>();
+///
+/// // A file that is no map is refused.
+/// use gimli_line_proved::{Error, Map};
+/// assert_eq!(Map::open(b"\x7fELF").map(|_| ()), Err(Error::NO_MAP));
+/// ```
+#[derive(Clone, Copy, Debug)]
+pub struct Map<'a> {
+    bytes: &'a [u8],
+    ranges: usize,
+    identity: &'a [u8],
+    address_size: u32,
+}
+
+impl<'a> Map<'a> {
+    /// The map that bytes begin with. It looks at the header and the length alone.
+    ///
+    /// # Errors
+    ///
+    /// [`Error::NO_MAP`], [`Error::UNKNOWN_MAP_VERSION`], [`Error::MAP_CUT`] and [`Error::MAP_HEADER`], where the bytes begin with
+    /// none.
+    pub fn open(bytes: &'a [u8]) -> Result<Map<'a>, Error> {
+        let mut found = calls::Map::default();
+        // The pointers are those of a slice and of a local.
+        Error::of(unsafe { calls::gimli_line_map_open(bytes.as_ptr(), bytes.len(), &mut found) })?;
+        let identity = bytes.get(found.identity..found.identity + found.identity_size);
+        Ok(Map {
+            bytes,
+            ranges: found.ranges,
+            identity: identity.unwrap_or_default(),
+            address_size: found.address_size,
+        })
+    }
+
+    /// Checks a map that nobody vouches for. It looks at each range and each path.
+    ///
+    /// # Errors
+    ///
+    /// [`Error::MAP_DISORDERED`] where the ranges don't ascend, [`Error::MAP_PATH_OUTSIDE`] where a path isn't inside the map.
+    pub fn check(&self) -> Result<(), Error> {
+        // The pointer is that of a slice.
+        Error::of(unsafe { calls::gimli_line_map_check(self.bytes.as_ptr(), self.bytes.len()) })
+    }
+
+    /// How many ranges of addresses the map has.
+    pub fn len(&self) -> usize {
+        self.ranges
+    }
+
+    /// Whether it has none.
+    pub fn is_empty(&self) -> bool {
+        self.ranges == 0
+    }
+
+    /// What the map was made of: a build id or a checksum; of no bytes where it says nothing.
+    pub fn identity(&self) -> &'a [u8] {
+        self.identity
+    }
+
+    /// The number of bytes of an address.
+    pub fn address_size(&self) -> u32 {
+        self.address_size
+    }
+
+    /// Where the code at an address comes from. None where the map says nothing of it.
+    pub fn find(&self, address: u64) -> Option<MapPlace<'a>> {
+        let mut place = calls::MapPlace::default();
+        // The pointers are those of a slice and of a local.
+        let status =
+            unsafe { calls::gimli_line_map_find(self.bytes.as_ptr(), self.bytes.len(), address, &mut place) };
+        (status == 0).then(|| self.place(&place))
+    }
+
+    /// The same for many addresses.
+    pub fn find_all(&self, addresses: &[u64]) -> Vec<Option<MapPlace<'a>>> {
+        let asked = |address: &u64| calls::MapPlace { address: *address, ..Default::default() };
+        let mut places: Vec<_> = addresses.iter().map(asked).collect();
+        // The pointers are those of a slice and of a vector.
+        let _ok = unsafe {
+            calls::gimli_line_map_find_all(self.bytes.as_ptr(), self.bytes.len(), places.as_mut_ptr(), places.len())
+        };
+        places.iter().map(|place| (place.known != 0).then(|| self.place(place))).collect()
+    }
+
+    fn place(&self, place: &calls::MapPlace) -> MapPlace<'a> {
+        let bytes = self.bytes.get(place.path..place.path + place.path_size);
+        let path = match (place.no_path, bytes) {
+            (0, Some(bytes)) => Ok(bytes),
+            (0 | u32::MAX, _) => Err(NoPath::Outside),
+            (reason, _) => Err(NoPath::Reason(reason)),
+        };
+        MapPlace { path, line: place.line, column: place.column, unit: place.unit }
+    }
+}

@@ -1,0 +1,163 @@
+//! A unit that is written.
+
+use crate::calls;
+use crate::error::Error;
+use crate::row::LineRow;
+
+/// What a unit is encoded by.
+#[derive(Clone, Copy, Debug, PartialEq, Eq, Hash)]
+pub struct Encoding {
+    /// The version, from 2 to 5.
+    pub version: u16,
+    /// The number of bytes of an address: 1, 2, 4 or 8.
+    pub address_size: u8,
+    /// The number of bytes of an offset: 4 or 8.
+    pub offset_size: u8,
+    /// The bytes of the shortest machine instruction, from 1 on.
+    pub minimum_instruction_length: u8,
+    /// How many operations an instruction has, from 1 on; 1 before version 4.
+    pub maximum_operations_per_instruction: u8,
+    /// What each sequence starts with in the register is_stmt.
+    pub default_is_stmt: bool,
+    /// The least line advance of a special opcode, at most 0.
+    pub line_base: i8,
+    /// How many line advances special opcodes have: at most 127, and more than `-line_base`.
+    pub line_range: u8,
+}
+
+impl Encoding {
+    /// The usual encoding of a machine with addresses of 8 bytes.
+    pub fn new(version: u16) -> Encoding {
+        Encoding {
+            version,
+            address_size: 8,
+            offset_size: 4,
+            minimum_instruction_length: 1,
+            maximum_operations_per_instruction: 1,
+            default_is_stmt: true,
+            line_base: -5,
+            line_range: 14,
+        }
+    }
+}
+
+/// What a unit has: directories, files and rows. Numbers are those of rows: up to version 4 from 1 on, in version 5 from 0 on.
+///
+/// ```
+/// use gimli_line_proved::{Contents, Encoding, Index, LineRow, Sections};
+///
+/// let mut contents = Contents::new(Encoding::new(4));
+/// contents.file(b"main.c", 0);
+/// contents.row(LineRow::at(0x1000).with_file(1).with_line(7));
+/// contents.row(LineRow::at(0x1004).with_end());
+/// let unit = contents.write()?;
+///
+/// let sections = Sections { debug_line: &unit, debug_line_str: &[], debug_str: &[], big_endian: false, address_size: 8 };
+/// let index = Index::open(&sections, 1)?;
+/// let place = index.find(0x1003).ok_or(gimli_line_proved::Error::NO_ROW)?;
+/// assert_eq!(place.row.line().map(|line| line.get()), Some(7));
+/// assert_eq!(index.path(place.unit, place.row.file_index(), b"/source")?, b"/source/main.c");
+/// # Ok::<(), gimli_line_proved::Error>(())
+/// ```
+#[derive(Clone, Debug)]
+pub struct Contents {
+    encoding: Encoding,
+    big_endian: bool,
+    texts: Vec<u8>,
+    directories: Vec<calls::Name>,
+    files: Vec<calls::FileName>,
+    rows: Vec<calls::Row>,
+}
+
+impl Contents {
+    /// A unit of nothing, the least significant byte of a number first.
+    pub fn new(encoding: Encoding) -> Contents {
+        Contents {
+            encoding,
+            big_endian: false,
+            texts: Vec::new(),
+            directories: Vec::new(),
+            files: Vec::new(),
+            rows: Vec::new(),
+        }
+    }
+
+    /// Whether the most significant byte of a number comes first.
+    pub fn set_big_endian(&mut self, big_endian: bool) {
+        self.big_endian = big_endian;
+    }
+
+    fn name(&mut self, text: &[u8]) -> calls::Name {
+        let first = self.texts.len() as u64;
+        self.texts.extend_from_slice(text);
+        calls::Name { first, size: text.len() as u64 }
+    }
+
+    /// Adds a directory.
+    pub fn directory(&mut self, path: &[u8]) {
+        let name = self.name(path);
+        self.directories.push(name);
+    }
+
+    /// Adds a file in the directory of a number; up to version 4 that of number 0 is the directory of the compilation.
+    pub fn file(&mut self, path: &[u8], directory: u64) {
+        let path = self.name(path);
+        self.files.push(calls::FileName { path, directory, ..Default::default() });
+    }
+
+    /// Adds a row. A sequence begins with the first row, and after each that ends one.
+    pub fn row(&mut self, row: LineRow) {
+        self.rows.push(row.call());
+    }
+
+    /// The bytes of the unit, for the section `.debug_line`.
+    ///
+    /// # Errors
+    ///
+    /// What is wrong with the contents, as `gimli_line_write` of the header says it: [`Error::UNKNOWN_VERSION`],
+    /// [`Error::NO_SOURCE_FILE`], [`Error::NO_SUCH_FILE`], [`Error::NO_SUCH_DIRECTORY`], [`Error::ROW_OUT_OF_ORDER`] and the like; or
+    /// [`Error::OUT_OF_MEMORY`].
+    pub fn write(&self) -> Result<Vec<u8>, Error> {
+        let mut unit = vec![0; 64 + self.texts.len() + 4 * self.rows.len()];
+        loop {
+            let mut size = 0;
+            let answer = self.write_to(&mut unit, &mut size);
+            unit.resize(size, 0);
+            if answer != Err(Error::NO_ROOM) {
+                return answer.map(|()| unit);
+            }
+        }
+    }
+
+    fn write_to(&self, unit: &mut [u8], size: &mut usize) -> Result<(), Error> {
+        let encoding = calls::Encoding {
+            version: self.encoding.version,
+            address_size: self.encoding.address_size,
+            offset_size: self.encoding.offset_size,
+            minimum_instruction_length: self.encoding.minimum_instruction_length,
+            maximum_operations_per_instruction: self.encoding.maximum_operations_per_instruction,
+            default_is_stmt: u8::from(self.encoding.default_is_stmt),
+            line_base: self.encoding.line_base,
+            line_range: self.encoding.line_range,
+        };
+        // The pointers are those of slices and of a local.
+        Error::of(unsafe {
+            calls::gimli_line_write(
+                &encoding,
+                self.big_endian,
+                0,
+                self.texts.as_ptr(),
+                self.texts.len(),
+                self.directories.as_ptr(),
+                self.directories.len(),
+                self.files.as_ptr(),
+                self.files.len(),
+                self.rows.as_ptr(),
+                self.rows.len(),
+                unit.as_mut_ptr(),
+                unit.len(),
+                size,
+            )
+        })
+    }
+}

@@ -1,0 +1,49 @@
+-- What C sees of an ELF file (System V ABI, chapter 4).
+use Rattle.std.specs.Prelude.{◌≡◌, ◌⊎◌, ℕ, List, [], length, nat_eq, Some, None, Ok, Err}
+use Rattle.gimli_core.specs.Order.{is_big}
+use Rattle.elf_sections.specs.File.{File, file_at, code_addresses, IsLeast}
+use Rattle.elf_sections.specs.Layout.{address_size}
+use Rattle.elf_sections.specs.Relocating.{relocated_at}
+use Rattle.elf_sections.specs.declared.error.ElfError.{ElfError}
+use Rattle.elf_sections.specs.declared.place.SectionPlace.TheVariants.{AllAtZero}
+use Rattle.gimli_c.specs.declared.elf.GimliElf.{GimliElf}
+use Rattle.gimli_c.specs.Written.{slots_with}
+
+-- the bytes are no ELF file that can be read
+abbrev pub IsNoElf : List ℕ → Type 0
+IsNoElf bytes = (error : ElfError) × (file_at bytes ≡ Err error)
+
+-- the lowest address of code, or 0 where there is no code
+abbrev pub IsLowest : File → ℕ → Type 0
+IsLowest file lowest = ((code_addresses file ≡ []) × (lowest ≡ 0)) ⊎ IsLeast (code_addresses file) lowest
+
+-- what the file says of itself
+pub record SeesElf (bytes : List ℕ) (seen : GimliElf) : Type 0 where
+  pub file : File
+  pub is : file_at bytes ≡ Ok file
+  pub lowest : IsLowest file seen.lowest
+  pub size : seen.address_size ≡ address_size file.layout.class
+  pub big : seen.big ≡ is_big file.layout.order
+  pub relocatable : seen.relocatable ≡ nat_eq file.kind 1
+
+-- what the first section of a name holds, made whole, in an array of the caller, and its length
+pub record WritesSection (bytes name old new : List ℕ) (size : ℕ) : Type 0 where
+  pub file : File
+  pub is : file_at bytes ≡ Ok file
+  pub whole : List ℕ
+  pub holds : relocated_at file AllAtZero name ≡ Ok (Some whole)
+  pub written : new ≡ slots_with whole old
+  pub size_is : size ≡ length whole
+
+-- the file has no section of the name
+pub record HasNoSection (bytes name : List ℕ) : Type 0 where
+  pub file : File
+  pub is : file_at bytes ≡ Ok file
+  pub none : relocated_at file AllAtZero name ≡ Ok None
+
+-- the section of the name can't be read
+pub record CantReadSection (bytes name : List ℕ) : Type 0 where
+  pub file : File
+  pub is : file_at bytes ≡ Ok file
+  pub error : ElfError
+  pub refused : relocated_at file AllAtZero name ≡ Err error

@@ -1,0 +1,105 @@
+-- What a map says (docs/INDEX.md), as C sees it.
+use Rattle.std.specs.Prelude.{◌≡◌, ◌≤◌, ◌⊎◌, ℕ, ◌+◌, List, length, slice_range, Some, None, Result, Ok, Err}
+use Rattle.std.specs.List.{AllZip}
+use Rattle.gimli_index.specs.Meaning.{place_at, starts_of, AreAscending, Place}
+use Rattle.gimli_index.specs.Parts.{index_at, Index}
+use Rattle.gimli_index.specs.Sound.{IsSound, IsFaultOf}
+use Rattle.gimli_index.specs.declared.error.IndexError.{IndexError}
+use Rattle.gimli_index.specs.declared.error.IndexError.TheVariants.{NotIndex, HeaderCut, Version, AddressSize, StartSize, Base, Cut, NotAscending, PathOutside}
+use Rattle.gimli_index.specs.declared.place.NoPath.{NoPath}
+use Rattle.gimli_index.specs.declared.place.NoPath.TheVariants.{Reason, Outside}
+use Rattle.gimli_c.specs.declared.map.header.GimliMap.{GimliMap}
+use Rattle.gimli_c.specs.declared.map.place.GimliMapPlace.{GimliMapPlace}
+
+-- ---- what is no map, and what isn't sound
+
+-- the number of a refusal
+abbrev pub map_status : IndexError → ℕ
+map_status NotIndex = 34
+map_status (Version _) = 35
+map_status HeaderCut = 36
+map_status Cut = 36
+map_status (AddressSize _) = 37
+map_status (StartSize _) = 37
+map_status (Base _) = 37
+map_status NotAscending = 38
+map_status PathOutside = 39
+
+-- the bytes begin with this map
+abbrev pub IsMap : List ℕ → Index → Type 0
+IsMap bytes index = index_at bytes ≡ Ok index
+
+-- they begin with none, for the reason of this number
+pub record IsNoMap (bytes : List ℕ) (status : ℕ) : Type 0 where
+  pub error : IndexError
+  pub refused : index_at bytes ≡ Err error
+  pub status_is : status ≡ map_status error
+
+-- they begin with a map whose ranges ascend, and whose paths are inside
+pub record IsSoundMap (bytes : List ℕ) : Type 0 where
+  pub index : Index
+  pub is : IsMap bytes index
+  pub sound : IsSound index
+
+-- they begin with a map that isn't so, for the reason of this number
+pub record IsFaultyMap (bytes : List ℕ) (status : ℕ) : Type 0 where
+  pub index : Index
+  pub is : IsMap bytes index
+  pub error : IndexError
+  pub fault : IsFaultOf index error
+  pub status_is : status ≡ map_status error
+
+abbrev pub IsUnsoundMap : List ℕ → ℕ → Type 0
+IsUnsoundMap bytes status = IsNoMap bytes status ⊎ IsFaultyMap bytes status
+
+-- ---- what a map says of itself
+
+pub record SeesMap (bytes : List ℕ) (seen : GimliMap) : Type 0 where
+  pub index : Index
+  pub is : IsMap bytes index
+  pub ranges : seen.ranges ≡ length (starts_of index)
+  pub address_size : seen.address_size ≡ index.address_size
+  pub inside : seen.identity + seen.identity_size ≤ length bytes
+  pub identity : slice_range bytes seen.identity (seen.identity + seen.identity_size) ≡ index.identity
+
+-- ---- what it says of an address
+
+-- the path of a place is these bytes of the map, or there is none for the reason of a number
+abbrev pub SeesPath : List ℕ → Result (List ℕ) NoPath → GimliMapPlace → Type 0
+SeesPath bytes (Ok path) seen =
+    (seen.no_path ≡ 0) × (seen.path + seen.path_size ≤ length bytes) × (slice_range bytes seen.path (seen.path + seen.path_size) ≡ path)
+SeesPath bytes (Err (Reason n)) seen = (seen.no_path ≡ n) × (seen.path ≡ 0) × (seen.path_size ≡ 0)
+SeesPath bytes (Err Outside) seen = (seen.no_path ≡ 0xffff_ffff) × (seen.path ≡ 0) × (seen.path_size ≡ 0)
+
+pub record SeesPlace (bytes : List ℕ) (address : ℕ) (place : Place) (seen : GimliMapPlace) : Type 0 where
+  pub address_is : seen.address ≡ address
+  pub known : seen.known ≡ 1
+  pub line : seen.line ≡ place.line
+  pub column : seen.column ≡ place.column
+  pub unit : seen.unit ≡ place.unit
+  pub path : SeesPath bytes place.path seen
+
+-- the place of an address, where the ranges of the map ascend
+pub record SeesPlaceAt (bytes : List ℕ) (address : ℕ) (seen : GimliMapPlace) : Type 0 where
+  pub index : Index
+  pub is : IsMap bytes index
+  pub place : Place
+  pub said : AreAscending (starts_of index) → place_at address (starts_of index) ≡ Some place
+  pub seen_is : SeesPlace bytes address place seen
+
+-- the map says nothing of an address, where its ranges ascend
+pub record HasNoPlace (bytes : List ℕ) (address : ℕ) : Type 0 where
+  pub index : Index
+  pub is : IsMap bytes index
+  pub said : AreAscending (starts_of index) → place_at address (starts_of index) ≡ None
+
+-- what is answered then: all numbers but the address are 0
+abbrev pub no_map_place : ℕ → GimliMapPlace
+no_map_place address = record { address = address; unit = 0; path = 0; path_size = 0; line = 0; column = 0; no_path = 0; known = 0 }
+
+abbrev pub IsMapAnswer : List ℕ → ℕ → GimliMapPlace → Type 0
+IsMapAnswer bytes address seen = SeesPlaceAt bytes address seen ⊎ ((seen ≡ no_map_place address) × HasNoPlace bytes address)
+
+-- each place of an array of the caller has the answer to the address that it had
+abbrev pub WritesMapAnswers : List ℕ → List GimliMapPlace → List GimliMapPlace → Type 0
+WritesMapAnswers bytes old new = AllZip (λ asked seen. IsMapAnswer bytes asked.address seen) old new

@@ -1,0 +1,12 @@
+//! Maps: an index of lines that is bytes (`docs/INDEX.md`), asked as it lies there.
+//!
+//! No call takes memory, and none writes but its answer: so any number of threads may ask one map
+//! at once, and so may a signal handler.
+
+mod ask;
+mod header;
+mod place;
+
+pub use ask::{gimli_line_map_find, gimli_line_map_find_all};
+pub use header::{GimliMap, gimli_line_map_check, gimli_line_map_open};
+pub use place::{GimliMapPlace, NO_PATH_OUTSIDE};

@@ -1,0 +1,35 @@
+-- Where the paths of an index stand in its bytes (docs/INDEX.md, "Parts").
+use Rattle.std.specs.Prelude.{◌≡◌, ◌≤◌, ℕ, ◌+◌, ◌*◌, List, length, slice_range}
+use Rattle.gimli_core.specs.Reading.{result_map}
+use Rattle.gimli_index.specs.Header.{size_of}
+use Rattle.gimli_index.specs.Parts.{Index}
+use Rattle.gimli_index.specs.Meaning.{Place}
+use Rattle.gimli_index.specs.declared.span.Span.{Span}
+use Rattle.gimli_index.specs.declared.span.PlaceSpan.{PlaceSpan}
+
+-- where the part of paths begins, from the first byte of the index on
+abbrev pub paths_begin : Index → ℕ
+paths_begin index = 40 + 24 * index.sources + size_of index.start_size * index.starts + 12 * index.starts
+
+-- where the identity begins: right after the paths
+abbrev pub identity_begin : Index → ℕ
+identity_begin index = paths_begin index + length index.path_bytes
+
+-- the paths and the identity of an index are these bytes of those that it was opened from
+pub record StandsIn (bytes : List ℕ) (index : Index) : Type 0 where
+  pub inside : identity_begin index + length index.identity ≤ length bytes
+  pub paths : slice_range bytes (paths_begin index) (identity_begin index) ≡ index.path_bytes
+  pub identity : slice_range bytes (identity_begin index) (identity_begin index + length index.identity) ≡ index.identity
+
+-- the bytes of a span
+abbrev pub path_at : List ℕ → Span → List ℕ
+path_at paths s = slice_range paths s.first (s.first + s.size)
+
+-- the place whose path is among these bytes
+abbrev pub place_among : List ℕ → PlaceSpan → Place
+place_among paths p = record {
+  path = result_map (path_at paths) p.path;
+  line = p.line;
+  column = p.column;
+  unit = p.unit;
+}

@@ -1,0 +1,107 @@
+//! Where code comes from, with its path as a part of the bytes.
+
+ghost use Rattle.std.specs.Prelude.{◌≡◌, ◌+◌, ◌*◌, ◌<◌, ◌≤◌, drop, length, option_map, IfOk, IfSome};
+ghost use Rattle.gimli_core.specs.Reading.{result_map};
+ghost use Rattle.gimli_index.specs.Meaning.{entry_place, path_of, place_at, starts_of};
+ghost use Rattle.gimli_index.specs.Meaning.{AreAscending};
+ghost use Rattle.gimli_index.specs.Spans.{identity_begin, paths_begin, path_at, place_among};
+
+use crate::line_index::{ENTRY_SIZE, LineIndex};
+use crate::number::{long, word};
+use crate::place::NoPath;
+
+/// Bytes of the part of paths.
+#[derive(Clone, Copy, Debug, PartialEq, Eq)]
+pub struct Span {
+    /// How many bytes of the part come before them.
+    pub first: usize,
+    /// How many they are.
+    pub size: usize,
+}
+
+/// Where code comes from, with its path as a part of the bytes: a [`Place`](crate::Place) that
+/// borrows nothing.
+#[derive(Clone, Copy, Debug)]
+pub struct PlaceSpan {
+    /// Where the whole path of the file stands, or why there is none.
+    pub path: Result<Span, NoPath>,
+    /// The line, 0 where none is known.
+    pub line: u32,
+    /// The column, 0 for the left edge.
+    pub column: u32,
+    /// The offset in `.debug_line` of the unit that says so.
+    pub unit: u64,
+}
+
+impl<'a> LineIndex<'a> {
+    ghost use Rattle.gimli_index.specs.Views.{index_of};
+
+    /// Where the part of paths begins, from the first byte of the index on.
+    pub fn paths_offset(&self) -> usize
+        ensures { result ≡ paths_begin (index_of self.now) }
+    {
+        self.paths_offset
+    }
+
+    /// Where the identity begins, from the first byte of the index on.
+    pub fn identity_offset(&self) -> usize
+        ensures { result ≡ identity_begin (index_of self.now) }
+    {
+        self.identity_offset
+    }
+
+    /// Where the path of a source stands, whose bytes stand there first.
+    fn path_span(&self, source: &[u8]) -> Result<Span, NoPath>
+        requires { 24 ≤ length source.now }
+        ensures path { result_map (path_at self.now.path_bytes.now) result
+            ≡ path_of self.now.path_bytes.now source.now }
+        ensures inside { IfOk result (λ s. s.first + s.size ≤ length self.now.path_bytes.now) }
+    {
+        let reason = word(source, 16);
+        if reason != 0 {
+            return Err(NoPath::Reason(reason));
+        }
+        let first = word(source, 8) as usize;
+        let size = word(source, 12) as usize;
+        if self.path_bytes.len() < first + size {
+            return Err(NoPath::Outside);
+        }
+        Ok(Span { first, size })
+    }
+
+    /// What the entry of an index says.
+    fn entry_span(&self, index: usize) -> Option<PlaceSpan>
+        requires { index < self.now.starts }
+        ensures place { option_map (place_among self.now.path_bytes.now) result
+            ≡ entry_place (index_of self.now) (drop (12 * index) self.now.entry_bytes.now) }
+        ensures inside { IfSome result (λ p. IfOk p.path
+            (λ s. s.first + s.size ≤ length self.now.path_bytes.now)) }
+    {
+        let entry = &self.entry_bytes[ENTRY_SIZE * index..];
+        let number = word(entry, 0) as usize;
+        if number >= self.sources {
+            return None;
+        }
+        let source = self.source(number);
+        Some(PlaceSpan {
+            path: self.path_span(source),
+            line: word(entry, 4),
+            column: word(entry, 8),
+            unit: long(source, 0),
+        })
+    }
+
+    /// What [`find`](LineIndex::find) says, with the path as a part of the bytes: for callers that
+    /// hold the bytes and hand out no borrow of them. The path begins at
+    /// [`paths_offset`](LineIndex::paths_offset) and `first`.
+    pub fn find_span(&self, address: u64) -> Option<PlaceSpan>
+        ensures place { let starts = starts_of (index_of self.now) in AreAscending starts →
+            option_map (place_among self.now.path_bytes.now) result ≡ place_at address starts }
+        ensures inside { IfSome result (λ p. IfOk p.path
+            (λ s. s.first + s.size ≤ length self.now.path_bytes.now)) }
+    {
+        let number = address.checked_sub(self.base)?;
+        let index = self.starts_up_to(number).checked_sub(1)?;
+        self.entry_span(index)
+    }
+}
