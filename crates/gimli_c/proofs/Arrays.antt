@@ -1,5 +1,6 @@
 -- Arrays of the caller: what stands in them after a call.
-use Rattle.std.proofs.Common.{◌≡◌, ◌⊎◌, ℕ, zero, suc, ◌+◌, ◌<◌, ◌≤◌, Bool, true, false, List, [], ◌∷◌, ◌++◌, length, take, set, get_or, refl, sym, ap, ◌∙◌, inl, inr, arith}
+use Rattle.std.proofs.Common.{◌≡◌, ◌⊎◌, ℕ, zero, suc, ◌+◌, ◌<◌, ◌≤◌, Bool, true, false, List, [], ◌∷◌, ◌++◌, length, take, set, get_or, refl, sym, ap, ◌∙◌, inl}
+use Rattle.std.proofs.Common.{inr, arith}
 use Rattle.std.specs.Prelude.{Some, ltb, min, slice_get}
 use Rattle.std.proofs.lemmas.Bool.{ltb-true, ltb-false}
 use Rattle.std.proofs.lemmas.List.{length-take-le, take_more}
@@ -29,7 +30,8 @@ written_take zero (x ∷ xs) [] h = refl
 written_take (suc n) (x ∷ xs) [] h = refl
 written_take zero (x ∷ xs) (o ∷ old) h = elim h [ inl a ↦ absurd (omega arith) | inr b ↦ absurd (omega arith) ]
 written_take (suc n) (x ∷ xs) (o ∷ old) h =
-    ap (λ (ys : List _). x ∷ ys) (written_take n xs old (elim h as (λ _. (length xs ≤ n) ⊎ (length old ≤ n)) [ inl a ↦ inl (omega arith) | inr b ↦ inr (omega arith) ]))
+    ap (λ (ys : List _). x ∷ ys)
+    (written_take n xs old (elim h as (λ _. (length xs ≤ n) ⊎ (length old ≤ n)) [ inl a ↦ inl (omega arith) | inr b ↦ inr (omega arith) ]))
 
 -- one more byte of those that are copied
 pub copied_more : (bytes old now : List ℕ) (i : ℕ) → i < length bytes → now ≡ slots_with (take i bytes) old

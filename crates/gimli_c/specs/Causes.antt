@@ -1,5 +1,7 @@
--- Why what is handed over to be written is refused, number by number (DWARF 5, sections 6.2.2 and 6.2.4).
-use Rattle.std.specs.Prelude.{◌≡◌, ◌⊎◌, ◌≤◌, ◌<◌, ℕ, ◌+◌, ◌-◌, ◌^◌, false, nat_le, if◌then◌else◌, List, [], ◌∷◌, length, Any, Option, Some, None}
+-- Why what is handed over to be written is refused, number by number (DWARF 5, sections 6.2.2 and
+-- 6.2.4).
+use Rattle.std.specs.Prelude.{◌≡◌, ◌⊎◌, ◌≤◌, ◌<◌, ℕ, ◌+◌, ◌-◌, ◌^◌, false, nat_le, if◌then◌else◌}
+use Rattle.std.specs.Prelude.{List, [], ◌∷◌, length, Any, Option, Some, None}
 use Rattle.gimli_core.specs.declared.common.LineEncoding.{LineEncoding}
 use Rattle.gimli_bytes.specs.declared.error.Error.{Error}
 use Rattle.gimli_bytes.specs.Texts.{no_texts}
@@ -10,7 +12,10 @@ use Rattle.gimli_c.specs.declared.encoding.GimliEncoding.{GimliEncoding}
 use Rattle.gimli_c.specs.declared.text.GimliName.{GimliName}
 use Rattle.gimli_c.specs.declared.tables.GimliFileName.{GimliFileName}
 use Rattle.gimli_c.specs.declared.row.GimliRow.{GimliRow}
-use Rattle.gimli_c.specs.declared.status.TheConstants.{UNSUPPORTED_LINE_ENCODING, TEXT_OUT_OF_BOUNDS, ZERO_IN_TEXT, EMPTY_TEXT, NO_SOURCE_FILE, NO_SUCH_DIRECTORY, NO_SUCH_FILE, ROW_OUT_OF_ORDER, UNKNOWN_FLAG}
+use Rattle.gimli_c.specs.declared.status.TheConstants.{UNSUPPORTED_LINE_ENCODING}
+use Rattle.gimli_c.specs.declared.status.TheConstants.{TEXT_OUT_OF_BOUNDS, ZERO_IN_TEXT, EMPTY_TEXT}
+use Rattle.gimli_c.specs.declared.status.TheConstants.{NO_SOURCE_FILE, NO_SUCH_DIRECTORY}
+use Rattle.gimli_c.specs.declared.status.TheConstants.{NO_SUCH_FILE, ROW_OUT_OF_ORDER, UNKNOWN_FLAG}
 use Rattle.gimli_c.specs.Handed.{text_handed, line_encoding_of, ends, base_of, base_after}
 use Rattle.gimli_c.specs.Handing.{Handed, IsBuiltOf, write_status}
 use Rattle.gimli_c.specs.Refused.{encoding_fault, HasBadLines}
@@ -24,36 +29,50 @@ pub data HasEncodingFault (e : GimliEncoding) (status : ℕ) : Type 0 where
 abbrev pub StandsAmong : List ℕ → GimliName → Type 0
 StandsAmong texts name = name.first + name.size ≤ length texts
 
--- why a text is refused: it doesn't stand among the bytes; or it does, and has a zero byte, which would end it, or is empty,
--- which would end a table up to version 4
+-- why a text is refused: it doesn't stand among the bytes; or it does, and has a zero byte, which
+-- would end it, or is empty, which would end a table up to version 4
 pub data HasTextFault (version : ℕ) (texts : List ℕ) (name : GimliName) (status : ℕ) : Type 0 where
-  out_of_bounds : status ≡ TEXT_OUT_OF_BOUNDS → length texts < name.first + name.size → HasTextFault version texts name status
-  zero_byte : status ≡ ZERO_IN_TEXT → StandsAmong texts name → Any (λ b. b ≡ 0) (text_handed texts name) → HasTextFault version texts name status
-  empty_text : status ≡ EMPTY_TEXT → StandsAmong texts name → version ≤ 4 → name.size ≡ 0 → HasTextFault version texts name status
+  out_of_bounds : status ≡ TEXT_OUT_OF_BOUNDS → length texts < name.first + name.size
+      → HasTextFault version texts name status
+  zero_byte : status ≡ ZERO_IN_TEXT → StandsAmong texts name
+      → Any (λ b. b ≡ 0) (text_handed texts name) → HasTextFault version texts name status
+  empty_text : status ≡ EMPTY_TEXT → StandsAmong texts name → version ≤ 4 → name.size ≡ 0
+      → HasTextFault version texts name status
 
 -- ---- directories and files
 
--- the index of the first directory and of the first file; up to version 4 the index 0 is that of the directory of the
--- compilation, and of no file
+-- the index of the first directory and of the first file; up to version 4 the index 0 is that of
+-- the directory of the compilation, and of no file
 abbrev pub first_index : ℕ → ℕ
 first_index version = if nat_le version 4 then 1 else 0
 
--- why a file is refused: it has the index of no directory, as those are all below `end`, or its path is refused
-pub data HasFileFault (version : ℕ) (texts : List ℕ) (end : ℕ) (file : GimliFileName) (status : ℕ) : Type 0 where
-  no_directory : status ≡ NO_SUCH_DIRECTORY → end ≤ file.directory → HasFileFault version texts end file status
-  path_fault : HasTextFault version texts file.path status → HasFileFault version texts end file status
+-- why a file is refused: it has the index of no directory, as those are all below `end`, or its
+-- path is refused
+pub data HasFileFault (version : ℕ) (texts : List ℕ) (end : ℕ) (file : GimliFileName) (status : ℕ)
+    : Type 0 where
+  no_directory : status ≡ NO_SUCH_DIRECTORY → end ≤ file.directory
+      → HasFileFault version texts end file status
+  path_fault : HasTextFault version texts file.path status
+      → HasFileFault version texts end file status
 
--- why the tables are refused: a directory or a file is, or there is none in version 5, which begins with one of each
-pub data HasTableFault (version : ℕ) (texts : List ℕ) (directories : List GimliName) (files : List GimliFileName) (status : ℕ) : Type 0 where
-  no_source : status ≡ NO_SOURCE_FILE → 5 ≤ version → (directories ≡ []) ⊎ (files ≡ []) → HasTableFault version texts directories files status
-  directory_fault : Any (λ n. HasTextFault version texts n status) directories → HasTableFault version texts directories files status
-  file_fault : Any (λ f. HasFileFault version texts (first_index version + length directories) f status) files → HasTableFault version texts directories files status
+-- why the tables are refused: a directory or a file is, or there is none in version 5, which begins
+-- with one of each
+pub data HasTableFault (version : ℕ) (texts : List ℕ) (directories : List GimliName)
+    (files : List GimliFileName) (status : ℕ) : Type 0 where
+  no_source : status ≡ NO_SOURCE_FILE → 5 ≤ version → (directories ≡ []) ⊎ (files ≡ [])
+      → HasTableFault version texts directories files status
+  directory_fault : Any (λ n. HasTextFault version texts n status) directories
+      → HasTableFault version texts directories files status
+  file_fault : Any
+      (λ f. HasFileFault version texts (first_index version + length directories) f status) files
+      → HasTableFault version texts directories files status
 
 -- ---- rows
 
 -- no file has this number
 abbrev pub LacksFile : ℕ → ℕ → ℕ → Type 0
-LacksFile version files number = (number < first_index version) ⊎ (first_index version + files ≤ number)
+LacksFile version files number =
+    (number < first_index version) ⊎ (first_index version + files ≤ number)
 
 -- a row can stand after a row at this position, in a sequence that begins at the address `base`
 pub record CanStand (e : LineEncoding) (base : ℕ) (position : ℕ × ℕ) (r : GimliRow) : Type 0 where
@@ -61,17 +80,24 @@ pub record CanStand (e : LineEncoding) (base : ℕ) (position : ℕ × ℕ) (r :
   pub follows : CanFollow e position.0 position.1 (r.address - base) r.op_index
   pub line_fits : ends r ≡ false → r.line < 2 ^ 63
 
--- why a row is refused: it can't stand there, or it isn't an end and has a flag that isn't known or the number of no file
-pub data HasRowFault (e : LineEncoding) (version files base : ℕ) (position : ℕ × ℕ) (r : GimliRow) (status : ℕ) : Type 0 where
-  out_of_order : status ≡ ROW_OUT_OF_ORDER → (CanStand e base position r → ⊥) → HasRowFault e version files base position r status
-  unknown_flag : status ≡ UNKNOWN_FLAG → ends r ≡ false → 32 ≤ r.flags → HasRowFault e version files base position r status
-  no_file : status ≡ NO_SUCH_FILE → ends r ≡ false → LacksFile version files r.file → HasRowFault e version files base position r status
+-- why a row is refused: it can't stand there, or it isn't an end and has a flag that isn't known or
+-- the number of no file
+pub data HasRowFault (e : LineEncoding) (version files base : ℕ) (position : ℕ × ℕ) (r : GimliRow)
+    (status : ℕ) : Type 0 where
+  out_of_order : status ≡ ROW_OUT_OF_ORDER → (CanStand e base position r → ⊥)
+      → HasRowFault e version files base position r status
+  unknown_flag : status ≡ UNKNOWN_FLAG → ends r ≡ false → 32 ≤ r.flags
+      → HasRowFault e version files base position r status
+  no_file : status ≡ NO_SUCH_FILE → ends r ≡ false → LacksFile version files r.file
+      → HasRowFault e version files base position r status
 
--- the position that a row leaves off at: its offset in the sequence and its operation; an end leaves off where the next begins
+-- the position that a row leaves off at: its offset in the sequence and its operation; an end
+-- leaves off where the next begins
 abbrev pub position_after : Option ℕ → GimliRow → ℕ × ℕ
 position_after base r = if ends r then (0, 0) else (r.address - base_of base r, r.op_index)
 
--- one of these rows is refused; the row before them is at this position, and its sequence, if it goes on, began at the address
+-- one of these rows is refused; the row before them is at this position, and its sequence, if it
+-- goes on, began at the address
 abbrev pub HasRowsFault : LineEncoding → ℕ → ℕ → Option ℕ → ℕ × ℕ → List GimliRow → ℕ → Type 0
 HasRowsFault e version files base position [] status = ⊥
 HasRowsFault e version files base position (r ∷ rows) status =
@@ -80,7 +106,8 @@ HasRowsFault e version files base position (r ∷ rows) status =
 
 -- ---- all
 
--- what is handed over can be built, and the program that is built of it can't be written: this is its first cause
+-- what is handed over can be built, and the program that is built of it can't be written: this is
+-- its first cause
 pub record HasUnitFault (h : Handed) (status : ℕ) : Type 0 where
   pub program : Built
   pub built : IsBuiltOf h program
@@ -91,8 +118,11 @@ pub record HasUnitFault (h : Handed) (status : ℕ) : Type 0 where
 -- why what is handed over is refused before anything is written
 pub data HasHandedFault (h : Handed) (status : ℕ) : Type 0 where
   of_encoding : HasEncodingFault h.encoding status → HasHandedFault h status
-  of_tables : HasTableFault h.encoding.version h.texts h.directories h.files status → HasHandedFault h status
-  of_rows : HasRowsFault (line_encoding_of h.encoding) h.encoding.version (length h.files) None (0, 0) h.rows status → HasHandedFault h status
+  of_tables : HasTableFault h.encoding.version h.texts h.directories h.files status
+      → HasHandedFault h status
+  of_rows : HasRowsFault (line_encoding_of h.encoding) h.encoding.version (length h.files) None
+      (0, 0) h.rows status
+      → HasHandedFault h status
 
 -- the cause of a number
 pub data HasCause (h : Handed) (status : ℕ) : Type 0 where

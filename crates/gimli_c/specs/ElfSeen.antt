@@ -15,7 +15,8 @@ IsNoElf bytes = (error : ElfError) × (file_at bytes ≡ Err error)
 
 -- the lowest address of code, or 0 where there is no code
 abbrev pub IsLowest : File → ℕ → Type 0
-IsLowest file lowest = ((code_addresses file ≡ []) × (lowest ≡ 0)) ⊎ IsLeast (code_addresses file) lowest
+IsLowest file lowest =
+    ((code_addresses file ≡ []) × (lowest ≡ 0)) ⊎ IsLeast (code_addresses file) lowest
 
 -- what the file says of itself
 pub record SeesElf (bytes : List ℕ) (seen : GimliElf) : Type 0 where

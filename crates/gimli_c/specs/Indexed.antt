@@ -1,5 +1,6 @@
 -- What an index keeps, and what it answers.
-use Rattle.std.specs.Prelude.{◌≡◌, ◌^◌, ◌⊎◌, ℕ, Bool, true, List, length, map, All, Some, None, Ok, Err, nat_eq, slice_get}
+use Rattle.std.specs.Prelude.{◌≡◌, ◌^◌, ◌⊎◌, ℕ, Bool, true, List, length, map, All, Some, None, Ok}
+use Rattle.std.specs.Prelude.{Err, nat_eq, slice_get}
 use Rattle.std.specs.List.{AllZip}
 use Rattle.gimli_core.specs.Notation.{notation_of}
 use Rattle.gimli_core.specs.Numbers.{is_address_size}
@@ -10,7 +11,8 @@ use Rattle.gimli_line.specs.header.Header.{Header, UnitEntry, file_of}
 use Rattle.gimli_line.specs.run.Unread.{Unread}
 use Rattle.gimli_lookup.specs.FirstPair.{HasNoPair}
 use Rattle.gimli_lookup.specs.Paths.{Paths, file_path}
-use Rattle.gimli_lookup.specs.Section.{all_sequences, unit_without_header, IsFirstPairOfUnit, KeptUnit}
+use Rattle.gimli_lookup.specs.Section.{all_sequences, unit_without_header, IsFirstPairOfUnit}
+use Rattle.gimli_lookup.specs.Section.{KeptUnit}
 use Rattle.gimli_lookup.specs.SectionAddresses.{addresses_of_path}
 use Rattle.gimli_lookup.specs.SectionUnits.{IsUnitOf}
 use Rattle.gimli_lookup.specs.Statements.{addresses_of, HasNoLine, IsFirstLine}
@@ -24,7 +26,8 @@ use Rattle.gimli_c.specs.declared.index.kept.SectionIndex.{SectionIndex}
 use Rattle.gimli_c.specs.declared.row.GimliRow.{GimliRow}
 use Rattle.gimli_c.specs.declared.status.TheConstants.{NO_SUCH_FILE, NO_SUCH_UNIT, UNKNOWN_PATH}
 use Rattle.gimli_c.specs.declared.unit.GimliUnit.{GimliUnit}
-use Rattle.gimli_c.specs.FileSeen.{GivesDirectory, GivesFile, GivesNoDirectory, GivesNoFile, HasFiles}
+use Rattle.gimli_c.specs.FileSeen.{GivesDirectory, GivesFile, GivesNoDirectory, GivesNoFile}
+use Rattle.gimli_c.specs.FileSeen.{HasFiles}
 use Rattle.gimli_c.specs.Location.{Location, location, HasNoUnit}
 use Rattle.gimli_c.specs.Seen.{row_seen}
 use Rattle.gimli_c.specs.Status.{fault_status}
@@ -33,8 +36,8 @@ use Rattle.gimli_c.specs.Written.{slots_with}
 
 -- ---- what an index is made of
 
--- the sections of a program, its order of bytes, the size of its addresses up to version 4, and the address below which there is
--- no code
+-- the sections of a program, its order of bytes, the size of its addresses up to version 4, and the
+-- address below which there is no code
 pub record Program : Type 0 where
   pub section : List ℕ
   pub big : Bool
@@ -60,8 +63,10 @@ section_read section big = record { bytes = section; notation = notation_of big 
 abbrev pub entry_of : ℕ → UnitEntry
 entry_of address_size = record { address_size = address_size; directory = None; name = None }
 
--- these are all units of a section, each with the sequences that are kept of it; their headers aren't kept
-pub record AreUnitsOf (section : List ℕ) (big : Bool) (address_size lowest : ℕ) (kept : List KeptUnit) : Type 0 where
+-- these are all units of a section, each with the sequences that are kept of it; their headers
+-- aren't kept
+pub record AreUnitsOf (section : List ℕ) (big : Bool) (address_size lowest : ℕ)
+    (kept : List KeptUnit) : Type 0 where
   pub units : List KeptUnit
   pub offsets : AreUnits (notation_of big (2 ^ 64)) 0 section (map (λ u. u.unit.offset) units)
   pub each : All (IsUnitOf (section_read section big) (entry_of address_size) lowest) units
@@ -89,16 +94,29 @@ pub record GivesPlace (units : List KeptUnit) (address : ℕ) (seen : GimliPlace
   pub row_is : seen.row ≡ row_seen x
   pub end_is : seen.end ≡ y.address
 
--- what stands in place of a row, and of the place of an address, where there is none: all other numbers are 0
+-- what stands in place of a row, and of the place of an address, where there is none: all other
+-- numbers are 0
 abbrev pub no_row : GimliRow
-no_row = record { address = 0; op_index = 0; file = 0; line = 0; column = 0; isa = 0; discriminator = 0; flags = 0 }
+no_row = record {
+  address = 0;
+  op_index = 0;
+  file = 0;
+  line = 0;
+  column = 0;
+  isa = 0;
+  discriminator = 0;
+  flags = 0;
+}
 
 abbrev pub no_place : ℕ → GimliPlace
 no_place address = record { address = address; row = no_row; end = 0; unit = 0 }
 
--- the answer to an address: its place, which ends above it, or where no row covers it the one of zeros
+-- the answer to an address: its place, which ends above it, or where no row covers it the one of
+-- zeros
 abbrev pub IsAnswer : List KeptUnit → ℕ → GimliPlace → Type 0
-IsAnswer units address seen = GivesPlace units address seen ⊎ ((seen ≡ no_place address) × All (HasNoPair address) (all_sequences units))
+IsAnswer units address seen =
+    GivesPlace units address seen
+    ⊎ ((seen ≡ no_place address) × All (HasNoPair address) (all_sequences units))
 
 -- each place of an array of the caller has the answer to the address that it had
 abbrev pub WritesAnswers : SectionIndex → List GimliPlace → List GimliPlace → Type 0
@@ -133,7 +151,8 @@ pub record GivesPath (i : SectionIndex) (unit file : ℕ) (comp_dir whole : List
 -- that path in an array of the caller, and its length
 abbrev pub WritesPath : SectionIndex → ℕ → ℕ → List ℕ → List ℕ → List ℕ → ℕ → Type 0
 WritesPath i unit file comp_dir old new size =
-    (whole : List ℕ) × GivesPath i unit file comp_dir whole × (new ≡ slots_with whole old) × (size ≡ length whole)
+    (whole : List ℕ) × GivesPath i unit file comp_dir whole × (new ≡ slots_with whole old)
+    × (size ≡ length whole)
 
 -- a string of the file's path can't be told
 pub record CantTellPath (i : SectionIndex) (unit file : ℕ) (comp_dir : List ℕ) : Type 0 where
@@ -149,20 +168,26 @@ IsUnit i unit kept = slice_get i.units unit ≡ Some kept
 
 -- the unit has no such file
 abbrev pub HasNoFile : SectionIndex → ℕ → ℕ → Type 0
-HasNoFile i unit file = (kept : KeptUnit) × IsUnit i unit kept × GivesNoFile (unit_location i kept) file
+HasNoFile i unit file =
+    (kept : KeptUnit) × IsUnit i unit kept × GivesNoFile (unit_location i kept) file
 
 -- the unit has no such directory
 abbrev pub HasNoDirectory : SectionIndex → ℕ → ℕ → Type 0
-HasNoDirectory i unit directory = (kept : KeptUnit) × IsUnit i unit kept × GivesNoDirectory (unit_location i kept) directory
+HasNoDirectory i unit directory =
+    (kept : KeptUnit) × IsUnit i unit kept × GivesNoDirectory (unit_location i kept) directory
 
--- the file of an index of a unit, and the bytes of its path and directory where they stand in the section itself
-pub record GivesFileOf (i : SectionIndex) (unit file : ℕ) (seen : GimliFile) (path_old path_new directory_old directory_new : List ℕ) : Type 0 where
+-- the file of an index of a unit, and the bytes of its path and directory where they stand in the
+-- section itself
+pub record GivesFileOf (i : SectionIndex) (unit file : ℕ) (seen : GimliFile)
+    (path_old path_new directory_old directory_new : List ℕ) : Type 0 where
   pub kept : KeptUnit
   pub is_unit : IsUnit i unit kept
-  pub gives : GivesFile (unit_location i kept) file seen path_old path_new directory_old directory_new
+  pub gives : GivesFile (unit_location i kept) file seen path_old path_new directory_old
+      directory_new
 
 -- the directory of an index of a unit, and its bytes where they stand in the section itself
-pub record GivesDirectoryOf (i : SectionIndex) (unit directory : ℕ) (seen : GimliText) (bytes_old bytes_new : List ℕ) : Type 0 where
+pub record GivesDirectoryOf (i : SectionIndex) (unit directory : ℕ) (seen : GimliText)
+    (bytes_old bytes_new : List ℕ) : Type 0 where
   pub kept : KeptUnit
   pub is_unit : IsUnit i unit kept
   pub gives : GivesDirectory (unit_location i kept) directory seen bytes_old bytes_new
@@ -173,8 +198,8 @@ pub record UnitRefused (i : SectionIndex) (unit status : ℕ) : Type 0 where
   pub is_unit : IsUnit i unit kept
   pub refused : HasNoUnit (unit_location i kept) status
 
--- why the path of a file isn't answered, memory aside: there is no such unit, or no such file in it, its path can't be told, or the
--- unit can't be read
+-- why the path of a file isn't answered, memory aside: there is no such unit, or no such file in
+-- it, its path can't be told, or the unit can't be read
 abbrev pub HasNoPath : SectionIndex → ℕ → ℕ → List ℕ → ℕ → Type 0
 HasNoPath i unit file comp_dir status =
     ((status ≡ NO_SUCH_UNIT) × (slice_get i.units unit ≡ None))
@@ -199,7 +224,8 @@ abbrev pub addresses_in : KeptUnit → ℕ → ℕ → List ℕ
 addresses_in kept file line = addresses_of (nat_eq file) kept.sequences line
 
 -- the addresses of the first line from the asked one on that has any
-pub record GivesAddresses (i : SectionIndex) (unit file asked line : ℕ) (addresses : List ℕ) : Type 0 where
+pub record GivesAddresses (i : SectionIndex) (unit file asked line : ℕ) (addresses : List ℕ)
+    : Type 0 where
   pub kept : KeptUnit
   pub is_unit : IsUnit i unit kept
   pub is_first : IsFirstLine (addresses_in kept file) asked line
@@ -208,25 +234,30 @@ pub record GivesAddresses (i : SectionIndex) (unit file asked line : ℕ) (addre
 -- those addresses in an array of the caller, and how many there are
 abbrev pub WritesAddresses : SectionIndex → ℕ → ℕ → ℕ → ℕ → List ℕ → List ℕ → ℕ → Type 0
 WritesAddresses i unit file asked line old new count =
-    (addresses : List ℕ) × GivesAddresses i unit file asked line addresses × (new ≡ slots_with addresses old) × (count ≡ length addresses)
+    (addresses : List ℕ) × GivesAddresses i unit file asked line addresses
+    × (new ≡ slots_with addresses old) × (count ≡ length addresses)
 
 -- no line of the unit from the asked one on has an address
 abbrev pub HasNoAddress : SectionIndex → ℕ → ℕ → ℕ → Type 0
-HasNoAddress i unit file asked = (kept : KeptUnit) × IsUnit i unit kept × HasNoLine (addresses_in kept file) asked
+HasNoAddress i unit file asked =
+    (kept : KeptUnit) × IsUnit i unit kept × HasNoLine (addresses_in kept file) asked
 
 -- ---- by a path
 
 -- all units of the section of an index, with their headers
 pub record AreUnitsIn (i : SectionIndex) (units : List KeptUnit) : Type 0 where
-  pub offsets : AreUnits (notation_of i.big (2 ^ 64)) 0 i.section.items (map (λ u. u.unit.offset) units)
-  pub each : All (IsUnitOf (section_read i.section.items i.big) (entry_of i.address_size) i.lowest) units
+  pub offsets : AreUnits (notation_of i.big (2 ^ 64)) 0 i.section.items
+      (map (λ u. u.unit.offset) units)
+  pub each : All (IsUnitOf (section_read i.section.items i.big) (entry_of i.address_size) i.lowest)
+      units
 
 -- the sections of strings of an index
 abbrev pub strings_in : SectionIndex → Strings
 strings_in i = record { debug_line_str = i.line_strings.items; debug_str = i.strings.items }
 
 -- the addresses of the first line of a path from the asked one on that has any, over all units
-pub record GivesAddressesOf (i : SectionIndex) (path : List ℕ) (asked line : ℕ) (addresses : List ℕ) : Type 0 where
+pub record GivesAddressesOf (i : SectionIndex) (path : List ℕ) (asked line : ℕ) (addresses : List ℕ)
+    : Type 0 where
   pub units : List KeptUnit
   pub are_units : AreUnitsIn i units
   pub is_first : IsFirstLine (addresses_of_path (strings_in i) path units) asked line
@@ -235,7 +266,8 @@ pub record GivesAddressesOf (i : SectionIndex) (path : List ℕ) (asked line : �
 -- those addresses in an array of the caller, and how many there are
 abbrev pub WritesAddressesOf : SectionIndex → List ℕ → ℕ → ℕ → List ℕ → List ℕ → ℕ → Type 0
 WritesAddressesOf i path asked line old new count =
-    (addresses : List ℕ) × GivesAddressesOf i path asked line addresses × (new ≡ slots_with addresses old) × (count ≡ length addresses)
+    (addresses : List ℕ) × GivesAddressesOf i path asked line addresses
+    × (new ≡ slots_with addresses old) × (count ≡ length addresses)
 
 -- no line of the path from the asked one on has an address
 pub record HasNoAddressOf (i : SectionIndex) (path : List ℕ) (asked : ℕ) : Type 0 where

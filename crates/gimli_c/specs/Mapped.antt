@@ -1,11 +1,14 @@
 -- What a map says (docs/INDEX.md), as C sees it.
-use Rattle.std.specs.Prelude.{◌≡◌, ◌≤◌, ◌⊎◌, ℕ, ◌+◌, List, length, slice_range, Some, None, Result, Ok, Err}
+use Rattle.std.specs.Prelude.{◌≡◌, ◌≤◌, ◌⊎◌, ℕ, ◌+◌, List, length, slice_range, Some, None, Result}
+use Rattle.std.specs.Prelude.{Ok, Err}
 use Rattle.std.specs.List.{AllZip}
 use Rattle.gimli_index.specs.Meaning.{place_at, starts_of, AreAscending, Place}
 use Rattle.gimli_index.specs.Parts.{index_at, Index}
 use Rattle.gimli_index.specs.Sound.{IsSound, IsFaultOf}
 use Rattle.gimli_index.specs.declared.error.IndexError.{IndexError}
-use Rattle.gimli_index.specs.declared.error.IndexError.TheVariants.{NotIndex, HeaderCut, Version, AddressSize, StartSize, Base, Cut, NotAscending, PathOutside}
+use Rattle.gimli_index.specs.declared.error.IndexError.TheVariants.{NotIndex, HeaderCut, Version}
+use Rattle.gimli_index.specs.declared.error.IndexError.TheVariants.{AddressSize, StartSize, Base}
+use Rattle.gimli_index.specs.declared.error.IndexError.TheVariants.{Cut, NotAscending, PathOutside}
 use Rattle.gimli_index.specs.declared.place.NoPath.{NoPath}
 use Rattle.gimli_index.specs.declared.place.NoPath.TheVariants.{Reason, Outside}
 use Rattle.gimli_c.specs.declared.map.header.GimliMap.{GimliMap}
@@ -60,18 +63,22 @@ pub record SeesMap (bytes : List ℕ) (seen : GimliMap) : Type 0 where
   pub ranges : seen.ranges ≡ length (starts_of index)
   pub address_size : seen.address_size ≡ index.address_size
   pub inside : seen.identity + seen.identity_size ≤ length bytes
-  pub identity : slice_range bytes seen.identity (seen.identity + seen.identity_size) ≡ index.identity
+  pub identity : slice_range bytes seen.identity (seen.identity + seen.identity_size)
+      ≡ index.identity
 
 -- ---- what it says of an address
 
 -- the path of a place is these bytes of the map, or there is none for the reason of a number
 abbrev pub SeesPath : List ℕ → Result (List ℕ) NoPath → GimliMapPlace → Type 0
 SeesPath bytes (Ok path) seen =
-    (seen.no_path ≡ 0) × (seen.path + seen.path_size ≤ length bytes) × (slice_range bytes seen.path (seen.path + seen.path_size) ≡ path)
+    (seen.no_path ≡ 0) × (seen.path + seen.path_size ≤ length bytes)
+    × (slice_range bytes seen.path (seen.path + seen.path_size) ≡ path)
 SeesPath bytes (Err (Reason n)) seen = (seen.no_path ≡ n) × (seen.path ≡ 0) × (seen.path_size ≡ 0)
-SeesPath bytes (Err Outside) seen = (seen.no_path ≡ 0xffff_ffff) × (seen.path ≡ 0) × (seen.path_size ≡ 0)
+SeesPath bytes (Err Outside) seen =
+    (seen.no_path ≡ 0xffff_ffff) × (seen.path ≡ 0) × (seen.path_size ≡ 0)
 
-pub record SeesPlace (bytes : List ℕ) (address : ℕ) (place : Place) (seen : GimliMapPlace) : Type 0 where
+pub record SeesPlace (bytes : List ℕ) (address : ℕ) (place : Place) (seen : GimliMapPlace)
+    : Type 0 where
   pub address_is : seen.address ≡ address
   pub known : seen.known ≡ 1
   pub line : seen.line ≡ place.line
@@ -95,10 +102,20 @@ pub record HasNoPlace (bytes : List ℕ) (address : ℕ) : Type 0 where
 
 -- what is answered then: all numbers but the address are 0
 abbrev pub no_map_place : ℕ → GimliMapPlace
-no_map_place address = record { address = address; unit = 0; path = 0; path_size = 0; line = 0; column = 0; no_path = 0; known = 0 }
+no_map_place address = record {
+  address = address;
+  unit = 0;
+  path = 0;
+  path_size = 0;
+  line = 0;
+  column = 0;
+  no_path = 0;
+  known = 0;
+}
 
 abbrev pub IsMapAnswer : List ℕ → ℕ → GimliMapPlace → Type 0
-IsMapAnswer bytes address seen = SeesPlaceAt bytes address seen ⊎ ((seen ≡ no_map_place address) × HasNoPlace bytes address)
+IsMapAnswer bytes address seen =
+    SeesPlaceAt bytes address seen ⊎ ((seen ≡ no_map_place address) × HasNoPlace bytes address)
 
 -- each place of an array of the caller has the answer to the address that it had
 abbrev pub WritesMapAnswers : List ℕ → List GimliMapPlace → List GimliMapPlace → Type 0

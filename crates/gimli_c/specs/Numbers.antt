@@ -1,8 +1,31 @@
 -- The number of each constant of `status`.
 use Rattle.std.specs.Prelude.{◌≡◌}
-use Rattle.gimli_c.specs.declared.status.TheConstants.{OK, UNEXPECTED_EOF, BAD_UNSIGNED_LEB128, BAD_SIGNED_LEB128, UNKNOWN_RESERVED_LENGTH, UNKNOWN_VERSION, UNSUPPORTED_ADDRESS_SIZE, UNSUPPORTED_SEGMENT_SIZE, MINIMUM_INSTRUCTION_LENGTH_ZERO, MAXIMUM_OPERATIONS_PER_INSTRUCTION_ZERO, LINE_RANGE_ZERO, OPCODE_BASE_ZERO, MISSING_FILE_ENTRY_FORMAT_PATH, UNKNOWN_FORM, ADDRESS_OVERFLOW, UNSUPPORTED_OFFSET, EXPECTED_STRING_ATTRIBUTE_VALUE, OUT_OF_MEMORY, NO_ROW, UNSUPPORTED_OFFSET_SIZE, UNSUPPORTED_LINE_ENCODING, TEXT_OUT_OF_BOUNDS, ZERO_IN_TEXT, EMPTY_TEXT, NO_SOURCE_FILE, NO_SUCH_DIRECTORY, NO_SUCH_FILE, ROW_OUT_OF_ORDER, UNKNOWN_FLAG, NEED_VERSION_4, UNIT_TOO_LONG, NO_ROOM, CLOSED, UNKNOWN_PATH, NO_MAP, UNKNOWN_MAP_VERSION, MAP_CUT, MAP_HEADER, MAP_DISORDERED, MAP_PATH_OUTSIDE, NO_SUCH_UNIT, NO_CODE, NO_COMP_DIR, UNKNOWN_OPTIONS, NO_ELF, NO_SECTION, BAD_SECTION}
+use Rattle.gimli_c.specs.declared.status.TheConstants.{OK, UNEXPECTED_EOF, BAD_UNSIGNED_LEB128}
+use Rattle.gimli_c.specs.declared.status.TheConstants.{BAD_SIGNED_LEB128, UNKNOWN_RESERVED_LENGTH}
+use Rattle.gimli_c.specs.declared.status.TheConstants.{UNKNOWN_VERSION, UNSUPPORTED_ADDRESS_SIZE}
+use Rattle.gimli_c.specs.declared.status.TheConstants.{UNSUPPORTED_SEGMENT_SIZE}
+use Rattle.gimli_c.specs.declared.status.TheConstants.{MINIMUM_INSTRUCTION_LENGTH_ZERO}
+use Rattle.gimli_c.specs.declared.status.TheConstants.{MAXIMUM_OPERATIONS_PER_INSTRUCTION_ZERO}
+use Rattle.gimli_c.specs.declared.status.TheConstants.{LINE_RANGE_ZERO, OPCODE_BASE_ZERO}
+use Rattle.gimli_c.specs.declared.status.TheConstants.{MISSING_FILE_ENTRY_FORMAT_PATH, UNKNOWN_FORM}
+use Rattle.gimli_c.specs.declared.status.TheConstants.{ADDRESS_OVERFLOW, UNSUPPORTED_OFFSET}
+use Rattle.gimli_c.specs.declared.status.TheConstants.{EXPECTED_STRING_ATTRIBUTE_VALUE}
+use Rattle.gimli_c.specs.declared.status.TheConstants.{OUT_OF_MEMORY, NO_ROW}
+use Rattle.gimli_c.specs.declared.status.TheConstants.{UNSUPPORTED_OFFSET_SIZE}
+use Rattle.gimli_c.specs.declared.status.TheConstants.{UNSUPPORTED_LINE_ENCODING}
+use Rattle.gimli_c.specs.declared.status.TheConstants.{TEXT_OUT_OF_BOUNDS, ZERO_IN_TEXT, EMPTY_TEXT}
+use Rattle.gimli_c.specs.declared.status.TheConstants.{NO_SOURCE_FILE, NO_SUCH_DIRECTORY}
+use Rattle.gimli_c.specs.declared.status.TheConstants.{NO_SUCH_FILE, ROW_OUT_OF_ORDER, UNKNOWN_FLAG}
+use Rattle.gimli_c.specs.declared.status.TheConstants.{NEED_VERSION_4, UNIT_TOO_LONG, NO_ROOM}
+use Rattle.gimli_c.specs.declared.status.TheConstants.{CLOSED, UNKNOWN_PATH, NO_MAP}
+use Rattle.gimli_c.specs.declared.status.TheConstants.{UNKNOWN_MAP_VERSION, MAP_CUT, MAP_HEADER}
+use Rattle.gimli_c.specs.declared.status.TheConstants.{MAP_DISORDERED, MAP_PATH_OUTSIDE}
+use Rattle.gimli_c.specs.declared.status.TheConstants.{NO_SUCH_UNIT, NO_CODE, NO_COMP_DIR}
+use Rattle.gimli_c.specs.declared.status.TheConstants.{UNKNOWN_OPTIONS, NO_ELF, NO_SECTION}
+use Rattle.gimli_c.specs.declared.status.TheConstants.{BAD_SECTION}
 
--- the constants are these numbers, which the enum `gimli_status` of include/gimli_line.h has under the same names
+-- the constants are these numbers, which the enum `gimli_status` of include/gimli_line.h has under
+-- the same names
 pub record AreNumbered : Type 0 where
   pub ok : OK ≡ 0
   pub unexpected_eof : UNEXPECTED_EOF ≡ 1

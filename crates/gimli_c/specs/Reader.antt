@@ -1,5 +1,6 @@
 -- The rows of a unit as they come.
-use Rattle.std.specs.Prelude.{◌≡◌, ◌⊎◌, ◌+◌, ℕ, List, drop, if◌then◌else◌, length, map, min, nat_lt, slice_get, None}
+use Rattle.std.specs.Prelude.{◌≡◌, ◌⊎◌, ◌+◌, ℕ, List, drop, if◌then◌else◌, length, map, min, nat_lt}
+use Rattle.std.specs.Prelude.{slice_get, None}
 use Rattle.gimli_line.specs.declared.run.row.LineRow.{LineRow}
 use Rattle.gimli_line.specs.header.Header.{Header}
 use Rattle.gimli_line.specs.run.Events.{Event}
@@ -23,7 +24,8 @@ rows_left r = drop r.next r.rows
 abbrev pub after_rows : ℕ → UnitRows → UnitRows
 after_rows count r = record r { next = r.next + count }
 
--- a reader before the first row of the unit at a location: all rows of its program are to come, up to the first fault
+-- a reader before the first row of the unit at a location: all rows of its program are to come, up
+-- to the first fault
 pub record IsAtFirstRow (p : Location) (r : UnitRows) : Type 0 where
   pub header : Header
   pub events : List Event
@@ -31,8 +33,8 @@ pub record IsAtFirstRow (p : Location) (r : UnitRows) : Type 0 where
   pub rows_are : rows_left r ≡ rows_of events
   pub fault_is : r.fault ≡ fault_of events
 
--- the rows to come stand in an array of the caller, as far as it has room, and this is how many; where it has room for more, the
--- rows are at their end, and the status is that of the fault there
+-- the rows to come stand in an array of the caller, as far as it has room, and this is how many;
+-- where it has room for more, the rows are at their end, and the status is that of the fault there
 pub record GivesNextRows (r : UnitRows) (old new : List GimliRow) (count status : ℕ) : Type 0 where
   pub copied : new ≡ slots_with (map row_seen (rows_left r)) old
   pub count_is : count ≡ min (length (rows_left r)) (length old)
@@ -48,4 +50,5 @@ pub record IsAtFirstRowOfUnit (i : SectionIndex) (unit : ℕ) (r : UnitRows) : T
 
 -- why the rows of a unit aren't answered, memory aside: there is no such unit, or it can't be read
 abbrev pub HasNoRows : SectionIndex → ℕ → ℕ → Type 0
-HasNoRows i unit status = ((status ≡ NO_SUCH_UNIT) × (slice_get i.units unit ≡ None)) ⊎ UnitRefused i unit status
+HasNoRows i unit status =
+    ((status ≡ NO_SUCH_UNIT) × (slice_get i.units unit ≡ None)) ⊎ UnitRefused i unit status

@@ -10,10 +10,11 @@ use crate::location::program_at;
 use crate::status::{NO_SUCH_DIRECTORY, OK, OUT_OF_MEMORY, UNSUPPORTED_ADDRESS_SIZE};
 use std::alloc::Global;
 
-/// Reads the directory of a number, as files have it: up to version 4 from 1 on, in version 5 from 0 on. Its bytes go into
-/// `bytes`, as far as they stand in the section itself, and there is room. `NO_SUCH_DIRECTORY` where there is no such directory, as
-/// there is none of number 0 up to version 4. Where another number than 0 is returned, nothing is written. For
-/// `address_size` and the order see `gimli_line_unit`.
+/// Reads the directory of a number, as files have it: up to version 4 from 1 on, in version 5 from
+/// 0 on. Its bytes go into `bytes`, as far as they stand in the section itself, and there is room.
+/// `NO_SUCH_DIRECTORY` where there is no such directory, as there is none of number 0 up to
+/// version 4. Where another number than 0 is returned, nothing is written. For `address_size` and
+/// the order see `gimli_line_unit`.
 #[unsafe(no_mangle)]
 pub extern "C" fn gimli_line_directory(
     alloc: Global,

@@ -4,7 +4,8 @@ ghost use Rattle.std.specs.Prelude.{◌≡◌, ◌≢◌, ◌⊎◌, IfErr, IfOk
 ghost use Rattle.elf_sections.specs.Elf.{file_of};
 ghost use Rattle.elf_sections.specs.File.{file_at};
 ghost use Rattle.elf_sections.specs.declared.error.ElfError.TheVariants.{OutOfMemory};
-ghost use Rattle.gimli_c.specs.ElfSeen.{CantReadSection, HasNoSection, IsLowest, IsNoElf, SeesElf, WritesSection};
+ghost use Rattle.gimli_c.specs.ElfSeen.{CantReadSection, HasNoSection, IsLowest, IsNoElf, SeesElf};
+ghost use Rattle.gimli_c.specs.ElfSeen.{WritesSection};
 
 use crate::file::copy_bytes;
 use crate::status::{BAD_SECTION, NO_ELF, NO_SECTION, OK, OUT_OF_MEMORY};

@@ -4,7 +4,8 @@ ghost use Rattle.std.specs.Prelude.{◌≡◌, ◌≢◌, false, option_map};
 ghost use Rattle.gimli_core.specs.Numbers.{is_address_size};
 ghost use Rattle.gimli_core.specs.Values.{value_seen};
 ghost use Rattle.gimli_line.specs.header.File.{file_seen};
-ghost use Rattle.gimli_c.specs.FileSeen.{details_of, file_seen_by_c, optional_text_seen, text_here, GivesFile, GivesNoFile};
+ghost use Rattle.gimli_c.specs.FileSeen.{details_of, file_seen_by_c, optional_text_seen, text_here};
+ghost use Rattle.gimli_c.specs.FileSeen.{GivesFile, GivesNoFile};
 ghost use Rattle.gimli_c.specs.Location.{location, HasNoUnit};
 ghost use Rattle.gimli_c.specs.Written.{slots_with};
 
@@ -20,7 +21,8 @@ use std::alloc::Global;
 #[repr(C)]
 #[derive(Clone, Copy)]
 pub struct GimliText {
-    /// `TEXT_NONE`, `TEXT_HERE`, `TEXT_DEBUG_LINE_STR`, `TEXT_DEBUG_STR`, `TEXT_DEBUG_STR_SUP` or `TEXT_INDEX`.
+    /// `TEXT_NONE`, `TEXT_HERE`, `TEXT_DEBUG_LINE_STR`, `TEXT_DEBUG_STR`, `TEXT_DEBUG_STR_SUP` or
+    /// `TEXT_INDEX`.
     pub kind: u64,
     /// The offset in another section, or the index.
     pub first: u64,
@@ -47,7 +49,8 @@ pub const TEXT_INDEX: u64 = 5;
 pub struct GimliFile {
     /// The path, which is full or starts at the directory.
     pub path: GimliText,
-    /// The directory; none where its number is that of no directory, as number 0 is up to version 4.
+    /// The directory; none where its number is that of no directory, as number 0 is up to
+    /// version 4.
     pub directory: GimliText,
     /// The text of the file; none where it isn't known.
     pub source: GimliText,
@@ -57,7 +60,8 @@ pub struct GimliFile {
     pub timestamp: u64,
     /// The size in bytes; 0 where it isn't known.
     pub size: u64,
-    /// The sum of `HAS_TIMESTAMP`, `HAS_SIZE`, `HAS_MD5` and `HAS_SOURCE`, each where the unit's files have that detail.
+    /// The sum of `HAS_TIMESTAMP`, `HAS_SIZE`, `HAS_MD5` and `HAS_SOURCE`, each where the unit's
+    /// files have that detail.
     pub details: u64,
     /// The MD5 digest; zeros where it isn't known.
     pub md5: [u8; 16],
@@ -72,10 +76,12 @@ pub const HAS_MD5: u64 = 4;
 /// The files have a source text.
 pub const HAS_SOURCE: u64 = 8;
 
-/// Reads the file of a number, as rows have it: up to version 4 from 1 on, in version 5 from 0 on. Where the unit's table has no
-/// such file, the program is run to its end, past its faults, for the files that it defines. The bytes of the path and of the directory go into `path` and
-/// `directory`, as far as they stand in the section itself, and there is room. `NO_SUCH_FILE` where there is no such file.
-/// Where another number than 0 is returned, nothing is written. For `address_size` and the order see `gimli_line_unit`.
+/// Reads the file of a number, as rows have it: up to version 4 from 1 on, in version 5 from 0 on.
+/// Where the unit's table has no such file, the program is run to its end, past its faults, for the
+/// files that it defines. The bytes of the path and of the directory go into `path` and
+/// `directory`, as far as they stand in the section itself, and there is room. `NO_SUCH_FILE` where
+/// there is no such file. Where another number than 0 is returned, nothing is written. For
+/// `address_size` and the order see `gimli_line_unit`.
 #[unsafe(no_mangle)]
 pub extern "C" fn gimli_line_file(
     alloc: Global,

@@ -1,8 +1,8 @@
 //! Line number programs of DWARF, versions 2 to 5, for programs in C and in Rust.
 //!
-//! Each call takes the bytes of a section or of a map, or the handle of an index, and numbers, and returns a number of [`status`];
-//! what it found goes into places of the caller. Nothing of the caller is kept after a call. `include/gimli_line.h`
-//! declares all of it.
+//! Each call takes the bytes of a section or of a map, or the handle of an index, and numbers, and
+//! returns a number of [`status`]; what it found goes into places of the caller. Nothing of the
+//! caller is kept after a call. `include/gimli_line.h` declares all of it.
 #![tactic(auto)]
 
 mod comp_dir;

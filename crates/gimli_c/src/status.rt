@@ -105,7 +105,8 @@ pub const UNKNOWN_OPTIONS: u32 = 43;
 pub const NO_ELF: u32 = 44;
 /// An ELF file has no section of this name.
 pub const NO_SECTION: u32 = 45;
-/// A section of an ELF file can't be read: it is cut, compressed in a way that is unknown, or its relocations are.
+/// A section of an ELF file can't be read: it is cut, compressed in a way that is unknown, or its
+/// relocations are.
 pub const BAD_SECTION: u32 = 46;
 
 /// The number of a refusal.

@@ -9,7 +9,8 @@ use Rattle.gimli_index.specs.declared.span.PlaceSpan.{PlaceSpan}
 
 -- where the part of paths begins, from the first byte of the index on
 abbrev pub paths_begin : Index → ℕ
-paths_begin index = 40 + 24 * index.sources + size_of index.start_size * index.starts + 12 * index.starts
+paths_begin index =
+    40 + 24 * index.sources + size_of index.start_size * index.starts + 12 * index.starts
 
 -- where the identity begins: right after the paths
 abbrev pub identity_begin : Index → ℕ
@@ -19,7 +20,9 @@ identity_begin index = paths_begin index + length index.path_bytes
 pub record StandsIn (bytes : List ℕ) (index : Index) : Type 0 where
   pub inside : identity_begin index + length index.identity ≤ length bytes
   pub paths : slice_range bytes (paths_begin index) (identity_begin index) ≡ index.path_bytes
-  pub identity : slice_range bytes (identity_begin index) (identity_begin index + length index.identity) ≡ index.identity
+  pub identity : slice_range bytes (identity_begin index)
+      (identity_begin index + length index.identity)
+      ≡ index.identity
 
 -- the bytes of a span
 abbrev pub path_at : List ℕ → Span → List ℕ

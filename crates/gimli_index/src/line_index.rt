@@ -47,7 +47,8 @@ pub struct LineIndex<'a> {
     pub(crate) paths_offset: usize,
     pub(crate) identity_offset: usize,
     ghost identity_there: { identity_offset ≡ paths_offset + length path_bytes.now },
-    ghost paths_there: { paths_offset ≡ 40 + 24 * sources + size_of start_size * starts + 12 * starts },
+    ghost paths_there: { paths_offset
+        ≡ 40 + 24 * sources + size_of start_size * starts + 12 * starts },
     ghost low: { base ≤ highest_base start_size },
     ghost all_sources: { length source_bytes.now ≡ 24 * sources },
     ghost all_starts: { length start_bytes.now ≡ size_of start_size * starts },

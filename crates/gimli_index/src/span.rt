@@ -1,6 +1,7 @@
 //! Where code comes from, with its path as a part of the bytes.
 
-ghost use Rattle.std.specs.Prelude.{◌≡◌, ◌+◌, ◌*◌, ◌<◌, ◌≤◌, drop, length, option_map, IfOk, IfSome};
+ghost use Rattle.std.specs.Prelude.{◌≡◌, ◌+◌, ◌*◌, ◌<◌, ◌≤◌, drop, length, option_map, IfOk};
+ghost use Rattle.std.specs.Prelude.{IfSome};
 ghost use Rattle.gimli_core.specs.Reading.{result_map};
 ghost use Rattle.gimli_index.specs.Meaning.{entry_place, path_of, place_at, starts_of};
 ghost use Rattle.gimli_index.specs.Meaning.{AreAscending};

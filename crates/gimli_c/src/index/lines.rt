@@ -3,7 +3,8 @@
 ghost use Rattle.std.specs.Prelude.{◌≡◌, ◌≢◌, ◌⊎◌, false, IfErr, IfOk, IfSome, None};
 ghost use Rattle.gimli_core.specs.Numbers.{is_address_size};
 ghost use Rattle.gimli_lookup.specs.Strings.{strings};
-ghost use Rattle.gimli_c.specs.Indexed.{strings_in, AreUnitsIn, GivesAddressesOf, HasNoAddressOf, WritesAddressesOf};
+ghost use Rattle.gimli_c.specs.Indexed.{strings_in, AreUnitsIn, GivesAddressesOf, HasNoAddressOf};
+ghost use Rattle.gimli_c.specs.Indexed.{WritesAddressesOf};
 
 use crate::index::handle::GimliLineIndex;
 use crate::index::kept::SectionIndex;

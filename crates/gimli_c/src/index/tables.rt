@@ -1,7 +1,8 @@
 //! The files and the directories of the units of an index.
 
 ghost use Rattle.std.specs.Prelude.{◌≡◌, ◌≢◌, IfSome, None, slice_get};
-ghost use Rattle.gimli_c.specs.Indexed.{GivesDirectoryOf, GivesFileOf, HasNoDirectory, HasNoFile, UnitRefused};
+ghost use Rattle.gimli_c.specs.Indexed.{GivesDirectoryOf, GivesFileOf, HasNoDirectory, HasNoFile};
+ghost use Rattle.gimli_c.specs.Indexed.{UnitRefused};
 
 use crate::directory::gimli_line_directory;
 use crate::file::{GimliFile, GimliText, gimli_line_file};
@@ -131,7 +132,8 @@ pub extern "C" fn gimli_line_index_directory(
         (λ i. GivesDirectoryOf i unit number directory.new bytes.old bytes.new) }
     ensures no_unit { result ≡ NO_SUCH_UNIT →
         IfSome index.old.index (λ i. slice_get i.units unit ≡ None) }
-    ensures none { result ≡ NO_SUCH_DIRECTORY → IfSome index.old.index (λ i. HasNoDirectory i unit number) }
+    ensures none { result ≡ NO_SUCH_DIRECTORY
+        → IfSome index.old.index (λ i. HasNoDirectory i unit number) }
     ensures closed { index.old.index ≡ None → result ≡ CLOSED }
     ensures refused { result ≢ OK → result ≢ NO_SUCH_UNIT → result ≢ NO_SUCH_DIRECTORY →
         result ≢ OUT_OF_MEMORY →

@@ -1,7 +1,9 @@
 //! The units of an index.
 
-ghost use Rattle.std.specs.Prelude.{◌≡◌, ◌≢◌, ◌⊎◌, ◌<◌, IfErr, IfOk, IfSome, None, length, slice_get};
-ghost use Rattle.gimli_c.specs.Indexed.{GivesAddresses, GivesIndexUnit, HasNoAddress, IsUnit, WritesAddresses};
+ghost use Rattle.std.specs.Prelude.{◌≡◌, ◌≢◌, ◌⊎◌, ◌<◌, IfErr, IfOk, IfSome, None, length};
+ghost use Rattle.std.specs.Prelude.{slice_get};
+ghost use Rattle.gimli_c.specs.Indexed.{GivesAddresses, GivesIndexUnit, HasNoAddress, IsUnit};
+ghost use Rattle.gimli_c.specs.Indexed.{WritesAddresses};
 ghost use Rattle.gimli_c.specs.Written.{slots_with};
 
 use crate::index::handle::GimliLineIndex;
@@ -18,7 +20,8 @@ impl SectionIndex {
     /// The index of a unit, or `NO_SUCH_UNIT` where there is none.
     fn unit_at(&self, unit: u64) -> Result<usize, u32>
         ensures ok { IfOk result (λ index. (index ≡ unit) × (unit < length self.now.units)) }
-        ensures err { IfErr result (λ s. (s ≡ NO_SUCH_UNIT) × (slice_get self.now.units unit ≡ None)) }
+        ensures err { IfErr result (λ s.
+            (s ≡ NO_SUCH_UNIT) × (slice_get self.now.units unit ≡ None)) }
     {
         if unit < self.units.units().len() as u64 {
             Ok(unit as usize)
@@ -34,7 +37,8 @@ impl SectionIndex {
     ) -> Result<&UnitLookup<EndianSlice<'static, RunTimeEndian>>, u32>
         ensures ok { IfOk result (λ found. (kept : KeptUnit) × IsUnit self.now unit kept
             × (found.now ≡ kept.unit)) }
-        ensures err { IfErr result (λ s. (s ≡ NO_SUCH_UNIT) × (slice_get self.now.units unit ≡ None)) }
+        ensures err { IfErr result (λ s.
+            (s ≡ NO_SUCH_UNIT) × (slice_get self.now.units unit ≡ None)) }
     {
         let index = self.unit_at(unit)?;
         Ok(&self.units.units()[index])
@@ -44,7 +48,8 @@ impl SectionIndex {
     pub(crate) fn offset_of(&self, unit: u64) -> Result<usize, u32>
         ensures ok { IfOk result (λ offset. (kept : KeptUnit) × IsUnit self.now unit kept
             × (offset ≡ kept.unit.offset)) }
-        ensures err { IfErr result (λ s. (s ≡ NO_SUCH_UNIT) × (slice_get self.now.units unit ≡ None)) }
+        ensures err { IfErr result (λ s.
+            (s ≡ NO_SUCH_UNIT) × (slice_get self.now.units unit ≡ None)) }
     {
         let found = self.listed_unit(unit)?;
         Ok(found.offset().0)
@@ -136,7 +141,8 @@ pub(crate) fn copy_addresses(addresses: &[u64], room: &mut [u64])
 
 /// The addresses of a line of a file of a unit, or the number of a refusal.
 fn addresses_in(index: &SectionIndex, unit: u64, file: u64, line: u64) -> Result<Addresses, u32>
-    ensures ok { IfOk result (λ a. GivesAddresses index.now unit file line a.line a.addresses.items) }
+    ensures ok { IfOk result (λ a.
+        GivesAddresses index.now unit file line a.line a.addresses.items) }
     ensures err { IfErr result (λ s. (s ≡ OUT_OF_MEMORY)
         ⊎ (((s ≡ NO_SUCH_UNIT) × (slice_get index.now.units unit ≡ None))
         ⊎ ((s ≡ NO_CODE) × HasNoAddress index.now unit file line))) }
@@ -170,7 +176,8 @@ pub extern "C" fn gimli_line_index_addresses(
     count: &mut usize,
 ) -> u32
     ensures found { result ≡ OK → IfSome index.old.index
-        (λ i. WritesAddresses i unit file line found_line.new addresses.old addresses.new count.new) }
+        (λ i. WritesAddresses i unit file line found_line.new addresses.old addresses.new
+        count.new) }
     ensures no_unit { result ≡ NO_SUCH_UNIT →
         IfSome index.old.index (λ i. slice_get i.units unit ≡ None) }
     ensures none { result ≡ NO_CODE →

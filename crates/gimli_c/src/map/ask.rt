@@ -3,7 +3,8 @@
 ghost use Rattle.std.specs.Prelude.{◌≡◌, ◌≢◌, ◌<◌, ◌^◌, MatchOption};
 ghost use Rattle.gimli_index.specs.Spans.{identity_begin, StandsIn};
 ghost use Rattle.gimli_index.specs.Views.{index_of};
-ghost use Rattle.gimli_c.specs.Mapped.{HasNoPlace, IsMap, IsMapAnswer, IsNoMap, SeesPlaceAt, WritesMapAnswers};
+ghost use Rattle.gimli_c.specs.Mapped.{HasNoPlace, IsMap, IsMapAnswer, IsNoMap, SeesPlaceAt};
+ghost use Rattle.gimli_c.specs.Mapped.{WritesMapAnswers};
 
 use crate::map::header::map_in;
 use crate::map::place::{GimliMapPlace, no_place, place_seen};

@@ -4,7 +4,8 @@ ghost use Rattle.std.specs.Prelude.{◌≡◌, ◌≢◌, IfErr, IfOk};
 ghost use Rattle.gimli_index.specs.Parts.{index_at};
 ghost use Rattle.gimli_index.specs.Spans.{StandsIn};
 ghost use Rattle.gimli_index.specs.Views.{index_of};
-ghost use Rattle.gimli_c.specs.Mapped.{map_status, IsMap, IsNoMap, IsSoundMap, IsUnsoundMap, SeesMap};
+ghost use Rattle.gimli_c.specs.Mapped.{map_status, IsMap, IsNoMap, IsSoundMap, IsUnsoundMap};
+ghost use Rattle.gimli_c.specs.Mapped.{SeesMap};
 
 use crate::status::{
     MAP_CUT, MAP_DISORDERED, MAP_HEADER, MAP_PATH_OUTSIDE, NO_MAP, OK, UNKNOWN_MAP_VERSION,

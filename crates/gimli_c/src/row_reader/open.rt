@@ -1,6 +1,7 @@
 //! The start of a reader of rows.
 
-ghost use Rattle.std.specs.Prelude.{◌≡◌, ◌≢◌, ◌++◌, false, Err, IfErr, IfOk, IfSome, IsSome, None, OnOk};
+ghost use Rattle.std.specs.Prelude.{◌≡◌, ◌≢◌, ◌++◌, false, Err, IfErr, IfOk, IfSome, IsSome, None};
+ghost use Rattle.std.specs.Prelude.{OnOk};
 ghost use Rattle.gimli_core.specs.Numbers.{is_address_size};
 ghost use Rattle.gimli_line.specs.run.Rows.{events_left};
 ghost use Rattle.gimli_line.specs.run.Sequences.{events_of};
@@ -18,7 +19,8 @@ use gimli_core::{Error, Reader};
 use gimli_line::{OneShotLineRows, RowList};
 use std::alloc::Global;
 
-/// Appends the rows of a run up to its first fault, which it returns. Refused by `OutOfMemory` alone.
+/// Appends the rows of a run up to its first fault, which it returns. Refused by `OutOfMemory`
+/// alone.
 fn keep_rows<R: Reader>(
     run: &mut OneShotLineRows<R>,
     rows: &mut RowList,
@@ -84,10 +86,10 @@ fn rows_at(
     box_of(alloc, kept)
 }
 
-/// Runs the program of the unit at an offset, and puts its rows behind the handle; what stood there is given back. Then
-/// `gimli_line_rows_next` gives them from the first on. The rows are the handle's own: the section may go. A fault of the program
-/// is no refusal: it comes after the rows before it. Where another number than 0 is returned, the handle has what it
-/// had. For
+/// Runs the program of the unit at an offset, and puts its rows behind the handle; what stood there
+/// is given back. Then `gimli_line_rows_next` gives them from the first on. The rows are the
+/// handle's own: the section may go. A fault of the program is no refusal: it comes after the rows
+/// before it. Where another number than 0 is returned, the handle has what it had. For
 /// `address_size` and the order see `gimli_line_unit`.
 #[unsafe(no_mangle)]
 pub extern "C" fn gimli_line_rows_open(
@@ -125,9 +127,10 @@ fn rows_in(alloc: Global, index: &SectionIndex, unit: u64) -> Result<Box<UnitRow
     rows_at(alloc, &index.section, index.big, index.address_size, offset)
 }
 
-/// Does what `gimli_line_rows_open` does for a unit of an index, by its copy of the section: all rows of the unit come, those of
-/// sequences that the index leaves out too. `NO_SUCH_UNIT` where there is no such unit, and `CLOSED` where the handle of the index is.
-/// Where another number than 0 is returned, the handle of the reader has what it had.
+/// Does what `gimli_line_rows_open` does for a unit of an index, by its copy of the section: all
+/// rows of the unit come, those of sequences that the index leaves out too. `NO_SUCH_UNIT` where
+/// there is no such unit, and `CLOSED` where the handle of the index is. Where another number than
+/// 0 is returned, the handle of the reader has what it had.
 #[unsafe(no_mangle)]
 pub extern "C" fn gimli_line_index_rows_open(
     alloc: Global,

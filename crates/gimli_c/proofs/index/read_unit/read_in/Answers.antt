@@ -10,7 +10,8 @@ returns-clause-found c = λ ok.
     record {
       kept = at.0;
       is_unit = at.1;
-      gives = location_here (λ p. GivesUnit p c.gimli_line_unit.new.unit) c.args.index.now at.0 _ _ c.deref.ensures.value at.2 (c.gimli_line_unit.ensures.ok ok);
+      gives =
+          location_here (λ p. GivesUnit p c.gimli_line_unit.new.unit) c.args.index.now at.0 _ _ c.deref.ensures.value at.2 (c.gimli_line_unit.ensures.ok ok);
     }
 
 pub returns-clause-refused : goal.returns-clause-refused
@@ -21,5 +22,7 @@ returns-clause-refused c = λ a _ d.
 pub returns-clause-no_unit : goal.returns-clause-no_unit
 returns-clause-no_unit c = λ missing.
     let p = location c.deref.result.now c.args.index.now.big c.args.index.now.address_size c.in-Ok.offset in
-    let told = c.gimli_line_unit.ensures.refused (λ ok. let z : 40 ≡ 0 = sym missing ∙ ok in omega (arith, z)) (λ memory. let z : 40 ≡ 17 = sym missing ∙ memory in omega (arith, z)) in
+    let told =
+    c.gimli_line_unit.ensures.refused (λ ok. let z : 40 ≡ 0 = sym missing ∙ ok in omega (arith, z))
+    (λ memory. let z : 40 ≡ 17 = sym missing ∙ memory in omega (arith, z)) in
     absurd (unit_not_missing p (subst (λ (s : ℕ). HasNoUnit p s) missing told))

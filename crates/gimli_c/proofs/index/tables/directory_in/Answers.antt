@@ -10,13 +10,18 @@ returns-clause-found c = λ ok.
     record {
       kept = at.0;
       is_unit = at.1;
-      gives = location_here (λ p. GivesDirectory p c.args.number c.gimli_line_directory.new.directory c.args.bytes.now c.gimli_line_directory.new.bytes) c.args.index.now at.0 _ _ c.deref.ensures.value at.2 (c.gimli_line_directory.ensures.found ok);
+      gives =
+          location_here (λ p. GivesDirectory p c.args.number c.gimli_line_directory.new.directory c.args.bytes.now c.gimli_line_directory.new.bytes)
+          c.args.index.now at.0 _ _ c.deref.ensures.value at.2 (c.gimli_line_directory.ensures.found ok);
     }
 
 pub returns-clause-none : goal.returns-clause-none
 returns-clause-none c = λ none.
-    let at = c.in-Ok.ensures.ok in
-    (at.0, at.1, location_here (λ p. GivesNoDirectory p c.args.number) c.args.index.now at.0 _ _ c.deref.ensures.value at.2 (c.gimli_line_directory.ensures.none none))
+    let at = c.in-Ok.ensures.ok in (
+      at.0,
+      at.1,
+      location_here (λ p. GivesNoDirectory p c.args.number) c.args.index.now at.0 _ _ c.deref.ensures.value at.2 (c.gimli_line_directory.ensures.none none),
+    )
 
 pub returns-clause-refused : goal.returns-clause-refused
 returns-clause-refused c = λ a _ b d.

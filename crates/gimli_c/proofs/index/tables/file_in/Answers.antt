@@ -10,7 +10,11 @@ returns-clause-found c = λ ok.
     record {
       kept = at.0;
       is_unit = at.1;
-      gives = location_here (λ p. GivesFile p c.args.number c.gimli_line_file.new.file c.args.path.now c.gimli_line_file.new.path c.args.directory.now c.gimli_line_file.new.directory) c.args.index.now at.0 _ _ c.deref.ensures.value at.2 (c.gimli_line_file.ensures.found ok);
+      gives =
+          location_here
+          (λ p. GivesFile p c.args.number c.gimli_line_file.new.file c.args.path.now c.gimli_line_file.new.path c.args.directory.now
+          c.gimli_line_file.new.directory)
+          c.args.index.now at.0 _ _ c.deref.ensures.value at.2 (c.gimli_line_file.ensures.found ok);
     }
 
 pub returns-clause-none : goal.returns-clause-none
