@@ -9,7 +9,7 @@ The line before a block of code names the source, as a comment that a reader of 
 
 Before ` -->` may stand ` with NEW for OLD`: the page has NEW where the source has OLD. Code in Rattle, in antt and in C has to
 name its source; a script, a picture and an output needn't. An example in a comment (`///`) begins at the left edge, wherever its
-source stands; each public type of a library has one, but for those of STILL_WITHOUT.
+source stands; each public type of a library has one.
 """
 import glob
 import os
@@ -30,7 +30,6 @@ LIBRARIES = (
     "debug_files",
 )
 # Public types that no proved code outside their crates uses yet.
-STILL_WITHOUT = ("CoveredRange", "Ranges", "RelocatableVec", "RelocationTarget", "Addends", "Relocation")
 PAGES = ("*.md", "docs/*.md", "crates/*/CALLING.md", "crates/*/data/*.md", "tried/*/README.md")
 CODE = ("rust", "antt", "c", "cpp")
 MARK = re.compile(r"<!-- (part of |lines of |items [\w, ]+ of |)(\S+)(?: with (\S+) for (\S+))? -->")
@@ -149,7 +148,7 @@ def wrong_examples(top, path):
         first = i
         while declared and re.match(r"#\[|\s+.*\]$|\)\]", lines[first - 1]):
             first -= 1
-        if declared and first not in has_example and declared[1] not in STILL_WITHOUT:
+        if declared and first not in has_example:
             yield f"{name}:{i + 1}: {declared[1]} has no example"
 
 

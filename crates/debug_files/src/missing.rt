@@ -7,15 +7,11 @@ use std::{fmt, io};
 
 /// Why a file isn't the source of a program's sections.
 ///
-/// <!-- part of crates/lines/src/main.rt -->
+/// <!-- part of crates/lines/src/inputs.rt -->
 /// ```rust
-/// match debug_files::source_of(rt, request.file, wanted) {
-///     Ok(found) => Some(found),
-///     Err(missing) => {
-///         report(rt, request.file, &missing);
-///         None
-///     }
-/// }
+/// match missing {
+///     Missing::Elf(error) => report(rt, name, InputError::Elf(*error)),
+///     Missing::NoLines => report(rt, name, InputError::NoLines),
 /// ```
 #[derive(Debug, Drop)]
 pub enum Missing {

@@ -4,7 +4,7 @@ use std::alloc::Global;
 
 /// Which sections are read.
 ///
-/// <!-- part of crates/lines/src/main.rt -->
+/// <!-- part of crates/lines/src/inputs.rt -->
 /// ```rust
 /// let wanted = if request.command.prints_paths() {
 ///     Wanted::Paths
@@ -22,12 +22,12 @@ pub enum Wanted {
 
 /// What the sections of a program are read from.
 ///
-/// <!-- part of crates/lines/src/main.rt -->
+/// <!-- part of crates/lines/src/inputs.rt -->
 /// ```rust
-/// (Some(Found::Sections(source)), Some(line_str), Some(strings)) => {
-///     request.kind = Kind::Raw(notation_of(source));
-///     perform(rt, &request, files_of(source, line_str, strings))
-/// }
+/// let kind = match &found {
+///     Found::Whole(_) => request.kind,
+///     Found::Sections(source) => Kind::Raw(notation_of(source)),
+/// };
 /// ```
 #[derive(Drop)]
 pub enum Found {
@@ -39,7 +39,7 @@ pub enum Found {
 
 /// The sections that a command reads, and how.
 ///
-/// <!-- part of crates/lines/src/main.rt -->
+/// <!-- part of crates/lines/src/inputs.rt -->
 /// ```rust
 /// fn notation_of(source: &Source) -> Notation {
 ///     Notation::new(source.is_big_endian, source.address_size, source.lowest)
@@ -61,7 +61,7 @@ pub struct Source {
 
 /// The sections that whole paths need; no bytes where there is none.
 ///
-/// <!-- part of crates/lines/src/main.rt -->
+/// <!-- part of crates/lines/src/inputs.rt -->
 /// ```rust
 /// UnitFiles {
 ///     info: &paths.info,

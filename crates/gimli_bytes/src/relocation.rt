@@ -3,6 +3,11 @@
 use gimli_core::SectionId;
 
 /// What the value of a place is counted from.
+///
+/// <!-- part of crates/checks_writing/src/relocations.rt -->
+/// ```rust
+/// RelocationTarget::OfSection(SectionId::DebugLineStr),
+/// ```
 #[derive(Clone, Copy, Debug, PartialEq, Eq)]
 pub enum RelocationTarget {
     /// A symbol, by the number that [`Address::Symbol`](crate::Address::Symbol) has.
@@ -12,6 +17,11 @@ pub enum RelocationTarget {
 }
 
 /// Where the addends of relocations stand (System V ABI, chapter 4, "Relocation").
+///
+/// <!-- part of crates/checks_writing/src/relocations.rt -->
+/// ```rust
+/// let mut section = DebugLine::from(RelocatableVec::new(alloc, LittleEndian, addends));
+/// ```
 #[derive(Clone, Copy, Debug, PartialEq, Eq)]
 pub enum Addends {
     /// In the list, as in a section `SHT_RELA`. The places are zero.
@@ -21,6 +31,16 @@ pub enum Addends {
 }
 
 /// A place that a linker fills in: with what the target's address is then, and the addend.
+///
+/// <!-- part of crates/checks_writing/src/relocations.rt -->
+/// ```rust
+/// Relocation {
+///     offset,
+///     size: 4,
+///     target,
+///     addend,
+/// }
+/// ```
 #[derive(Clone, Copy, Debug, PartialEq, Eq)]
 pub struct Relocation {
     /// The offset of the place in the section, in bytes.

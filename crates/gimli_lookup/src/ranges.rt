@@ -8,6 +8,16 @@ use gimli_core::{Reader, ReaderOffset};
 use std::marker::Model;
 
 /// A range of addresses at each of which a [`SectionLookup`] finds the same.
+///
+/// <!-- part of crates/gimli_index/src/made.rt -->
+/// ```rust
+/// 'ranges: while let Some(range) = ranges.next_range() {
+///     let place = table.place_of(origin, range.rows)?;
+///     let entry = Entry {
+///         address: range.start,
+///         place,
+///     };
+/// ```
 #[derive(Clone, Copy, Debug)]
 pub struct CoveredRange {
     /// The first address.
@@ -21,6 +31,13 @@ pub struct CoveredRange {
 
 /// The ranges of a [`SectionLookup`], from the address 0 on, each from the end of the one before
 /// it.
+///
+/// <!-- part of crates/gimli_index/src/made.rt -->
+/// ```rust
+/// let mut ranges = origin.lookup.ranges();
+/// take_ranges(origin, &mut ranges, table, &mut entries)?;
+/// Ok(entries)
+/// ```
 #[derive(Drop)]
 pub struct Ranges<'a, R: Reader> {
     lookup: &'a SectionLookup<R>,
