@@ -310,6 +310,7 @@ impl<R: Reader> LineInstructions<R> {
     /// `Executed::No`, and nothing is changed, where it is another one, has a long operand or isn't
     /// there as a whole. Refused by `AddressOverflow`, as `LineRow::execute` is (DWARF 5, 6.2.5.2
     /// and 6.2.5.3).
+    #[inline(always)]
     pub(super) fn execute_other(
         &mut self,
         header: &LineProgramHeader<R>,

@@ -274,10 +274,17 @@ impl<R: Reader, P: LineProgram<R>> LineRows<R, P> {
         self.execute_one()
     }
 
-    /// Executes one instruction, from its bytes or as it is parsed. In line, so that the room for
-    /// the answer of the call is cleared here alone, and not in front of the loop above.
+    /// Executes one instruction. In line, so that the room for the answer is cleared here alone, and
+    /// not in front of the loop above.
     #[inline(always)]
     fn execute_one(&mut self) -> Result<Step>
+        ensures { StepsTo self.old self.new result }
+    {
+        self.execute_uncommon()
+    }
+
+    /// Executes one instruction that isn't a common one, from its bytes or as it is parsed.
+    fn execute_uncommon(&mut self) -> Result<Step>
         ensures { StepsTo self.old self.new result }
     {
         let header = self.program.header();

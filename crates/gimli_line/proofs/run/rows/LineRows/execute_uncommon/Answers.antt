@@ -1,6 +1,6 @@
 use Rattle.std.proofs.Common.{refl}
 use Rattle.gimli_line.proofs.Steps.{executed_more, executed_refused, executed_row, none_executed, steps_after}
-use Rattle.gimli_line.proofs.run.rows.LineRows.execute_one.Goals as goal
+use Rattle.gimli_line.proofs.run.rows.LineRows.execute_uncommon.Goals as goal
 
 pub returns-in-Err : goal.returns-in-Err
 returns-in-Err g c =
