@@ -274,8 +274,8 @@ impl<R: Reader, P: LineProgram<R>> LineRows<R, P> {
         self.execute_one()
     }
 
-    /// Executes one instruction. In line, so that the room for the answer is cleared here alone, and
-    /// not in front of the loop above.
+    /// Executes one instruction. In line, so that the room for the answer is cleared here alone,
+    /// and not in front of the loop above.
     #[inline(always)]
     fn execute_one(&mut self) -> Result<Step>
         ensures { StepsTo self.old self.new result }
