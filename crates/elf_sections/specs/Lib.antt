@@ -22,3 +22,4 @@ pub mod FileRange
 pub mod Seeking
 pub mod SeekingViews
 pub mod Stored
+pub mod Symbols
