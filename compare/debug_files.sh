@@ -386,5 +386,46 @@ if objcopy --dump-section .debug_line=section whole copy 2>/dev/null; then
     fi
 fi
 
+# A name is bytes: it is opened by them, and printed by their numbers.
+name=$(printf 'a\xff\033b')
+cp whole "$name"
+places "a name of bytes" "$name"
+places "a folder of bytes" "./$name"
+if ask units "$name.gone" >found 2>told || ! grep -qF 'lines: a\xff\x1bb.gone: ' told || LC_ALL=C grep -q "$(printf '\033')" told; then
+    wrong "the message on a name of bytes"
+    cat -v told | head -3
+else
+    right
+fi
+if ask where whole --relative-to "$name" <asked 2>told | sed 's/:[0-9]*$//; s/^??$/??:0/' | cmp -s - wanted; then right; else wrong "a directory of bytes"; fi
+
+# The program on standard input.
+if ask units - <whole >found 2>told && ask units whole >wanted_text && cmp -s found wanted_text; then right; else wrong "standard input"; fi
+if ask where - 0x0 <whole >found 2>told && [ "$(cat found)" = "??:0:0" ]; then right; else wrong "an address, and the program on standard input"; fi
+
+# A core file: e_type is 4.
+cp whole changed.program
+printf '\4' | dd of=changed.program bs=1 seek=16 conv=notrunc status=none
+refused "a core file" changed.program "a core file, which has no line programs; name the program that it is of"
+
+# The names of functions, of the program and of its debug file.
+for program in whole whole.debug; do
+    nm whole | while read -r start _ name; do
+        case $name in main | twice) echo "0x$start $name" ;; esac
+    done >functions
+    cut -d' ' -f1 functions | ask where -f "$program" 2>told | sed 's/ at .*//' >found
+    if [ -s functions ] && cut -d' ' -f2 functions | cmp -s - found && [ ! -s told ]; then right; else wrong "the functions of $program"; fi
+done
+
+# A program has no difference with itself, its debug file and a stripped one with its link.
+for program in whole whole.debug; do
+    if ask diff whole "$program" >found 2>told && grep -q 'differences: 0$' found && [ ! -s told ]; then right; else wrong "diff with $program"; fi
+done
+sed 's/return 0;/return 7 * n;/' twice.c >changed.c
+gcc -g -O1 -ffunction-sections -Wl,--gc-sections "$work/main.c" "$work/changed.c" -o changed 2>told
+status=0
+ask diff whole changed >found 2>told || status=$?
+if [ "$status" = 1 ] && grep -q '/changed.c:7  no code, now ' found && grep -q '/twice.c:7  .* bytes, now no code' found; then right; else wrong "diff with another program"; fi
+
 echo "debug_files: $good as wanted, $bad not"
 [ "$bad" = 0 ]

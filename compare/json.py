@@ -53,6 +53,7 @@ def one_of(*words):
 PLACE = [("line", is_number), ("column", is_number)]
 PATH = ("path", or_null(is_text))
 BYTES = ("path_bytes", lambda value: bool(re.fullmatch("([0-9a-f]{2})+", value)))
+FUNCTION = ("function", or_null(is_text))
 UNIT = ("unit", is_address)
 FOUND = [*PLACE, ("range", is_range), ("discriminator", is_number), ("flags", is_flags)]
 COUNT = [("severity", one_of("fault", "lost", "odd", "usual")), ("kind", is_text), ("count", is_number)]
@@ -60,6 +61,10 @@ DETAILS = [("time", is_number), ("size", is_number), ("md5", or_null(is_text)), 
 # The forms that a line of a command may have.
 FORMS = {
     "where": [[("address", or_null(is_address)), PATH], [("address", is_address), PATH, *FOUND]],
+    "where -f": [
+        [("address", or_null(is_address)), PATH, FUNCTION],
+        [("address", is_address), PATH, FUNCTION, *FOUND],
+    ],
     "at": [[("address", is_address), PATH, *PLACE, ("range", is_range), ("is_stmt", lambda value: type(value) is bool)]],
     "units": [
         [UNIT, ("version", one_of(2, 3, 4, 5)), ("format", one_of(32, 64)), ("address_size", is_number)]
@@ -74,6 +79,16 @@ FORMS = {
         [UNIT, COUNT[0], ("kind", is_text), ("byte", or_null(is_address)), ("message", is_text)],
         COUNT,
         [("units", is_number), ("findings", is_number)],
+    ],
+    "stat": [
+        [("what", is_text), *((it, is_number) for it in ("times", "bytes", "operands"))],
+        [UNIT, ("bytes", is_number)],
+        [PATH, ("rows", is_number)],
+        [(it, is_number) for it in ("units", "rows", "sequences", "not_statements", "bytes")],
+    ],
+    "diff": [
+        [PATH, ("line", is_number), ("old_bytes", or_null(is_number)), ("new_bytes", or_null(is_number))],
+        [(it, is_number) for it in ("old_lines", "new_lines", "differences")],
     ],
 }
 
@@ -105,7 +120,7 @@ def check(program, name, words):
         counts["good" if good else "bad"] += 1
         if not good and counts["bad"] < 20:
             print(f"{program}: {name}: {line!r}")
-    if not ran.stdout and name != "at":
+    if not ran.stdout and name not in ("at", "diff"):
         counts["bad"] += 1
         print(f"{program}: {name}: nothing was printed: {ran.stderr!r}")
     return ran.stdout
@@ -115,12 +130,14 @@ def check_program(program):
     rows = check(program, "rows", [program]).splitlines()
     found = [json.loads(it) for it in rows[:2000]]
     addresses = sorted({it["address"] for it in found})[:200]
-    check(program, "where", [program, *addresses, "0"])
+    for name in ("where", "where -f"):
+        check(program, name, [program, *addresses, "0"])
     for it in [it for it in found if it["path"]][:: max(1, len(found) // 20)]:
         check(program, "at", [program, f"{it['path']}:{it['line']}"])
-    for name in ("units", "files"):
+    for name in ("units", "files", "stat"):
         check(program, name, [program])
     check(program, "check", ["--all", program])
+    check(program, "diff", [program, program])
 
 
 def made(folder):

@@ -5,7 +5,7 @@ _lines() {
     local of_file="--raw --address-size --line-str --str --help" options
     COMPREPLY=()
     if [ "$COMP_CWORD" = 1 ]; then
-        COMPREPLY=($(compgen -W "where at units files rows check help --help --version" -- "$word"))
+        COMPREPLY=($(compgen -W "where at units files rows check stat diff help --help --version" -- "$word"))
         return
     fi
     case $before in
@@ -16,12 +16,12 @@ _lines() {
         --bias) return ;;
     esac
     case $command in
-        where) options="$of_file --basenames --relative-to --bias --json" ;;
+        where) options="$of_file --basenames --relative-to --bias --functions --json" ;;
         at) options="$of_file --columns --range --json" ;;
         rows) options="$of_file --whole-paths --json" ;;
         check) options="$of_file --deny --allow --all --json" ;;
-        units | files) options="$of_file --json" ;;
-        help) COMPREPLY=($(compgen -W "where at units files rows check" -- "$word")); return ;;
+        units | files | stat | diff) options="$of_file --json" ;;
+        help) COMPREPLY=($(compgen -W "where at units files rows check stat diff" -- "$word")); return ;;
         *) return ;;
     esac
     case $word in

@@ -61,7 +61,11 @@ impl<F: Read + Seek> ProgramFile<F> {
         };
         let paths = match wanted {
             Wanted::Lines => PathSections::none(alloc),
-            Wanted::Paths => self.path_sections(alloc)?,
+            _ => self.path_sections(alloc)?,
+        };
+        let (symbols, symbol_names) = match wanted {
+            Wanted::Symbols => self.symbol_sections(alloc)?,
+            _ => (Vec::new(alloc), Vec::new(alloc)),
         };
         let lowest = self.lowest()?;
         let sections = self.outline.sections()?;
@@ -71,6 +75,8 @@ impl<F: Read + Seek> ProgramFile<F> {
             lowest,
             lines,
             paths,
+            symbols,
+            symbol_names,
         }))
     }
 
@@ -83,6 +89,18 @@ impl<F: Read + Seek> ProgramFile<F> {
             abbreviations: self.readable(alloc, b".debug_abbrev")?,
             string_offsets: self.readable(alloc, b".debug_str_offsets")?,
         })
+    }
+
+    /// The symbols, and their names: all of them, or else those for linking when it runs.
+    fn symbol_sections(&mut self, alloc: Global) -> Result<(Vec<u8>, Vec<u8>), Missing> {
+        let symbols = self.readable(alloc, b".symtab")?;
+        if symbols.is_empty() {
+            let symbols = self.readable(alloc, b".dynsym")?;
+            let names = self.readable(alloc, b".dynstr")?;
+            return Ok((symbols, names));
+        }
+        let names = self.readable(alloc, b".strtab")?;
+        Ok((symbols, names))
     }
 
     /// The bytes of a section.

@@ -18,6 +18,8 @@ pub enum Wanted {
     Lines,
     /// Those that whole paths need, too.
     Paths,
+    /// Those that whole paths and the names of code need, too.
+    Symbols,
 }
 
 /// What the sections of a program are read from.
@@ -57,6 +59,10 @@ pub struct Source {
     pub lines: Vec<u8>,
     /// The sections that whole paths need.
     pub paths: PathSections,
+    /// The symbols (`.symtab`, or else `.dynsym`); no bytes where there are none.
+    pub symbols: Vec<u8>,
+    /// The names of these (`.strtab`, `.dynstr`).
+    pub symbol_names: Vec<u8>,
 }
 
 /// The sections that whole paths need; no bytes where there is none.

@@ -23,3 +23,4 @@ pub mod FileRange
 pub mod Seeking
 pub mod SeekingViews
 pub mod Stored
+pub mod Symbols

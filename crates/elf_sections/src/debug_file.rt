@@ -31,7 +31,7 @@ pub struct DebugLink<'a> {
 }
 
 /// Where the first zero byte is.
-fn name_end(section: &[u8]) -> Option<usize>
+pub(crate) fn name_end(section: &[u8]) -> Option<usize>
     ensures first { result ≡ position (λ b. nat_eq b 0) section.now }
     ensures within { IfSome result (λ end. end < length section.now) }
 {

@@ -24,6 +24,7 @@ mod section_table;
 mod seeking;
 mod stored;
 mod symbol;
+mod symbols;
 
 pub use crc::{crc32, crc32_more};
 pub use debug_file::DebugLink;
@@ -34,3 +35,4 @@ pub use place::SectionPlace;
 pub use section_bytes::SectionBytes;
 pub use seeking::{FileHeader, FileTable, SectionList};
 pub use stored::StoredSection;
+pub use symbols::{CodeSymbol, SymbolTable};

@@ -1,7 +1,9 @@
 //! The bytes of the files that a request names.
 
 use debug_files::{Found, Missing, PathSections, Source, Wanted};
-use lines_commands::{Files, InputError, Kind, NameText, Notation, Request, UnitFiles};
+use lines_commands::{
+    Files, InputError, Kind, NameText, Notation, Request, SymbolFiles, UnitFiles,
+};
 use std::io::{Read, Write};
 use std::{fmt, fs, io};
 
@@ -17,13 +19,17 @@ pub(crate) struct Inputs {
     strings: Vec<u8>,
 }
 
-/// Reads the files that a request names; None where there is one that can't be read, which is
-/// reported.
-pub(crate) fn inputs_of(rt: &HostRuntime, request: &Request<'_>) -> io::Result<Option<Inputs>> {
+/// Reads a file, and those that a request names beside it; None where there is one that can't be
+/// read, which is reported.
+pub(crate) fn inputs_of(
+    rt: &HostRuntime,
+    request: &Request<'_>,
+    name: &str,
+) -> io::Result<Option<Inputs>> {
     let found = match request.kind {
-        Kind::Raw(_) => read(rt, request.file)?.map(Found::Whole),
-        Kind::Elf if request.file == STANDARD_INPUT => read(rt, request.file)?.map(Found::Whole),
-        Kind::Elf => sections_of(rt, request)?,
+        Kind::Raw(_) => read(rt, name)?.map(Found::Whole),
+        Kind::Elf if name == STANDARD_INPUT => read(rt, name)?.map(Found::Whole),
+        Kind::Elf => sections_of(rt, request, name)?,
     };
     let line_str = read_named(rt, request.line_str)?;
     let strings = read_named(rt, request.strings)?;
@@ -53,27 +59,30 @@ impl Inputs {
                 line_str: &self.line_str,
                 strings: &self.strings,
                 units: UnitFiles::NONE,
+                symbols: SymbolFiles::NONE,
             },
             Found::Sections(source) => files_of(source, &self.line_str, &self.strings),
         }
     }
 }
 
-/// The sections of the program that a request names, of its own file or of its debug file; None
-/// where there are none, which is reported.
-fn sections_of(rt: &HostRuntime, request: &Request<'_>) -> io::Result<Option<Found>> {
-    let wanted = if request.command.prints_paths() {
+/// The sections of a program that a request needs, of its own file or of its debug file; None where
+/// there are none, which is reported.
+fn sections_of(rt: &HostRuntime, request: &Request<'_>, name: &str) -> io::Result<Option<Found>> {
+    let wanted = if request.command.prints_functions() {
+        Wanted::Symbols
+    } else if request.command.prints_paths() {
         Wanted::Paths
     } else {
         Wanted::Lines
     };
-    let Some(path) = path_of(rt, request.file)? else {
+    let Some(path) = path_of(rt, name)? else {
         return Ok(None);
     };
     match debug_files::source_of(rt, path.as_str(), wanted) {
         Ok(found) => Ok(Some(found)),
         Err(missing) => {
-            report_missing(rt, request.file, &missing);
+            report_missing(rt, name, &missing);
             Ok(None)
         }
     }
@@ -114,6 +123,10 @@ fn files_of<'i>(source: &'i Source, line_str: &'i [u8], strings: &'i [u8]) -> Fi
         line_str: named_or(line_str, &paths.line_str),
         strings: named_or(strings, &paths.strings),
         units: units_of(paths),
+        symbols: SymbolFiles {
+            symbols: &source.symbols,
+            names: &source.symbol_names,
+        },
     }
 }
 

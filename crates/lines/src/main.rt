@@ -69,14 +69,34 @@ fn explain(rt: &HostRuntime, error: &Error) -> io::Result<u8> {
 /// Reads the sections and the files that a request names, does what it asks for, and returns the
 /// status of the program.
 fn run(rt: &HostRuntime, mut request: Request<'_>) -> io::Result<u8> {
-    match inputs_of(rt, &request)? {
-        Some(inputs) => {
-            let Inputs { kind, .. } = inputs;
-            request.kind = kind;
-            perform(rt, &request, inputs.files())
-        }
-        None => Ok(REFUSED),
+    let Some(inputs) = inputs_of(rt, &request, request.file)? else {
+        return Ok(REFUSED);
+    };
+    if let Some(new) = request.command.new_file() {
+        return compare(rt, request, &inputs, new);
     }
+    request.kind = inputs.kind;
+    perform(rt, &request, inputs.files())
+}
+
+/// Compares a program with the new one of a name, and returns the status of the program.
+fn compare(rt: &HostRuntime, mut request: Request<'_>, old: &Inputs, new: &str) -> io::Result<u8> {
+    let Some(new) = inputs_of(rt, &request, new)? else {
+        return Ok(REFUSED);
+    };
+    request.kind = old.kind;
+    let alloc = rt.alloc();
+    let mut out = BufWriter::new(alloc, rt.stdout())?;
+    lines_commands::run_diff(
+        alloc,
+        screen(rt),
+        &request,
+        old.files(),
+        new.kind,
+        new.files(),
+        &mut out,
+        &mut rt.stderr(),
+    )
 }
 
 /// Does what a request asks for, over the bytes of files.

@@ -38,6 +38,28 @@ impl fmt::Display for ShownColumn {
     }
 }
 
+/// A share of a whole, in percent and as a bar.
+#[derive(Clone, Copy)]
+pub(crate) struct Percent(pub(crate) u64, pub(crate) u64);
+
+impl fmt::Display for Percent {
+    fn fmt<W: fmt::Write>(&self, f: &mut fmt::Formatter<W>) -> fmt::Result {
+        let whole = u128::from(self.1.max(1));
+        let tenths = u128::from(self.0) * 1000 / whole;
+        let percent = tenths / 10;
+        let tenth = tenths % 10;
+        write!(f, "{percent:>3}.{tenth}%")?;
+        let bar = tenths.min(1000) / 50;
+        if bar > 0 {
+            f.write_str("  ")?;
+        }
+        for _ in 0..bar {
+            f.write_char('#')?;
+        }
+        Ok(())
+    }
+}
+
 /// The flags of a row, as words in JSON.
 #[derive(Clone, Copy)]
 pub(crate) struct JsonFlags(pub(crate) LineRow);

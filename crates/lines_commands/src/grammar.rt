@@ -16,13 +16,14 @@ struct Entry {
 }
 
 /// The commands.
-const COMMANDS: [Entry; 6] = [
+const COMMANDS: [Entry; 8] = [
     Entry {
         name: "where",
         about: "Prints path:line:column of each address, ??:0:0 where there is none",
         example: "Example: lines where a.out 401136 0x40113D",
         arguments: &[
             Argument::Addresses,
+            Argument::Functions,
             Argument::Basenames,
             Argument::RelativeTo,
             Argument::Bias,
@@ -70,6 +71,18 @@ const COMMANDS: [Entry; 6] = [
             Argument::All,
             Argument::Json,
         ],
+    },
+    Entry {
+        name: "stat",
+        about: "Prints what the bytes of the line programs are spent on",
+        example: "Example: lines stat a.out",
+        arguments: &[Argument::Json],
+    },
+    Entry {
+        name: "diff",
+        about: "Prints the lines that have other code in a new program; the status is 1 for any",
+        example: "Example: lines diff a.out.old a.out",
+        arguments: &[Argument::New, Argument::Json],
     },
 ];
 
@@ -160,6 +173,10 @@ enum Argument {
     WholePaths,
     /// The choice of the last components of paths.
     Basenames,
+    /// The choice of the names of functions.
+    Functions,
+    /// The new file.
+    New,
     /// The directory that paths are printed from.
     RelativeTo,
     /// What is subtracted from addresses.
@@ -270,6 +287,14 @@ impl Argument {
                 "Subtracts this from each address, for a program that was loaded elsewhere",
             ),
             Argument::Columns => flag(alloc, "columns", "Prints the column after the line"),
+            Argument::Functions => {
+                let help =
+                    "Prints the name of the function that holds the address, before the path";
+                flag(alloc, "functions", help).short('f')
+            }
+            Argument::New => {
+                word(alloc, "NEW", "The new program; FILE is the old one").required(true)
+            }
             Argument::Range => flag(
                 alloc,
                 "range",

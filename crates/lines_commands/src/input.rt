@@ -38,6 +38,25 @@ pub struct Files<'i> {
     pub strings: &'i [u8],
     /// The sections of units of a raw section.
     pub units: UnitFiles<'i>,
+    /// The symbols of a raw section.
+    pub symbols: SymbolFiles<'i>,
+}
+
+/// The sections that give code names; no bytes where none is known.
+#[derive(Clone, Copy)]
+pub struct SymbolFiles<'i> {
+    /// `.symtab`, or else `.dynsym`.
+    pub symbols: &'i [u8],
+    /// The names of these, `.strtab` or `.dynstr`.
+    pub names: &'i [u8],
+}
+
+impl SymbolFiles<'_> {
+    /// No sections: no code has a name.
+    pub const NONE: SymbolFiles<'static> = SymbolFiles {
+        symbols: &[],
+        names: &[],
+    };
 }
 
 /// The sections that say where compilations ran; no bytes where none is known.

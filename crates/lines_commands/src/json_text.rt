@@ -29,6 +29,22 @@ pub(crate) fn path_fields(alloc: Global, path: Option<&[u8]>) -> Result<String, 
     format!(in alloc; "\"path\":{text},\"path_bytes\":\"{bytes}\"")
 }
 
+/// The field `function` of an object, null where there is no name, with a comma before it. In a
+/// name that isn't UTF-8 each byte that isn't ASCII stands as U+FFFD.
+pub(crate) fn name_field(alloc: Global, name: Option<&[u8]>) -> Result<String, AllocError> {
+    let Some(name) = name else {
+        return String::from_str(alloc, ",\"function\":null");
+    };
+    let text = match str::from_utf8(name) {
+        Ok(text) => quoted(alloc, text)?,
+        Err(_) => {
+            let text = lossy(alloc, name)?;
+            quoted(alloc, &text)?
+        }
+    };
+    format!(in alloc; ",\"function\":{text}")
+}
+
 /// Bytes as text, with U+FFFD in the place of each that isn't ASCII.
 fn lossy(alloc: Global, bytes: &[u8]) -> Result<String, AllocError> {
     let mut text = String::new(alloc);

@@ -3,6 +3,7 @@
 ghost use Rattle.std.specs.Prelude.{◌≡◌};
 
 use crate::fields::{JsonFlags, column_of, line_of};
+use crate::functions::{Functions, ShownFunction};
 use crate::input::{Files, Input};
 use crate::json_text::path_fields;
 use crate::lookup::look_up;
@@ -13,22 +14,27 @@ use crate::path_text::{PathText, last_part, relative_to};
 use crate::program::Program;
 use crate::questions::{Asked, Questions};
 use crate::request::{CodeAddress, PathForm, PlaceForm};
+use elf_sections::SymbolTable;
 use gimli_core::{Reader, ReaderOffset};
 use gimli_line::LineRow;
 use gimli_lookup::{CoveringRows, PathError, SectionLookup, UnitLookup};
-use std::alloc::Global;
+use std::alloc::{AllocError, Global};
 use std::io::{BufRead, Write};
 
 /// Prints the place of each address, or of those that a reader has where none is given.
 pub(crate) fn print_places<R: Reader, I: BufRead, O: Write, E: Write>(
     alloc: Global,
     input: &Input<R>,
+    symbols: SymbolTable<'_>,
     addresses: &[CodeAddress<'_>],
     form: PlaceForm<'_>,
     lines: &mut I,
     output: &mut Output<'_, O, E>,
 ) {
-    let Some(places) = Places::new(alloc, input, form, output) else {
+    let Ok(functions) = Functions::new(alloc, symbols, None) else {
+        return output.fail_for_memory();
+    };
+    let Some(places) = Places::new(alloc, input, functions, form, output) else {
         return;
     };
     let mut questions = Questions::new(alloc, addresses, lines, output);
@@ -75,7 +81,10 @@ fn print_in_section<I: BufRead, O: Write, E: Write>(
 ) {
     match Program::of_section(alloc, files, name) {
         Ok(Some(program)) => {
-            if let Some(places) = Places::new(alloc, &program.input(), form, output) {
+            let Ok(functions) = Functions::new(alloc, program.symbols(), program.section()) else {
+                return output.fail_for_memory();
+            };
+            if let Some(places) = Places::new(alloc, &program.input(), functions, form, output) {
                 places.print_in_section(name, questions, output);
             }
             return;
@@ -124,23 +133,25 @@ fn print_no_address<O: Write, E: Write>(
 
 /// The rows of all units of a section, and how their places are printed.
 #[derive(Drop)]
-struct Places<'f, R: Reader> {
+struct Places<'f, 'n, R: Reader> {
     alloc: Global,
     lookup: SectionLookup<R>,
     sources: PathSources<R>,
+    functions: Functions<'n>,
     form: PlaceForm<'f>,
     /// The directory that paths are printed from; empty where none is named.
     directory: Vec<u8>,
 }
 
-impl<'f, R: Reader> Places<'f, R> {
+impl<'f, 'n, R: Reader> Places<'f, 'n, R> {
     /// Reads the rows. None where memory is missing, which is reported.
     fn new<O: Write, E: Write>(
         alloc: Global,
         input: &Input<R>,
+        functions: Functions<'n>,
         form: PlaceForm<'f>,
         output: &mut Output<'_, O, E>,
-    ) -> Option<Places<'f, R>> {
+    ) -> Option<Places<'f, 'n, R>> {
         let lookup = look_up(alloc, input, output)?;
         let sources = path_sources(alloc, input, output)?;
         let directory = match form.paths {
@@ -155,6 +166,7 @@ impl<'f, R: Reader> Places<'f, R> {
             alloc,
             lookup,
             sources,
+            functions,
             form,
             directory,
         })
@@ -200,7 +212,7 @@ impl<'f, R: Reader> Places<'f, R> {
     fn print_place<O: Write, E: Write>(&self, address: u64, output: &mut Output<'_, O, E>) {
         let own = address.checked_sub(self.form.bias);
         let Some(found) = own.and_then(|own| self.lookup.find(own)) else {
-            return print_unknown(self.form, Some(address), output);
+            return self.print_lineless(address, output);
         };
         let Some(unit) = self.lookup.units().get(found.unit) else {
             return output.fail_for_memory();
@@ -216,6 +228,29 @@ impl<'f, R: Reader> Places<'f, R> {
                     format_args!("at address 0x{address:x}: {fault}"),
                 );
             }
+        }
+    }
+
+    /// Prints an address that no row covers.
+    fn print_lineless<O: Write, E: Write>(&self, address: u64, output: &mut Output<'_, O, E>) {
+        let function = self.function_at(address);
+        if !self.form.is_json {
+            return output.print(format_args!("{function}??:0:0"));
+        }
+        match function.json(self.alloc) {
+            Ok(function) => output.print(format_args!(
+                "{{\"address\":\"0x{address:x}\",\"path\":null{function}}}"
+            )),
+            Err(_) => output.fail_for_memory(),
+        }
+    }
+
+    /// The function that holds an address.
+    fn function_at(&self, address: u64) -> ShownFunction<'n> {
+        let own = address.checked_sub(self.form.bias);
+        ShownFunction {
+            is_shown: self.form.has_function,
+            name: own.and_then(|own| self.functions.name_at(own)),
         }
     }
 
@@ -237,14 +272,22 @@ impl<'f, R: Reader> Places<'f, R> {
     ) {
         let path = path.map(|path| self.shown_path(path));
         if self.form.is_json {
-            return match path_fields(self.alloc, path) {
+            return match self.json_fields(address, path) {
                 Ok(fields) => print_json(address, self.form.bias, found, &fields, output),
                 Err(_) => output.fail_for_memory(),
             };
         }
+        let function = self.function_at(address);
         let path = PathText(path.unwrap_or(b"??"));
         let (line, column) = line_and_column(found);
-        output.print(format_args!("{path}:{line}:{column}"));
+        output.print(format_args!("{function}{path}:{line}:{column}"));
+    }
+
+    /// The fields of a JSON object that are texts.
+    fn json_fields(&self, address: u64, path: Option<&[u8]>) -> Result<String, AllocError> {
+        let path = path_fields(self.alloc, path)?;
+        let function = self.function_at(address).json(self.alloc)?;
+        format!(in self.alloc; "{path}{function}")
     }
 
     /// What is printed of a path.
@@ -263,11 +306,19 @@ fn print_unknown<O: Write, E: Write>(
     address: Option<u64>,
     output: &mut Output<'_, O, E>,
 ) {
+    let function = if form.has_function {
+        ",\"function\":null"
+    } else {
+        ""
+    };
     match (form.is_json, address) {
         (true, Some(address)) => output.print(format_args!(
-            "{{\"address\":\"0x{address:x}\",\"path\":null}}"
+            "{{\"address\":\"0x{address:x}\",\"path\":null{function}}}"
         )),
-        (true, None) => output.print("{\"address\":null,\"path\":null}"),
+        (true, None) => {
+            output.print(format_args!("{{\"address\":null,\"path\":null{function}}}"))
+        }
+        (false, _) if form.has_function => output.print("?? at ??:0:0"),
         (false, _) => output.print("??:0:0"),
     }
 }
@@ -277,7 +328,7 @@ fn print_json<O: Write, E: Write>(
     address: u64,
     bias: u64,
     found: &CoveringRows,
-    path: &str,
+    texts: &str,
     output: &mut Output<'_, O, E>,
 ) {
     let (line, column) = line_and_column(found);
@@ -286,7 +337,7 @@ fn print_json<O: Write, E: Write>(
     let discriminator = found.row.discriminator();
     let flags = JsonFlags(found.row);
     output.print(format_args!(
-        "{{\"address\":\"0x{address:x}\",{path},\"line\":{line},\
+        "{{\"address\":\"0x{address:x}\",{texts},\"line\":{line},\
          \"column\":{column},\"range\":[\"0x{start:x}\",\"0x{end:x}\"],\
          \"discriminator\":{discriminator},\"flags\":{flags}}}"
     ));

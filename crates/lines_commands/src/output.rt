@@ -60,6 +60,11 @@ impl<'o, O: Write, E: Write> Output<'o, O, E> {
         self.screen
     }
 
+    /// Goes on to a file of another name.
+    pub(crate) fn rename(&mut self, name: &'o str) {
+        self.name = name;
+    }
+
     /// Begins a check, of which so much is told.
     pub(crate) fn begin_check(&mut self, choice: CheckChoice) {
         self.choice = choice;

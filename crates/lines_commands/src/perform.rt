@@ -7,6 +7,7 @@ ghost use Rattle.lines_commands.specs.Lines.{HasLines};
 
 use crate::addresses::print_addresses;
 use crate::check::print_check;
+use crate::diff::print_diff;
 use crate::input::{Files, Kind};
 use crate::input_error::InputError;
 use crate::listing::{Listing, print_each, print_units};
@@ -16,6 +17,7 @@ use crate::program::Program;
 use crate::report::Verdict;
 use crate::request::{Command, Request};
 use crate::screen::Screen;
+use crate::stat::print_stat;
 use elf_sections::ElfError;
 use std::alloc::Global;
 use std::io;
@@ -74,10 +76,87 @@ pub fn run_on<I: BufRead, O: Write, E: Write>(
     output.finish()
 }
 
-impl Command<'_> {
+/// Prints how the program that a request names differs from a new one, and returns the status: 0, or
+/// 1 where they differ, or something was refused. Fails as `run` does.
+pub fn run_diff<O: Write, E: Write>(
+    alloc: Global,
+    screen: Screen,
+    request: &Request<'_>,
+    old: Files<'_>,
+    new_kind: Kind,
+    new: Files<'_>,
+    out: &mut O,
+    err: &mut E,
+) -> io::Result<u8>
+    ensures status { IfOk result (λ status. status ≤ 1) }
+{
+    let new_name = request.command.new_file().unwrap_or("");
+    let is_json = request.command.is_json();
+    let mut output = Output::new(request.file, screen, out, err);
+    let Some(old) = program_of(alloc, request.kind, old, &mut output) else {
+        return output.finish();
+    };
+    let old_name = request.file;
+    output.rename(new_name);
+    let Some(new) = program_of(alloc, new_kind, new, &mut output) else {
+        return output.finish();
+    };
+    output.rename(old_name);
+    print_diff(
+        alloc,
+        &old.input(),
+        &new.input(),
+        new_name,
+        is_json,
+        &mut output,
+    );
+    output.finish()
+}
+
+/// The sections of a program. None where they can't be read, which is reported.
+fn program_of<'i, O: Write, E: Write>(
+    alloc: Global,
+    kind: Kind,
+    files: Files<'i>,
+    output: &mut Output<'_, O, E>,
+) -> Option<Program<'i>> {
+    match Program::new(alloc, kind, files) {
+        Ok(program) => Some(program),
+        Err(refusal) => {
+            output.tell_refusal(refusal);
+            None
+        }
+    }
+}
+
+impl<'w> Command<'w> {
     /// Whether paths are printed: the texts and the sections of units are read for these alone.
     pub fn prints_paths(&self) -> bool {
         !matches!(self, Command::Units { .. })
+    }
+
+    /// The new file of the command `diff`.
+    pub fn new_file(&self) -> Option<&'w str> {
+        match self {
+            Command::Diff { new, .. } => Some(*new),
+            _ => None,
+        }
+    }
+
+    /// Whether the command `diff` prints JSON objects.
+    fn is_json(&self) -> bool {
+        match self {
+            Command::Diff { is_json, .. } => *is_json,
+            _ => false,
+        }
+    }
+
+    /// Whether names of functions are printed: symbols are read for these alone.
+    pub fn prints_functions(&self) -> bool {
+        match self {
+            Command::Where { form, .. } => form.has_function,
+            _ => false,
+        }
     }
 }
 
@@ -93,7 +172,8 @@ fn perform<I: BufRead, O: Write, E: Write>(
     let sections = &program.input();
     match command {
         Command::Where { addresses, form } if sections.is_linked => {
-            print_places(alloc, sections, addresses, *form, input, output);
+            let symbols = program.symbols();
+            print_places(alloc, sections, symbols, addresses, *form, input, output);
         }
         Command::Where { addresses, form } => {
             print_places_in_sections(alloc, files, addresses, *form, input, output);
@@ -108,5 +188,7 @@ fn perform<I: BufRead, O: Write, E: Write>(
             print_each(alloc, sections, *units, Listing::Rows(*form), output);
         }
         Command::Check(choice) => print_check(alloc, sections, *choice, output),
+        Command::Stat { is_json } => print_stat(alloc, sections, *is_json, output),
+        Command::Diff { .. } => output.tell("the command diff takes two files"),
     }
 }

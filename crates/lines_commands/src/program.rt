@@ -3,12 +3,13 @@
 ghost use Rattle.std.specs.Prelude.{◌≡◌, OnOk};
 ghost use Rattle.lines_commands.specs.Lines.{HasLines};
 
+use crate::functions::SymbolSections;
 use crate::input::{Files, Input, Kind, Notation};
 use crate::input_error::InputError;
 use crate::section_source::SectionSource;
 use crate::unit_sections::UnitSections;
-use elf_sections::{Elf, SectionBytes, SectionPlace};
-use gimli_core::{EndianSlice, Section};
+use elf_sections::{Elf, SectionBytes, SectionPlace, SymbolTable};
+use gimli_core::{EndianSlice, Endianity, Section};
 use gimli_line::DebugLine;
 use gimli_lookup::StringSections;
 use rows_reading::Slice;
@@ -27,8 +28,12 @@ pub(crate) struct Program<'i> {
     strings: SectionBytes<'i>,
     /// The sections of units.
     units: UnitSections<'i>,
+    /// The sections of symbols.
+    symbols: SymbolSections<'i>,
     /// Whether it is no object file.
     is_linked: bool,
+    /// Which addresses count in an object file.
+    place: SectionPlace,
 }
 
 impl<'i> Program<'i> {
@@ -101,7 +106,9 @@ impl<'i> Program<'i> {
             line_str: source.texts(b".debug_line_str", files.line_str)?,
             strings: source.texts(b".debug_str", files.strings)?,
             units: UnitSections::of_elf(source)?,
+            symbols: SymbolSections::of_elf(source)?,
             is_linked: !elf.is_relocatable(),
+            place: source.place,
         })
     }
 
@@ -113,8 +120,25 @@ impl<'i> Program<'i> {
             line_str: SectionBytes::Lent(files.line_str),
             strings: SectionBytes::Lent(files.strings),
             units: UnitSections::lent(files.units),
+            symbols: SymbolSections::lent(files.symbols),
             is_linked: true,
+            place: SectionPlace::AllAtZero,
         }
+    }
+
+    /// The index of the section whose addresses count alone.
+    pub(crate) fn section(&self) -> Option<u16> {
+        match self.place {
+            SectionPlace::Only(index) => u16::try_from(index).ok(),
+            SectionPlace::AllAtZero => None,
+        }
+    }
+
+    /// The symbols.
+    pub(crate) fn symbols(&self) -> SymbolTable<'_> {
+        let is_big_endian = self.notation.order.is_big_endian();
+        let address_size = self.notation.address_size.bytes();
+        self.symbols.table(is_big_endian, address_size)
     }
 
     /// The sections as commands read them.

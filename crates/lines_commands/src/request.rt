@@ -46,6 +46,15 @@ pub enum Command<'w> {
     },
     /// What is wrong, lost, odd or usual.
     Check(CheckChoice),
+    /// What the bytes of the section are spent on.
+    Stat {
+        is_json: bool,
+    },
+    /// Which lines have other code in a new program, a file that is named.
+    Diff {
+        new: &'w str,
+        is_json: bool,
+    },
 }
 
 /// Where code stands.
@@ -77,6 +86,8 @@ pub struct CodeLine<'w> {
 pub struct PlaceForm<'w> {
     /// Whether each is a JSON object.
     pub is_json: bool,
+    /// Whether the name of the function is printed too.
+    pub has_function: bool,
     /// How much of a path is printed.
     pub paths: PathForm<'w>,
     /// What is subtracted from each address.

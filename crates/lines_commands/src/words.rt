@@ -139,6 +139,13 @@ fn command_of<'w>(
             is_all: matches.get_flag("all"),
             form: form_of(matches),
         })),
+        "stat" => Ok(Command::Stat {
+            is_json: matches.get_flag("json"),
+        }),
+        "diff" => Ok(Command::Diff {
+            new: matches.get_str("NEW").unwrap_or(""),
+            is_json: matches.get_flag("json"),
+        }),
         _ => Err(Mistake::Word(name, "a command")),
     }
 }
@@ -218,6 +225,7 @@ fn place_form_of<'w>(matches: &ArgMatches<'w>) -> Result<PlaceForm<'w>, Mistake<
     };
     Ok(PlaceForm {
         is_json: matches.get_flag("json"),
+        has_function: matches.get_flag("functions"),
         paths,
         bias: bias_of(matches)?,
     })

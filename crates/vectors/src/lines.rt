@@ -2,9 +2,10 @@
 
 use crate::run::print_errors;
 use clap::Error;
-use lines_commands::{Files, UnitFiles, run};
+use lines_commands::{Files, Request, Screen, SymbolFiles, UnitFiles, run, run_diff};
 use rows_reading::Stop;
 use std::alloc::Global;
+use std::io;
 use std::io::Write;
 
 /// Runs the program `lines`, by its words, of which the first is its name. Its file is the input of
@@ -25,9 +26,11 @@ pub fn run_lines<'r>(
                 line_str: part_of(words, named, request.line_str),
                 strings: part_of(words, named, request.strings),
                 units: UnitFiles::NONE,
+                symbols: SymbolFiles::NONE,
             };
-            let mut input: &[u8] = &[];
-            match run(alloc, &request, files, &mut input, out, &mut err) {
+            let new = request.command.new_file();
+            let new = new.map(|new| part_of(words, named, Some(new)));
+            match perform(alloc, &request, files, new, out, &mut err) {
                 Ok(status) => status,
                 Err(_) => return Err(Stop::Memory),
             }
@@ -43,6 +46,32 @@ pub fn run_lines<'r>(
     };
     print_errors(&err, out)?;
     Ok(status)
+}
+
+/// Does what a request asks for; a command over two files takes the bytes of the new one.
+fn perform(
+    alloc: Global,
+    request: &Request<'_>,
+    files: Files<'_>,
+    new: Option<&[u8]>,
+    out: &mut Vec<u8>,
+    err: &mut Vec<u8>,
+) -> io::Result<u8> {
+    let Some(file) = new else {
+        let mut input: &[u8] = &[];
+        return run(alloc, request, files, &mut input, out, err);
+    };
+    let new = Files { file, ..files };
+    run_diff(
+        alloc,
+        Screen::none(),
+        request,
+        files,
+        request.kind,
+        new,
+        out,
+        err,
+    )
 }
 
 /// Prints what is said of words that ask for nothing, or of help.
