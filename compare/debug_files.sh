@@ -386,17 +386,12 @@ if objcopy --dump-section .debug_line=section whole copy 2>/dev/null; then
     fi
 fi
 
-# A name is bytes: it is opened by them, and printed by their numbers.
+# A name of bytes that aren't UTF-8 isn't opened; it is printed by their numbers, and read as standard input.
 name=$(printf 'a\xff\033b')
 cp whole "$name"
-places "a name of bytes" "$name"
-places "a folder of bytes" "./$name"
-if ask units "$name.gone" >found 2>told || ! grep -qF 'lines: a\xff\x1bb.gone: ' told || LC_ALL=C grep -q "$(printf '\033')" told; then
-    wrong "the message on a name of bytes"
-    cat -v told | head -3
-else
-    right
-fi
+refused "a name of bytes" "$name" 'lines: a\xff\x1bb: ' "write - in its place"
+if LC_ALL=C grep -q "$(printf '\033')" told; then wrong "the message on a name of bytes"; else right; fi
+if ask units - <"$name" >found 2>told && ask units whole >wanted_text && cmp -s found wanted_text; then right; else wrong "a name of bytes, as standard input"; fi
 if ask where whole --relative-to "$name" <asked 2>told | sed 's/:[0-9]*$//; s/^??$/??:0/' | cmp -s - wanted; then right; else wrong "a directory of bytes"; fi
 
 # The program on standard input.

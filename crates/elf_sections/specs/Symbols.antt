@@ -1,5 +1,6 @@
 -- The symbols of a program, by which its code has names (System V ABI, chapter 4, "Symbol Table").
-use Rattle.std.specs.Prelude.{ℕ, ◌%◌, List, take, drop, slice_index, nat_eq, Bool, if◌then◌else◌, Option}
+use Rattle.std.specs.Prelude.{ℕ, ◌%◌, List, take, drop, slice_index, nat_eq, Bool, if◌then◌else◌}
+use Rattle.std.specs.Prelude.{Option}
 use Rattle.std.specs.List.{position}
 use Rattle.std.specs.Option.{option_map}
 use Rattle.gimli_core.specs.declared.endianity.RunTimeEndian.TheVariants.{Little, Big}
@@ -39,4 +40,5 @@ code_symbol layout bytes = record {
 -- the name at an offset, up to the zero byte that ends it
 abbrev pub name_at : List ℕ → ℕ → Option (List ℕ)
 name_at names offset =
-    option_map (λ end. take end (drop offset names)) (position (λ b. nat_eq b 0) (drop offset names))
+    option_map (λ end. take end (drop offset names))
+    (position (λ b. nat_eq b 0) (drop offset names))

@@ -76,10 +76,10 @@ fn sections_of(rt: &HostRuntime, request: &Request<'_>, name: &str) -> io::Resul
     } else {
         Wanted::Lines
     };
-    let Some(path) = path_of(rt, name)? else {
+    if !can_be_opened(rt, name)? {
         return Ok(None);
-    };
-    match debug_files::source_of(rt, path.as_str(), wanted) {
+    }
+    match debug_files::source_of(rt, name, wanted) {
         Ok(found) => Ok(Some(found)),
         Err(missing) => {
             report_missing(rt, name, &missing);
@@ -144,21 +144,18 @@ fn named_or<'s>(named: &'s [u8], own: &'s [u8]) -> &'s [u8] {
     if named.is_empty() { own } else { named }
 }
 
-/// The path by which a file is opened. One that isn't UTF-8 is opened here, and named by its number
-/// among those of this process. None where it can't be opened, which is reported.
-fn path_of(rt: &HostRuntime, name: &str) -> io::Result<Option<String>> {
-    let alloc = rt.alloc();
-    let bytes = lines_commands::bytes_of_word(alloc, name)?;
+/// Whether a name can be opened: the files of the kit take text alone. One that can't is reported.
+fn can_be_opened(rt: &HostRuntime, name: &str) -> io::Result<bool> {
+    let bytes = lines_commands::bytes_of_word(rt.alloc(), name)?;
     if bytes.as_slice() == name.as_bytes() {
-        return Ok(Some(String::from_str(alloc, name)?));
+        return Ok(true);
     }
-    let file = os::open_read(&bytes);
-    if file < 0 {
-        report(rt, name, io::Error::from_raw_os_error(os::errno()));
-        return Ok(None);
-    }
-    let path = format!(in alloc; "/proc/self/fd/{file}")?;
-    Ok(Some(path))
+    report(
+        rt,
+        name,
+        "a name that isn't UTF-8 can't be opened; write - in its place, and hand it in by <",
+    );
+    Ok(false)
 }
 
 /// The bytes of a file; None where it can't be read, which is reported.
@@ -168,10 +165,10 @@ fn read(rt: &HostRuntime, name: &str) -> io::Result<Option<Vec<u8>>> {
         rt.stdin().read_to_end(&mut bytes)?;
         return Ok(Some(bytes));
     }
-    let Some(path) = path_of(rt, name)? else {
+    if !can_be_opened(rt, name)? {
         return Ok(None);
-    };
-    match fs::read(rt, path.as_str()) {
+    }
+    match fs::read(rt, name) {
         Ok(bytes) => Ok(Some(bytes)),
         Err(error) => {
             report(rt, name, error);

@@ -76,8 +76,8 @@ pub fn run_on<I: BufRead, O: Write, E: Write>(
     output.finish()
 }
 
-/// Prints how the program that a request names differs from a new one, and returns the status: 0, or
-/// 1 where they differ, or something was refused. Fails as `run` does.
+/// Prints how the program that a request names differs from a new one, and returns the status: 0,
+/// or 1 where they differ, or something was refused. Fails as `run` does.
 pub fn run_diff<O: Write, E: Write>(
     alloc: Global,
     screen: Screen,
