@@ -6,7 +6,9 @@ use std::alloc::Global;
 ///
 /// <!-- part of crates/lines/src/inputs.rt -->
 /// ```rust
-/// let wanted = if request.command.prints_paths() {
+/// let wanted = if request.command.prints_functions() {
+///     Wanted::Symbols
+/// } else if request.command.prints_paths() {
 ///     Wanted::Paths
 /// } else {
 ///     Wanted::Lines

@@ -27,6 +27,16 @@ pub struct CodeSymbol {
 }
 
 /// A symbol table (`.symtab`, `.dynsym`), and the section of its names (`.strtab`, `.dynstr`).
+///
+/// <!-- part of crates/lines_commands/src/functions.rt -->
+/// ```rust
+/// SymbolTable::new(
+///     is_big_endian,
+///     address_size,
+///     self.symbols.as_slice(),
+///     self.names.as_slice(),
+/// )
+/// ```
 #[derive(Clone, Copy, Debug)]
 pub struct SymbolTable<'a> {
     layout: Layout,
