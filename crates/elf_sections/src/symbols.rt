@@ -12,6 +12,14 @@ use crate::symbol::Symbol;
 use gimli_core::RunTimeEndian;
 
 /// A symbol of a program.
+///
+/// <!-- part of crates/lines_commands/src/functions.rt -->
+/// ```rust
+/// let is_there = match section {
+///     Some(section) => symbol.section == section,
+///     None => symbol.section != 0,
+/// };
+/// ```
 #[derive(Clone, Copy, Debug, PartialEq, Eq)]
 pub struct CodeSymbol {
     /// The offset of its name in the section of names (`st_name`).
