@@ -1,7 +1,7 @@
 #!/usr/bin/env python3
 """Holds the JSON of `lines` to the tables of docs/LINES.md, over programs. Outside the gate.
 
-    compare/json.py [PROGRAM..]
+    compare/json_lines.py [PROGRAM..]
 
 A program whose unit has a path that is no UTF-8 is made here by gcc, and asked too. Each line of each command with --json has
 to be one object, whose fields stand in the order of their table, each of the type that it says. The bytes of `path_bytes` have
@@ -96,7 +96,7 @@ FORMS = {
 def has_form(value, form):
     """Whether an object has the fields of a form, and no others."""
     fields = list(form)
-    if "path_bytes" in value:
+    if "path_bytes" in value and PATH in fields:
         fields.insert([it[0] for it in fields].index("path") + 1, BYTES)
     return [it[0] for it in fields] == list(value) and all(test(value[name]) for name, test in fields)
 
