@@ -16,7 +16,7 @@ import re
 import sys
 
 TOP = os.path.join(os.path.dirname(os.path.abspath(__file__)), "..")
-LIBRARIES = ("gimli_core", "gimli_bytes", "gimli_line", "gimli_lookup", "gimli_build", "gimli_write", "gimli_c", "gimli_compilation", "inflate", "elf_sections", "debug_files")
+LIBRARIES = ("gimli_core", "gimli_bytes", "gimli_line", "gimli_lookup", "gimli_index", "gimli_build", "gimli_write", "gimli_c", "gimli_compilation", "inflate", "elf_sections", "debug_files")
 HEAD = re.compile(r"(?:(?:abbrev pub|abbrev|unfoldable pub|pub unfoldable) |(pub record|record|pub data|data) )([^\s{]\S*)")
 USE = re.compile(r"^[ \t]*(?:pub |ghost |pub ghost )?use (Rattle[\w.+]*?)(?:\.\{([^}]*)\})?;?$", re.M)
 
