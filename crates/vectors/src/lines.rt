@@ -19,7 +19,7 @@ pub fn run_lines<'r>(
     out: &mut Vec<u8>,
 ) -> Result<u8, Stop> {
     let mut err = Vec::new(alloc);
-    let status = match lines_commands::parse(alloc, words) {
+    let status = match lines_commands::parse(alloc, &*words) {
         Ok(request) => {
             let files = Files {
                 file: section,
@@ -28,8 +28,10 @@ pub fn run_lines<'r>(
                 units: UnitFiles::NONE,
                 symbols: SymbolFiles::NONE,
             };
-            let new = request.command.new_file();
-            let new = new.map(|new| part_of(words, named, Some(new)));
+            let new = match request.command.new_file() {
+                Some(new) => Some(part_of(words, named, Some(new))),
+                None => None,
+            };
             match perform(alloc, &request, files, new, out, &mut err) {
                 Ok(status) => status,
                 Err(_) => return Err(Stop::Memory),
