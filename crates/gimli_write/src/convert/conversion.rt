@@ -148,10 +148,12 @@ impl<R: Reader> Conversion<R> {
         ensures leaves { LeavesTables (beside line_strings.old self.old) result
             (beside line_strings.new self.new) }
     {
-        if let Some(address) = self.address.take() {
+        if let Some(address) = self.address {
+            self.address = None;
             return Ok(Some(ConvertLineRow::SetAddress(address)));
         }
-        if let Some(row) = self.held.take() {
+        if let Some(row) = self.held {
+            self.held = None;
             return Ok(Some(self.row_or_end(&row)?));
         }
         let Some(row) = self.next_source_row(line_strings)? else {
@@ -333,7 +335,7 @@ impl<R: Reader> Conversion<R> {
                 Some(address) => self.tables.set_address(address),
                 None => Err(ConvertError::InvalidAddress),
             },
-            ConvertLineRow::Row(row) => self.tables.generate_row(row),
+            ConvertLineRow::Row(row) => self.tables.generate_or_keep(row),
             ConvertLineRow::EndSequence(address_offset) => self.tables.end_sequence(address_offset),
         }
     }
