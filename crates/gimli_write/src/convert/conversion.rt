@@ -1,10 +1,8 @@
 //! A source that is read, and the program that is built of it.
 
-ghost use Rattle.std.specs.Prelude.{◌≡◌, ◌≢◌, ℕ, List, Option, None, Some, Ok};
+ghost use Rattle.std.specs.Prelude.{◌≡◌, ◌≢◌, ◌⊎◌, ℕ, List, Option, None, Some, Ok, Err};
 ghost use Rattle.std.specs.Prelude.{IfErr, IfOk, OnErr, OnOk, true, false};
 ghost use Rattle.gimli_bytes.specs.Texts.{KeepsTexts};
-ghost use Rattle.gimli_bytes.specs.declared.address.Address.{Address};
-ghost use Rattle.gimli_write.specs.convert.Texts.{IsRefusedBy};
 ghost use Rattle.gimli_write.specs.convert.SourceTables.{tables_with};
 ghost use Rattle.gimli_write.specs.convert.KeptTables.{IsWritable, HasWritable, StaysWritable};
 ghost use Rattle.gimli_write.specs.convert.KeptTables.{final_tables_of_source};
@@ -17,11 +15,11 @@ ghost use Rattle.gimli_write.specs.convert.Conversion.{version_of_source};
 ghost use Rattle.gimli_write.specs.convert.Conversion.{source_left, still_to_read, beside};
 ghost use Rattle.gimli_write.specs.convert.Conversion.{with_program};
 ghost use Rattle.gimli_write.specs.convert.Conversion.{GivesNext, IsReadRefusal};
-ghost use Rattle.gimli_write.specs.convert.Conversion.{AnswersAs, outcome_of_rest, RestConvertsTo};
+ghost use Rattle.gimli_write.specs.convert.Conversion.{RestComesTo, RestConvertsTo};
 ghost use Rattle.gimli_write.specs.convert.Conversion.{IsRestRefusal};
 ghost use Rattle.gimli_write.specs.inside.convert.Conversion.{TakesRow};
 ghost use Rattle.gimli_write.specs.convert.Sequences.{GathersNext, IsGatherRefusal};
-ghost use Rattle.gimli_write.specs.convert.Outcome.{after_item, without_items};
+ghost use Rattle.gimli_write.specs.convert.Outcome.{ItemComesTo, without_items};
 
 use crate::convert::rows::{ConvertLineRow, ConvertLineSequence, ConvertLineSequenceEnd};
 use crate::convert::run::{SourceRow, SourceRun, SourceStep};
@@ -322,10 +320,10 @@ impl<R: Reader> Conversion<R> {
         convert_address: &F,
     ) -> ConvertResult<()>
         requires { F.IsAlwaysCallable convert_address.now }
-        ensures ok { (g : ℕ → Option Address) → AnswersAs (F.post convert_address.now) g
-            → OnOk result (after_item g row self.old.tables.program ≡ Ok self.new.tables.program) }
-        ensures err { (g : ℕ → Option Address) → AnswersAs (F.post convert_address.now) g
-            → IfErr result (IsRefusedBy (after_item g row self.old.tables.program)) }
+        ensures ok { OnOk result (ItemComesTo (F.post convert_address.now) row
+            self.old.tables.program (Ok self.new.tables.program)) }
+        ensures err { IfErr result (λ e. (e ≡ ConvertError.OutOfMemory)
+            ⊎ ItemComesTo (F.post convert_address.now) row self.old.tables.program (Err e)) }
         ensures kept { OnOk result (self.new ≡ with_program self.new.tables.program self.old) }
         ensures items { OnOk result
             (without_items self.new.tables.program ≡ without_items self.old.tables.program) }
@@ -354,14 +352,14 @@ impl<R: Reader> Conversion<R> {
         convert_address: &F,
     ) -> ConvertResult<()>
         requires { F.IsAlwaysCallable convert_address.now }
-        ensures ok { (g : ℕ → Option Address) → AnswersAs (F.post convert_address.now) g
-            → OnOk result (outcome_of_rest g (beside line_strings.old self.old) ≡ Ok (record {
+        ensures ok { OnOk result (RestComesTo (F.post convert_address.now)
+            (beside line_strings.old self.old) (Ok (record {
               program = self.new.tables.program;
               file_ids = self.new.tables.file_ids;
               line_strings = line_strings.new;
-            })) }
-        ensures err { IfErr result
-            (IsRestRefusal (F.post convert_address.now) (beside line_strings.old self.old)) }
+            }))) }
+        ensures err { IfErr result (λ e. (e ≡ ConvertError.OutOfMemory)
+            ⊎ RestComesTo (F.post convert_address.now) (beside line_strings.old self.old) (Err e)) }
         ensures writable { OnOk result
             (StaysWritable self.old.tables line_strings.old self.new.tables line_strings.new) }
         ensures stays { KeepsTexts line_strings.old line_strings.new }
