@@ -5,11 +5,14 @@
 ghost use Rattle.std.specs.Prelude.{◌≡◌, ℕ, Bool, false, All, ◌≤◌, List, [], ◌∷◌, length, map};
 ghost use Rattle.std.specs.Prelude.{IfOk};
 ghost use Rattle.std.specs.Bool.{Decides};
-ghost use Rattle.gimli_core.specs.Equality.{ClonesGiveSame};
+ghost use Rattle.gimli_core.specs.Equality.{ClonesGiveSame, IsSameClone};
 ghost use Rattle.gimli_core.specs.Notation.{Notation};
 ghost use Rattle.gimli_bytes.specs.HashAlike.{HashAlike};
 ghost use Rattle.gimli_core.specs.declared.error.Error.{Error};
 ghost use Rattle.gimli_core.specs.declared.error.Error.TheVariants.{AddressOverflow};
+ghost use Rattle.std.specs.declared.alloc.AllocError.{AllocError};
+ghost use Rattle.gimli_bytes.specs.declared.error.Error.{Error as WriteError};
+ghost use Rattle.gimli_bytes.specs.declared.error.Error.TheVariants.{OutOfMemory};
 ghost use Rattle.gimli_core.specs.declared.common.Encoding.{Encoding};
 ghost use Rattle.gimli_core.specs.declared.common.LineEncoding.{LineEncoding};
 ghost use Rattle.gimli_line.specs.header.Header.{Header};
@@ -50,6 +53,7 @@ ghost use Rattle.gimli_build.specs.TableFields.{details};
 
 use crate::built::files::{DirectoryId, FileId, FileInfo};
 use crate::built::items::BuiltItem;
+use crate::built::line_program::LineProgram;
 use crate::built::line_string::LineString;
 use crate::built::row::LineRow;
 pub use gimli_bytes::laws::{
@@ -57,6 +61,7 @@ pub use gimli_bytes::laws::{
     equal_addresses_and_ids, equal_addresses_and_ids_hash_alike, equal_errors_are_same,
     sleb_is_shortest, table_bytes_length, text_at_offset, uleb_is_shortest, with_text_are_texts,
 };
+use std::alloc::AllocError;
 use std::hash::Hash;
 
 /// The instructions of a row, run from the registers after the row before it, make one row, which
@@ -196,6 +201,19 @@ pub fn clones_are_the_same()
     ensures file { ClonesGiveSame ⟦<FileId as Clone>⟧ }
     ensures row { ClonesGiveSame ⟦<LineRow as Clone>⟧ }
     ensures item { ClonesGiveSame ⟦<BuiltItem as Clone>⟧ }
+{}
+
+/// A copy of a text, of what is known of a file, or of a program says all that its source says: the
+/// same text; the same time, size and digest, with the same source or none; and each part of the
+/// program. The error that `?` makes of a refused copy is `OutOfMemory`, and no other.
+pub fn clones_say_the_same()
+    ensures text { (text copy : LineString) →
+        ⟦<LineString as Clone>⟧.is_clone text copy → line_text copy ≡ line_text text }
+    ensures info { (info copy : FileInfo) →
+        ⟦<FileInfo as Clone>⟧.is_clone info copy → details copy ≡ details info }
+    ensures program { IsSameClone ⟦<LineProgram as Clone>⟧.is_clone }
+    ensures memory { (refused : AllocError) (e : WriteError) →
+        ⟦<gimli_bytes::Error as From<AllocError>>⟧.from_gives refused e → e ≡ OutOfMemory }
 {}
 
 /// The same text hashes alike, wherever it lies in memory.

@@ -12,8 +12,7 @@ use Rattle.gimli_write.specs.declared.convert_error.ConvertError.{ConvertError}
 use Rattle.gimli_write.specs.convert.Texts.{◌>>=◌, IsRefusedBy, source_path}
 use Rattle.gimli_write.specs.convert.SourceTables.{SourceTables, TablesAndTexts, tables_with, version_of, with_path, directory_added, FileParts, file_parts}
 use Rattle.gimli_write.specs.convert.SourceTables.{with_parts, file_added, all_added}
-use Rattle.gimli_write.specs.convert.Preparation.{Handed, tables_of_header, start_of_tables, first_texts, encoding_of, working_directory, source_file}
-use Rattle.gimli_write.specs.convert.Preparation.{line_encoding_of}
+use Rattle.gimli_write.specs.convert.Preparation.{Handed, tables_of_header, start_of_tables, first_texts, encoding_of}
 use Rattle.gimli_write.specs.convert.Items.{Reading, stops, defines, offers, file_id, row_in, built_row, row_offered, row_or_end_offered, defines_first}
 use Rattle.gimli_write.specs.convert.Items.{after_definitions}
 use Rattle.gimli_write.specs.declared.convert.run.SourceRow.{SourceRow}
@@ -22,6 +21,7 @@ use Rattle.gimli_write.specs.convert.SourceRun.{SourceRun, reading_from, reading
 use Rattle.gimli_write.specs.convert.TablesAtEnd.{lacks_file, tables_after_row}
 use Rattle.gimli_write.specs.convert.KeptTables.{final_tables_of_source, final_tables}
 use Rattle.gimli_write.specs.convert.Conversion.{Conversion, without_built, IsReadRefusal}
+use Rattle.gimli_write.proofs.MappedTables.{took, same_ok, is_prepared}
 
 -- ---- tables without what is built
 
@@ -73,41 +73,28 @@ module _ (sections : Sections) (s : SourceRun) (tables : TablesAndTexts) (f : Fi
 
 -- ---- the tables of a header have nothing built
 
-bound : {A B : Type 0} (r : Result A ConvertError) (f : A → Result B ConvertError) (y : B) → (r >>= f) ≡ Ok y → (x : A) × (r ≡ Ok x) × (f x ≡ Ok y)
-bound (Ok x) f y is = (x, refl, is)
-bound (Err e) f y is = absurd cc
-
-ok_same : {A : Type 0} (x y : A) → ◌≡◌ {A = Result A ConvertError} (Ok x) (Ok y) → x ≡ y
-ok_same x y is = cc
-
 module _ {A : Type 0} (add : TablesAndTexts → A → Result TablesAndTexts ConvertError)
     (commutes : (tables : TablesAndTexts) (x : A) → add (without_built tables) x ≡ (add tables x >>= λ next. Ok (without_built next))) where
   one_plain : (tables next : TablesAndTexts) (x : A) → without_built tables ≡ tables → add tables x ≡ Ok next → without_built next ≡ next
   one_plain tables next x is added =
-      ok_same (without_built next) next
+      same_ok (without_built next) next
       (sym (commutes tables x ∙ ap (λ (r : Result TablesAndTexts ConvertError). r >>= λ n. Ok (without_built n)) added)
       ∙ ap (λ (l : TablesAndTexts). add l x) is ∙ added)
 
   all_plain : (xs : List A) (tables next : TablesAndTexts) → without_built tables ≡ tables → all_added add xs tables ≡ Ok next → without_built next ≡ next
-  all_plain [] tables next is added = subst (λ (l : TablesAndTexts). without_built l ≡ l) (ok_same tables next added) is
+  all_plain [] tables next is added = subst (λ (l : TablesAndTexts). without_built l ≡ l) (same_ok tables next added) is
   all_plain (x ∷ xs) tables next is added =
-      let one = bound (add tables x) (all_added add xs) next added in
+      let one = took (add tables x) (all_added add xs) next added in
       all_plain xs one.0 next (one_plain tables one.0 x is one.1) one.2
 
 pub prepared_plain : (sections : Sections) (h : Header) (given : Handed) (line_strings : List (List ℕ)) (tables : TablesAndTexts)
     → tables_of_header sections h given line_strings ≡ Ok tables → without_built tables ≡ tables
 prepared_plain sections h given line_strings tables is =
     let encoding = encoding_of h given in
-    let directory = bound (working_directory encoding.version sections h) _ tables is in
-    let file = bound (source_file encoding.version sections h given.name) _ tables directory.2 in
-    let lines = bound (line_encoding_of h.parameters.line_encoding given.line_encoding) _ tables file.2 in
-    let directories = bound (all_added (directory_added sections) h.directories
-    (start_of_tables encoding lines.0 h (first_texts encoding.version line_strings directory.0 file.0))) (all_added (file_added sections) h.files) tables
-    lines.2 in
-    all_plain (file_added sections) (plain_file sections) h.files directories.0 tables
-    (all_plain (directory_added sections) (plain_directory sections) h.directories
-    (start_of_tables encoding lines.0 h (first_texts encoding.version line_strings directory.0 file.0)) directories.0 refl directories.1)
-    directories.2
+    let p = is_prepared sections h given line_strings tables is in
+    let begun = start_of_tables encoding p.line_encoding h (first_texts encoding.version line_strings p.directory p.file) in
+    all_plain (file_added sections) (plain_file sections) h.files p.with_directories tables
+    (all_plain (directory_added sections) (plain_directory sections) h.directories begun p.with_directories refl p.directories) p.files
 
 -- ---- rows
 

@@ -2,6 +2,7 @@
 use Rattle.std.proofs.Common.{◌≡◌, ℕ, zero, suc, Bool, true, false, if◌then◌else◌, List, [], ◌∷◌, ◌++◌, refl, sym, ap, subst, ◌∙◌, arith}
 use Rattle.std.specs.Prelude.{nat_le, Option, Some, None, option_map, ok_or, slice_get, Result, Ok, IfSome}
 use Rattle.std.specs.List.{AllByRecursion}
+use Rattle.std.proofs.lemmas.List.Elements.{All-from_recursion}
 use Rattle.std.proofs.lemmas.Bool.{leb-true, le-leb, true≢false}
 use Rattle.gimli_core.specs.Values.{Value}
 use Rattle.gimli_core.specs.declared.error.Error.{Error}
@@ -133,7 +134,7 @@ module _ (sections : Sections) (h : Header) (strings : List (List ℕ)) (tables 
         later = so.later;
         parts = so.split;
         has = last_has;
-        none_after = others_after so.parts d.0 d.2 so.later so.none_after;
+        none_after = All-from_recursion _ so.later (others_after so.parts d.0 d.2 so.later so.none_after);
       } in
       record {
         built = ((text, so.parts.directory), so.details);

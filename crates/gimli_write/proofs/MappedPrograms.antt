@@ -2,6 +2,7 @@
 use Rattle.std.proofs.Common.{◌≡◌, ℕ, ◌≤◌, List, [], ◌∷◌, ◌++◌, sym, ap, subst, ◌∙◌, arith}
 use Rattle.std.specs.Prelude.{Option, Ok}
 use Rattle.std.specs.List.{AllByRecursion}
+use Rattle.std.proofs.lemmas.List.Elements.{All-from_recursion}
 use Rattle.std.proofs.lemmas.Bool.{true≢false}
 use Rattle.std.proofs.Math.Pow.{pow_mono}
 use Rattle.gimli_core.specs.Notation.{Notation}
@@ -88,7 +89,8 @@ module _ (notation : Notation) (sections : Sections) (h : Header) (given : Hande
       (subst (λ (items : List BuiltItem). AddressesFit (encoding_of h given).address_size 0 (0, 0) items) (sym all_items) whole.fit)
 
   pub constants_set : HasConstantAddresses c.program
-  constants_set = subst (λ (items : List BuiltItem). AllByRecursion SetsConstant items) (sym all_items) whole.constants
+  constants_set =
+      All-from_recursion _ c.program.items (subst (λ (items : List BuiltItem). AllByRecursion SetsConstant items) (sym all_items) whole.constants)
 
 -- ---- what is read back of it
 

@@ -1,5 +1,6 @@
 -- The tables of a conversion, from the header of its source to the end of the program.
-use Rattle.std.proofs.Common.{◌≡◌, ℕ, zero, suc, ◌<◌, ◌≤◌, Bool, true, false, if◌then◌else◌, List, [], ◌∷◌, ◌++◌, length, refl, subst, arith, length-append}
+use Rattle.std.proofs.Common.{◌≡◌, ℕ, zero, suc, ◌<◌, ◌≤◌, Bool, true, false, if◌then◌else◌, List, [], ◌∷◌, ◌++◌, length, refl, sym, subst, arith}
+use Rattle.std.proofs.Common.{length-append}
 use Rattle.std.specs.Prelude.{nat_le, Option, Some, None, option_map, IfSome, Result, Ok, Err, All}
 use Rattle.std.specs.List.{list_any}
 use Rattle.std.specs.Option.{option_map_or}
@@ -28,7 +29,7 @@ use Rattle.gimli_write.specs.convert.SourceTables.{TablesAndTexts, version_of, w
 use Rattle.gimli_write.specs.convert.SourceTables.{all_added}
 use Rattle.gimli_write.specs.convert.Items.{tables_after_definition, tables_at}
 use Rattle.gimli_write.specs.convert.Preparation.{SourceFile, working_directory, source_file, line_encoding_of, first_texts, start_of_tables, Handed}
-use Rattle.gimli_write.specs.convert.Preparation.{encoding_of, tables_of_header}
+use Rattle.gimli_write.specs.convert.Preparation.{encoding_of, tables_at_start, lists_added, tables_of_header}
 
 -- ---- steps that were done
 
@@ -60,10 +61,13 @@ is_prepared sections h given line_strings tables is =
     let begin =
     λ (directory : List ℕ) (file : SourceFile) (line_encoding : LineEncoding).
     start_of_tables encoding line_encoding h (first_texts encoding.version line_strings directory file) in
-    let a = took (working_directory encoding.version sections h) _ tables is in
-    let b = took (source_file encoding.version sections h given.name) _ tables a.2 in
-    let l = took (line_encoding_of h.parameters.line_encoding given.line_encoding) _ tables b.2 in
-    let d = took (all_added (directory_added sections) h.directories (begin a.0 b.0 l.0)) _ tables l.2 in
+    let start = took (tables_at_start sections h encoding given.line_encoding given.name line_strings) (λ t. lists_added sections h t) tables is in
+    let a = took (working_directory encoding.version sections h) _ start.0 start.1 in
+    let b = took (source_file encoding.version sections h given.name) _ start.0 a.2 in
+    let l = took (line_encoding_of h.parameters.line_encoding given.line_encoding) _ start.0 b.2 in
+    let listed : lists_added sections h (begin a.0 b.0 l.0) ≡ Ok tables =
+    subst (λ (t : TablesAndTexts). lists_added sections h t ≡ Ok tables) (sym (same_ok (begin a.0 b.0 l.0) start.0 l.2)) start.2 in
+    let d = took (all_added (directory_added sections) h.directories (begin a.0 b.0 l.0)) (λ t. all_added (file_added sections) h.files t) tables listed in
     record { directory = a.0; directory_is = a.1; file = b.0; file_is = b.1; line_encoding = l.0; with_directories = d.0; directories = d.1; files = d.2 }
 
 -- ---- what each step keeps

@@ -1,6 +1,8 @@
 -- What a conversion reads, handed to the builder.
 use Rattle.std.proofs.Common.{◌≡◌, ◌⊎◌, ℕ, suc, ◌<◌, arith, false, true, Bool, if◌then◌else◌, List, refl, sym, ap, ◌∙◌, subst, inl, inr}
-use Rattle.std.specs.Prelude.{Option, Result, Ok, Err}
+use Rattle.std.specs.Prelude.{Option, Result, Ok, Err, MatchResult}
+use Rattle.std.specs.declared.vec.Vec.{Vec}
+use Rattle.std.specs.declared.alloc.Global.{Global}
 use Rattle.gimli_core.specs.declared.error.Error.TheVariants.{AddressOverflow}
 use Rattle.gimli_bytes.specs.declared.address.Address.{Address}
 use Rattle.gimli_line.specs.header.Parameters.{Parameters}
@@ -12,16 +14,17 @@ use Rattle.gimli_build.specs.LineText.{LineText}
 use Rattle.gimli_write.specs.declared.convert_error.ConvertError.{ConvertError}
 use Rattle.gimli_write.specs.declared.convert_error.ConvertError.TheVariants.{MissingLineEndSequence, OutOfMemory, Read}
 use Rattle.gimli_write.specs.declared.convert.rows.ConvertLineRow.{ConvertLineRow}
+use Rattle.gimli_write.specs.declared.convert.rows.ConvertLineRow.TheVariants.{SetAddress, Row, EndSequence}
 use Rattle.gimli_write.specs.convert.Texts.{◌>>=◌, IsRefusedBy}
 use Rattle.gimli_write.specs.convert.SourceTables.{TablesAndTexts}
 use Rattle.gimli_write.specs.convert.Items.{Reading, ends, stops, defines, offers, address_offered, reading_at, with_definition, after_definitions, ReadsItems}
 use Rattle.gimli_write.specs.convert.Preparation.{tables_of_header}
 use Rattle.gimli_write.specs.convert.Sources.{Source}
 use Rattle.gimli_write.specs.convert.SourceRun.{reading_left}
-use Rattle.gimli_write.specs.convert.Outcome.{Outcome, after_item, with_tables, outcome_of, without_items}
+use Rattle.gimli_write.specs.convert.Outcome.{Outcome, after_item, with_tables, outcome_at_end, outcome_of, ItemComesTo, ComesTo, without_items}
 use Rattle.gimli_write.specs.convert.Conversion.{Conversion, tables_of, version_of_source, after_held, unless_failed, still_to_read, AddsFiles, IsReadRefusal}
-use Rattle.gimli_write.specs.convert.Conversion.{IsConverted, with_program}
-use Rattle.gimli_write.proofs.ConvertSteps.{refused_first, refused_same}
+use Rattle.gimli_write.specs.convert.Conversion.{Progress, reading_of, built_so_far, IsConverted, with_program, AnswersAs, outcome_with}
+use Rattle.gimli_write.specs.convert.Conversion.{RestComesTo, SourceComesTo, IsConvertRefusal, RestConvertsTo, IsRestRefusal}
 
 -- how much a reading hands out
 abbrev pub offer_count : Reading → ℕ
@@ -46,13 +49,7 @@ one_fewer old rest item tables hands =
     omega (arith, e)
 
 module _ (m : ℕ → Option Address) where
-  pub converted_after : (r : Reading) (p : Built) → outcome_of m (after_definitions r) p ≡ outcome_of m r p
-  converted_after (defines rest) p = converted_after rest p
-  converted_after (ends tables) p = refl
-  converted_after (stops e) p = refl
-  converted_after (offers item tables rest) p = refl
-
-  -- nor does one at a point
+  -- one at a point
   pub definition_passed : (parameters : Parameters) (tables : TablesAndTexts) (past : List Ins) (i : Ins) (rest : Reading) (p : Built)
       → outcome_of m (reading_at parameters tables past i (with_definition i rest)) p ≡ outcome_of m (reading_at parameters tables past i rest) p
   definition_passed parameters tables past (DefineFile f) rest p = by (overflows parameters past (DefineFile f))
@@ -62,6 +59,11 @@ module _ (m : ℕ → Option Address) where
       by true = refl
       by false = refl
   definition_passed parameters tables past i rest p = refl
+
+-- a refusal for another cause than memory has come to the same before
+pub refused_then : {P Q : Type 0} (e : ConvertError) → (P → Q) → (e ≡ OutOfMemory) ⊎ P → (e ≡ OutOfMemory) ⊎ Q
+refused_then e f (inl memory) = inl memory
+refused_then e f (inr p) = inr (f p)
 
 -- ---- what is built doesn't change what is read
 
@@ -86,84 +88,147 @@ tables_are old new adds =
     ap (λ (texts : List LineText). let p : Built = record old { directories = texts; files = new.files } in p) (ap (λ (p : Built). p.directories) adds)
     ∙ sym adds
 
-module _ (m : ℕ → Option Address) (old mid : Conversion) (before after : List (List ℕ)) where
-  module _ (row : ConvertLineRow) (hands : after_definitions (still_to_read old before) ≡ offers row (tables_of mid after) (still_to_read mid after))
-      (adds : AddsFiles old.tables.program mid.tables.program) where
-    handed_first : outcome_of m (still_to_read old before) old.tables.program
-        ≡ (after_item m row mid.tables.program >>= λ next. outcome_of m (still_to_read mid after) next)
-    handed_first =
-        sym (converted_after m (still_to_read old before) old.tables.program)
-        ∙ ap (λ (r : Reading). outcome_of m r old.tables.program) hands
-        ∙ ap (λ (p : Built). after_item m row p >>= λ next. outcome_of m (still_to_read mid after) next) (tables_are old.tables.program mid.tables.program adds)
+module _ (map : ℕ → Option Address → Type 0) where
+  comes_after : (r : Reading) (p : Built) (outcome : Result Outcome ConvertError) → ComesTo map (after_definitions r) p outcome → ComesTo map r p outcome
+  comes_after (defines rest) p outcome is = comes_after rest p outcome is
+  comes_after (ends tables) p outcome is = is
+  comes_after (stops e) p outcome is = is
+  comes_after (offers item tables rest) p outcome is = is
 
-    pub fed_next : (new : Conversion) → after_item m row mid.tables.program ≡ Ok new.tables.program → new ≡ with_program new.tables.program mid
-        → without_items new.tables.program ≡ without_items mid.tables.program
-        → outcome_of m (still_to_read new after) new.tables.program ≡ outcome_of m (still_to_read old before) old.tables.program
-    fed_next new is kept items =
-        ap (λ (r : Reading). outcome_of m r new.tables.program) (same_left mid new after kept items)
-        ∙ sym (handed_first ∙ ap (λ (r : Result Built ConvertError). r >>= λ next. outcome_of m (still_to_read mid after) next) is)
+  -- ---- a map whose answers are those of a function
 
-    pub fed_fewer : (new : Conversion) → new ≡ with_program new.tables.program mid → without_items new.tables.program ≡ without_items mid.tables.program
-        → offer_count (still_to_read new after) < offer_count (still_to_read old before)
-    fed_fewer new kept items =
-        subst (λ (r : Reading). offer_count r < offer_count (still_to_read old before)) (sym (same_left mid new after kept items))
-        (one_fewer (still_to_read old before) (still_to_read mid after) row (tables_of mid after) hands)
+  module _ (g : ℕ → Option Address) (says : AnswersAs map g) where
+    item_as : (item : ConvertLineRow) (p : Built) (step : Result Built ConvertError) → ItemComesTo map item p step → step ≡ after_item g item p
+    item_as (SetAddress a) p step is = is.2 ∙ ap (λ (r : Option Address). after_item (λ _. r) (SetAddress a) p) (says a is.0 is.1)
+    item_as (Row r) p step is = is
+    item_as (EndSequence offset) p step is = is
 
-    pub feed_refused : (e : ConvertError) → IsRefusedBy (after_item m row mid.tables.program) e
-        → IsRefusedBy (outcome_of m (still_to_read old before) old.tables.program) e
-    feed_refused e refused =
-        refused_same (after_item m row mid.tables.program >>= λ next. outcome_of m (still_to_read mid after) next)
-        (outcome_of m (still_to_read old before) old.tables.program) e
-        (sym handed_first) (refused_first (after_item m row mid.tables.program) (λ next. outcome_of m (still_to_read mid after) next) e refused)
+    then_as : (rest : Reading) (outcome : Result Outcome ConvertError) → ((next : Built) → ComesTo map rest next outcome → outcome_of g rest next ≡ outcome)
+        → (step : Result Built ConvertError) → MatchResult step (λ next. ComesTo map rest next outcome) (λ e. outcome ≡ Err e)
+        → (step >>= λ next. outcome_of g rest next) ≡ outcome
+    then_as rest outcome later (Ok next) is = later next is
+    then_as rest outcome later (Err e) is = sym is
 
-  pub read_refused : (e : ConvertError) → IsReadRefusal (still_to_read old before) e
-      → IsRefusedBy (outcome_of m (still_to_read old before) old.tables.program) e
-  read_refused e (inl is) =
-      inr (sym (converted_after m (still_to_read old before) old.tables.program) ∙ ap (λ (r : Reading). outcome_of m r old.tables.program) is)
-  read_refused e (inr memory) = inl memory.0
+    comes_as : (r : Reading) (p : Built) (outcome : Result Outcome ConvertError) → ComesTo map r p outcome → outcome_of g r p ≡ outcome
+    comes_as (ends tables) p outcome is = sym is
+    comes_as (stops e) p outcome is = sym is
+    comes_as (defines rest) p outcome is = comes_as rest p outcome is
+    comes_as (offers item tables rest) p outcome is =
+        ap (λ (step : Result Built ConvertError). step >>= λ next. outcome_of g rest next) (sym (item_as item (with_tables tables p) is.0 is.1))
+        ∙ then_as rest outcome (λ next so. comes_as rest next outcome so) is.0 is.2
 
-  module _ (end : after_definitions (still_to_read old before) ≡ ends (tables_of mid after)) (adds : AddsFiles old.tables.program mid.tables.program) where
-    last : (unended : Bool) → mid.tables.program.in_sequence ≡ unended
-        → outcome_of m (still_to_read old before) old.tables.program
-        ≡ (if unended then Err MissingLineEndSequence else Ok (record { program = mid.tables.program; file_ids = mid.tables.file_ids; line_strings = after }))
-    last unended is =
-        sym (converted_after m (still_to_read old before) old.tables.program)
-        ∙ ap (λ (r : Reading). outcome_of m r old.tables.program) end
-        ∙ ap (λ (b : Bool).
-        let r : Result Outcome ConvertError = if b then Err MissingLineEndSequence
-        else Ok (record { program = with_tables (tables_of mid after) old.tables.program; file_ids = mid.tables.file_ids; line_strings = after }) in
-        r)
-        (sym (ap (λ (p : Built). p.in_sequence) adds) ∙ is)
-        ∙ ap (λ (p : Built).
-        let r : Result Outcome ConvertError = if unended then Err MissingLineEndSequence
-        else Ok (record { program = p; file_ids = mid.tables.file_ids; line_strings = after }) in
-        r)
-        (tables_are old.tables.program mid.tables.program adds)
+    comes_refused : (r : Reading) (p : Built) (e : ConvertError) → (e ≡ OutOfMemory) ⊎ ComesTo map r p (Err e) → IsRefusedBy (outcome_of g r p) e
+    comes_refused r p e (inl memory) = inl memory
+    comes_refused r p e (inr is) = inr (comes_as r p (Err e) is)
 
-    pub left_open : mid.tables.program.in_sequence ≡ true → outcome_of m (still_to_read old before) old.tables.program ≡ Err MissingLineEndSequence
-    left_open is = last true is
+  pub rest_converts : (old : Progress) (answer : Built × Vec ℕ Global) (new : List (List ℕ)) → RestComesTo map old (Ok (outcome_with answer new))
+      → RestConvertsTo map old answer new
+  rest_converts old answer new is = record {
+    answers = is;
+    as_function = λ g says. comes_as g says (reading_of old) (built_so_far old) (Ok (outcome_with answer new)) is;
+  }
 
-    pub converted_all : mid.tables.program.in_sequence ≡ false
-        → outcome_of m (still_to_read old before) old.tables.program
-        ≡ Ok (record { program = mid.tables.program; file_ids = mid.tables.file_ids; line_strings = after })
-    converted_all is = last false is
+  pub rest_refused : (old : Progress) (e : ConvertError) → (e ≡ OutOfMemory) ⊎ RestComesTo map old (Err e) → IsRestRefusal map old e
+  rest_refused old e is = record { answers = is; as_function = λ g says. comes_refused g says (reading_of old) (built_so_far old) e is }
 
--- ---- a whole conversion
+  -- ---- reads that are handed on
 
-module _ (m : ℕ → Option Address) (s : Source) (line_strings : List (List ℕ)) where
-  pub all_converted : (first : TablesAndTexts) (reading : Reading) (outcome : Result Outcome ConvertError)
-      → tables_of_header s.sections s.header s.given line_strings ≡ Ok first
-      → ReadsItems s.notation s.sections s.header first s.header.program reading → outcome_of m reading first.program ≡ outcome
-      → IsConverted m s line_strings outcome
-  all_converted first reading outcome is reads comes = (reading, rw is (reads, comes))
+  module _ (old mid : Conversion) (before after : List (List ℕ)) where
+    module _ (row : ConvertLineRow) (hands : after_definitions (still_to_read old before) ≡ offers row (tables_of mid after) (still_to_read mid after))
+        (adds : AddsFiles old.tables.program mid.tables.program) where
+      handed_first : (outcome : Result Outcome ConvertError) (step : Result Built ConvertError) → ItemComesTo map row mid.tables.program step
+          → MatchResult step (λ next. ComesTo map (still_to_read mid after) next outcome) (λ e. outcome ≡ Err e)
+          → ComesTo map (still_to_read old before) old.tables.program outcome
+      handed_first outcome step item rest =
+          comes_after (still_to_read old before) old.tables.program outcome
+          (subst (λ (r : Reading). ComesTo map r old.tables.program outcome) (sym hands)
+          (step, subst (λ (p : Built). ItemComesTo map row p step) (sym (tables_are old.tables.program mid.tables.program adds)) item, rest))
 
-  pub header_refused : (e : ConvertError) → IsRefusedBy (tables_of_header s.sections s.header s.given line_strings) e
-      → (e ≡ OutOfMemory) ⊎ IsConverted m s line_strings (Err e)
-  header_refused e (inl memory) = inl memory
-  header_refused e (inr is) = inr (stops e, rw is refl)
+      pub fed_next : (new : Conversion) (outcome : Result Outcome ConvertError) → ItemComesTo map row mid.tables.program (Ok new.tables.program)
+          → new ≡ with_program new.tables.program mid → without_items new.tables.program ≡ without_items mid.tables.program
+          → ComesTo map (still_to_read new after) new.tables.program outcome → ComesTo map (still_to_read old before) old.tables.program outcome
+      fed_next new outcome item kept items rest =
+          handed_first outcome (Ok new.tables.program) item
+          (subst (λ (r : Reading). ComesTo map r new.tables.program outcome) (same_left mid new after kept items) rest)
 
-  pub rows_refused : (first : TablesAndTexts) (reading : Reading) (e : ConvertError) → tables_of_header s.sections s.header s.given line_strings ≡ Ok first
-      → ReadsItems s.notation s.sections s.header first s.header.program reading
-      → IsRefusedBy (outcome_of m reading first.program) e → (e ≡ OutOfMemory) ⊎ IsConverted m s line_strings (Err e)
-  rows_refused first reading e is reads (inl memory) = inl memory
-  rows_refused first reading e is reads (inr refused) = inr (all_converted first reading (Err e) is reads refused)
+      pub fed_fewer : (new : Conversion) → new ≡ with_program new.tables.program mid → without_items new.tables.program ≡ without_items mid.tables.program
+          → offer_count (still_to_read new after) < offer_count (still_to_read old before)
+      fed_fewer new kept items =
+          subst (λ (r : Reading). offer_count r < offer_count (still_to_read old before)) (sym (same_left mid new after kept items))
+          (one_fewer (still_to_read old before) (still_to_read mid after) row (tables_of mid after) hands)
+
+      pub feed_refused : (e : ConvertError) → (e ≡ OutOfMemory) ⊎ ItemComesTo map row mid.tables.program (Err e)
+          → (e ≡ OutOfMemory) ⊎ ComesTo map (still_to_read old before) old.tables.program (Err e)
+      feed_refused e (inl memory) = inl memory
+      feed_refused e (inr item) = inr (handed_first (Err e) (Err e) item refl)
+
+    pub read_refused : (e : ConvertError) → IsReadRefusal (still_to_read old before) e
+        → (e ≡ OutOfMemory) ⊎ ComesTo map (still_to_read old before) old.tables.program (Err e)
+    read_refused e (inl is) =
+        inr (comes_after (still_to_read old before) old.tables.program (Err e)
+        (subst (λ (r : Reading). ComesTo map r old.tables.program (Err e)) (sym is) refl))
+    read_refused e (inr memory) = inl memory.0
+
+    module _ (end : after_definitions (still_to_read old before) ≡ ends (tables_of mid after)) (adds : AddsFiles old.tables.program mid.tables.program) where
+      last : (unended : Bool) → mid.tables.program.in_sequence ≡ unended
+          → outcome_at_end (tables_of mid after) old.tables.program
+          ≡ (if unended then Err MissingLineEndSequence
+          else Ok (record { program = mid.tables.program; file_ids = mid.tables.file_ids; line_strings = after }))
+      last unended is =
+          ap (λ (b : Bool).
+          let r : Result Outcome ConvertError = if b then Err MissingLineEndSequence
+          else Ok (record { program = with_tables (tables_of mid after) old.tables.program; file_ids = mid.tables.file_ids; line_strings = after }) in
+          r)
+          (sym (ap (λ (p : Built). p.in_sequence) adds) ∙ is)
+          ∙ ap (λ (p : Built).
+          let r : Result Outcome ConvertError = if unended then Err MissingLineEndSequence
+          else Ok (record { program = p; file_ids = mid.tables.file_ids; line_strings = after }) in
+          r)
+          (tables_are old.tables.program mid.tables.program adds)
+
+      comes_last : (outcome : Result Outcome ConvertError) → outcome ≡ outcome_at_end (tables_of mid after) old.tables.program
+          → ComesTo map (still_to_read old before) old.tables.program outcome
+      comes_last outcome is =
+          comes_after (still_to_read old before) old.tables.program outcome
+          (subst (λ (r : Reading). ComesTo map r old.tables.program outcome) (sym end) is)
+
+      pub left_open : mid.tables.program.in_sequence ≡ true → ComesTo map (still_to_read old before) old.tables.program (Err MissingLineEndSequence)
+      left_open is = comes_last (Err MissingLineEndSequence) (sym (last true is))
+
+      pub converted_all : mid.tables.program.in_sequence ≡ false
+          → ComesTo map (still_to_read old before) old.tables.program
+          (Ok (record { program = mid.tables.program; file_ids = mid.tables.file_ids; line_strings = after }))
+      converted_all is = comes_last (Ok (record { program = mid.tables.program; file_ids = mid.tables.file_ids; line_strings = after })) (sym (last false is))
+
+  -- ---- a whole conversion
+
+  module _ (s : Source) (line_strings : List (List ℕ)) where
+    pub header_refused : (e : ConvertError) → IsRefusedBy (tables_of_header s.sections s.header s.given line_strings) e → IsConvertRefusal map s line_strings e
+    header_refused e (inl memory) = record { answers = inl memory; as_function = λ g says. inl memory }
+    header_refused e (inr is) = record { answers = inr (stops e, rw is refl); as_function = λ g says. inr (stops e, rw is refl) }
+
+    module _ (first : TablesAndTexts) (reading : Reading) (is : tables_of_header s.sections s.header s.given line_strings ≡ Ok first)
+        (reads : ReadsItems s.notation s.sections s.header first s.header.program reading) where
+      pub all_converted : (g : ℕ → Option Address) (outcome : Result Outcome ConvertError) → outcome_of g reading first.program ≡ outcome
+          → IsConverted g s line_strings outcome
+      all_converted g outcome comes = (reading, rw is (reads, comes))
+
+      pub all_comes : (outcome : Result Outcome ConvertError) → ComesTo map reading first.program outcome → SourceComesTo map s line_strings outcome
+      all_comes outcome comes = (reading, rw is (reads, comes))
+
+      refused_as : (g : ℕ → Option Address) (e : ConvertError) → IsRefusedBy (outcome_of g reading first.program) e
+          → (e ≡ OutOfMemory) ⊎ IsConverted g s line_strings (Err e)
+      refused_as g e (inl memory) = inl memory
+      refused_as g e (inr refused) = inr (all_converted g (Err e) refused)
+
+      refused_by : (e : ConvertError) → (e ≡ OutOfMemory) ⊎ ComesTo map reading first.program (Err e)
+          → (e ≡ OutOfMemory) ⊎ SourceComesTo map s line_strings (Err e)
+      refused_by e (inl memory) = inl memory
+      refused_by e (inr comes) = inr (all_comes (Err e) comes)
+
+      pub rows_refused : (e : ConvertError) → (e ≡ OutOfMemory) ⊎ ComesTo map reading first.program (Err e)
+          → ((g : ℕ → Option Address) → AnswersAs map g → IsRefusedBy (outcome_of g reading first.program) e) → IsConvertRefusal map s line_strings e
+      rows_refused e answers as_function = record {
+        answers = refused_by e answers;
+        as_function = λ g says. refused_as g e (as_function g says);
+      }

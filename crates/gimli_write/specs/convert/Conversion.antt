@@ -21,7 +21,7 @@ use Rattle.gimli_write.specs.convert.Items.{Reading, ends, stops, offers, addres
 use Rattle.gimli_write.specs.convert.Items.{row_or_end_offered, defines_first, after_definitions}
 use Rattle.gimli_write.specs.convert.Items.{ReadsItems}
 use Rattle.gimli_write.specs.convert.SourceRun.{SourceRun, start_of_source, reading_left}
-use Rattle.gimli_write.specs.convert.Outcome.{Outcome, outcome_of, without_items}
+use Rattle.gimli_write.specs.convert.Outcome.{Outcome, outcome_of, ComesTo, without_items}
 use Rattle.gimli_write.specs.convert.Preparation.{tables_of_header}
 use Rattle.gimli_write.specs.convert.Sources.{Source}
 use Rattle.gimli_write.specs.convert.Texts.{IsRefusedBy}
@@ -200,32 +200,51 @@ outcome_with answer line_strings = record {
   line_strings = line_strings;
 }
 
--- by such a map a source is converted to this answer; the old line strings are those before it, the
--- new ones those after it
+-- what can come of all that is still to be read
+abbrev pub RestComesTo : (ℕ → Option Address → Type 0) → Progress → Result Outcome ConvertError
+    → Type 0
+RestComesTo map p = ComesTo map (reading_of p) (built_so_far p)
+
+-- what comes of it where the map's answers are those of a function
+abbrev pub outcome_of_rest : (ℕ → Option Address) → Progress → Result Outcome ConvertError
+outcome_of_rest convert_address p = outcome_of convert_address (reading_of p) (built_so_far p)
+
+-- what can come of a source, where nothing is built before: the refusal of a step of its header,
+-- else what can come of reading its program
+abbrev pub SourceComesTo : (ℕ → Option Address → Type 0) → Source → List (List ℕ)
+    → Result Outcome ConvertError → Type 0
+SourceComesTo map s line_strings outcome =
+    (reading : Reading) × MatchResult (tables_of_header s.sections s.header s.given line_strings)
+    (λ first. ReadsItems s.notation s.sections s.header first s.header.program reading
+    × ComesTo map reading first.program outcome)
+    (λ e. outcome ≡ Err e)
+
+-- by a map that answers as a function a source is converted to this answer; the old line strings
+-- are those before it, the new ones those after it
 abbrev pub ConvertsTo : (ℕ → Option Address → Type 0) → Source → List (List ℕ)
     → Built × Vec ℕ Global → List (List ℕ) → Type 0
 ConvertsTo map s old answer new =
     (g : ℕ → Option Address) → AnswersAs map g → IsConverted g s old (Ok (outcome_with answer new))
 
--- why a source isn't converted by such a map: what refuses it, or `OutOfMemory`
-abbrev pub IsConvertRefusal : (ℕ → Option Address → Type 0) → Source → List (List ℕ) → ConvertError
-    → Type 0
-IsConvertRefusal map s line_strings e =
-    (g : ℕ → Option Address) → AnswersAs map g
-    → (e ≡ OutOfMemory) ⊎ IsConverted g s line_strings (Err e)
+module _ (map : ℕ → Option Address → Type 0) where
+  -- why a source isn't converted: what refuses it, or `OutOfMemory`
+  pub record IsConvertRefusal (s : Source) (line_strings : List (List ℕ)) (e : ConvertError)
+      : Type 0 where
+    -- by what the map answers
+    pub answers : (e ≡ OutOfMemory) ⊎ SourceComesTo map s line_strings (Err e)
+    -- as a function says, if it answers as one
+    pub as_function : (g : ℕ → Option Address) → AnswersAs map g
+        → (e ≡ OutOfMemory) ⊎ IsConverted g s line_strings (Err e)
 
--- what comes of all that is still to be read
-abbrev pub outcome_of_rest : (ℕ → Option Address) → Progress → Result Outcome ConvertError
-outcome_of_rest convert_address p = outcome_of convert_address (reading_of p) (built_so_far p)
+  -- all that is still to be read is converted to this answer
+  pub record RestConvertsTo (old : Progress) (answer : Built × Vec ℕ Global) (new : List (List ℕ))
+      : Type 0 where
+    pub answers : RestComesTo map old (Ok (outcome_with answer new))
+    pub as_function : (g : ℕ → Option Address) → AnswersAs map g
+        → outcome_of_rest g old ≡ Ok (outcome_with answer new)
 
--- by such a map all that is still to be read is converted to this answer
-abbrev pub RestConvertsTo : (ℕ → Option Address → Type 0) → Progress → Built × Vec ℕ Global
-    → List (List ℕ) → Type 0
-RestConvertsTo map old answer new =
-    (g : ℕ → Option Address) → AnswersAs map g
-    → outcome_of_rest g old ≡ Ok (outcome_with answer new)
-
--- why it isn't: what refuses it, or `OutOfMemory`
-abbrev pub IsRestRefusal : (ℕ → Option Address → Type 0) → Progress → ConvertError → Type 0
-IsRestRefusal map old e =
-    (g : ℕ → Option Address) → AnswersAs map g → IsRefusedBy (outcome_of_rest g old) e
+  -- why it isn't: what refuses it, or `OutOfMemory`
+  pub record IsRestRefusal (old : Progress) (e : ConvertError) : Type 0 where
+    pub answers : (e ≡ OutOfMemory) ⊎ RestComesTo map old (Err e)
+    pub as_function : (g : ℕ → Option Address) → AnswersAs map g
+        → IsRefusedBy (outcome_of_rest g old) e

@@ -2,8 +2,7 @@
 -- for it.
 use Rattle.std.specs.Prelude.{◌≡◌, ◌≢◌, ℕ, ◌+◌, ◌≤◌, Bool, true, false, not, ◌&&◌, ◌||◌}
 use Rattle.std.specs.Prelude.{if◌then◌else◌, List, [], ◌∷◌, ◌++◌, map, slice_get, Option, Some}
-use Rattle.std.specs.Prelude.{None, option_map}
-use Rattle.std.specs.List.{AllByRecursion}
+use Rattle.std.specs.Prelude.{None, option_map, All, Ok}
 use Rattle.std.specs.declared.vec.Vec.{Vec}
 use Rattle.std.specs.declared.alloc.Global.{Global}
 use Rattle.gimli_core.specs.Notation.{Notation}
@@ -35,7 +34,8 @@ use Rattle.gimli_write.specs.RoundTrip.{FileAnswer, HasFittingAddresses}
 use Rattle.gimli_write.specs.convert.Outcome.{Outcome}
 use Rattle.gimli_write.specs.convert.Preparation.{encoding_of}
 use Rattle.gimli_write.specs.convert.Sources.{Source}
-use Rattle.gimli_write.specs.convert.Conversion.{AnswersAs, outcome_with, ConvertsTo}
+use Rattle.gimli_write.specs.convert.Conversion.{AnswersAs, outcome_with, SourceComesTo}
+use Rattle.gimli_write.specs.convert.Conversion.{ConvertsTo}
 
 -- ---- what is asked
 
@@ -129,7 +129,7 @@ pub record IsLastWithPaths (sections : Sections) (h : Header) (path directory : 
   pub later : List File
   pub parts : files ≡ before ++ f ∷ later
   pub has : HasPaths sections h path directory f
-  pub none_after : AllByRecursion (λ g. HasPaths sections h path directory g → ⊥) later
+  pub none_after : All (λ g. HasPaths sections h path directory g → ⊥) later
 
 -- the file with this id has the paths of a file of the source, and what is known of the last one
 -- that has them
@@ -199,7 +199,7 @@ SetsConstant item = Unit {0}
 
 -- each address that a program sets is
 abbrev pub HasConstantAddresses : Built → Type 0
-HasConstantAddresses p = AllByRecursion SetsConstant p.items
+HasConstantAddresses p = All SetsConstant p.items
 
 -- ---- all of it
 
@@ -223,11 +223,12 @@ pub record IsFaithful (s : Source) (strings : List (List ℕ)) (c : Outcome) : T
       (IsReadAs s.header.parameters.encoding.version c.program.encoding.version c.file_ids) rows
       back
 
--- a source is converted to this answer, for each function that gives what this map of addresses may
--- return; and it says what the source says, where what is asked for that holds. The old line
--- strings are those before it
+-- a source is converted to this answer: by what this map of addresses answers, and, for each
+-- function that gives what it may answer, as that function says; and then it says what the source
+-- says, where what is asked for that holds. The old line strings are those before it
 pub record ConvertsWell (map : ℕ → Option Address → Type 0) (s : Source) (old : List (List ℕ))
     (answer : Built × Vec ℕ Global) (texts : StringTables) : Type 0 where
+  pub answers : SourceComesTo map s old (Ok (outcome_with answer texts.line_strings))
   pub converts : ConvertsTo map s old answer texts.line_strings
   pub faithful : (g : ℕ → Option Address) → AnswersAs map g → CanBeFaithful g s
       → IsFaithful s texts.strings (outcome_with answer texts.line_strings)

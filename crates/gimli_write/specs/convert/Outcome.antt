@@ -2,8 +2,8 @@
 -- builder in order, each before the next is read. It is a function, so what comes of a reading is
 -- told exactly.
 use Rattle.std.specs.Prelude.{ℕ, ◌+◌, ◌-◌, ◌*◌, ◌/◌, ◌%◌, ◌^◌, Bool, true, false, not, ◌&&◌, ◌||◌}
-use Rattle.std.specs.Prelude.{if◌then◌else◌, nat_eq, nat_lt, nat_le, List, [], Option, ok_or}
-use Rattle.std.specs.Prelude.{Result, Ok, Err}
+use Rattle.std.specs.Prelude.{if◌then◌else◌, nat_eq, nat_lt, nat_le, List, [], Option, None, ok_or}
+use Rattle.std.specs.Prelude.{◌≡◌, Result, Ok, Err, MatchResult}
 use Rattle.gimli_core.specs.declared.common.LineEncoding.{LineEncoding}
 use Rattle.gimli_bytes.specs.declared.address.Address.{Address}
 use Rattle.gimli_build.specs.Calls.{after_address, after_row, after_end}
@@ -95,6 +95,28 @@ outcome_of convert_address (defines rest) p = outcome_of convert_address rest p
 outcome_of convert_address (offers item tables rest) p =
     after_item convert_address item (with_tables tables p) >>= λ next.
     outcome_of convert_address rest next
+
+-- ---- by a map of which only a contract is known
+
+-- what can come of an item, where a map may answer so: an address is asked for, and answered by one
+-- of these; a row and an end ask for none
+abbrev pub ItemComesTo : (ℕ → Option Address → Type 0) → ConvertLineRow → Built
+    → Result Built ConvertError → Type 0
+ItemComesTo map (offer.SetAddress a) p step =
+    (answer : Option Address) × map a answer
+    × (step ≡ after_item (λ _. answer) (offer.SetAddress a) p)
+ItemComesTo map item p step = step ≡ after_item (λ _. None) item p
+
+-- what can come of a program and a reading: each address that is handed out is asked for when its
+-- turn comes, so that one that is set twice may have two answers
+abbrev pub ComesTo : (ℕ → Option Address → Type 0) → Reading → Built → Result Outcome ConvertError
+    → Type 0
+ComesTo map (ends tables) p outcome = outcome ≡ outcome_at_end tables p
+ComesTo map (stops e) p outcome = outcome ≡ Err e
+ComesTo map (defines rest) p outcome = ComesTo map rest p outcome
+ComesTo map (offers item tables rest) p outcome =
+    (step : Result Built ConvertError) × ItemComesTo map item (with_tables tables p) step
+    × MatchResult step (λ next. ComesTo map rest next outcome) (λ e. outcome ≡ Err e)
 
 -- ---- how contracts start it
 

@@ -8,6 +8,8 @@ use Rattle.gimli_core.specs.declared.common.LineEncoding.{LineEncoding}
 use Rattle.gimli_core.specs.Values.{Value}
 use Rattle.gimli_line.specs.header.File.{File}
 use Rattle.gimli_line.specs.header.Header.{Header, directory_of, file_of, has_content}
+use Rattle.gimli_build.specs.Codes.{DW_LNCT_timestamp, DW_LNCT_size, DW_LNCT_MD5}
+use Rattle.gimli_build.specs.Codes.{DW_LNCT_LLVM_source}
 use Rattle.gimli_build.specs.LineText.{LineText, made_text, made_table}
 use Rattle.gimli_build.specs.Built.{Built, empty_built}
 use Rattle.gimli_build.specs.FirstTables.{first_directories, first_files}
@@ -119,17 +121,21 @@ abbrev pub has_before_5 : ℕ → Header → Bool
 has_before_5 content h =
     nat_le h.parameters.encoding.version 4 || has_content content h.file_formats
 
+-- a program that writes of its files what the files of a header have
+abbrev pub with_flags : Header → Built → Built
+with_flags h p = record p {
+  file_has_timestamp = has_before_5 DW_LNCT_timestamp h;
+  file_has_size = has_before_5 DW_LNCT_size h;
+  file_has_md5 = has_content DW_LNCT_MD5 h.file_formats;
+  file_has_source = has_content DW_LNCT_LLVM_source h.file_formats;
+}
+
 abbrev pub start_of_program : Encoding → LineEncoding → Header → FirstTexts → Built
 start_of_program encoding line_encoding h texts =
-    record (empty_built false encoding line_encoding
+    with_flags h (empty_built false encoding line_encoding
     (first_directories encoding.version texts.working_directory texts.source_directory)
     (first_files encoding.version texts.working_directory texts.source_directory texts.source_file
-    None)) {
-      file_has_timestamp = has_before_5 0x0003 h;
-      file_has_size = has_before_5 0x0004 h;
-      file_has_md5 = has_content 0x0005 h.file_formats;
-      file_has_source = has_content 0x2001 h.file_formats;
-    }
+    None))
 
 -- up to version 4 the tables of a source begin at 1
 abbrev pub first_ids : ℕ → List ℕ
@@ -162,16 +168,31 @@ handed_of encoding line_encoding name = record {
 abbrev pub encoding_of : Header → Handed → Encoding
 encoding_of h given = unwrap_or given.encoding h.parameters.encoding
 
--- the tables after all directories and files of a header, from the line strings before it
-abbrev pub tables_of_header : Sections → Header → Handed → List (List ℕ)
+-- the tables with these first texts, where lines can be encoded
+abbrev pub with_first_texts : Encoding → Option LineEncoding → Header → FirstTexts
     → Result TablesAndTexts ConvertError
-tables_of_header sections h given line_strings =
-    let encoding = encoding_of h given in
-    working_directory encoding.version sections h >>= λ directory.
-    source_file encoding.version sections h given.name >>= λ file.
-    line_encoding_of h.parameters.line_encoding given.line_encoding >>= λ line_encoding.
-    all_added (directory_added sections) h.directories
-    (start_of_tables encoding line_encoding h
-    (first_texts encoding.version line_strings directory file))
-    >>= λ tables.
-    all_added (file_added sections) h.files tables
+with_first_texts encoding line_encoding h texts =
+    line_encoding_of h.parameters.line_encoding line_encoding >>= λ e.
+    Ok (start_of_tables encoding e h texts)
+
+module _ (sections : Sections) (h : Header) where
+  -- the tables before the directories and files of a header are added
+  abbrev pub tables_at_start : Encoding → Option LineEncoding → Option (List ℕ) → List (List ℕ)
+      → Result TablesAndTexts ConvertError
+  tables_at_start encoding line_encoding name line_strings =
+      working_directory encoding.version sections h >>= λ directory.
+      source_file encoding.version sections h name >>= λ file.
+      with_first_texts encoding line_encoding h
+      (first_texts encoding.version line_strings directory file)
+
+  -- they are added
+  abbrev pub lists_added : TablesAndTexts → Result TablesAndTexts ConvertError
+  lists_added tables =
+      all_added (directory_added sections) h.directories tables >>= λ between.
+      all_added (file_added sections) h.files between
+
+  -- the tables after all directories and files of a header, from the line strings before it
+  abbrev pub tables_of_header : Handed → List (List ℕ) → Result TablesAndTexts ConvertError
+  tables_of_header given line_strings =
+      tables_at_start (encoding_of h given) given.line_encoding given.name line_strings
+      >>= λ tables. lists_added tables

@@ -1,4 +1,3 @@
-pub mod Preparation
 pub mod Conversion
 pub mod SourceRun
 pub mod TablesAtEnd

@@ -1,10 +1,8 @@
 //! A source that is read, and the program that is built of it.
 
-ghost use Rattle.std.specs.Prelude.{◌≡◌, ◌≢◌, ℕ, List, Option, None, Some, Ok};
+ghost use Rattle.std.specs.Prelude.{◌≡◌, ◌≢◌, ◌⊎◌, ℕ, List, Option, None, Some, Ok, Err};
 ghost use Rattle.std.specs.Prelude.{IfErr, IfOk, OnErr, OnOk, true, false};
 ghost use Rattle.gimli_bytes.specs.Texts.{KeepsTexts};
-ghost use Rattle.gimli_bytes.specs.declared.address.Address.{Address};
-ghost use Rattle.gimli_write.specs.convert.Texts.{IsRefusedBy};
 ghost use Rattle.gimli_write.specs.convert.SourceTables.{tables_with};
 ghost use Rattle.gimli_write.specs.convert.KeptTables.{IsWritable, HasWritable, StaysWritable};
 ghost use Rattle.gimli_write.specs.convert.KeptTables.{final_tables_of_source};
@@ -17,11 +15,11 @@ ghost use Rattle.gimli_write.specs.convert.Conversion.{version_of_source};
 ghost use Rattle.gimli_write.specs.convert.Conversion.{source_left, still_to_read, beside};
 ghost use Rattle.gimli_write.specs.convert.Conversion.{with_program};
 ghost use Rattle.gimli_write.specs.convert.Conversion.{GivesNext, IsReadRefusal};
-ghost use Rattle.gimli_write.specs.convert.Conversion.{AnswersAs, outcome_of_rest, RestConvertsTo};
+ghost use Rattle.gimli_write.specs.convert.Conversion.{RestComesTo, RestConvertsTo};
 ghost use Rattle.gimli_write.specs.convert.Conversion.{IsRestRefusal};
 ghost use Rattle.gimli_write.specs.inside.convert.Conversion.{TakesRow};
 ghost use Rattle.gimli_write.specs.convert.Sequences.{GathersNext, IsGatherRefusal};
-ghost use Rattle.gimli_write.specs.convert.Outcome.{after_item, without_items};
+ghost use Rattle.gimli_write.specs.convert.Outcome.{ItemComesTo, without_items};
 
 use crate::convert::rows::{ConvertLineRow, ConvertLineSequence, ConvertLineSequenceEnd};
 use crate::convert::run::{SourceRow, SourceRun, SourceStep};
@@ -148,10 +146,12 @@ impl<R: Reader> Conversion<R> {
         ensures leaves { LeavesTables (beside line_strings.old self.old) result
             (beside line_strings.new self.new) }
     {
-        if let Some(address) = self.address.take() {
+        if let Some(address) = self.address {
+            self.address = None;
             return Ok(Some(ConvertLineRow::SetAddress(address)));
         }
-        if let Some(row) = self.held.take() {
+        if let Some(row) = self.held {
+            self.held = None;
             return Ok(Some(self.row_or_end(&row)?));
         }
         let Some(row) = self.next_source_row(line_strings)? else {
@@ -320,10 +320,10 @@ impl<R: Reader> Conversion<R> {
         convert_address: &F,
     ) -> ConvertResult<()>
         requires { F.IsAlwaysCallable convert_address.now }
-        ensures ok { (g : ℕ → Option Address) → AnswersAs (F.post convert_address.now) g
-            → OnOk result (after_item g row self.old.tables.program ≡ Ok self.new.tables.program) }
-        ensures err { (g : ℕ → Option Address) → AnswersAs (F.post convert_address.now) g
-            → IfErr result (IsRefusedBy (after_item g row self.old.tables.program)) }
+        ensures ok { OnOk result (ItemComesTo (F.post convert_address.now) row
+            self.old.tables.program (Ok self.new.tables.program)) }
+        ensures err { IfErr result (λ e. (e ≡ ConvertError.OutOfMemory)
+            ⊎ ItemComesTo (F.post convert_address.now) row self.old.tables.program (Err e)) }
         ensures kept { OnOk result (self.new ≡ with_program self.new.tables.program self.old) }
         ensures items { OnOk result
             (without_items self.new.tables.program ≡ without_items self.old.tables.program) }
@@ -333,7 +333,7 @@ impl<R: Reader> Conversion<R> {
                 Some(address) => self.tables.set_address(address),
                 None => Err(ConvertError::InvalidAddress),
             },
-            ConvertLineRow::Row(row) => self.tables.generate_row(row),
+            ConvertLineRow::Row(row) => self.tables.generate_or_keep(row),
             ConvertLineRow::EndSequence(address_offset) => self.tables.end_sequence(address_offset),
         }
     }
@@ -352,14 +352,14 @@ impl<R: Reader> Conversion<R> {
         convert_address: &F,
     ) -> ConvertResult<()>
         requires { F.IsAlwaysCallable convert_address.now }
-        ensures ok { (g : ℕ → Option Address) → AnswersAs (F.post convert_address.now) g
-            → OnOk result (outcome_of_rest g (beside line_strings.old self.old) ≡ Ok (record {
+        ensures ok { OnOk result (RestComesTo (F.post convert_address.now)
+            (beside line_strings.old self.old) (Ok (record {
               program = self.new.tables.program;
               file_ids = self.new.tables.file_ids;
               line_strings = line_strings.new;
-            })) }
-        ensures err { IfErr result
-            (IsRestRefusal (F.post convert_address.now) (beside line_strings.old self.old)) }
+            }))) }
+        ensures err { IfErr result (λ e. (e ≡ ConvertError.OutOfMemory)
+            ⊎ RestComesTo (F.post convert_address.now) (beside line_strings.old self.old) (Err e)) }
         ensures writable { OnOk result
             (StaysWritable self.old.tables line_strings.old self.new.tables line_strings.new) }
         ensures stays { KeepsTexts line_strings.old line_strings.new }

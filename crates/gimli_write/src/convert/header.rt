@@ -6,7 +6,6 @@ ghost use Rattle.gimli_core.specs.Numbers.{is_address_size};
 ghost use Rattle.gimli_core.specs.Values.{value_seen};
 ghost use Rattle.gimli_line.specs.header.File.{file_seen};
 ghost use Rattle.gimli_line.specs.header.Parameters.{IsLineEncoding};
-ghost use Rattle.gimli_line.specs.header.Header.{has_content};
 ghost use Rattle.gimli_bytes.specs.Texts.{KeepsTexts};
 ghost use Rattle.gimli_build.specs.Advance.{CanEncode};
 ghost use Rattle.gimli_build.specs.Conditions.{Accepts};
@@ -18,10 +17,10 @@ ghost use Rattle.gimli_write.specs.convert.Preparation.{own_source_file, named_s
 ghost use Rattle.gimli_write.specs.convert.Preparation.{source_file};
 ghost use Rattle.gimli_write.specs.convert.Preparation.{is_out_of_range, line_encoding_of};
 ghost use Rattle.gimli_write.specs.convert.Preparation.{first_texts, start_of_program, first_ids};
-ghost use Rattle.gimli_write.specs.convert.Preparation.{has_before_5};
+ghost use Rattle.gimli_write.specs.convert.Preparation.{with_flags};
 ghost use Rattle.gimli_write.specs.convert.Preparation.{handed_of, tables_of_header};
-ghost use Rattle.gimli_write.specs.inside.convert.Preparation.{with_first_texts, tables_at_start};
-ghost use Rattle.gimli_write.specs.inside.convert.Preparation.{lists_added};
+ghost use Rattle.gimli_write.specs.convert.Preparation.{with_first_texts, tables_at_start};
+ghost use Rattle.gimli_write.specs.convert.Preparation.{lists_added};
 
 use crate::convert::tables::SourceTables;
 use crate::convert::texts::{
@@ -266,12 +265,7 @@ fn first_program<R: Reader>(
 
 /// The program, which writes of its files what the header has of them.
 fn with_flags<R: Reader>(mut program: LineProgram, header: &LineProgramHeader<R>) -> LineProgram
-    ensures { result ≡ record program {
-      file_has_timestamp = has_before_5 0x0003 header.now.meaning;
-      file_has_size = has_before_5 0x0004 header.now.meaning;
-      file_has_md5 = has_content 0x0005 header.now.meaning.file_formats;
-      file_has_source = has_content 0x2001 header.now.meaning.file_formats;
-    } }
+    ensures { result ≡ with_flags header.now.meaning program }
 {
     program.file_has_timestamp = header.file_has_timestamp();
     program.file_has_size = header.file_has_size();

@@ -302,14 +302,25 @@ impl SourceTables {
         ensures asks { Asks (CanBuildRow self.old.program row) result }
         ensures kept { OnErr result (self.new ≡ self.old) }
     {
-        let program = &mut self.program;
-        let before = *program.row();
-        *program.row() = row;
-        let generated = generate_current(program);
+        let before = *self.program.row();
+        let generated = self.generate_or_keep(row);
         if generated.is_err() {
-            *program.row() = before;
+            *self.program.row() = before;
         }
         generated
+    }
+
+    /// The same, but that a refused row stays the current one.
+    pub(crate) fn generate_or_keep(&mut self, row: LineRow) -> ConvertResult<()>
+        ensures ok { OnOk result
+            (self.new ≡ record self.old { program = after_row row self.old.program }) }
+        ensures asks { Asks (CanBuildRow self.old.program row) result }
+        ensures kept { OnErr result (self.new
+            ≡ record self.old { program = record self.old.program { row = row } }) }
+    {
+        let program = &mut self.program;
+        *program.row() = row;
+        generate_current(program)
     }
 
     /// Ends a sequence. Refused as `UnsupportedLineInstruction` where it can't end at this offset,

@@ -1,14 +1,20 @@
 use Rattle.std.proofs.lemmas.Result.{err_from_is_err_and}
+use Rattle.gimli_write.specs.convert.Conversion.{beside}
+use Rattle.gimli_write.proofs.Outcomes.{rest_converts, rest_refused}
 use Rattle.gimli_write.proofs.convert.conversion.convert_all.Goals as goal
 
 pub returns-in_err-feed_all-clause-err : goal.returns-in_err-feed_all-clause-err
 returns-in_err-feed_all-clause-err g c =
     let p = err_from_is_err_and c.from_residual.result c.from_residual.ensures.1 in
-    rw (p.1, p.2) c.in_err-feed_all.ensures.err
+    rw (p.1, p.2)
+    (rest_refused (goal.F-post g c.args.convert_address) (beside c.args.line_strings.now c.args.conversion) c.in_err-feed_all.field-0.0
+    c.in_err-feed_all.ensures.err)
 
 pub returns-clause-ok : goal.returns-clause-ok
-returns-clause-ok g c = λ m says.
-    rw (c.into_program.ensures.program, c.into_program.ensures.files) (c.in_ok-feed_all.ensures.ok m says)
+returns-clause-ok g c =
+    rest_converts (goal.F-post g c.args.convert_address) (beside c.args.line_strings.now c.args.conversion) c.into_program.result
+    c.feed_all.new.line_strings
+    (rw (c.into_program.ensures.program, c.into_program.ensures.files) c.in_ok-feed_all.ensures.ok)
 
 pub returns-clause-writable : goal.returns-clause-writable
 returns-clause-writable g c = λ can.

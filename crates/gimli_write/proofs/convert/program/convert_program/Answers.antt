@@ -3,7 +3,7 @@ use Rattle.gimli_write.specs.convert.SourceTables.{tables_with}
 use Rattle.gimli_write.specs.convert.Sources.{Source, source_of}
 use Rattle.gimli_write.specs.convert.Conversion.{still_to_read}
 use Rattle.gimli_write.proofs.ConvertSteps.{kept_then}
-use Rattle.gimli_write.proofs.Outcomes.{all_converted, header_refused, rows_refused}
+use Rattle.gimli_write.proofs.Outcomes.{all_converted, all_comes, header_refused, rows_refused}
 use Rattle.gimli_write.proofs.MappedLaws.{conversion_faithful}
 use Rattle.gimli_write.proofs.convert.program.convert_program.Goals as goal
 
@@ -12,7 +12,8 @@ returns-in_err-header-clause-refusal g c =
     let source : Source =
     source_of g.R.Reader.bytes c.args.debug_str c.args.debug_line_str c.args.from_program c.args.from_comp_name c.args.encoding c.args.line_encoding in
     let p = err_from_is_err_and c.from_residual.result c.from_residual.ensures.1 in
-    rw (p.1, p.2) (λ m says. header_refused m source c.args.line_strings.now c.in_err-header.field-0.0 c.in_err-header.ensures.err)
+    rw (p.1, p.2)
+    (header_refused (goal.F-post g c.args.convert_address) source c.args.line_strings.now c.in_err-header.field-0.0 c.in_err-header.ensures.err)
 
 pub returns-clause-outcome : goal.returns-clause-outcome
 returns-clause-outcome g c =
@@ -21,12 +22,15 @@ returns-clause-outcome g c =
     let before = c.args.line_strings.now in
     let first = tables_with c.new.new.line_strings c.in_ok-header.header.tables in
     let reading = still_to_read c.in_ok-header.header c.new.new.line_strings in
+    let map = goal.F-post g c.args.convert_address in
+    let prepared = c.in_ok-header.ensures.ok.prepared in
+    let reads = c.in_ok-header.ensures.ok.reads in
     IfOk-weaker c.convert_all.result _ _
     (λ answer comes. record {
-      converts = λ m says. all_converted m source before first reading _ c.in_ok-header.ensures.ok.prepared c.in_ok-header.ensures.ok.reads (comes m says);
+      answers = all_comes map source before first reading prepared reads _ comes.answers;
+      converts = λ m says. all_converted map source before first reading prepared reads m _ (comes.as_function m says);
       faithful = λ m says can.
-          conversion_faithful m source before _
-          (all_converted m source before first reading _ c.in_ok-header.ensures.ok.prepared c.in_ok-header.ensures.ok.reads (comes m says)) can
+          conversion_faithful m source before _ (all_converted map source before first reading prepared reads m _ (comes.as_function m says)) can
           c.args.strings.now;
     })
     (rw c.into_conversion.ensures at c.convert_all.ensures.ok)
@@ -36,10 +40,10 @@ returns-clause-refusal g c =
     let source : Source =
     source_of g.R.Reader.bytes c.args.debug_str c.args.debug_line_str c.args.from_program c.args.from_comp_name c.args.encoding c.args.line_encoding in
     IfErr-weaker c.convert_all.result _ _
-    (λ e refused m says.
-    rows_refused m source c.args.line_strings.now (tables_with c.new.new.line_strings c.in_ok-header.header.tables)
-    (still_to_read c.in_ok-header.header c.new.new.line_strings) e
-    c.in_ok-header.ensures.ok.prepared c.in_ok-header.ensures.ok.reads (refused m says))
+    (λ e refused.
+    rows_refused (goal.F-post g c.args.convert_address) source c.args.line_strings.now (tables_with c.new.new.line_strings c.in_ok-header.header.tables)
+    (still_to_read c.in_ok-header.header c.new.new.line_strings)
+    c.in_ok-header.ensures.ok.prepared c.in_ok-header.ensures.ok.reads e refused.answers refused.as_function)
     (rw c.into_conversion.ensures at c.convert_all.ensures.err)
 
 pub returns-clause-stays : goal.returns-clause-stays

@@ -1,8 +1,7 @@
-use Rattle.std.proofs.Common.{◌≡◌, ℕ}
-use Rattle.std.specs.Prelude.{Option}
+use Rattle.std.specs.Prelude.{Result}
 use Rattle.gimli_bytes.specs.Texts.{KeepsTexts}
-use Rattle.gimli_bytes.specs.declared.address.Address.{Address}
-use Rattle.gimli_write.specs.convert.Outcome.{outcome_of}
+use Rattle.gimli_write.specs.declared.convert_error.ConvertError.{ConvertError}
+use Rattle.gimli_write.specs.convert.Outcome.{Outcome, ComesTo}
 use Rattle.gimli_write.specs.convert.Conversion.{still_to_read}
 use Rattle.gimli_write.specs.convert.KeptTables.{StaysWritable}
 use Rattle.gimli_write.proofs.Outcomes.{offer_count}
@@ -10,9 +9,8 @@ use Rattle.gimli_write.proofs.convert.conversion.Conversion.feed_all.Given as go
 
 abbrev pub invariant-rows : goal.invariant-rows
 invariant-rows g l = record {
-  same : (m : ℕ → Option Address) → ((a : ℕ) (r : Option Address) → goal.F-post g l.convert_address a r → r ≡ m a)
-      → outcome_of m (still_to_read l.self l.line_strings) l.self.tables.program
-      ≡ outcome_of m (still_to_read l.fn.self l.fn.line_strings) l.fn.self.tables.program;
+  same : (outcome : Result Outcome ConvertError) → ComesTo (goal.F-post g l.convert_address) (still_to_read l.self l.line_strings) l.self.tables.program outcome
+      → ComesTo (goal.F-post g l.convert_address) (still_to_read l.fn.self l.fn.line_strings) l.fn.self.tables.program outcome;
   stays : KeepsTexts l.fn.line_strings l.line_strings;
   writable : StaysWritable l.fn.self.tables l.fn.line_strings l.self.tables l.line_strings;
 }

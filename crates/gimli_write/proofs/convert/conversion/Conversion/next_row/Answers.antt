@@ -1,4 +1,4 @@
-use Rattle.std.proofs.Common.{◌≡◌, sym, subst}
+use Rattle.std.proofs.Common.{◌≡◌, refl, sym, subst}
 use Rattle.std.specs.Prelude.{None}
 use Rattle.std.proofs.lemmas.Result.{err_from_is_err_and}
 use Rattle.gimli_write.specs.convert.Conversion.{Conversion}
@@ -13,18 +13,18 @@ returns-in_err-row_or_end-clause-leaves g c =
       still = tt;
       ended = tt;
       stopped = λ other.
-          held_stops a.sections a.source a.tables a.address c.take.new.self a.held c.take-2.new.self a.failed c.args.line_strings.now c.in-Some-take.row
-          (sym c.in-Some-take.ensures.value) (subst (λ (s : Conversion). s.failed ≡ None) (sym c.self.view_is) c.requires)
+          held_stops a.sections a.source a.tables a.address a.address a.held None a.failed c.args.line_strings.now c.in-Some-held.row
+          c.in-Some-held.is (subst (λ (s : Conversion). s.failed ≡ None) (sym c.self.view_is) c.requires)
           (c.in_err-row_or_end.ensures.lacks c.args.line_strings.now);
     }))
 
-pub returns-in-Some-take-clause-leaves : goal.returns-in-Some-take-clause-leaves
-returns-in-Some-take-clause-leaves g c =
+pub returns-in-Some-held-clause-leaves : goal.returns-in-Some-held-clause-leaves
+returns-in-Some-held-clause-leaves g c =
     let a = c.self.inside in
     rw (← c.self.view_is) (record {
       still =
-          held_last a.sections a.source a.tables a.address c.take.new.self a.held c.take-2.new.self a.failed c.args.line_strings.now c.in-Some-take.row
-          (sym c.in-Some-take.ensures.value) c.in-Some-take.ensures.after (c.in_ok-row_or_end.ensures.found c.args.line_strings.now);
+          held_last a.sections a.source a.tables a.address a.address a.held None a.failed c.args.line_strings.now c.in-Some-held.row
+          c.in-Some-held.is refl (c.in_ok-row_or_end.ensures.found c.args.line_strings.now);
       ended = λ none. absurd cc;
       stopped = tt;
     })
