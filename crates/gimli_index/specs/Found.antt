@@ -81,6 +81,7 @@ row_place t u r = record {
   path = unit_path t u r;
   line = r.line;
   column = r.column;
+  is_stmt = r.is_stmt;
   unit = u.offset;
 }
 

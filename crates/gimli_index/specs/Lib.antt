@@ -6,6 +6,8 @@ pub mod Meaning
 pub mod Views
 pub mod Spans
 pub mod Sound
+pub mod Lines
+pub mod Ranges
 pub mod inside
 pub mod Contents
 pub mod Made

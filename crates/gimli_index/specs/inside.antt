@@ -1,3 +1,4 @@
 -- What no public clause reaches: private functions and proofs alone speak of it.
+pub mod Components
 pub mod Numbers
 pub mod Table

@@ -35,7 +35,10 @@ fn is_same(sources: &[Source], first: Option<SourceLine>, second: Option<SourceL
     match (first, second) {
         (None, None) => true,
         (Some(a), Some(b)) => {
-            a.line == b.line && a.column == b.column && is_same_source(sources, a.source, b.source)
+            a.line == b.line
+                && a.column == b.column
+                && a.is_stmt == b.is_stmt
+                && is_same_source(sources, a.source, b.source)
         }
         _ => false,
     }

@@ -4,7 +4,7 @@ ghost use Rattle.std.specs.Prelude.{◌≡◌, ◌<◌, Some, [], length, slice_
 ghost use Rattle.gimli_index.specs.Found.{found_place, texts_of};
 ghost use Rattle.gimli_index.specs.inside.Table.{AreSources, IsInside, Keeps, place_in};
 
-use crate::contents::{MOST, Source, SourceLine};
+use crate::contents::{MOST, STATEMENT, Source, SourceLine};
 use crate::error::MakeError;
 use crate::origin::Origin;
 use crate::path_bytes::PathBytes;
@@ -57,7 +57,7 @@ fn line_of(row: &LineRow) -> Result<u32, MakeError>
     }
 }
 
-/// A column in 32 bits.
+/// A column in 31 bits.
 fn column_of(row: &LineRow) -> Result<u32, MakeError>
     ensures { IfOk result (λ column. column ≡ row.now.column) }
 {
@@ -65,9 +65,10 @@ fn column_of(row: &LineRow) -> Result<u32, MakeError>
         ColumnType::LeftEdge => 0,
         ColumnType::Column(column) => column.get(),
     };
-    match u32::try_from(column) {
-        Ok(column) => Ok(column),
-        Err(_) => Err(MakeError::ColumnTooLarge),
+    if column < u64::from(STATEMENT) {
+        Ok(column as u32)
+    } else {
+        Err(MakeError::ColumnTooLarge)
     }
 }
 
@@ -203,6 +204,7 @@ impl SourceTable {
             source,
             line,
             column,
+            is_stmt: rows.row.is_stmt(),
         }))
     }
 }
