@@ -10,5 +10,7 @@ pub mod Lines
 pub mod Ranges
 pub mod inside
 pub mod Contents
+pub mod Short
 pub mod Made
 pub mod Found
+pub mod Refused

@@ -1,12 +1,15 @@
 -- Where the code of a line begins, by the starts of an index: the rule for breakpoints of DWARF 5,
 -- section 6.2.2, with the starts as the rows of one sequence.
-use Rattle.std.specs.Prelude.{ℕ, Bool, true, false, List, map, drop, nat_eq, if◌then◌else◌, Option, Some, None}
+use Rattle.std.specs.Prelude.{◌≡◌, ℕ, Bool, true, false, List, map, drop, nat_eq, if◌then◌else◌}
+use Rattle.std.specs.Prelude.{Option}
+use Rattle.std.specs.Prelude.{Some, None}
 use Rattle.std.specs.Prelude.{flat_map, Result, Ok, Err}
 use Rattle.std.specs.List.{starts_with}
 use Rattle.std.specs.Str.{bytes_eq}
 use Rattle.gimli_line.specs.declared.run.row.LineRow.{LineRow}
 use Rattle.gimli_lookup.specs.Components.{components}
-use Rattle.gimli_lookup.specs.Statements.{addresses_in, first_statement, runs}
+use Rattle.gimli_lookup.specs.Statements.{addresses_in, first_statement, runs, HasNoLine}
+use Rattle.gimli_lookup.specs.Statements.{IsFirstLine}
 use Rattle.gimli_index.specs.Meaning.{Place, Start, starts_of}
 use Rattle.gimli_index.specs.Views.{index_of}
 use Rattle.gimli_index.specs.declared.addresses.Addresses.{Addresses}
@@ -65,15 +68,26 @@ row_of path s = start_row path s.address s.place
 abbrev pub rows_of : List ℕ → List Start → List LineRow
 rows_of path starts = map (row_of path) starts
 
--- the addresses at which the code of a line begins, of the files that a path names: one for each run
--- of starts of it that stand side by side, that of the first one that is a statement
+-- the addresses at which the code of a line begins, of the files that a path names: one for each
+-- run of starts of it that stand side by side, that of the first one that is a statement
 abbrev pub addresses_of : List ℕ → List Start → ℕ → List ℕ
 addresses_of path starts line = addresses_in (nat_eq 1) line (rows_of path starts)
 
--- the addresses that are left of an answer: those of the runs from the next start on, without the
--- first one where it has given its own
+-- the addresses that rows give, where the run that they go on with has given its own already
+abbrev pub addresses_on : ℕ → Bool → List LineRow → List ℕ
+addresses_on line given rows =
+    let left = runs (nat_eq 1) line rows in
+    flat_map first_statement (if given then drop 1 left else left)
+
+-- the addresses that are left of an answer
 abbrev pub addresses_left : Addresses → List ℕ
 addresses_left found =
     let rows = rows_of found.path.now (starts_of (index_of found.index)) in
-    let left = runs (nat_eq 1) found.line (drop found.next rows) in
-    flat_map first_statement (if found.given then drop 1 left else left)
+    addresses_on found.line found.given (drop found.next rows)
+
+-- the answer for a line: the first line from it on that has an address, with all its addresses;
+-- None where no line has any
+abbrev pub AreAddressesFrom : (ℕ → List ℕ) → ℕ → Option Addresses → Type 0
+AreAddressesFrom addresses asked None = HasNoLine addresses asked
+AreAddressesFrom addresses asked (Some found) =
+    IsFirstLine addresses asked found.line × (addresses_left found ≡ addresses found.line)

@@ -1,5 +1,6 @@
 -- What an index says: from some addresses on a place holds, or nothing (docs/INDEX.md, "Starts").
-use Rattle.std.specs.Prelude.{◌≡◌, ℕ, ◌+◌, ◌-◌, ◌*◌, ◌^◌, ◌<◌, ◌≤◌, Bool, List, map, fold, length, drop, slice_get}
+use Rattle.std.specs.Prelude.{◌≡◌, ℕ, ◌+◌, ◌-◌, ◌*◌, ◌^◌, ◌<◌, ◌≤◌, Bool, List, map, fold, length}
+use Rattle.std.specs.Prelude.{drop, slice_get}
 use Rattle.std.specs.Prelude.{slice_range, nat_eq, nat_le, nat_lt, if◌then◌else◌, Option, Some}
 use Rattle.std.specs.Prelude.{None, Result, Ok, Err}
 use Rattle.std.specs.List.{range_with_len}

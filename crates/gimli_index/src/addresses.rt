@@ -1,24 +1,28 @@
 //! From a line of a path to addresses.
 
-ghost use Rattle.std.specs.Prelude.{◌≡◌, ◌<◌, ◌≤◌, ◌||◌, ℕ, Bool, true, false, nat_eq, MatchOption};
-ghost use Rattle.gimli_lookup.specs.Statements.{is_of_line, HasNoLine, IsFirstLine};
-ghost use Rattle.gimli_lookup.specs.inside.StatementLines.{has_statement, is_statement, IsFirstWith};
-ghost use Rattle.gimli_index.specs.Lines.{addresses_of, is_named, row_of, rows_of};
+ghost use Rattle.std.specs.Prelude.{◌≡◌, ◌<◌, ◌||◌, ◌∷◌, [], ℕ, Bool, true, false, nat_eq};
+ghost use Rattle.std.specs.Prelude.{◌+◌, drop, IfSome, MatchOption};
+ghost use Rattle.gimli_lookup.specs.Ranges.{IsBefore};
+ghost use Rattle.gimli_lookup.specs.Statements.{is_of_line};
+ghost use Rattle.gimli_lookup.specs.inside.StatementLines.{
+  has_statement,
+  is_statement,
+  IsFirstWith,
+};
+ghost use Rattle.gimli_index.specs.Lines.{addresses_of, AreAddressesFrom, is_named, place_row};
+ghost use Rattle.gimli_index.specs.Lines.{row_of, rows_of};
 ghost use Rattle.gimli_index.specs.Meaning.{start_at, starts_of};
-ghost use Rattle.gimli_index.specs.Lines.{addresses_left};
+ghost use Rattle.gimli_index.specs.Lines.{addresses_left, addresses_on};
 ghost use Rattle.gimli_index.specs.Views.{index_of, place_of};
 
-use crate::components::ends_with;
 use crate::line_index::LineIndex;
+use crate::path_ends::ends_with;
 use crate::place::Place;
 
 /// The addresses for a breakpoint at a line, in ascending order: an iterator.
 ///
 /// <!-- part of crates/uses/src/line_map.rt -->
 /// ```rust
-/// let Some(found) = index.addresses_of(path, line) else {
-///     return writeln!(text, "no code from line {line} on");
-/// };
 /// let line = found.line();
 /// for address in found {
 ///     writeln!(text, "line {line} begins at {address:#x}")?;
@@ -36,12 +40,34 @@ pub struct Addresses<'a, 'p> {
 }
 
 /// Whether the file of a place is named by a path.
-fn is_named(place: &Place<'_>, path: &[u8]) -> bool
-    ensures { result ≡ is_named path.now (place_of place.now).path }
+fn is_named(place: Place<'_>, path: &[u8]) -> bool
+    ensures { result ≡ is_named path.now (place_of place.entry).path }
 {
     match place.path {
         Ok(own) => ends_with(own, path),
         Err(_) => false,
+    }
+}
+
+/// Whether a place is of a line of the files that a path names.
+fn is_of_line(place: Place<'_>, path: &[u8], line: u64) -> bool
+    ensures { (a : ℕ) → result
+        ≡ is_of_line (nat_eq 1) line (place_row path.now a (place_of place.entry)) }
+{
+    if place.line == 0 || u64::from(place.line) != line {
+        return false;
+    }
+    is_named(place, path)
+}
+
+/// Whether a line is below another, if there is one.
+fn is_below(line: u64, other: Option<u64>) -> bool
+    ensures yes { result ≡ true → IsBefore line other }
+    ensures no { result ≡ false → (l : ℕ) → IsBefore l other → l < line }
+{
+    match other {
+        Some(other) => line < other,
+        None => true,
     }
 }
 
@@ -54,8 +80,10 @@ impl<'a> LineIndex<'a> {
             MatchOption result (is_of_line (nat_eq 1) line row ≡ false)
             (λ is_stmt. (is_of_line (nat_eq 1) line row ≡ true) × (row.is_stmt ≡ is_stmt)) }
     {
-        let place = self.entry_place(index)?;
-        if place.line == 0 || u64::from(place.line) != line || !is_named(&place, path) {
+        let Some(place) = self.entry_place(index) else {
+            return None;
+        };
+        if !is_of_line(place, path, line) {
             return None;
         }
         Some(place.is_stmt)
@@ -73,10 +101,10 @@ impl<'a> LineIndex<'a> {
             return first;
         };
         let line = u64::from(place.line);
-        if !place.is_stmt || line == 0 || line < asked {
+        if !place.is_stmt || line < asked {
             return first;
         }
-        if !is_below(line, first) || !is_named(&place, path) {
+        if !is_below(line, first) || !is_of_line(place, path, line) {
             return first;
         }
         Some(line)
@@ -95,6 +123,30 @@ impl<'a> LineIndex<'a> {
         first
     }
 
+    /// The index of the start, from one on, that has the next address of a line. Whether the run of
+    /// the start before it has given its address is told.
+    fn next_start_of(&self, path: &[u8], line: u64, next: usize, given: bool) -> Option<usize>
+        ensures within { IfSome result (λ start. start < self.now.starts) }
+        ensures next { let rows = rows_of path.now (starts_of (index_of self.now)) in
+            MatchOption result (addresses_on line given (drop next rows) ≡ [])
+            (λ start. addresses_on line given (drop next rows)
+            ≡ (start_at (index_of self.now) start).address
+            ∷ addresses_on line true (drop (start + 1) rows)) }
+    {
+        let mut given = given;
+        for start in next..self.starts {
+            match self.statement_of(start, path, line) {
+                Some(is_stmt) => {
+                    if is_stmt && !given {
+                        return Some(start);
+                    }
+                }
+                None => given = false,
+            }
+        }
+        None
+    }
+
     /// The addresses for a breakpoint at a line of the files that a path names: of each run of
     /// starts of that line that stand side by side, that of the first one that is a statement
     /// (DWARF 5, section 6.2.2). Where the line has none, those of the next line that has; None
@@ -107,12 +159,12 @@ impl<'a> LineIndex<'a> {
     /// [`SectionLookup::addresses_of`](gimli_lookup::SectionLookup::addresses_of) over the rows
     /// that addresses are found in.
     pub fn addresses_of<'p>(&self, path: &'p [u8], line: u64) -> Option<Addresses<'a, 'p>>
-        ensures { let addresses = addresses_of path.now (starts_of (index_of self.now)) in
-            MatchOption result (HasNoLine addresses line) (λ found.
-            IsFirstLine addresses line found.line
-            × (addresses_left found ≡ addresses found.line)) }
+        ensures { AreAddressesFrom
+            (addresses_of path.now (starts_of (index_of self.now))) line result }
     {
-        let line = self.first_line(path, line)?;
+        let Some(line) = self.first_line(path, line) else {
+            return None;
+        };
         Some(Addresses {
             index: *self,
             path,
@@ -120,16 +172,6 @@ impl<'a> LineIndex<'a> {
             next: 0,
             given: false,
         })
-    }
-}
-
-/// Whether a line is below another, if there is one.
-fn is_below(line: u64, other: Option<u64>) -> bool
-    ensures { result ≡ true → MatchOption other ⊤ (λ other. line < other) }
-{
-    match other {
-        Some(other) => line < other,
-        None => true,
     }
 }
 
@@ -147,20 +189,21 @@ impl<'a, 'p> Addresses<'a, 'p> {
             ((addresses_left self.old ≡ []) × (addresses_left self.new ≡ []))
             (λ address. addresses_left self.old ≡ address ∷ addresses_left self.new) }
     {
-        'starts: while self.next < self.index.starts {
-            let index = self.next;
-            self.next += 1;
-            match self.index.statement_of(index, self.path, self.line) {
-                Some(is_stmt) => {
-                    if is_stmt && !self.given {
-                        self.given = true;
-                        return Some(self.index.address_at(index));
-                    }
-                }
-                None => self.given = false,
+        let next = self.next;
+        match self
+            .index
+            .next_start_of(self.path, self.line, next, self.given)
+        {
+            Some(start) => {
+                self.next = start + 1;
+                self.given = true;
+                Some(self.index.address_at(start))
+            }
+            None => {
+                self.next = self.index.starts;
+                None
             }
         }
-        None
     }
 }
 

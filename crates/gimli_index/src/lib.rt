@@ -18,9 +18,12 @@ mod made;
 mod number;
 mod origin;
 mod path_bytes;
+mod path_ends;
+mod path_set;
 mod place;
 mod ranges;
 mod source_hints;
+mod source_keys;
 mod source_table;
 mod span;
 

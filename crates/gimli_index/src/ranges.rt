@@ -1,18 +1,19 @@
 //! The ranges of addresses of an index.
 
-ghost use Rattle.std.specs.Prelude.{◌≡◌, MatchOption, [], ◌∷◌};
+ghost use Rattle.std.specs.Prelude.{◌≡◌, drop, MatchOption, [], ◌∷◌};
 ghost use Rattle.gimli_index.specs.Meaning.{starts_of};
-ghost use Rattle.gimli_index.specs.Ranges.{range_of, ranges_left, ranges_of};
+ghost use Rattle.gimli_index.specs.Ranges.{first_start, range_of, ranges_left, ranges_of};
 
 use crate::line_index::LineIndex;
 use crate::place::Place;
 
 /// Addresses of which an index says one thing.
 ///
-/// <!-- part of crates/uses/src/index.rt -->
+/// <!-- part of crates/uses/src/line_map.rt -->
 /// ```rust
 /// for range in index.ranges() {
 ///     let PlaceRange { start, end, place } = range;
+///     write!(text, "{start:#x} to ")?;
 /// ```
 #[derive(Clone, Copy, Debug)]
 pub struct PlaceRange<'a> {
@@ -26,10 +27,11 @@ pub struct PlaceRange<'a> {
 
 /// The ranges of an index, in ascending order: an iterator.
 ///
-/// <!-- part of crates/uses/src/index.rt -->
+/// <!-- part of crates/uses/src/line_map.rt -->
 /// ```rust
 /// for range in index.ranges() {
 ///     let PlaceRange { start, end, place } = range;
+///     write!(text, "{start:#x} to ")?;
 /// ```
 #[derive(Clone, Copy, Debug)]
 pub struct PlaceRanges<'a> {
@@ -51,6 +53,17 @@ impl<'a> LineIndex<'a> {
             next: 0,
         }
     }
+
+    /// The address of the start of an index, if there is such a start.
+    fn address_from(&self, index: usize) -> Option<u64>
+        ensures { result ≡ first_start (drop index (starts_of (index_of self.now))) }
+    {
+        if index < self.starts {
+            Some(self.address_at(index))
+        } else {
+            None
+        }
+    }
 }
 
 impl<'a> PlaceRanges<'a> {
@@ -64,15 +77,12 @@ impl<'a> PlaceRanges<'a> {
         if index >= self.index.starts {
             return None;
         }
-        let start = self.index.address_at(index);
-        let place = self.index.entry_place(index);
         self.next = index + 1;
-        let end = if self.next < self.index.starts {
-            Some(self.index.address_at(self.next))
-        } else {
-            None
-        };
-        Some(PlaceRange { start, end, place })
+        Some(PlaceRange {
+            start: self.index.address_at(index),
+            end: self.index.address_from(index + 1),
+            place: self.index.entry_place(index),
+        })
     }
 }
 
