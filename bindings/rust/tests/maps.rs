@@ -74,10 +74,10 @@ fn what_is_no_map_is_refused() {
     bytes[12] = 3;
     assert_eq!(Map::open(&bytes).map(|_| ()), Err(Error::MAP_HEADER));
     bytes[12] = 8;
-    // The second start isn't above the first; then a path that ends behind the part of paths.
-    bytes[40 + 48 + 4] = 0;
+    // The third start is below the second; then a path that ends behind the part of paths.
+    bytes[40 + 48 + 8] = 8;
     assert_eq!(Map::open(&bytes).expect("it is a map").check(), Err(Error::MAP_DISORDERED));
-    bytes[40 + 48 + 4] = 0x10;
+    bytes[40 + 48 + 8] = 0x20;
     bytes[40 + 12] = 5;
     let map = Map::open(&bytes).expect("it is a map");
     assert_eq!(map.check(), Err(Error::MAP_PATH_OUTSIDE));

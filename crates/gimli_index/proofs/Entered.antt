@@ -1,25 +1,28 @@
 -- The entries of an index in the making say what is found at each address so far.
-use Rattle.std.proofs.Common.{◌≡◌, ◌⊎◌, ℕ, zero, suc, ◌+◌, ◌-◌, ◌<◌, ◌≤◌, Bool, true, false, cond, leb, List, [], ◌∷◌, ◌++◌, length, map, Option, None, Some}
+use Rattle.std.proofs.Common.{◌≡◌, ◌⊎◌, ℕ, suc, ◌+◌, ◌-◌, ◌<◌, ◌≤◌, cond, leb, List, [], ◌∷◌, ◌++◌, length, Option, None, Some}
 use Rattle.std.proofs.Common.{refl, sym, ap, subst, ◌∙◌, inl, inr, arith}
 use Rattle.std.specs.Prelude.{IfSome, slice_get, fold, nat_le, if◌then◌else◌}
-use Rattle.std.specs.Option.{option_and_then}
+use Rattle.std.specs.Option.{option_and_then, option_map}
 use Rattle.std.proofs.lemmas.Bool.{cases_lt, cond-true, cond-false, le-leb, lt-leb}
-use Rattle.std.proofs.lemmas.List.{map-append}
+use Rattle.std.proofs.lemmas.List.{length-map, map-append}
+use Rattle.std.proofs.lemmas.List.Elements.{All-push}
 use Rattle.std.proofs.lemmas.List.Sums.{fold-append}
-use Rattle.std.proofs.lemmas.Option.{slice_get_within}
+use Rattle.std.proofs.lemmas.Option.{slice_get_within, slice_get-map}
 use Rattle.gimli_lookup.specs.Ranges.{IsBefore, IsFoundAt, AreFoundIn}
 use Rattle.gimli_lookup.specs.Section.{KeptUnit}
 use Rattle.gimli_lookup.specs.declared.ranges.CoveredRange.{CoveredRange}
 use Rattle.gimli_lookup.specs.declared.section_lookup.CoveringRows.{CoveringRows}
-use Rattle.gimli_index.specs.Contents.{Contents, entry_start, line_place}
+use Rattle.gimli_index.specs.Contents.{HasColumn, entry_start}
 use Rattle.gimli_index.specs.Found.{Texts, found_place}
-use Rattle.gimli_index.specs.Made.{EntriesAscend}
 use Rattle.gimli_index.specs.Meaning.{Place, Start, place_at}
+use Rattle.gimli_index.specs.Refused.{AreFound}
 use Rattle.gimli_index.specs.declared.contents.Entry.{Entry}
 use Rattle.gimli_index.specs.declared.contents.SourceLine.{SourceLine}
-use Rattle.gimli_index.specs.inside.Table.{Table, AreSources, Entered, IsInside, IsPushed, Keeps, last_said, place_in, starts_in, with_table}
+use Rattle.gimli_index.specs.Short.{IsShort}
+use Rattle.gimli_index.specs.inside.Table.{Table, AreSources, Entered, IsInside, IsPushed, Keeps, SayTheSame, last_said, place_in, starts_in, with_table}
 use Rattle.gimli_index.proofs.OneFound.{one_found}
-use Rattle.gimli_index.proofs.Sources.{get_pushed, inside_stays, place_stays}
+use Rattle.gimli_index.proofs.Lists.{get_pushed}
+use Rattle.gimli_index.proofs.Sources.{inside_stays, place_stays, same_places, say_the_same}
 
 -- ---- what entries say of an address
 
@@ -67,6 +70,8 @@ none_entered t units table are = record {
   inside = λ k e there. absurd cc;
   below = λ k e there. absurd cc;
   ascending = λ i j x y lt first second. absurd cc;
+  columns = λ k d within. absurd (omega (arith, within));
+  short = record { first = λ s there. absurd cc; merged = λ k s u first second. absurd cc };
   says = λ a found before is. absurd (omega (arith, before));
 }
 
@@ -87,6 +92,9 @@ still_entered t units old new entries from h keeps are = record {
   inside = λ k e there. inside_stays old new e.place keeps (h.inside k e there);
   below = h.below;
   ascending = h.ascending;
+  columns = h.columns;
+  short =
+      subst IsShort (sym (same_starts old new entries (λ k e there. place_stays t units old new e.place h.are keeps (h.inside k e there)))) h.short;
   says = λ a found before is.
       ap (place_at a) (same_starts old new entries (λ k e there. place_stays t units old new e.place h.are keeps (h.inside k e there)))
       ∙ h.says a found before is;
@@ -100,11 +108,53 @@ start_before : (start : ℕ) (end : Option ℕ) → IfSome end (λ e. start < e)
 start_before start None above = tt
 start_before start (Some e) above = above
 
+-- what the last of some starts says; nothing where there is none
+abbrev last_place : List Start → Option Place
+last_place starts = option_and_then (λ (s : Start). s.place) (slice_get starts (length starts - 1))
+
+last_place_is : (table : Table) (entries : List Entry) → last_place (starts_in table entries) ≡ place_in table (last_said entries)
+last_place_is table entries =
+    ap (λ (n : ℕ). option_and_then (λ (s : Start). s.place) (slice_get (starts_in table entries) (n - 1)))
+    (length-map entries (entry_start (with_table table)))
+    ∙ ap (option_and_then (λ (s : Start). s.place)) (slice_get-map (entry_start (with_table table)) entries (length entries - 1))
+    ∙ by_entry (slice_get entries (length entries - 1))
+  where
+    by_entry : (o : Option Entry) → option_and_then (λ (s : Start). s.place) (option_map (entry_start (with_table table)) o)
+        ≡ place_in table (option_and_then (λ (e : Entry). e.place) o)
+    by_entry None = refl
+    by_entry (Some e) = refl
+
+-- one more start, which says something else than the last one
+short_push : (starts : List Start) (s : Start) → IsShort starts → (last_place starts ≡ s.place → ⊥) → IsShort (starts ++ s ∷ [])
+short_push starts s is other = record {
+  first = λ x there. at_first x (get_pushed starts s 0 x there);
+  merged = λ k x y first second. at_next k x y (get_pushed starts s k x first) (get_pushed starts s (k + 1) y second);
+}
+  where
+    at_first : (x : Start) → (slice_get starts 0 ≡ Some x) ⊎ ((0 ≡ length starts) × (s ≡ x)) → x.place ≡ None → ⊥
+    at_first x (inl before) none = is.first x before none
+    at_first x (inr last) none =
+        let empty : starts ≡ [] = nil_of starts last.0 in
+        other (ap last_place empty ∙ sym none ∙ ap (λ (x : Start). x.place) (sym last.1))
+      where
+        nil_of : (xs : List Start) → 0 ≡ length xs → xs ≡ []
+        nil_of [] e = refl
+        nil_of (z ∷ xs) e = absurd (omega (arith, e))
+
+    at_next : (k : ℕ) (x y : Start) → (slice_get starts k ≡ Some x) ⊎ ((k ≡ length starts) × (s ≡ x))
+        → (slice_get starts (k + 1) ≡ Some y) ⊎ ((k + 1 ≡ length starts) × (s ≡ y)) → x.place ≡ y.place → ⊥
+    at_next k x y (inl one) (inl two) same = is.merged k x y one two same
+    at_next k x y (inl one) (inr last) same =
+        let here : k ≡ length starts - 1 = omega (arith, last.0) in
+        other (ap (option_and_then (λ (z : Start). z.place)) (ap (slice_get starts) (sym here) ∙ one) ∙ same ∙ ap (λ (z : Start). z.place) (sym last.1))
+    at_next k x y (inr last) (inl two) same = absurd (omega (arith, last.0, slice_get_within starts (k + 1) y two))
+    at_next k x y (inr last) (inr also) same = absurd (omega (arith, last.0, also.0))
+
 -- an entry that is pushed for a range
 module _ (t : Texts) (units : List KeptUnit) (table : Table) (entries new : List Entry) (range : CoveredRange) (place : Option SourceLine)
     (h : Entered t units table entries (Some range.start))
     (above : IfSome range.end (λ e. range.start < e)) (found : AreFoundIn units range) (inside : IsInside table place)
-    (says : place_in table place ≡ found_place t units range.rows) where
+    (says : place_in table place ≡ found_place t units range.rows) (column : HasColumn place) where
   abbrev entry : Entry
   entry = record { address = range.start; place = place }
 
@@ -112,8 +162,18 @@ module _ (t : Texts) (units : List KeptUnit) (table : Table) (entries new : List
   from_start : (a : ℕ) (f : Option CoveringRows) → range.start ≤ a → IsBefore a range.end → IsFoundAt units a f → place_in table place ≡ found_place t units f
   from_start a f le before is = says ∙ ap (found_place t units) (one_found a units range.rows f (found a le before) is)
 
-  appended : Entered t units table (entries ++ entry ∷ []) range.end
-  appended = record {
+  -- the last of the entries is inside
+  last_inside : IsInside table (last_said entries)
+  last_inside = by_last (slice_get entries (length entries - 1)) refl
+    where
+      by_last : (o : Option Entry) → slice_get entries (length entries - 1) ≡ o
+          → IsInside table (option_and_then (λ (e : Entry). e.place) (slice_get entries (length entries - 1)))
+      by_last None is = subst (λ (o : Option Entry). IsInside table (option_and_then (λ (e : Entry). e.place) o)) (sym is) tt
+      by_last (Some e) is =
+          subst (λ (o : Option Entry). IsInside table (option_and_then (λ (e : Entry). e.place) o)) (sym is) (h.inside (length entries - 1) e is)
+
+  appended : (SayTheSame table.sources (last_said entries) place → ⊥) → Entered t units table (entries ++ entry ∷ []) range.end
+  appended other = record {
     are = h.are;
     inside = λ k e there. elim (get_pushed entries entry k e there) [
       | inl earlier ↦ h.inside k e earlier
@@ -124,6 +184,11 @@ module _ (t : Texts) (units : List KeptUnit) (table : Table) (entries new : List
       | inr last ↦ subst (λ (x : Entry). IsBefore x.address range.end) last.1 (start_before range.start range.end above)
     ];
     ascending = λ i j x y lt first second. rises i j x y lt (get_pushed entries entry i x first) (get_pushed entries entry j y second);
+    columns = All-push (λ (e : Entry). HasColumn e.place) entries entry h.columns column;
+    short =
+        subst IsShort (sym (map-append (entry_start (with_table table)) entries (entry ∷ [])))
+        (short_push (starts_in table entries) (entry_start (with_table table) entry) h.short
+        (λ same. other (say_the_same t units table (last_said entries) place h.are last_inside inside (sym (last_place_is table entries) ∙ same))));
     says = λ a f before is. at_pushed table a entries entry ∙ elim (cases_lt a range.start) [
       | inl low ↦ cond-false (leb range.start a) (place_in table place) (place_at a (starts_in table entries)) (lt-leb range.start a low) ∙ h.says a f low is
       | inr high ↦
@@ -134,7 +199,7 @@ module _ (t : Texts) (units : List KeptUnit) (table : Table) (entries new : List
     where
       rises : (i j : ℕ) (x y : Entry) → i < j → (slice_get entries i ≡ Some x) ⊎ ((i ≡ length entries) × (entry ≡ x))
           → (slice_get entries j ≡ Some y) ⊎ ((j ≡ length entries) × (entry ≡ y))
-          → x.address < y.address
+          → x.address ≤ y.address
       rises i j x y lt (inl one) (inl other) = h.ascending i j x y lt one other
       rises i j x y lt (inl one) (inr last) = omega (arith, h.below i x one, ap (λ (e : Entry). e.address) last.1)
       rises i j x y lt (inr last) (inl other) = absurd (omega (arith, last.0, lt, slice_get_within entries j y other))
@@ -146,6 +211,8 @@ module _ (t : Texts) (units : List KeptUnit) (table : Table) (entries new : List
     inside = h.inside;
     below = λ k e there. before_end e.address range.start range.end (h.below k e there) above;
     ascending = h.ascending;
+    columns = h.columns;
+    short = h.short;
     says = λ a f before is. elim (cases_lt a range.start) [
       | inl low ↦ h.says a f low is
       | inr high ↦ at_end table a entries (λ k e there. let low = h.below k e there in omega (arith, low, high)) ∙ same ∙ from_start a f high before is
@@ -153,10 +220,20 @@ module _ (t : Texts) (units : List KeptUnit) (table : Table) (entries new : List
   }
 
   pub pushed : IsPushed table.sources entries new entry → Entered t units table new range.end
-  pushed (inl is) = subst (λ (es : List Entry). Entered t units table es range.end) (sym is) appended
-  pushed (inr is) = subst (λ (es : List Entry). Entered t units table es range.end) (sym is.0) (same_said (is.1 table refl))
+  pushed (inl is) = subst (λ (es : List Entry). Entered t units table es range.end) (sym is.0) (appended is.1)
+  pushed (inr is) =
+      subst (λ (es : List Entry). Entered t units table es range.end) (sym is.0) (same_said (same_places table (last_said entries) place is.1))
 
 -- what is found in a range is found in a unit
+-- and they are found
+pub rows_found : (units : List KeptUnit) (range : CoveredRange) → IfSome range.end (λ e. range.start < e) → AreFoundIn units range
+    → IfSome range.rows (AreFound units)
+rows_found units range above found = by_rows range.rows (found range.start (omega arith) (start_before range.start range.end above))
+  where
+    by_rows : (rows : Option CoveringRows) → IsFoundAt units range.start rows → IfSome rows (AreFound units)
+    by_rows None none = tt
+    by_rows (Some f) first = record { address = range.start; found = first }
+
 pub unit_within : (units : List KeptUnit) (range : CoveredRange) → IfSome range.end (λ e. range.start < e) → AreFoundIn units range
     → IfSome range.rows (λ f. f.unit < length units)
 unit_within units range above found = by_rows range.rows (found range.start (omega arith) (start_before range.start range.end above))

@@ -9,6 +9,13 @@ mod ReadBack
 mod Near
 mod Puts
 mod OneFound
+mod LastComponents
+mod Starts
+mod NamedRows
+mod PathStarts
 mod Entered
 mod WrittenIndex
+mod Lists
+mod PathLists
+mod Distinct
 mod Sources

@@ -2,7 +2,7 @@
 use Rattle.std.proofs.Common.{◌≡◌, ℕ, zero, suc, ◌+◌, ◌-◌, ◌*◌, ◌^◌, ◌<◌, ◌≤◌, Bool, true, false, if◌then◌else◌, nat_lt, List, [], ◌∷◌, ◌++◌, length, take}
 use Rattle.std.proofs.Common.{drop, map, Option, Some, None, Result, Ok, Err, slice_get, refl, sym, ap, ◌∙◌, arith, length-append, append_assoc, inl, inr}
 use Rattle.std.proofs.Common.{subst, nat_eq}
-use Rattle.std.specs.Prelude.{All, flat_map, slice_range}
+use Rattle.std.specs.Prelude.{All, flat_map, nat_le, slice_range}
 use Rattle.std.specs.Option.{option_map, option_and_then}
 use Rattle.std.proofs.lemmas.Bool.Decides.{nat_tests}
 use Rattle.std.proofs.lemmas.Option.{slice_get_cases}
@@ -14,9 +14,10 @@ use Rattle.gimli_index.specs.Header.{size_of, highest_base, address_size_of, sta
 use Rattle.gimli_index.specs.Parts.{Index, index_at, parts_at, starts_offset, entries_offset, paths_offset, identity_offset, end_offset}
 use Rattle.gimli_index.specs.declared.place.NoPath.{NoPath}
 use Rattle.gimli_index.specs.declared.place.NoPath.TheVariants.{Reason}
+use Rattle.gimli_index.specs.Meaning.{column_in, is_statement_in}
 use Rattle.gimli_index.specs.Meaning.{AreAscending, Place, Start, path_in, entry_place, place_from, start_at, start_number, starts_of, path_of}
 use Rattle.gimli_index.specs.Contents.{Contents, Fits, FitsLine, FitsPlace, FitsSource, IsNear, entry_start, line_place, line_in, header_bytes, source_bytes}
-use Rattle.gimli_index.specs.Contents.{start_bytes, line_bytes, place_bytes, entry_bytes, index_bytes, le_bytes}
+use Rattle.gimli_index.specs.Contents.{column_word, start_bytes, line_bytes, place_bytes, entry_bytes, index_bytes, le_bytes}
 use Rattle.gimli_index.specs.Made.{EntriesAscend, SaysWhat}
 use Rattle.gimli_index.specs.declared.contents.Entry.{Entry}
 use Rattle.gimli_index.specs.declared.contents.Source.{Source}
@@ -258,12 +259,39 @@ start_number_read c i e there fits =
     let near : e.address - c.base < 256 ^ size = omega (arith, fits.0, fits.1) in
     ap (λ bytes. le_value (take size bytes)) here.1 ∙ start_read c.start_size c.base (e.address - c.base) here.0 near
 
+-- the word of a column
+word_fits : (l : SourceLine) → l.column < 2 ^ 31 → column_word l < 2 ^ 32
+word_fits l low = by_statement l.is_stmt
+  where
+    by_statement : (b : Bool) → (if b then l.column + 2 ^ 31 else l.column) < 2 ^ 32
+    by_statement true = omega (arith, low)
+    by_statement false = omega (arith, low)
+
+column_read : (l : SourceLine) → l.column < 2 ^ 31 → column_in (column_word l) ≡ l.column
+column_read l low = by_statement l.is_stmt
+  where
+    by_statement : (b : Bool) → column_in (if b then l.column + 2 ^ 31 else l.column) ≡ l.column
+    by_statement true =
+        let high : nat_lt (l.column + 2 ^ 31) (2 ^ 31) ≡ false = grind (arith, nat_tests) in
+        let less : (l.column + 2 ^ 31) - 2 ^ 31 ≡ l.column = omega arith in
+        ap (λ (b : Bool). if b then l.column + 2 ^ 31 else (l.column + 2 ^ 31) - 2 ^ 31) high ∙ less
+    by_statement false =
+        let within : nat_lt l.column (2 ^ 31) ≡ true = grind (arith, nat_tests) in
+        ap (λ (b : Bool). if b then l.column else l.column - 2 ^ 31) within
+
+statement_read : (l : SourceLine) → l.column < 2 ^ 31 → is_statement_in (column_word l) ≡ l.is_stmt
+statement_read l low = by_statement l.is_stmt
+  where
+    by_statement : (b : Bool) → is_statement_in (if b then l.column + 2 ^ 31 else l.column) ≡ b
+    by_statement true = let high : nat_le (2 ^ 31) (l.column + 2 ^ 31) ≡ true = grind (arith, nat_tests) in high
+    by_statement false = let within : nat_le (2 ^ 31) l.column ≡ false = grind (arith, nat_tests) in within
+
 -- a source is read as what it was
 source_read : (paths : List ℕ) (l : SourceLine) (s : Source) (rest more : List ℕ) → FitsLine l → FitsSource s
     → place_from paths (line_bytes l ++ rest) (source_bytes s ++ more) ≡ line_in paths l s
 source_read paths l s rest more fits source_fits =
     let line : number_at 4 4 (line_bytes l ++ rest) ≡ l.line = number_read 4 l.line (omega (arith, fits.1)) in
-    let column : number_at 4 8 (line_bytes l ++ rest) ≡ l.column = number_read 4 l.column (omega (arith, fits.2)) in
+    let word : number_at 4 8 (line_bytes l ++ rest) ≡ column_word l = number_read 4 (column_word l) (word_fits l fits.2) in
     let unit : number_at 8 0 (source_bytes s ++ more) ≡ s.unit = number_read 8 s.unit (omega (arith, source_fits.0)) in
     let first : number_at 4 8 (source_bytes s ++ more) ≡ s.first = number_read 4 s.first (omega (arith, source_fits.1)) in
     let size : number_at 4 12 (source_bytes s ++ more) ≡ s.size = number_read 4 s.size (omega (arith, source_fits.2)) in
@@ -272,13 +300,37 @@ source_read paths l s rest more fits source_fits =
     (λ n. record {
       path = path_of paths (source_bytes s ++ more);
       line = n;
-      column = number_at 4 8 (line_bytes l ++ rest);
+      column = column_in (number_at 4 8 (line_bytes l ++ rest));
+      is_stmt = is_statement_in (number_at 4 8 (line_bytes l ++ rest));
       unit = number_at 8 0 (source_bytes s ++ more);
     })
     line
-    ∙ ap (λ n. record { path = path_of paths (source_bytes s ++ more); line = l.line; column = n; unit = number_at 8 0 (source_bytes s ++ more) }) column
-    ∙ ap (λ n. record { path = path_of paths (source_bytes s ++ more); line = l.line; column = l.column; unit = n }) unit
-    ∙ ap (λ path. record { path = path; line = l.line; column = l.column; unit = s.unit }) (
+    ∙ ap (λ n. record {
+      path = path_of paths (source_bytes s ++ more);
+      line = l.line;
+      column = column_in n;
+      is_stmt = is_statement_in n;
+      unit = number_at 8 0 (source_bytes s ++ more);
+    })
+    word
+    ∙ ap (λ n. record {
+      path = path_of paths (source_bytes s ++ more);
+      line = l.line;
+      column = n;
+      is_stmt = is_statement_in (column_word l);
+      unit = number_at 8 0 (source_bytes s ++ more);
+    })
+    (column_read l fits.2)
+    ∙ ap (λ b. record {
+      path = path_of paths (source_bytes s ++ more);
+      line = l.line;
+      column = l.column;
+      is_stmt = b;
+      unit = number_at 8 0 (source_bytes s ++ more);
+    })
+    (statement_read l fits.2)
+    ∙ ap (λ n. record { path = path_of paths (source_bytes s ++ more); line = l.line; column = l.column; is_stmt = l.is_stmt; unit = n }) unit
+    ∙ ap (λ path. record { path = path; line = l.line; column = l.column; is_stmt = l.is_stmt; unit = s.unit }) (
     ap (λ n. by_numbers n (number_at 4 8 (source_bytes s ++ more)) (number_at 4 12 (source_bytes s ++ more))) reason
     ∙ ap (λ n. by_numbers s.reason n (number_at 4 12 (source_bytes s ++ more))) first
     ∙ ap (λ n. by_numbers s.reason s.first n) size)
@@ -354,7 +406,7 @@ made_of g [] i y there = absurd cc
 made_of g (x ∷ xs) zero y there = let same : y ≡ g x = cc in (x, refl, same)
 made_of g (x ∷ xs) (suc i) y there = made_of g xs i y there
 
-starts_ascend : (c : Contents) → EntriesAscend c.entries → AreAscending (map (entry_start c) c.entries)
+pub starts_ascend : (c : Contents) → EntriesAscend c.entries → AreAscending (map (entry_start c) c.entries)
 starts_ascend c ascend i j x y lt first second =
     let one = made_of (entry_start c) c.entries i x first in
     let other = made_of (entry_start c) c.entries j y second in

@@ -1,118 +1,34 @@
 -- The sources of an index in the making: they stay as more are added.
-use Rattle.std.proofs.Common.{◌≡◌, ◌⊎◌, ℕ, zero, suc, ◌+◌, ◌-◌, ◌<◌, ◌≤◌, Bool, true, false, cond, ltb, List, [], ◌∷◌, ◌++◌, length, take, drop, Option, None}
-use Rattle.std.proofs.Common.{Some, Result, Ok, Err, refl, sym, ap, subst, ◌∙◌, inl, inr, arith, length-append}
-use Rattle.std.specs.Prelude.{map, slice_get, slice_index_or, slice_range, nat_eq}
+use Rattle.std.proofs.Common.{◌≡◌, ◌≢◌, ◌⊎◌, ℕ, zero, suc, ◌+◌, ◌^◌, ◌<◌, ◌≤◌, Bool, false, List, [], ◌∷◌, ◌++◌, length, Option, None}
+use Rattle.std.proofs.Common.{Some, Result, Ok, Err, refl, sym, ap, subst, ◌∙◌, inl, inr, arith, length-append, if◌then◌else◌}
+use Rattle.std.specs.Prelude.{map, slice_get, slice_index_or, nat_eq, All}
 use Rattle.std.specs.Option.{option_map}
-use Rattle.std.proofs.lemmas.Bool.{cases_lt, cases_Bool, cond-true, cond-false, lt-ltb, le-ltb, ltb-false}
+use Rattle.std.proofs.lemmas.Bool.Decides.{nat_tests}
+use Rattle.std.proofs.lemmas.List.Elements.{All-push}
+use Rattle.std.proofs.lemmas.List.Quantifiers.{all_pairs_push}
 use Rattle.std.proofs.lemmas.Option.{slice_get_within}
 use Rattle.gimli_line.specs.declared.run.row.LineRow.{LineRow}
 use Rattle.gimli_lookup.specs.Paths.{row_path}
 use Rattle.gimli_lookup.specs.Section.{KeptHeader, KeptUnit, ListedUnit}
 use Rattle.gimli_lookup.specs.declared.path_error.PathError.{PathError}
-use Rattle.gimli_index.specs.Contents.{Contents, entry_start, line_in, line_place, source_path}
-use Rattle.gimli_index.specs.Found.{Texts, path_by, path_said, unit_path, unit_paths}
-use Rattle.gimli_index.specs.Meaning.{Place, Start, path_in}
-use Rattle.gimli_index.specs.declared.contents.Entry.{Entry}
+use Rattle.gimli_lookup.specs.declared.section_lookup.CoveringRows.{CoveringRows}
+use Rattle.gimli_index.specs.Contents.{line_in, source_path}
+use Rattle.gimli_index.specs.Found.{Texts, found_place, path_by, path_said, row_place, unit_path, unit_paths}
+use Rattle.gimli_index.specs.Meaning.{Place, path_in}
+use Rattle.gimli_index.specs.Refused.{AreFound, HasLongPaths, HasManyFiles, IsFoundFile, IsFoundPath}
+use Rattle.gimli_index.specs.Short.{joined, IsSpanOf}
 use Rattle.gimli_index.specs.declared.contents.Source.{Source}
 use Rattle.gimli_index.specs.declared.contents.SourceLine.{SourceLine}
+use Rattle.gimli_index.specs.declared.error.MakeError.{MakeError}
+use Rattle.gimli_index.specs.declared.error.MakeError.TheVariants.{NotAscending, TooManyEntries, TooManySources, PathsTooLarge, IdentityTooLarge, LineTooLarge}
+use Rattle.gimli_index.specs.declared.error.MakeError.TheVariants.{ColumnTooLarge, OutOfMemory}
 use Rattle.gimli_index.specs.declared.place.NoPath.{NoPath}
 use Rattle.gimli_index.specs.declared.place.NoPath.TheVariants.{Outside, Reason}
-use Rattle.gimli_index.specs.declared.source_table.SourceKey.{SourceKey}
-use Rattle.gimli_index.specs.inside.Table.{Table, AreSources, GoesOn, IsInside, IsSourceOf, Keeps, place_in, starts_in, with_table}
-use Rattle.gimli_index.proofs.Slices.{after_bytes, first_bytes}
-
--- ---- lists that go on
-
-pub get_before : {X : Type 0} (xs ys : List X) (k : ℕ) (x : X) → slice_get xs k ≡ Some x → slice_get (xs ++ ys) k ≡ Some x
-get_before [] ys k x there = absurd cc
-get_before (z ∷ xs) ys zero x there = there
-get_before (z ∷ xs) ys (suc k) x there = get_before xs ys k x there
-
-pub get_inside : {X : Type 0} (xs : List X) (k : ℕ) → k < length xs → (x : X) × (slice_get xs k ≡ Some x)
-get_inside [] k lt = absurd (omega arith)
-get_inside (z ∷ xs) zero lt = (z, refl)
-get_inside (z ∷ xs) (suc k) lt = get_inside xs k (omega arith)
-
-pub get_last : {X : Type 0} (xs : List X) (y : X) → slice_get (xs ++ y ∷ []) (length xs) ≡ Some y
-get_last [] y = refl
-get_last (x ∷ xs) y = get_last xs y
-
-pub get_pushed : {X : Type 0} (xs : List X) (y : X) (k : ℕ) (x : X) → slice_get (xs ++ y ∷ []) k ≡ Some x
-    → (slice_get xs k ≡ Some x) ⊎ ((k ≡ length xs) × (y ≡ x))
-get_pushed [] y zero x there = let same : y ≡ x = cc in inr (refl, same)
-get_pushed [] y (suc k) x there = absurd cc
-get_pushed (z ∷ xs) y zero x there = inl there
-get_pushed (z ∷ xs) y (suc k) x there = elim (get_pushed xs y k x there) [
-  | inl before ↦ inl before
-  | inr last ↦ inr (ap suc last.0, last.1)
-]
-
--- ---- paths
-
-path_fits : (paths : List ℕ) (first size : ℕ) → (path_in paths first size ≡ Err Outside → ⊥) → first + size ≤ length paths
-path_fits paths first size inside = elim (cases_lt (length paths) (first + size)) [
-  | inl short ↦
-      absurd (inside
-      (cond-true (ltb (length paths) (first + size)) (Err Outside) (Ok (slice_range paths first (first + size))) (lt-ltb (length paths) (first + size) short)))
-  | inr fits ↦ fits
-]
-
-pub path_there : (paths : List ℕ) (first size : ℕ) → first + size ≤ length paths → path_in paths first size ≡ Ok (slice_range paths first (first + size))
-path_there paths first size fits =
-    cond-false (ltb (length paths) (first + size)) (Err Outside) (Ok (slice_range paths first (first + size))) (le-ltb (length paths) (first + size) fits)
-
-take_none : (xs : List ℕ) → take 0 xs ≡ []
-take_none [] = refl
-take_none (x ∷ xs) = refl
-
-take_before : (xs ys : List ℕ) (n : ℕ) → n ≤ length xs → take n (xs ++ ys) ≡ take n xs
-take_before xs ys zero le = take_none (xs ++ ys) ∙ sym (take_none xs)
-take_before [] ys (suc n) le = absurd (omega arith)
-take_before (x ∷ xs) ys (suc n) le = ap (λ (zs : List ℕ). x ∷ zs) (take_before xs ys n (omega arith))
-
-part_before : (xs ys : List ℕ) (first n : ℕ) → first + n ≤ length xs → take n (drop first (xs ++ ys)) ≡ take n (drop first xs)
-part_before xs ys first zero le = take_none (drop first (xs ++ ys)) ∙ sym (take_none (drop first xs))
-part_before [] ys first (suc n) le = absurd (omega arith)
-part_before (x ∷ xs) ys zero (suc n) le = take_before (x ∷ xs) ys (suc n) (omega arith)
-part_before (x ∷ xs) ys (suc first) (suc n) le = part_before xs ys first (suc n) (omega arith)
-
-range_before : (xs ys : List ℕ) (first end : ℕ) → end ≤ length xs → slice_range (xs ++ ys) first end ≡ slice_range xs first end
-range_before xs ys first end le = elim (cases_lt end first) [
-  | inl none ↦
-      let zero_is : end - first ≡ 0 = omega arith in
-      ap (λ (n : ℕ). take n (drop first (xs ++ ys))) zero_is ∙ take_none (drop first (xs ++ ys)) ∙ sym (take_none (drop first xs))
-      ∙ sym (ap (λ (n : ℕ). take n (drop first xs)) zero_is)
-  | inr some ↦ part_before xs ys first (end - first) (omega arith)
-]
-
-pub append_none : {X : Type 0} (xs : List X) → xs ++ [] ≡ xs
-append_none [] = refl
-append_none {X} (x ∷ xs) = ap (λ (ys : List X). x ∷ ys) (append_none xs)
-
-path_goes_on : (paths more : List ℕ) (first size : ℕ) → (path_in paths first size ≡ Err Outside → ⊥)
-    → path_in (paths ++ more) first size ≡ path_in paths first size
-path_goes_on paths more first size inside =
-    let fits = path_fits paths first size inside in
-    path_there (paths ++ more) first size (omega (arith, fits, length-append paths more))
-    ∙ ap (λ (p : List ℕ). Ok p) (range_before paths more first (first + size) fits)
-    ∙ sym (path_there paths first size fits)
-
-pub source_goes_on : (paths more : List ℕ) (s : Source) → (source_path paths s ≡ Err Outside → ⊥) → source_path (paths ++ more) s ≡ source_path paths s
-source_goes_on paths more s inside = by_reason (nat_eq s.reason 0) inside
-  where
-    by_reason : (b : Bool) → (cond b (path_in paths s.first s.size) (Err (Reason s.reason)) ≡ Err Outside → ⊥)
-        → cond b (path_in (paths ++ more) s.first s.size) (Err (Reason s.reason)) ≡ cond b (path_in paths s.first s.size) (Err (Reason s.reason))
-    by_reason true h = path_goes_on paths more s.first s.size h
-    by_reason false h = refl
-
--- a path that was appended
-pub path_appended : (paths path : List ℕ) → path_in (paths ++ path) (length paths) (length path) ≡ Ok path
-path_appended paths path =
-    path_there (paths ++ path) (length paths) (length path) (omega (arith, length-append paths path))
-    ∙ ap (λ (p : List ℕ). Ok p) (after_bytes paths path (length paths) (length paths + length path) 0 (length path) (omega arith) refl ∙ whole path)
-  where
-    whole : (xs : List ℕ) → slice_range xs 0 (length xs) ≡ xs
-    whole xs = ap (λ (ys : List ℕ). slice_range ys 0 (length xs)) (sym (append_none xs)) ∙ first_bytes xs [] (length xs) refl
+use Rattle.gimli_index.specs.declared.source_keys.SourceKey.{SourceKey}
+use Rattle.gimli_index.specs.inside.Paths.{ArePaths, GoesOn, IsKept, IsSourceFault, PathList}
+use Rattle.gimli_index.specs.inside.Table.{Table, AreSources, IsInside, IsSourceOf, IsTableFault, Keeps, SayTheSame, key_of, no_table, place_in}
+use Rattle.gimli_index.proofs.Lists.{append_none, get_inside, get_before, get_last, get_pushed, source_goes_on}
+use Rattle.gimli_index.proofs.PathLists.{joined_push, none_are, one_span, span_read, span_stays}
 
 -- what a unit says of a path is never that it is outside
 said_inside : (r : Result (List ℕ) PathError) → path_said r ≡ Err Outside → ⊥
@@ -146,68 +62,219 @@ row_of file = record {
   discriminator = 0;
 }
 
-source_inside : (t : Texts) (units : List KeptUnit) (paths : List ℕ) (key : SourceKey) (s : Source) → IsSourceOf t units paths key s
-    → source_path paths s ≡ Err Outside → ⊥
+source_inside : (t : Texts) (units : List KeptUnit) (paths : PathList) (key : SourceKey) (s : Source) → IsSourceOf t units paths key s
+    → source_path paths.bytes s ≡ Err Outside → ⊥
 source_inside t units paths key s of outside = unit_inside t of.unit.unit (row_of key.file) (sym (of.path (row_of key.file) refl) ∙ outside)
 
+-- a span stays where paths go on
+span_kept : (old new : List (List ℕ)) (path : List ℕ) (first : ℕ) (p : List ℕ) → (new ≡ old) ⊎ (new ≡ old ++ path ∷ []) → IsSpanOf old first p
+    → IsSpanOf new first p
+span_kept old new path first p (inl same) span = subst (λ (known : List (List ℕ)). IsSpanOf known first p) (sym same) span
+span_kept old new path first p (inr more) span = subst (λ (known : List (List ℕ)). IsSpanOf known first p) (sym more) (span_stays old (path ∷ []) first p span)
+
 -- a source is the same where the paths go on
-source_stays : (t : Texts) (units : List KeptUnit) (paths more : List ℕ) (key : SourceKey) (s : Source) → IsSourceOf t units paths key s
-    → IsSourceOf t units (paths ++ more) key s
-source_stays t units paths more key s of = record {
+source_stays : (t : Texts) (units : List KeptUnit) (old new : PathList) (path : List ℕ) (key : SourceKey) (s : Source) → GoesOn old.bytes new.bytes
+    → (new.known ≡ old.known) ⊎ (new.known ≡ old.known ++ path ∷ []) → IsSourceOf t units old key s → IsSourceOf t units new key s
+source_stays t units old new path key s bytes known of = record {
   unit = of.unit;
   there = of.there;
   offset = of.offset;
-  path = λ r is. source_goes_on paths more s (source_inside t units paths key s of) ∙ of.path r is;
+  path = λ r is.
+      ap (λ (bs : List ℕ). source_path bs s) bytes.1 ∙ source_goes_on old.bytes bytes.0 s (source_inside t units old key s of) ∙ of.path r is;
+  span = λ is. let span = of.span is in (span.0, span_kept old.known new.known path s.first span.0 known span.1, span.2);
+  empty = of.empty;
 }
 
--- one more source
-pub one_more : (t : Texts) (units : List KeptUnit) (old : Table) (new : List ℕ) (key : SourceKey) (s : Source) → AreSources t units old → GoesOn old.paths new
-    → IsSourceOf t units new key s
-    → AreSources t units (record { keys = old.keys ++ key ∷ []; sources = old.sources ++ s ∷ []; paths = new })
-one_more t units old new key s are goes_on of = record {
-  count = omega (arith, are.count, length-append old.keys (key ∷ []), length-append old.sources (s ∷ []));
-  each = each;
+-- what paths are after a source was kept
+kept_bytes : (old new : PathList) (path : Result (List ℕ) NoPath) (s : Source) → IsKept old new path s → GoesOn old.bytes new.bytes
+kept_bytes old new (Ok path) s kept = kept.1.bytes
+kept_bytes old new (Err (Reason n)) s kept =
+    ([], ap (λ (p : PathList). p.bytes) kept.4 ∙ sym (append_none old.bytes))
+kept_bytes old new (Err Outside) s kept = absurd kept
+
+-- the path of a row's file is that of the file
+same_file : (t : Texts) (u : ListedUnit) (r s : LineRow) → r.file ≡ s.file → unit_path t u r ≡ unit_path t u s
+same_file t u r s same = ap (λ (n : ℕ). unit_path t u (row_of n)) same
+
+-- ---- one more source
+
+module _ (t : Texts) (units : List KeptUnit) (old : Table) (f : CoveringRows) (is_found : AreFound units f) (are : AreSources t units old) where
+  abbrev key : SourceKey
+  key = key_of f
+
+  file_is : IsFoundFile units key
+  file_is = (f, is_found, refl, refl)
+
+  -- so many files are found, and one more
+  pub many_files : All (λ k. k ≢ key) old.keys → 0xffff_ffff ≤ length old.sources → HasManyFiles units
+  many_files absent many = record {
+    files = old.keys ++ key ∷ [];
+    found = All-push (IsFoundFile units) old.keys key are.files file_is;
+    distinct = all_pairs_push (λ x y. x ≢ y) old.keys key are.distinct absent;
+    many = omega (arith, many, are.count, length-append old.keys (key ∷ []));
+  }
+
+  module _ (u : KeptUnit) (there : slice_get units f.unit ≡ Some u) where
+    place_is : found_place t units (Some f) ≡ Some (row_place t u.unit f.row)
+    place_is = ap (option_map (λ (u : KeptUnit). row_place t u.unit f.row)) there
+
+    -- the path of a row that is found is one that is found
+    path_found : (path : List ℕ) → unit_path t u.unit f.row ≡ Ok path → IsFoundPath t units path
+    path_found path is = (f, is_found, row_place t u.unit f.row, place_is, is)
+
+    pub long_paths : (path : List ℕ) → unit_path t u.unit f.row ≡ Ok path → All (λ x. x ≢ path) old.paths.known
+        → 2 ^ 32 ≤ length old.paths.bytes + length path → HasLongPaths t units
+    long_paths path is absent long = record {
+      paths = old.paths.known ++ path ∷ [];
+      found = All-push (IsFoundPath t units) old.paths.known path are.found (path_found path is);
+      distinct = all_pairs_push (λ x y. x ≢ y) old.paths.known path are.paths.distinct absent;
+      long = omega (
+        arith,
+        long,
+        ap (λ (bs : List ℕ). length bs) (joined_push old.paths.known path),
+        length-append (joined old.paths.known) path,
+        ap (λ (bs : List ℕ). length bs) are.paths.bytes,
+      );
+    }
+
+    -- why a path isn't kept
+    pub path_fault : (path : Result (List ℕ) NoPath) (e : MakeError) → path ≡ unit_path t u.unit f.row → IsSourceFault old.paths path e
+        → IsTableFault t units e
+    path_fault (Ok path) PathsTooLarge is fault = long_paths path (sym is) fault.0 fault.1
+    path_fault (Ok path) OutOfMemory is fault = tt
+    path_fault (Ok path) NotAscending is fault = fault
+    path_fault (Ok path) TooManyEntries is fault = fault
+    path_fault (Ok path) TooManySources is fault = absurd fault
+    path_fault (Ok path) IdentityTooLarge is fault = fault
+    path_fault (Ok path) LineTooLarge is fault = absurd fault
+    path_fault (Ok path) ColumnTooLarge is fault = absurd fault
+    path_fault (Err reason) e is fault = absurd fault
+
+    module _ (new : PathList) (s : Source) where
+      abbrev longer : Table
+      longer = record { keys = old.keys ++ key ∷ []; sources = old.sources ++ s ∷ []; paths = new }
+
+      -- the new paths
+      paths_are : (path : Result (List ℕ) NoPath) → IsKept old.paths new path s → ArePaths new
+      paths_are (Ok path) kept = kept.1.are
+      paths_are (Err (Reason n)) kept = subst ArePaths (sym kept.4) are.paths
+      paths_are (Err Outside) kept = absurd kept
+
+      paths_found : (path : Result (List ℕ) NoPath) → path ≡ unit_path t u.unit f.row → IsKept old.paths new path s → All (IsFoundPath t units) new.known
+      paths_found (Ok path) is kept = elim kept.1.known [
+        | inl same ↦ subst (All (IsFoundPath t units)) (sym same) are.found
+        | inr more ↦
+            subst (All (IsFoundPath t units)) (sym more) (All-push (IsFoundPath t units) old.paths.known path are.found (path_found path (sym is)))
+      ]
+      paths_found (Err (Reason n)) is kept = subst (λ (p : PathList). All (IsFoundPath t units) p.known) (sym kept.4) are.found
+      paths_found (Err Outside) is kept = absurd kept
+
+      -- the source that was there
+      earlier : (path : Result (List ℕ) NoPath) (key' : SourceKey) (s' : Source) → IsKept old.paths new path s → IsSourceOf t units old.paths key' s'
+          → IsSourceOf t units new key' s'
+      earlier (Ok path) key' s' kept of = source_stays t units old.paths new path key' s' kept.1.bytes kept.1.known of
+      earlier (Err (Reason n)) key' s' kept of = subst (λ (p : PathList). IsSourceOf t units p key' s') (sym kept.4) of
+      earlier (Err Outside) key' s' kept of = absurd kept
+
+      -- what the path of the new one is
+      reads : (path : Result (List ℕ) NoPath) → IsKept old.paths new path s → source_path new.bytes s ≡ path
+      reads (Ok path) kept =
+          ap (λ (n : ℕ). if nat_eq n 0 then path_in new.bytes s.first s.size else Err (Reason n)) kept.0
+          ∙ ap (λ (n : ℕ). path_in new.bytes s.first n) kept.2 ∙ span_read new s.first path kept.1.are kept.1.span
+      reads (Err (Reason n)) kept =
+          let other : nat_eq s.reason 0 ≡ false = let some = kept.1 in grind (arith, nat_tests) in
+          ap (λ (b : Bool). if b then path_in new.bytes s.first s.size else Err (Reason s.reason)) other ∙ ap (λ (m : ℕ). Err (Reason m)) kept.0
+      reads (Err Outside) kept = absurd kept
+
+      spans : (path : Result (List ℕ) NoPath) → IsKept old.paths new path s → s.reason ≡ 0
+          → (path : List ℕ) × IsSpanOf new.known s.first path × (s.size ≡ length path)
+      spans (Ok path) kept is = (path, kept.1.span, kept.2)
+      spans (Err (Reason n)) kept is = absurd (kept.1 is)
+      spans (Err Outside) kept is = absurd kept
+
+      empties : (path : Result (List ℕ) NoPath) → IsKept old.paths new path s → s.reason ≢ 0 → (s.first ≡ 0) × (s.size ≡ 0)
+      empties (Ok path) kept is = absurd (is kept.0)
+      empties (Err (Reason n)) kept is = (kept.2, kept.3)
+      empties (Err Outside) kept is = absurd kept
+
+      last : (path : Result (List ℕ) NoPath) → path ≡ unit_path t u.unit f.row → s.unit ≡ u.unit.offset → IsKept old.paths new path s
+          → IsSourceOf t units new key s
+      last path is offset kept = record {
+        unit = u;
+        there = there;
+        offset = offset;
+        path = λ r r_file. reads path kept ∙ is ∙ same_file t u.unit f.row r (sym r_file);
+        span = spans path kept;
+        empty = empties path kept;
+      }
+
+      pub one_more : (path : Result (List ℕ) NoPath) → path ≡ unit_path t u.unit f.row → s.unit ≡ u.unit.offset → IsKept old.paths new path s
+          → All (λ k. k ≢ key) old.keys → length old.sources < 0xffff_ffff → AreSources t units longer
+      one_more path is offset kept absent few = record {
+        count = omega (arith, are.count, length-append old.keys (key ∷ []), length-append old.sources (s ∷ []));
+        few = omega (arith, few, length-append old.sources (s ∷ []));
+        each = λ k key' s' at_key at_source. at_both k key' s' (get_pushed old.keys key k key' at_key) (get_pushed old.sources s k s' at_source);
+        distinct = all_pairs_push (λ x y. x ≢ y) old.keys key are.distinct absent;
+        files = All-push (IsFoundFile units) old.keys key are.files file_is;
+        paths = paths_are path kept;
+        found = paths_found path is kept;
+      }
+        where
+          at_both : (k : ℕ) (key' : SourceKey) (s' : Source) → (slice_get old.keys k ≡ Some key') ⊎ ((k ≡ length old.keys) × (key ≡ key'))
+              → (slice_get old.sources k ≡ Some s') ⊎ ((k ≡ length old.sources) × (s ≡ s')) → IsSourceOf t units new key' s'
+          at_both k key' s' (inl before) (inl also) = earlier path key' s' kept (are.each k key' s' before also)
+          at_both k key' s' (inl before) (inr end) = absurd (omega (arith, slice_get_within old.keys k key' before, end.0, are.count))
+          at_both k key' s' (inr end) (inl before) = absurd (omega (arith, slice_get_within old.sources k s' before, end.0, are.count))
+          at_both k key' s' (inr end) (inr also) =
+              subst (λ (q : SourceKey). IsSourceOf t units new q s') end.1
+              (subst (λ (q : Source). IsSourceOf t units new key q) also.1 (last path is offset kept))
+
+      pub more_kept : (path : Result (List ℕ) NoPath) → IsKept old.paths new path s → Keeps old longer
+      more_kept path kept = record { sources = (s ∷ [], refl); paths = kept_bytes old.paths new path s kept }
+
+      pub number_is : slice_get longer.keys (length old.sources) ≡ Some key
+      number_is = ap (slice_get (old.keys ++ key ∷ [])) (sym are.count) ∙ get_last old.keys key
+
+pub none_are_sources : (t : Texts) (units : List KeptUnit) → AreSources t units no_table
+none_are_sources t units = record {
+  count = refl;
+  few = omega arith;
+  each = λ k key s there source. absurd cc;
+  distinct = λ i j d lt within. absurd (omega (arith, within));
+  files = λ k d within. absurd (omega (arith, within));
+  paths = none_are;
+  found = λ k d within. absurd (omega (arith, within));
 }
-  where
-    each : (k : ℕ) (key' : SourceKey) (s' : Source) → slice_get (old.keys ++ key ∷ []) k ≡ Some key' → slice_get (old.sources ++ s ∷ []) k ≡ Some s'
-        → IsSourceOf t units new key' s'
-    each k key' s' there source = at_both (get_pushed old.keys key k key' there) (get_pushed old.sources s k s' source)
-      where
-        at_both : (slice_get old.keys k ≡ Some key') ⊎ ((k ≡ length old.keys) × (key ≡ key'))
-            → (slice_get old.sources k ≡ Some s') ⊎ ((k ≡ length old.sources) × (s ≡ s')) → IsSourceOf t units new key' s'
-        at_both (inl before) (inl also) =
-            subst (λ (p : List ℕ). IsSourceOf t units p key' s') (sym goes_on.1)
-            (source_stays t units old.paths goes_on.0 key' s' (are.each k key' s' before also))
-        at_both (inl before) (inr last) = absurd (omega (arith, slice_get_within old.keys k key' before, last.0, are.count))
-        at_both (inr last) (inl before) = absurd (omega (arith, slice_get_within old.sources k s' before, last.0, are.count))
-        at_both (inr last) (inr also) =
-            subst (λ (q : SourceKey). IsSourceOf t units new q s') last.1 (subst (λ (q : Source). IsSourceOf t units new key q) also.1 of)
 
 pub keeps_same : (table : Table) → Keeps table table
-keeps_same table = record { sources = ([], sym (append_none table.sources)); paths = ([], sym (append_none table.paths)) }
+keeps_same table = record { sources = ([], sym (append_none table.sources)); paths = ([], sym (append_none table.paths.bytes)) }
 
 -- ---- places
 
 -- the place of a line of a known source
-pub place_known : (t : Texts) (units : List KeptUnit) (table : Table) (number : ℕ) (line column : ℕ) (key : SourceKey) (u : KeptUnit) (r : LineRow)
+pub place_known : (t : Texts) (units : List KeptUnit) (table : Table) (number : ℕ) (line column : ℕ) (is_stmt : Bool) (key : SourceKey) (u : KeptUnit)
+    (r : LineRow)
     → AreSources t units table
-    → slice_get table.keys number ≡ Some key → slice_get units key.unit ≡ Some u → r.file ≡ key.file → line ≡ r.line → column ≡ r.column
-    → place_in table (let l : SourceLine = record { source = number; line = line; column = column } in Some l)
-    ≡ Some (let p : Place = record { path = unit_path t u.unit r; line = r.line; column = r.column; unit = u.unit.offset } in p)
-place_known t units table number line column key u r are there unit file lines columns =
+    → slice_get table.keys number ≡ Some key → slice_get units key.unit ≡ Some u → r.file ≡ key.file → line ≡ r.line → column ≡ r.column → is_stmt ≡ r.is_stmt
+    → place_in table (let l : SourceLine = record { source = number; line = line; column = column; is_stmt = is_stmt } in Some l)
+    ≡ Some (let p : Place = record { path = unit_path t u.unit r; line = r.line; column = r.column; is_stmt = r.is_stmt; unit = u.unit.offset } in p)
+place_known t units table number line column is_stmt key u r are there unit file lines columns stmts =
     let known = get_inside table.sources number (omega (arith, slice_get_within table.keys number key there, are.count)) in
     let s = known.0 in
     let of = are.each number key s there known.1 in
     let both : Some of.unit ≡ Some u = sym of.there ∙ unit in
     let same : of.unit ≡ u = cc in
-    let l : SourceLine = record { source = number; line = line; column = column } in
-    ap (option_map (line_in table.paths l)) known.1
-    ∙ ap (λ (p : Result (List ℕ) NoPath). let q : Place = record { path = p; line = line; column = column; unit = s.unit } in Some q)
+    let l : SourceLine = record { source = number; line = line; column = column; is_stmt = is_stmt } in
+    ap (option_map (line_in table.paths.bytes l)) known.1
+    ∙ ap (λ (p : Result (List ℕ) NoPath). let q : Place = record { path = p; line = line; column = column; is_stmt = is_stmt; unit = s.unit } in Some q)
     (of.path r file ∙ ap (λ (v : KeptUnit). unit_path t v.unit r) same)
-    ∙ ap (λ (n : ℕ). let q : Place = record { path = unit_path t u.unit r; line = line; column = column; unit = n } in Some q)
+    ∙ ap (λ (n : ℕ). let q : Place = record { path = unit_path t u.unit r; line = line; column = column; is_stmt = is_stmt; unit = n } in Some q)
     (of.offset ∙ ap (λ (v : KeptUnit). v.unit.offset) same)
-    ∙ ap (λ (n : ℕ). let q : Place = record { path = unit_path t u.unit r; line = n; column = column; unit = u.unit.offset } in Some q) lines
-    ∙ ap (λ (n : ℕ). let q : Place = record { path = unit_path t u.unit r; line = r.line; column = n; unit = u.unit.offset } in Some q) columns
+    ∙ ap (λ (n : ℕ). let q : Place = record { path = unit_path t u.unit r; line = n; column = column; is_stmt = is_stmt; unit = u.unit.offset } in Some q) lines
+    ∙ ap (λ (n : ℕ). let q : Place = record { path = unit_path t u.unit r; line = r.line; column = n; is_stmt = is_stmt; unit = u.unit.offset } in Some q)
+    columns
+    ∙ ap (λ (b : Bool). let q : Place = record { path = unit_path t u.unit r; line = r.line; column = r.column; is_stmt = b; unit = u.unit.offset } in Some q)
+    stmts
 
 -- a place stays where a table goes on
 pub place_stays : (t : Texts) (units : List KeptUnit) (old new : Table) (place : Option SourceLine) → AreSources t units old → Keeps old new
@@ -219,17 +286,116 @@ place_stays t units old new (Some l) are keeps inside =
     let s = source.0 in
     let there : slice_get new.sources l.source ≡ Some s = ap (λ (ss : List Source). slice_get ss l.source) keeps.sources.1
     ∙ get_before old.sources keeps.sources.0 l.source s source.1 in
-    let path : source_path new.paths s ≡ source_path old.paths s =
+    let path : source_path new.paths.bytes s ≡ source_path old.paths.bytes s =
     ap (λ (ps : List ℕ). source_path ps s) keeps.paths.1
-    ∙ source_goes_on old.paths keeps.paths.0 s (source_inside t units old.paths key.0 s (are.each l.source key.0 s key.1 source.1)) in
-    ap (option_map (line_in new.paths l)) there
-    ∙ ap (λ (p : Result (List ℕ) NoPath). let q : Place = record { path = p; line = l.line; column = l.column; unit = s.unit } in Some q) path
-    ∙ ap (option_map (line_in old.paths l)) (sym source.1)
+    ∙ source_goes_on old.paths.bytes keeps.paths.0 s (source_inside t units old.paths key.0 s (are.each l.source key.0 s key.1 source.1)) in
+    ap (option_map (line_in new.paths.bytes l)) there
+    ∙ ap (λ (p : Result (List ℕ) NoPath). let q : Place = record { path = p; line = l.line; column = l.column; is_stmt = l.is_stmt; unit = s.unit } in Some q)
+    path
+    ∙ ap (option_map (line_in old.paths.bytes l)) (sym source.1)
 
 pub inside_stays : (old new : Table) (place : Option SourceLine) → Keeps old new → IsInside old place → IsInside new place
 inside_stays old new None keeps inside = inside
 inside_stays old new (Some l) keeps inside =
     omega (arith, inside, ap (λ (ss : List Source). length ss) keeps.sources.1, length-append old.sources keeps.sources.0)
+
+-- ---- two places
+
+-- sources that say the same are the same
+same_source : (t : Texts) (units : List KeptUnit) (paths : PathList) (key key' : SourceKey) (s s' : Source) → ArePaths paths → IsSourceOf t units paths key s
+    → IsSourceOf t units paths key' s' → s.unit ≡ s'.unit → source_path paths.bytes s ≡ source_path paths.bytes s' → s ≡ s'
+same_source t units paths key key' s s' are of of' unit path = by_reasons (cases_zero s.reason) (cases_zero s'.reason)
+  where
+    cases_zero : (n : ℕ) → (n ≡ 0) ⊎ (n ≢ 0)
+    cases_zero zero = inl refl
+    cases_zero (suc n) = inr (λ e. omega (arith, e))
+
+    from_parts : s.first ≡ s'.first → s.size ≡ s'.size → s.reason ≡ s'.reason → s ≡ s'
+    from_parts first size reason =
+        ap (λ (n : ℕ). let x : Source = record { unit = n; first = s.first; size = s.size; reason = s.reason } in x) unit
+        ∙ ap (λ (n : ℕ). let x : Source = record { unit = s'.unit; first = n; size = s.size; reason = s.reason } in x) first
+        ∙ ap (λ (n : ℕ). let x : Source = record { unit = s'.unit; first = s'.first; size = n; reason = s.reason } in x) size
+        ∙ ap (λ (n : ℕ). let x : Source = record { unit = s'.unit; first = s'.first; size = s'.size; reason = n } in x) reason
+
+    told : (x : Source) → x.reason ≡ 0 → (p : List ℕ) → IsSpanOf paths.known x.first p → x.size ≡ length p → source_path paths.bytes x ≡ Ok p
+    told x zero_is p span size =
+        ap (λ (n : ℕ). if nat_eq n 0 then path_in paths.bytes x.first x.size else Err (Reason n)) zero_is
+        ∙ ap (λ (n : ℕ). path_in paths.bytes x.first n) size ∙ span_read paths x.first p are span
+
+    untold : (x : Source) → x.reason ≢ 0 → source_path paths.bytes x ≡ Err (Reason x.reason)
+    untold x some =
+        let other : nat_eq x.reason 0 ≡ false = grind (arith, nat_tests) in
+        ap (λ (b : Bool). if b then path_in paths.bytes x.first x.size else Err (Reason x.reason)) other
+
+    by_reasons : (s.reason ≡ 0) ⊎ (s.reason ≢ 0) → (s'.reason ≡ 0) ⊎ (s'.reason ≢ 0) → s ≡ s'
+    by_reasons (inl here) (inl there) =
+        let one = of.span here in
+        let other = of'.span there in
+        let both : Ok one.0 ≡ Ok other.0 = sym (told s here one.0 one.1 one.2) ∙ path ∙ told s' there other.0 other.1 other.2 in
+        let same : one.0 ≡ other.0 = cc in
+        let also : IsSpanOf paths.known s'.first one.0 = subst (λ (p : List ℕ). IsSpanOf paths.known s'.first p) (sym same) other.1 in
+        from_parts (one_span paths.known s.first s'.first one.0 are.distinct one.1 also)
+        (one.2 ∙ ap (λ (p : List ℕ). length p) same ∙ sym other.2) (here ∙ sym there)
+    by_reasons (inl here) (inr there) =
+        let one = of.span here in
+        let both : Ok one.0 ≡ Err (Reason s'.reason) = sym (told s here one.0 one.1 one.2) ∙ path ∙ untold s' there in
+        absurd cc
+    by_reasons (inr here) (inl there) =
+        let other = of'.span there in
+        let both : Err (Reason s.reason) ≡ Ok other.0 = sym (untold s here) ∙ path ∙ told s' there other.0 other.1 other.2 in
+        absurd cc
+    by_reasons (inr here) (inr there) =
+        let one = of.empty here in
+        let other = of'.empty there in
+        let both : Err (Reason s.reason) ≡ Err (Reason s'.reason) = sym (untold s here) ∙ path ∙ untold s' there in
+        let same : s.reason ≡ s'.reason = cc in
+        from_parts (one.0 ∙ sym other.0) (one.1 ∙ sym other.1) same
+
+-- places that are the same name the same source
+pub say_the_same : (t : Texts) (units : List KeptUnit) (table : Table) (x y : Option SourceLine) → AreSources t units table → IsInside table x
+    → IsInside table y
+    → place_in table x ≡ place_in table y → SayTheSame table.sources x y
+say_the_same t units table None None are inside also same = tt
+say_the_same t units table None (Some b) are inside also same =
+    let known = get_inside table.sources b.source also in
+    let some : None ≡ Some (line_in table.paths.bytes b known.0) = same ∙ ap (option_map (line_in table.paths.bytes b)) known.1 in
+    absurd cc
+say_the_same t units table (Some a) None are inside also same =
+    let known = get_inside table.sources a.source inside in
+    let some : None ≡ Some (line_in table.paths.bytes a known.0) = sym same ∙ ap (option_map (line_in table.paths.bytes a)) known.1 in
+    absurd cc
+say_the_same t units table (Some a) (Some b) are inside also same =
+    let one = get_inside table.sources a.source inside in
+    let other = get_inside table.sources b.source also in
+    let key = get_inside table.keys a.source (omega (arith, inside, are.count)) in
+    let key' = get_inside table.keys b.source (omega (arith, also, are.count)) in
+    let both : Some (line_in table.paths.bytes a one.0) ≡ Some (line_in table.paths.bytes b other.0) =
+    sym (ap (option_map (line_in table.paths.bytes a)) one.1) ∙ same ∙ ap (option_map (line_in table.paths.bytes b)) other.1 in
+    let places : line_in table.paths.bytes a one.0 ≡ line_in table.paths.bytes b other.0 = cc in
+    let sources =
+    same_source t units table.paths key.0 key'.0 one.0 other.0 are.paths (are.each a.source key.0 one.0 key.1 one.1)
+    (are.each b.source key'.0 other.0 key'.1 other.1)
+    (ap (λ (p : Place). p.unit) places) (ap (λ (p : Place). p.path) places) in (
+      one.1 ∙ ap (λ (s : Source). Some s) sources ∙ sym other.1,
+      ap (λ (p : Place). p.line) places,
+      ap (λ (p : Place). p.column) places,
+      ap (λ (p : Place). p.is_stmt) places,
+    )
+
+-- and those that name the same source say the same
+pub same_places : (table : Table) (x y : Option SourceLine) → SayTheSame table.sources x y → place_in table x ≡ place_in table y
+same_places table None None same = refl
+same_places table None (Some b) same = absurd same
+same_places table (Some a) None same = absurd same
+same_places table (Some a) (Some b) same =
+    ap (λ (o : Option Source). option_map (line_in table.paths.bytes a) o) same.0
+    ∙ ap (λ (n : ℕ). place_by n a.column a.is_stmt) same.1
+    ∙ ap (λ (n : ℕ). place_by b.line n a.is_stmt) same.2
+    ∙ ap (λ (s : Bool). place_by b.line b.column s) same.3
+  where
+    place_by : ℕ → ℕ → Bool → Option Place
+    place_by line column is_stmt = option_map (line_in table.paths.bytes (record { source = b.source; line = line; column = column; is_stmt = is_stmt }))
+        (slice_get table.sources b.source)
 
 -- ---- one more source, by its parts
 
@@ -239,41 +405,58 @@ listed_at [] k d u there = absurd cc
 listed_at (v ∷ units) zero d u there = let same : v ≡ u = cc in ap (λ (w : KeptUnit). w.unit) same
 listed_at (v ∷ units) (suc k) d u there = listed_at units k d u there
 
--- the path of a row's file is that of the file
-same_file : (t : Texts) (u : ListedUnit) (r s : LineRow) → r.file ≡ s.file → unit_path t u r ≡ unit_path t u s
-same_file t u r s same = ap (λ (n : ℕ). unit_path t u (row_of n)) same
+-- the table after one more source
+module _ (t : Texts) (units : List KeptUnit) (old inside : Table) (f : CoveringRows) (listed : ListedUnit) (new : PathList) (s : Source)
+    (path : Result (List ℕ) NoPath) (new_keys : List SourceKey) (new_sources : List Source) (is : inside ≡ old) (is_found : AreFound units f)
+    (are : AreSources t units old) (absent : All (λ k. k ≢ key_of f) old.keys) (within : f.unit < length units)
+    (listed_is : listed ≡ slice_index_or (map (λ (v : KeptUnit). v.unit) units) f.unit listed) (path_is : path ≡ unit_path t listed f.row) where
+  abbrev known : (u : KeptUnit) × (slice_get units f.unit ≡ Some u)
+  known = get_inside units f.unit within
 
--- the source of a row's file in the unit at an index
-pub source_made : (t : Texts) (units : List KeptUnit) (paths : List ℕ) (k file : ℕ) (s : Source) (listed : ListedUnit) (r : LineRow) (d : ListedUnit)
-    → k < length units
-    → listed ≡ slice_index_or (map (λ (v : KeptUnit). v.unit) units) k d → file ≡ r.file → s.unit ≡ listed.offset → source_path paths s ≡ unit_path t listed r
-    → IsSourceOf t units paths (record { unit = k; file = file }) s
-source_made t units paths k file s listed r d lt is file_is offset path =
-    let known = get_inside units k lt in
-    let u = known.0 in
-    let same : listed ≡ u.unit = is ∙ listed_at units k d u known.1 in
-    record {
-      unit = u;
-      there = known.1;
-      offset = offset ∙ ap (λ (v : ListedUnit). v.offset) same;
-      path = λ x x_file. path ∙ ap (λ (v : ListedUnit). unit_path t v r) same ∙ same_file t u.unit r x (sym file_is ∙ sym x_file);
-    }
+  unit_is : listed ≡ known.0.unit
+  unit_is = listed_is ∙ listed_at units f.unit listed known.0 known.1
 
-module _ (old : Table) (keys new_keys : List SourceKey) (sources new_sources : List Source) (paths new_paths : List ℕ) (key : SourceKey) (s : Source)
-    (is : (let o : Table = record { keys = keys; sources = sources; paths = paths } in o) ≡ old) (keys_are : new_keys ≡ keys ++ key ∷ [])
-    (sources_are : new_sources ≡ sources ++ s ∷ []) (goes_on : GoesOn paths new_paths) where
-  pub added_are : (t : Texts) (units : List KeptUnit) → AreSources t units old → IsSourceOf t units new_paths key s
-      → AreSources t units (record { keys = new_keys; sources = new_sources; paths = new_paths })
-  added_are t units are of =
-      subst (λ (ks : List SourceKey). AreSources t units (record { keys = ks; sources = new_sources; paths = new_paths })) (sym keys_are)
-      (subst (λ (ss : List Source). AreSources t units (record { keys = keys ++ key ∷ []; sources = ss; paths = new_paths })) (sym sources_are)
-      (one_more t units (record { keys = keys; sources = sources; paths = paths }) new_paths key s (subst (AreSources t units) (sym is) are) goes_on of))
+  path_of_unit : path ≡ unit_path t known.0.unit f.row
+  path_of_unit = path_is ∙ ap (λ (v : ListedUnit). unit_path t v f.row) unit_is
 
-  pub added_keeps : Keeps old (record { keys = new_keys; sources = new_sources; paths = new_paths })
-  added_keeps = subst (λ (o : Table). Keeps o (record { keys = new_keys; sources = new_sources; paths = new_paths })) is
-      (record { sources = (s ∷ [], sources_are); paths = goes_on })
+  inside_are : AreSources t units inside
+  inside_are = subst (AreSources t units) (sym is) are
 
-  pub added_number : (t : Texts) (units : List KeptUnit) → AreSources t units old → slice_get new_keys (length sources) ≡ Some key
-  added_number t units are =
-      let counts : length keys ≡ length sources = (subst (AreSources t units) (sym is) are).count in
-      ap (slice_get new_keys) (sym counts) ∙ ap (λ (ks : List SourceKey). slice_get ks (length keys)) keys_are ∙ get_last keys key
+  inside_absent : All (λ k. k ≢ key_of f) inside.keys
+  inside_absent = subst (λ (o : Table). All (λ k. k ≢ key_of f) o.keys) (sym is) absent
+
+  -- why it isn't taken in
+  pub not_added : (e : MakeError) → IsSourceFault inside.paths path e → IsTableFault t units e
+  not_added e fault = path_fault t units inside f is_found inside_are known.0 known.1 path e path_of_unit fault
+
+  pub too_many : 0xffff_ffff ≤ length inside.sources → HasManyFiles units
+  too_many many = many_files t units inside f is_found inside_are inside_absent many
+
+  module _ (offset : s.unit ≡ listed.offset) (kept : IsKept inside.paths new path s) (few : length inside.sources < 0xffff_ffff)
+      (keys_are : new_keys ≡ inside.keys ++ key_of f ∷ []) (sources_are : new_sources ≡ inside.sources ++ s ∷ []) where
+    abbrev added : Table
+    added = record { keys = new_keys; sources = new_sources; paths = new }
+
+    abbrev plain : Table
+    plain = record { keys = inside.keys ++ key_of f ∷ []; sources = inside.sources ++ s ∷ []; paths = new }
+
+    added_is : added ≡ plain
+    added_is =
+        ap (λ (ks : List SourceKey). let o : Table = record { keys = ks; sources = new_sources; paths = new } in o) keys_are
+        ∙ ap (λ (ss : List Source). let o : Table = record { keys = inside.keys ++ key_of f ∷ []; sources = ss; paths = new } in o) sources_are
+
+    pub added_are : AreSources t units added
+    added_are =
+        subst (AreSources t units) (sym added_is)
+        (one_more t units inside f is_found inside_are known.0 known.1 new s path path_of_unit (offset ∙ ap (λ (v : ListedUnit). v.offset) unit_is) kept
+        inside_absent few)
+
+    pub added_keeps : Keeps old added
+    added_keeps =
+        subst (λ (o : Table). Keeps o added) is
+        (subst (Keeps inside) (sym added_is) (more_kept t units inside f is_found inside_are known.0 known.1 new s path kept))
+
+    pub added_number : slice_get new_keys (length inside.sources) ≡ Some (key_of f)
+    added_number =
+        ap (λ (ks : List SourceKey). slice_get ks (length inside.sources)) keys_are
+        ∙ number_is t units inside f is_found inside_are known.0 known.1 new s

@@ -1,5 +1,5 @@
 -- Worked indexes: what the definitions say of bytes that were written by hand.
-use Rattle.std.proofs.Common.{◌≡◌, ℕ, List, [], ◌∷◌, ◌++◌, Option, Some, None, Result, Ok, Err, refl}
+use Rattle.std.proofs.Common.{◌≡◌, ℕ, true, false, List, [], ◌∷◌, ◌++◌, Option, Some, None, Result, Ok, Err, refl}
 use Rattle.std.specs.Prelude.{replicate, take, slice_set}
 use Rattle.gimli_core.specs.Reading.{result_map}
 use Rattle.gimli_index.specs.Parts.{index_at}
@@ -29,7 +29,7 @@ sources_4 =
     replicate 8 0 ++ 0 ∷ 0 ∷ 0 ∷ 0 ∷ 4 ∷ 0 ∷ 0 ∷ 0 ∷ replicate 8 0
     ++ 0x23 ∷ 1 ∷ replicate 14 0 ++ 7 ∷ replicate 7 0
 
--- at 0x401000 line 3 of the first, column 5; at 0x401010 nothing; at 0x401120 line 258 of the second
+-- at 0x401000 line 3 of the first, column 5; at 0x401010 nothing; at 0x401120 line 258 of the second, a statement
 abbrev starts_4 : List ℕ
 starts_4 = 0 ∷ 0 ∷ 0 ∷ 0 ∷ 0x10 ∷ 0 ∷ 0 ∷ 0 ∷ 0x20 ∷ 1 ∷ 0 ∷ 0 ∷ []
 
@@ -37,7 +37,7 @@ abbrev entries_4 : List ℕ
 entries_4 =
     0 ∷ 0 ∷ 0 ∷ 0 ∷ 3 ∷ 0 ∷ 0 ∷ 0 ∷ 5 ∷ 0 ∷ 0 ∷ 0
     ∷ 0xff ∷ 0xff ∷ 0xff ∷ 0xff ∷ replicate 8 0
-    ++ 1 ∷ 0 ∷ 0 ∷ 0 ∷ 2 ∷ 1 ∷ 0 ∷ 0 ∷ 0 ∷ 0 ∷ 0 ∷ 0 ∷ []
+    ++ 1 ∷ 0 ∷ 0 ∷ 0 ∷ 2 ∷ 1 ∷ 0 ∷ 0 ∷ 0 ∷ 0 ∷ 0 ∷ 0x80 ∷ []
 
 abbrev paths_4 : List ℕ
 paths_4 = 0x2f ∷ 0x61 ∷ 0x2e ∷ 0x63 ∷ []
@@ -46,10 +46,10 @@ abbrev index_4 : List ℕ
 index_4 = header_4 ++ sources_4 ++ starts_4 ++ entries_4 ++ paths_4 ++ 0xab ∷ 0xcd ∷ []
 
 abbrev first_place : Place
-first_place = record { path = Ok paths_4; line = 3; column = 5; unit = 0 }
+first_place = record { path = Ok paths_4; line = 3; column = 5; is_stmt = false; unit = 0 }
 
 abbrev second_place : Place
-second_place = record { path = Err (Reason 7); line = 258; column = 0; unit = 0x123 }
+second_place = record { path = Err (Reason 7); line = 258; column = 0; is_stmt = true; unit = 0x123 }
 
 pub three_starts : starts_in index_4 ≡ Ok (
     record { address = 0x40_1000; place = Some first_place }
@@ -92,7 +92,7 @@ index_8 =
     ∷ 0 ∷ 0 ∷ 0 ∷ 0 ∷ 1 ∷ 0 ∷ 0 ∷ 0 ∷ 0 ∷ 0 ∷ 0 ∷ 0 ∷ paths_4
 
 pub high_start : starts_in index_8 ≡ Ok (
-    record { address = 0x8000_0000_0000_0001; place = Some (record { path = Err Outside; line = 1; column = 0; unit = 0 }) } ∷ [])
+    record { address = 0x8000_0000_0000_0001; place = Some (record { path = Err Outside; line = 1; column = 0; is_stmt = false; unit = 0 }) } ∷ [])
 high_start = refl
 
 -- ---- refusals

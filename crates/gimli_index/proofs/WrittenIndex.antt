@@ -1,15 +1,24 @@
 -- The index that was written of the entries of a lookup.
-use Rattle.std.proofs.Common.{◌≡◌, ◌∙◌, ℕ, List, [], ◌∷◌, ◌++◌, length, drop, map, None, Result, Ok, Err, refl, sym, ap, subst}
-use Rattle.std.specs.Prelude.{OnOk}
-use Rattle.gimli_lookup.specs.Section.{KeptUnit}
-use Rattle.gimli_index.specs.Contents.{Contents, Fits, entry_start, index_bytes}
-use Rattle.gimli_index.specs.Found.{Given, Texts, AreContentsOf, IsAppended, IsIndexAppended, IsIndexOf, SayWhatIsFound}
-use Rattle.gimli_index.specs.Made.{EntriesAscend}
-use Rattle.gimli_index.specs.Meaning.{place_at}
+use Rattle.std.proofs.Common.{◌≡◌, ◌∙◌, ℕ, List, [], ◌∷◌, ◌++◌, length, drop, map, None, Some, Result, Ok, Err, refl, sym, ap, subst, arith}
+use Rattle.std.specs.Prelude.{All, IfErr, OnOk, slice_get}
+use Rattle.std.specs.Option.{option_map, option_and_then}
+use Rattle.std.proofs.lemmas.List.{length-map}
+use Rattle.std.proofs.lemmas.Option.{slice_get_within}
+use Rattle.gimli_index.specs.Contents.{Contents, Fits, HasColumn, entry_start, index_bytes, line_in}
+use Rattle.gimli_index.specs.Found.{Given, AreContentsOf, IsAppended, IsIndexAppended, IsIndexOf, SayWhatIsFound}
+use Rattle.gimli_index.specs.Made.{EntriesAscend, IsMakeFault}
+use Rattle.gimli_index.specs.Meaning.{Start, place_at}
+use Rattle.gimli_index.specs.Refused.{IsIndexFault}
+use Rattle.gimli_index.specs.Short.{HasPathsOnce, IsShort}
 use Rattle.gimli_index.specs.declared.contents.Entry.{Entry}
 use Rattle.gimli_index.specs.declared.contents.Source.{Source}
-use Rattle.gimli_index.specs.inside.Table.{Entered, Table, starts_in}
-use Rattle.gimli_index.proofs.ReadBack.{read_back}
+use Rattle.gimli_index.specs.declared.contents.SourceLine.{SourceLine}
+use Rattle.gimli_index.specs.declared.error.MakeError.{MakeError}
+use Rattle.gimli_index.specs.declared.error.MakeError.TheVariants.{NotAscending, TooManyEntries, TooManySources, PathsTooLarge, IdentityTooLarge, LineTooLarge}
+use Rattle.gimli_index.specs.declared.error.MakeError.TheVariants.{ColumnTooLarge, OutOfMemory}
+use Rattle.gimli_index.specs.inside.Table.{Entered, IsTableFault, Table, starts_in}
+use Rattle.gimli_index.proofs.Lists.{get_inside}
+use Rattle.gimli_index.proofs.ReadBack.{read_back, starts_ascend}
 
 pub with_ok : {T E : Type 0} (r : Result T E) (A B C P : Type 0) → OnOk r A → OnOk r B → OnOk r C → (A → B → C → P) → OnOk r P
 with_ok (Ok x) A B C P a b c f = f a b c
@@ -28,6 +37,7 @@ index_of given c rest are =
       is_read = read.is_read;
       ascending = read.ascending are.ascending;
       says = λ a found is. ap (place_at a) read.starts ∙ are.says a found is;
+      short = subst IsShort (sym read.starts) are.short;
       address_size = read.address_size ∙ are.address_size;
       identity = read.identity ∙ are.identity;
     }
@@ -38,13 +48,82 @@ index_appended given old new appended rest =
     ap (drop (length old)) appended.bytes ∙ drop_front old (index_bytes appended.contents) in
     subst (λ (bs : List ℕ). IsIndexOf given (bs ++ rest)) (sym left) (index_of given appended.contents rest appended.are)
 
--- contents of all entries say what is found at each address
-pub contents_say : (t : Texts) (units : List KeptUnit) (table : Table) (entries es : List Entry) (sources : List Source) (paths : List ℕ)
-    → Entered t units table entries None
-    → sources ≡ table.sources → es ≡ entries → paths ≡ table.paths
-    → SayWhatIsFound t units (starts_in (record { keys = []; sources = sources; paths = paths }) es)
-contents_say t units table entries es sources paths h sources_are entries_are paths_are a found is =
-    ap (λ (ss : List Source). place_at a (starts_in (record { keys = []; sources = ss; paths = paths }) es)) sources_are
-    ∙ ap (λ (ps : List ℕ). place_at a (starts_in (record { keys = []; sources = table.sources; paths = ps }) es)) paths_are
-    ∙ ap (λ (xs : List Entry). place_at a (starts_in (record { keys = []; sources = table.sources; paths = table.paths }) xs)) entries_are
-    ∙ h.says a found tt is
+-- ---- the contents that are made of a lookup
+
+-- what an entry says, by the sources and the bytes of paths
+abbrev start_by : List Source → List ℕ → Entry → Start
+start_by sources paths e = record {
+  address = e.address;
+  place = option_and_then (λ (l : SourceLine). option_map (line_in paths l) (slice_get sources l.source)) e.place;
+}
+
+module _ (given : Given) (table : Table) (entries : List Entry) (c : Contents) (h : Entered given.texts given.units table entries None)
+    (sources : c.sources ≡ table.sources) (entries_are : c.entries ≡ entries) (paths : c.paths ≡ table.paths.bytes) where
+  same_starts : map (entry_start c) c.entries ≡ starts_in table entries
+  same_starts =
+      ap (λ (ss : List Source). map (start_by ss c.paths) c.entries) sources
+      ∙ ap (λ (ps : List ℕ). map (start_by table.sources ps) c.entries) paths
+      ∙ ap (map (start_by table.sources table.paths.bytes)) entries_are
+
+  ascends : EntriesAscend c.entries
+  ascends = subst EntriesAscend (sym entries_are) h.ascending
+
+  says : SayWhatIsFound given.texts given.units (map (entry_start c) c.entries)
+  says a found is = ap (place_at a) same_starts ∙ h.says a found tt is
+
+  short : IsShort (map (entry_start c) c.entries)
+  short = subst IsShort (sym same_starts) h.short
+
+  paths_once : HasPathsOnce c
+  paths_once = record {
+    paths = table.paths.known;
+    bytes = paths ∙ h.are.paths.bytes;
+    distinct = h.are.paths.distinct;
+    spans = λ k s there zero_is.
+        let at : slice_get table.sources k ≡ Some s = ap (λ (ss : List Source). slice_get ss k) (sym sources) ∙ there in
+        let key = get_inside table.keys k (omega (arith, slice_get_within table.sources k s at, h.are.count)) in
+        (h.are.each k key.0 s key.1 at).span zero_is;
+  }
+
+  pub contents_are : Fits c → c.address_size ≡ given.size → c.identity ≡ given.name → AreContentsOf given c
+  contents_are fits size name = record {
+    fits = fits;
+    ascending = ascends;
+    says = says;
+    short = short;
+    paths_once = paths_once;
+    address_size = size;
+    identity = name;
+  }
+
+  -- why the contents aren't written
+  pub contents_fault : (e : MakeError) → c.identity ≡ given.name → IsMakeFault c e → IsIndexFault given e
+  contents_fault NotAscending name fault = absurd (fault ascends)
+  contents_fault TooManyEntries name fault = record {
+    starts = map (entry_start c) c.entries;
+    ascending = starts_ascend c ascends;
+    says = says;
+    short = short;
+    many = omega (arith, fault, length-map c.entries (entry_start c));
+  }
+  contents_fault TooManySources name fault = absurd (omega (arith, fault, h.are.few, ap (λ (ss : List Source). length ss) sources))
+  contents_fault PathsTooLarge name fault = absurd (omega (arith, fault, h.are.paths.few, ap (λ (ps : List ℕ). length ps) paths))
+  contents_fault IdentityTooLarge name fault = omega (arith, fault, ap (λ (ns : List ℕ). length ns) name)
+  contents_fault LineTooLarge name fault = absurd fault
+  contents_fault ColumnTooLarge name fault = absurd (fault (subst (λ (es : List Entry). All (λ (e : Entry). HasColumn e.place) es) (sym entries_are) h.columns))
+  contents_fault OutOfMemory name fault = tt
+
+-- why what is found isn't taken in
+pub table_fault : (given : Given) (e : MakeError) → IsTableFault given.texts given.units e → IsIndexFault given e
+table_fault given LineTooLarge fault = fault
+table_fault given ColumnTooLarge fault = fault
+table_fault given TooManySources fault = fault
+table_fault given PathsTooLarge fault = fault
+table_fault given OutOfMemory fault = tt
+table_fault given TooManyEntries fault = absurd fault
+table_fault given IdentityTooLarge fault = absurd fault
+table_fault given NotAscending fault = absurd fault
+
+pub on_fault : {T : Type 0} (r : Result T MakeError) (P Q : MakeError → Type 0) → ((e : MakeError) → P e → Q e) → IfErr r P → IfErr r Q
+on_fault (Ok x) P Q f fault = tt
+on_fault (Err e) P Q f fault = f e fault

@@ -1,7 +1,7 @@
 -- What an index is made of, and its bytes (docs/INDEX.md).
 use Rattle.std.specs.Prelude.{◌≡◌, ◌≤◌, ◌<◌, ℕ, ◌+◌, ◌-◌, ◌^◌, true, false, List, ◌++◌, length}
 use Rattle.std.specs.Prelude.{flat_map, slice_get, nat_eq, if◌then◌else◌, Option, Some, None}
-use Rattle.std.specs.Prelude.{Result, Err, All}
+use Rattle.std.specs.Prelude.{Result, Err, All, IfSome}
 use Rattle.std.specs.Option.{option_map, option_and_then}
 use Rattle.gimli_core.specs.Numbers.{is_address_size, number_bytes}
 use Rattle.gimli_index.specs.Header.{magic, size_of, highest_base}
@@ -33,6 +33,7 @@ line_in paths l s = record {
   path = source_path paths s;
   line = l.line;
   column = l.column;
+  is_stmt = l.is_stmt;
   unit = s.unit;
 }
 
@@ -70,8 +71,12 @@ source_bytes s =
 abbrev pub start_bytes : StartSize → ℕ → Entry → List ℕ
 start_bytes size base e = le_bytes (size_of size) (e.address - base)
 
+-- the column in the lower 31 bits of a word; its highest bit says that the code is a statement
+abbrev pub column_word : SourceLine → ℕ
+column_word l = if l.is_stmt then l.column + 2 ^ 31 else l.column
+
 abbrev pub line_bytes : SourceLine → List ℕ
-line_bytes l = le_bytes 4 l.source ++ le_bytes 4 l.line ++ le_bytes 4 l.column
+line_bytes l = le_bytes 4 l.source ++ le_bytes 4 l.line ++ le_bytes 4 (column_word l)
 
 -- no source has the number of a gap
 abbrev pub place_bytes : Option SourceLine → List ℕ
@@ -93,11 +98,15 @@ index_bytes c =
 -- ---- what fits
 
 abbrev pub FitsLine : SourceLine → Type 0
-FitsLine l = (l.source < 2 ^ 32) × (l.line < 2 ^ 32) × (l.column < 2 ^ 32)
+FitsLine l = (l.source < 2 ^ 32) × (l.line < 2 ^ 32) × (l.column < 2 ^ 31)
 
 abbrev pub FitsPlace : Option SourceLine → Type 0
 FitsPlace None = Unit {0}
 FitsPlace (Some l) = FitsLine l
+
+-- the column of a place has 31 bits
+abbrev pub HasColumn : Option SourceLine → Type 0
+HasColumn place = IfSome place (λ l. l.column < 2 ^ 31)
 
 -- an address isn't below the base, nor further above it than a start holds
 abbrev pub IsNear : StartSize → ℕ → Entry → Type 0

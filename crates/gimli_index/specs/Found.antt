@@ -1,5 +1,5 @@
 -- What a lookup finds at an address, as an index says it.
-use Rattle.std.specs.Prelude.{◌≡◌, ◌≤◌, ◌^◌, ◌++◌, ℕ, List, length, drop, map, slice_get, Option}
+use Rattle.std.specs.Prelude.{◌≡◌, ◌++◌, ℕ, List, length, drop, map, slice_get, Option}
 use Rattle.std.specs.Prelude.{None, Some, Result, Ok, Err}
 use Rattle.std.specs.Option.{option_map, option_map_or}
 use Rattle.gimli_compilation.specs.Directories.{directory_for}
@@ -7,6 +7,7 @@ use Rattle.gimli_index.specs.Contents.{Contents, Fits, entry_start, index_bytes}
 use Rattle.gimli_index.specs.Made.{EntriesAscend}
 use Rattle.gimli_index.specs.Meaning.{Place, Start, AreAscending, place_at, starts_of}
 use Rattle.gimli_index.specs.Parts.{Index, index_at}
+use Rattle.gimli_index.specs.Short.{HasPathsOnce, IsShort}
 use Rattle.gimli_index.specs.declared.place.NoPath.{NoPath}
 use Rattle.gimli_index.specs.declared.place.NoPath.TheVariants.{Reason}
 use Rattle.gimli_line.specs.declared.run.row.LineRow.{LineRow}
@@ -81,6 +82,7 @@ row_place t u r = record {
   path = unit_path t u r;
   line = r.line;
   column = r.column;
+  is_stmt = r.is_stmt;
   unit = u.offset;
 }
 
@@ -105,11 +107,13 @@ pub record Given : Type 0 where
   pub size : ℕ
   pub name : List ℕ
 
--- contents that say of each address what is found there
+-- contents that say of each address what is found there, and nothing twice
 pub record AreContentsOf (given : Given) (c : Contents) : Type 0 where
   pub fits : Fits c
   pub ascending : EntriesAscend c.entries
   pub says : SayWhatIsFound given.texts given.units (map (entry_start c) c.entries)
+  pub short : IsShort (map (entry_start c) c.entries)
+  pub paths_once : HasPathsOnce c
   pub address_size : c.address_size ≡ given.size
   pub identity : c.identity ≡ given.name
 
@@ -119,12 +123,13 @@ pub record IsAppended (given : Given) (old new : List ℕ) : Type 0 where
   pub bytes : new ≡ old ++ index_bytes contents
   pub are : AreContentsOf given contents
 
--- bytes begin with an index that says of each address what is found there
+-- bytes begin with an index that says of each address what is found there, and nothing twice
 pub record IsIndexOf (given : Given) (bytes : List ℕ) : Type 0 where
   pub index : Index
   pub is_read : index_at bytes ≡ Ok index
   pub ascending : AreAscending (starts_of index)
   pub says : SayWhatIsFound given.texts given.units (starts_of index)
+  pub short : IsShort (starts_of index)
   pub address_size : index.address_size ≡ given.size
   pub identity : index.identity ≡ given.name
 

@@ -6,7 +6,11 @@ pub mod Meaning
 pub mod Views
 pub mod Spans
 pub mod Sound
+pub mod Lines
+pub mod Ranges
 pub mod inside
 pub mod Contents
+pub mod Short
 pub mod Made
 pub mod Found
+pub mod Refused

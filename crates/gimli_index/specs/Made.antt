@@ -1,11 +1,11 @@
 -- The index of a list of entries, and what keeps it from being made.
 use Rattle.std.specs.Prelude.{◌≡◌, ◌≤◌, ◌<◌, ℕ, ◌-◌, ◌^◌, min, nat_lt, if◌then◌else◌, List, length}
-use Rattle.std.specs.Prelude.{map, slice_get, unwrap_or, Some, Result, Ok}
+use Rattle.std.specs.Prelude.{map, slice_get, unwrap_or, Some, Result, Ok, All}
 use Rattle.std.specs.Option.{option_map}
 use Rattle.gimli_index.specs.Header.{highest_base}
 use Rattle.gimli_index.specs.Parts.{Index}
 use Rattle.gimli_index.specs.Meaning.{AreAscending, starts_of}
-use Rattle.gimli_index.specs.Contents.{Contents, entry_start}
+use Rattle.gimli_index.specs.Contents.{Contents, HasColumn, entry_start}
 use Rattle.gimli_index.specs.declared.contents.Contents.{Contents as Made}
 use Rattle.gimli_index.specs.declared.contents.Entry.{Entry}
 use Rattle.gimli_index.specs.declared.error.IndexError.{IndexError}
@@ -17,11 +17,11 @@ use Rattle.gimli_index.specs.declared.error.MakeError.TheVariants.{ColumnTooLarg
 use Rattle.gimli_index.specs.declared.header.StartSize.{StartSize}
 use Rattle.gimli_index.specs.declared.header.StartSize.TheVariants.{Four, Eight}
 
--- each entry has a higher address than those before it
+-- no entry has a lower address than one before it
 abbrev pub EntriesAscend : List Entry → Type 0
 EntriesAscend entries =
     (i j : ℕ) (x y : Entry) → i < j → slice_get entries i ≡ Some x → slice_get entries j ≡ Some y
-    → x.address < y.address
+    → x.address ≤ y.address
 
 -- the first and the last address; 0 where there are no entries
 abbrev pub first_address : List Entry → ℕ
@@ -61,7 +61,7 @@ IsMakeFault c TooManySources = 2 ^ 32 ≤ length c.sources
 IsMakeFault c PathsTooLarge = 2 ^ 32 ≤ length c.paths
 IsMakeFault c IdentityTooLarge = 2 ^ 32 ≤ length c.identity
 IsMakeFault c LineTooLarge = ⊥
-IsMakeFault c ColumnTooLarge = ⊥
+IsMakeFault c ColumnTooLarge = All (λ e. HasColumn e.place) c.entries → ⊥
 IsMakeFault c OutOfMemory = Unit {0}
 
 -- bytes are read as an index that says what the entries say

@@ -1,5 +1,6 @@
 -- What an index says: from some addresses on a place holds, or nothing (docs/INDEX.md, "Starts").
-use Rattle.std.specs.Prelude.{◌≡◌, ℕ, ◌+◌, ◌*◌, ◌<◌, List, map, fold, length, drop, slice_get}
+use Rattle.std.specs.Prelude.{◌≡◌, ℕ, ◌+◌, ◌-◌, ◌*◌, ◌^◌, ◌<◌, ◌≤◌, Bool, List, map, fold, length}
+use Rattle.std.specs.Prelude.{drop, slice_get}
 use Rattle.std.specs.Prelude.{slice_range, nat_eq, nat_le, nat_lt, if◌then◌else◌, Option, Some}
 use Rattle.std.specs.Prelude.{None, Result, Ok, Err}
 use Rattle.std.specs.List.{range_with_len}
@@ -17,6 +18,8 @@ pub record Place : Type 0 where
   pub line : ℕ
   -- 0 for the left edge
   pub column : ℕ
+  -- the code is a recommended place for a breakpoint (DWARF 5, section 6.2.2)
+  pub is_stmt : Bool
   -- the offset in .debug_line of the unit that says so
   pub unit : ℕ
 
@@ -31,11 +34,11 @@ pub record Start : Type 0 where
 abbrev pub place_at : ℕ → List Start → Option Place
 place_at a starts = fold (λ current s. if nat_le s.address a then s.place else current) None starts
 
--- each start has a higher address than those before it
+-- no start has a lower address than one before it
 abbrev pub AreAscending : List Start → Type 0
 AreAscending starts =
     (i j : ℕ) (x y : Start) → i < j → slice_get starts i ≡ Some x → slice_get starts j ≡ Some y
-    → x.address < y.address
+    → x.address ≤ y.address
 
 -- ---- the starts of an index
 
@@ -56,12 +59,20 @@ path_of paths source =
 abbrev pub source_at : Index → ℕ → List ℕ
 source_at index k = drop (24 * k) index.source_bytes
 
+-- the highest bit of the word of a column says that the code is a statement
+abbrev pub column_in : ℕ → ℕ
+column_in word = if nat_lt word (2 ^ 31) then word else word - 2 ^ 31
+
+abbrev pub is_statement_in : ℕ → Bool
+is_statement_in word = nat_le (2 ^ 31) word
+
 -- the place of an entry and its source
 abbrev pub place_from : List ℕ → List ℕ → List ℕ → Place
 place_from paths entry source = record {
   path = path_of paths source;
   line = number_at 4 4 entry;
-  column = number_at 4 8 entry;
+  column = column_in (number_at 4 8 entry);
+  is_stmt = is_statement_in (number_at 4 8 entry);
   unit = number_at 8 0 source;
 }
 

@@ -34,5 +34,6 @@ place_among paths p = record {
   path = result_map (path_at paths) p.path;
   line = p.line;
   column = p.column;
+  is_stmt = p.is_stmt;
   unit = p.unit;
 }

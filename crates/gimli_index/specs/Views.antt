@@ -26,6 +26,7 @@ place_of p = record {
   path = result_map (λ path. path.now) p.path;
   line = p.line;
   column = p.column;
+  is_stmt = p.is_stmt;
   unit = p.unit;
 }
 

@@ -1,3 +1,5 @@
 -- What no public clause reaches: private functions and proofs alone speak of it.
+pub mod Components
 pub mod Numbers
+pub mod Paths
 pub mod Table

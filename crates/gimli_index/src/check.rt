@@ -11,13 +11,13 @@ use crate::place::NoPath;
 impl<'a> LineIndex<'a> {
     ghost use Rattle.gimli_index.specs.Views.{index_of};
 
-    /// Whether each start is above the one before it.
+    /// Whether no start is below the one before it.
     fn starts_ascend(&self) -> bool
         ensures yes { result ≡ true → NumbersAscend (index_of self.now) }
         ensures no { result ≡ false → NumbersAscend (index_of self.now) → ⊥ }
     {
         for index in 1..self.starts {
-            if self.start_number(index) <= self.start_number(index - 1) {
+            if self.start_number(index) < self.start_number(index - 1) {
                 return false;
             }
         }

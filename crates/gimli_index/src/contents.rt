@@ -1,12 +1,12 @@
 //! What an index is made of.
 
 ghost use Rattle.std.specs.Prelude.{◌≡◌, ◌≤◌, ◌<◌, ◌+◌, ◌^◌, ◌++◌, true, false, flat_map, length};
-ghost use Rattle.std.specs.Prelude.{All, IfErr, IsTrue, OnOk};
+ghost use Rattle.std.specs.Prelude.{◌↔◌, All, IfErr, IsTrue, OnOk};
 ghost use Rattle.gimli_core.specs.Numbers.{is_address_size};
 ghost use Rattle.gimli_index.specs.Contents.{entry_bytes, header_bytes, index_bytes, le_bytes};
 ghost use Rattle.gimli_index.specs.Contents.{line_bytes, place_bytes, source_bytes, start_bytes};
 ghost use Rattle.gimli_index.specs.Contents.{Fits, FitsCounts, FitsLine, FitsPlace, FitsSource};
-ghost use Rattle.gimli_index.specs.Contents.{IsNear};
+ghost use Rattle.gimli_index.specs.Contents.{IsNear, HasColumn, column_word};
 ghost use Rattle.gimli_index.specs.Header.{magic, size_of};
 ghost use Rattle.gimli_index.specs.Made.{base_for, first_address, last_address, size_for};
 ghost use Rattle.gimli_index.specs.Made.{EntriesAscend, IsMakeFault};
@@ -21,6 +21,9 @@ pub(crate) const NO_SOURCE: u32 = 0xffff_ffff;
 
 /// The most that 32 bits count.
 pub(crate) const MOST: usize = 0xffff_ffff;
+
+/// The bit of the word of a column that says that the code is a statement.
+pub(crate) const STATEMENT: u32 = 0x8000_0000;
 
 /// A file of a unit, which entries name by its index.
 ///
@@ -53,6 +56,7 @@ pub struct Source {
 ///     source: 0,
 ///     line,
 ///     column: 0,
+///     is_stmt: true,
 /// };
 /// ```
 #[derive(Clone, Copy, Debug, PartialEq, Eq)]
@@ -61,8 +65,10 @@ pub struct SourceLine {
     pub source: u32,
     /// The line, 0 where none is known.
     pub line: u32,
-    /// The column, 0 for the left edge.
+    /// The column, 0 for the left edge, below `2^31`.
     pub column: u32,
+    /// Whether the code is a recommended place for a breakpoint (DWARF 5, section 6.2.2).
+    pub is_stmt: bool,
 }
 
 /// What holds from an address on, up to that of the next entry.
@@ -101,7 +107,8 @@ pub struct Contents<'a> {
     pub address_size: u16,
     /// The files that the entries name.
     pub sources: &'a [Source],
-    /// The entries, each with a higher address than the one before it.
+    /// The entries, none with a lower address than the one before it. Where several have one
+    /// address, the last of them holds from there on.
     pub entries: &'a [Entry],
     /// The bytes of all paths, one path after the other.
     pub paths: &'a [u8],
@@ -149,18 +156,32 @@ fn put_source(out: &mut Vec<u8>, source: Source) -> Result<(), AllocError>
     put_words(out, source.reason, 0)
 }
 
+/// The column of a line and whether it is a statement, as one word.
+fn column_word(line: SourceLine) -> u32
+    requires { line.column < 2 ^ 31 }
+    ensures { result ≡ column_word line }
+{
+    if line.is_stmt {
+        line.column + STATEMENT
+    } else {
+        line.column
+    }
+}
+
 /// Appends a line.
 fn put_line(out: &mut Vec<u8>, line: SourceLine) -> Result<(), AllocError>
+    requires { line.column < 2 ^ 31 }
     ensures bytes { OnOk result (out.new.items ≡ out.old.items ++ line_bytes line) }
     ensures fits { FitsLine line }
 {
     put_word(out, line.source)?;
     put_word(out, line.line)?;
-    put_word(out, line.column)
+    put_word(out, column_word(line))
 }
 
 /// Appends a line, or a gap.
 fn put_place(out: &mut Vec<u8>, place: Option<SourceLine>) -> Result<(), AllocError>
+    requires { HasColumn place }
     ensures bytes { OnOk result (out.new.items ≡ out.old.items ++ place_bytes place) }
     ensures fits { FitsPlace place }
 {
@@ -220,6 +241,7 @@ fn put_starts(
 
 /// Appends what all entries say.
 fn put_entries(out: &mut Vec<u8>, entries: &[Entry]) -> Result<(), AllocError>
+    requires { All (λ e. HasColumn e.place) entries.now }
     ensures bytes { OnOk result
         (out.new.items ≡ out.old.items ++ flat_map entry_bytes entries.now) }
     ensures fits { OnOk result (All (λ e. FitsPlace e.place) entries.now) }
@@ -230,13 +252,36 @@ fn put_entries(out: &mut Vec<u8>, entries: &[Entry]) -> Result<(), AllocError>
     Ok(())
 }
 
-/// Whether each entry has a higher address than the one before it.
+/// Whether the column of a place has 31 bits.
+fn has_column(place: Option<SourceLine>) -> bool
+    ensures { IsTrue result ↔ HasColumn place }
+{
+    match place {
+        Some(line) => line.column < STATEMENT,
+        None => true,
+    }
+}
+
+/// Whether the columns of all entries have 31 bits.
+fn have_columns(entries: &[Entry]) -> bool
+    ensures yes { result ≡ true → All (λ e. HasColumn e.place) entries.now }
+    ensures no { result ≡ false → All (λ e. HasColumn e.place) entries.now → ⊥ }
+{
+    for entry in entries {
+        if !has_column(entry.place) {
+            return false;
+        }
+    }
+    true
+}
+
+/// Whether no entry has a lower address than the one before it.
 fn entries_ascend(entries: &[Entry]) -> bool
     ensures yes { result ≡ true → EntriesAscend entries.now }
     ensures no { result ≡ false → EntriesAscend entries.now → ⊥ }
 {
     for index in 1..entries.len() {
-        if entries[index].address <= entries[index - 1].address {
+        if entries[index].address < entries[index - 1].address {
             return false;
         }
     }
@@ -319,9 +364,10 @@ impl Contents<'_> {
 
     /// Appends the bytes of the index of these contents, as `docs/INDEX.md` has them.
     ///
-    /// Refuses entries of which one isn't above the one before it (`NotAscending`), and more
-    /// entries, sources or bytes of paths or of the identity than 32 bits count (`TooManyEntries`,
-    /// `TooManySources`, `PathsTooLarge`, `IdentityTooLarge`), before it appends anything. Where it
+    /// Refuses entries of which one is below the one before it (`NotAscending`), more entries,
+    /// sources or bytes of paths or of the identity than 32 bits count (`TooManyEntries`,
+    /// `TooManySources`, `PathsTooLarge`, `IdentityTooLarge`), and columns of more than 31 bits
+    /// (`ColumnTooLarge`), before it appends anything. Where it
     /// fails with `OutOfMemory`, a part of the bytes may be appended. Requires an address size of
     /// 1, 2, 4 or 8 bytes.
     pub fn write(&self, out: &mut Vec<u8>) -> Result<(), MakeError>
@@ -335,6 +381,9 @@ impl Contents<'_> {
         self.check_sizes()?;
         if !entries_ascend(self.entries) {
             return Err(MakeError::NotAscending);
+        }
+        if !have_columns(self.entries) {
+            return Err(MakeError::ColumnTooLarge);
         }
         let first = first_address(self.entries);
         let size = size_for(first, last_address(self.entries));

@@ -69,7 +69,7 @@ impl std::error::Error for IndexError {}
 /// ```
 #[derive(Clone, Copy, Debug, PartialEq, Eq)]
 pub enum MakeError {
-    /// An entry isn't above the one before it.
+    /// An entry is below the one before it.
     NotAscending,
     /// There are `2^32` entries or more.
     TooManyEntries,
@@ -81,7 +81,7 @@ pub enum MakeError {
     IdentityTooLarge,
     /// A line is `2^32` or above.
     LineTooLarge,
-    /// A column is `2^32` or above.
+    /// A column is `2^31` or above.
     ColumnTooLarge,
     /// There was no memory for the index.
     OutOfMemory,

@@ -6,7 +6,9 @@
 //! address on. [`LineIndex::check`] is for bytes that nobody vouches for.
 #![tactic(auto)]
 
+mod addresses;
 mod check;
+mod components;
 mod contents;
 mod error;
 mod header;
@@ -16,14 +18,20 @@ mod made;
 mod number;
 mod origin;
 mod path_bytes;
+mod path_ends;
+mod path_set;
 mod place;
+mod ranges;
 mod source_hints;
+mod source_keys;
 mod source_table;
 mod span;
 
+pub use addresses::Addresses;
 pub use contents::{Contents, Entry, Source, SourceLine};
 pub use error::{IndexError, MakeError};
 pub use line_index::LineIndex;
 pub use made::write_index;
 pub use place::{NoPath, Place, Start};
+pub use ranges::{PlaceRange, PlaceRanges};
 pub use span::{PlaceSpan, Span};

@@ -8,10 +8,11 @@ ghost use Rattle.gimli_index.specs.Header.{size_of, highest_base};
 ghost use Rattle.gimli_index.specs.Parts.{index_at, parts_at};
 ghost use Rattle.gimli_index.specs.Meaning.{entry_place, path_in, path_of, place_at, place_from};
 ghost use Rattle.gimli_index.specs.Meaning.{source_at, start_at, start_number, starts_of};
-ghost use Rattle.gimli_index.specs.Meaning.{AreAscending};
+ghost use Rattle.gimli_index.specs.Meaning.{AreAscending, column_in, is_statement_in};
 ghost use Rattle.gimli_index.specs.Spans.{StandsIn};
 ghost use Rattle.gimli_index.specs.inside.Numbers.{NumbersAscend};
 
+use crate::contents::STATEMENT;
 use crate::error::IndexError;
 use crate::header::{HEADER_SIZE, Header, StartSize};
 use crate::number::{long, word};
@@ -53,6 +54,24 @@ pub struct LineIndex<'a> {
     ghost all_sources: { length source_bytes.now ≡ 24 * sources },
     ghost all_starts: { length start_bytes.now ≡ size_of start_size * starts },
     ghost all_entries: { length entry_bytes.now ≡ 12 * starts },
+}
+
+/// The column of its word.
+pub(crate) fn column_in(word: u32) -> u32
+    ensures { result ≡ column_in word }
+{
+    if word < STATEMENT {
+        word
+    } else {
+        word - STATEMENT
+    }
+}
+
+/// Whether the word of a column says that the code is a statement.
+pub(crate) fn is_statement_in(word: u32) -> bool
+    ensures { result ≡ is_statement_in word }
+{
+    STATEMENT <= word
 }
 
 /// The path in these bytes of the part of paths.
@@ -165,6 +184,14 @@ impl<'a> LineIndex<'a> {
         }
     }
 
+    /// The address of the start of an index.
+    pub(crate) fn address_at(&self, index: usize) -> u64
+        requires { index < self.now.starts }
+        ensures { result ≡ (start_at (index_of self.now) index).address }
+    {
+        self.base + self.start_number(index)
+    }
+
     /// The bytes from a source on.
     pub(crate) fn source(&self, index: usize) -> &'a [u8]
         requires { index < self.now.sources }
@@ -175,7 +202,7 @@ impl<'a> LineIndex<'a> {
     }
 
     /// What the entry of an index says.
-    fn entry_place(&self, index: usize) -> Option<Place<'a>>
+    pub(crate) fn entry_place(&self, index: usize) -> Option<Place<'a>>
         requires { index < self.now.starts }
         ensures { option_map place_of result
             ≡ entry_place (index_of self.now) (drop (12 * index) self.now.entry_bytes.now) }
@@ -194,10 +221,12 @@ impl<'a> LineIndex<'a> {
         requires source { 24 ≤ length source.now }
         ensures { place_of result ≡ place_from self.now.path_bytes.now entry.now source.now }
     {
+        let column = word(entry, 8);
         Place {
             path: path_of(self.path_bytes, source),
             line: word(entry, 4),
-            column: word(entry, 8),
+            column: column_in(column),
+            is_stmt: is_statement_in(column),
             unit: long(source, 0),
         }
     }
@@ -211,7 +240,7 @@ impl<'a> LineIndex<'a> {
             return None;
         }
         Some(Start {
-            address: self.base + self.start_number(index),
+            address: self.address_at(index),
             place: self.entry_place(index),
         })
     }

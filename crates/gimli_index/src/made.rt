@@ -1,9 +1,12 @@
 //! The index of a lookup.
 
-ghost use Rattle.std.specs.Prelude.{◌≡◌, true, slice_get, IfOk, IsTrue, None, OnOk};
+ghost use Rattle.std.specs.Prelude.{◌≡◌, true, false, slice_get, IfErr, IfOk, IsTrue, None, OnOk};
 ghost use Rattle.gimli_core.specs.Numbers.{is_address_size};
 ghost use Rattle.gimli_index.specs.Found.{texts_of, IsAppended, IsIndexAppended};
-ghost use Rattle.gimli_index.specs.inside.Table.{place_in, AreSources, Entered, IsPushed, Table};
+ghost use Rattle.gimli_index.specs.Refused.{IsIndexFault};
+ghost use Rattle.gimli_index.specs.declared.error.MakeError.TheVariants.{OutOfMemory};
+ghost use Rattle.gimli_index.specs.inside.Table.{AreSources, Entered, IsPushed, IsTableFault};
+ghost use Rattle.gimli_index.specs.inside.Table.{SayTheSame};
 
 use crate::contents::{Contents, Entry, Source, SourceLine};
 use crate::error::MakeError;
@@ -16,26 +19,31 @@ use std::alloc::Global;
 
 /// Whether two numbers are of sources that are the same.
 fn is_same_source(sources: &[Source], first: u32, second: u32) -> bool
-    ensures { result ≡ true → slice_get sources.now first ≡ slice_get sources.now second }
+    ensures yes { result ≡ true → slice_get sources.now first ≡ slice_get sources.now second }
+    ensures no { result ≡ false → slice_get sources.now first ≡ slice_get sources.now second → ⊥ }
 {
     if first == second {
         return true;
     }
     match (sources.get(first as usize), sources.get(second as usize)) {
         (Some(first), Some(second)) => *first == *second,
+        (None, None) => true,
         _ => false,
     }
 }
 
 /// Whether two places are the same.
 fn is_same(sources: &[Source], first: Option<SourceLine>, second: Option<SourceLine>) -> bool
-    ensures { result ≡ true → (table : Table) → table.sources ≡ sources.now
-        → place_in table first ≡ place_in table second }
+    ensures yes { result ≡ true → SayTheSame sources.now first second }
+    ensures no { result ≡ false → SayTheSame sources.now first second → ⊥ }
 {
     match (first, second) {
         (None, None) => true,
         (Some(a), Some(b)) => {
-            a.line == b.line && a.column == b.column && is_same_source(sources, a.source, b.source)
+            a.line == b.line
+                && a.column == b.column
+                && a.is_stmt == b.is_stmt
+                && is_same_source(sources, a.source, b.source)
         }
         _ => false,
     }
@@ -43,7 +51,8 @@ fn is_same(sources: &[Source], first: Option<SourceLine>, second: Option<SourceL
 
 /// Appends an entry, unless the last one says the same.
 fn push(entries: &mut Vec<Entry>, sources: &[Source], entry: Entry) -> Result<(), MakeError>
-    ensures { OnOk result (IsPushed sources.now entries.old.items entries.new.items entry) }
+    ensures pushed { OnOk result (IsPushed sources.now entries.old.items entries.new.items entry) }
+    ensures err { IfErr result (λ e. e ≡ OutOfMemory) }
 {
     let before = match entries.last() {
         Some(last) => last.place,
@@ -67,9 +76,12 @@ fn take_ranges<R: Reader>(
     requires entered { Entered
         (texts_of R.bytes origin.now.strings.now origin.now.compilations.now)
         origin.now.lookup.now table.old entries.old.items ranges.old.from }
-    ensures { OnOk result (Entered
+    ensures entered { OnOk result (Entered
         (texts_of R.bytes origin.now.strings.now origin.now.compilations.now)
         origin.now.lookup.now table.new entries.new.items None) }
+    ensures err { IfErr result (IsTableFault
+        (texts_of R.bytes origin.now.strings.now origin.now.compilations.now)
+        origin.now.lookup.now) }
 {
     'ranges: while let Some(range) = ranges.next_range() {
         let place = table.place_of(origin, range.rows)?;
@@ -89,9 +101,12 @@ fn entries_of<R: Reader>(
 ) -> Result<Vec<Entry>, MakeError>
     requires { AreSources (texts_of R.bytes origin.now.strings.now origin.now.compilations.now)
         origin.now.lookup.now table.old }
-    ensures { IfOk result (λ entries. Entered
+    ensures entered { IfOk result (λ entries. Entered
         (texts_of R.bytes origin.now.strings.now origin.now.compilations.now)
         origin.now.lookup.now table.new entries.items None) }
+    ensures err { IfErr result (IsTableFault
+        (texts_of R.bytes origin.now.strings.now origin.now.compilations.now)
+        origin.now.lookup.now) }
 {
     let mut entries = Vec::new(origin.alloc);
     let mut ranges = origin.lookup.ranges();
@@ -131,6 +146,12 @@ pub fn write_index<R: Reader>(
       size = address_size;
       name = identity.now;
     }) out.old.items out.new.items) }
+    ensures err { IfErr result (IsIndexFault (record {
+      texts = texts_of R.bytes strings.now compilations.now;
+      units = lookup.now;
+      size = address_size;
+      name = identity.now;
+    })) }
 {
     let origin = Origin {
         alloc,

@@ -5,7 +5,7 @@ ghost use Rattle.gimli_compilation.specs.Directories.{directory_for};
 ghost use Rattle.gimli_lookup.specs.Paths.{row_path};
 ghost use Rattle.gimli_lookup.specs.declared.path_error.PathError.TheVariants.{OutOfMemory};
 ghost use Rattle.gimli_index.specs.Found.{path_by, reason_of, texts_of, unit_path, unit_paths};
-ghost use Rattle.gimli_index.specs.inside.Table.{made_path};
+ghost use Rattle.gimli_index.specs.inside.Paths.{made_path};
 
 use crate::error::MakeError;
 use gimli_compilation::Compilations;
@@ -74,6 +74,7 @@ impl<R: Reader> Origin<'_, R> {
         ensures path { IfOk result (λ path. made_path path ≡ unit_path
             (texts_of R.bytes self.now.strings.now self.now.compilations.now) unit.now row.now) }
         ensures reason { IfOk result (λ path. IfErr path (λ reason. reason ≢ 0)) }
+        ensures err { IfErr result (λ e. e ≡ MakeError.OutOfMemory) }
     {
         let Some(header) = unit.header() else {
             return Ok(Err(NO_HEADER));

@@ -42,6 +42,8 @@ pub struct Place<'a> {
     pub line: u32,
     /// The column, 0 for the left edge.
     pub column: u32,
+    /// Whether the code is a recommended place for a breakpoint (DWARF 5, section 6.2.2).
+    pub is_stmt: bool,
     /// The offset in `.debug_line` of the unit that says so, by which `DW_AT_stmt_list` names it.
     pub unit: u64,
 }

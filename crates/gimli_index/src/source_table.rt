@@ -1,31 +1,32 @@
 //! The sources of an index in the making.
 
-ghost use Rattle.std.specs.Prelude.{◌≡◌, ◌<◌, Some, [], length, slice_get, IfOk, IfSome, OnOk};
+ghost use Rattle.std.specs.Prelude.{◌≡◌, ◌≢◌, ◌<◌, ◌≤◌, ◌^◌, Some, length, slice_get, All, IfErr};
+ghost use Rattle.std.specs.Prelude.{IfOk};
+ghost use Rattle.std.specs.Prelude.{IfSome, MatchOption, OnOk};
+ghost use Rattle.gimli_index.specs.Contents.{HasColumn};
 ghost use Rattle.gimli_index.specs.Found.{found_place, texts_of};
-ghost use Rattle.gimli_index.specs.inside.Table.{AreSources, IsInside, Keeps, place_in};
+ghost use Rattle.gimli_index.specs.Refused.{AreFound};
+ghost use Rattle.gimli_index.specs.declared.error.MakeError.TheVariants.{ColumnTooLarge};
+ghost use Rattle.gimli_index.specs.declared.error.MakeError.TheVariants.{LineTooLarge};
+ghost use Rattle.gimli_index.specs.inside.Table.{AreSources, IsInside, IsTableFault, Keeps, key_of};
+ghost use Rattle.gimli_index.specs.inside.Table.{no_table, place_in};
 
-use crate::contents::{MOST, Source, SourceLine};
+use crate::contents::{MOST, STATEMENT, Source, SourceLine};
 use crate::error::MakeError;
 use crate::origin::Origin;
 use crate::path_bytes::PathBytes;
 use crate::source_hints::SourceHints;
+use crate::source_keys::{SourceKey, SourceKeys};
 use gimli_core::{Reader, ReaderOffset};
 use gimli_line::{ColumnType, LineRow};
 use gimli_lookup::{CoveringRows, SectionLookup};
 use std::alloc::{AllocError, Global};
 use std::marker::Model;
 
-/// What a source is of: a file of a unit, by the index of the unit.
-#[derive(Clone, Copy, Debug, PartialEq, Eq)]
-pub(crate) struct SourceKey {
-    pub(crate) unit: usize,
-    pub(crate) file: u64,
-}
-
 /// The sources so far.
 #[derive(Drop)]
 pub(crate) struct SourceTable {
-    keys: Vec<SourceKey>,
+    keys: SourceKeys,
     sources: Vec<Source>,
     paths: PathBytes,
     hints: SourceHints,
@@ -37,7 +38,7 @@ impl Model for SourceTable {
     ghost Value = { Table };
 
     ghost view = { λ a. record {
-      keys = a.keys.items;
+      keys = a.keys;
       sources = a.sources.items;
       paths = a.paths;
     } };
@@ -45,7 +46,8 @@ impl Model for SourceTable {
 
 /// A line in 32 bits.
 fn line_of(row: &LineRow) -> Result<u32, MakeError>
-    ensures { IfOk result (λ line. line ≡ row.now.line) }
+    ensures ok { IfOk result (λ line. line ≡ row.now.line) }
+    ensures err { IfErr result (λ e. (e ≡ LineTooLarge) × (2 ^ 32 ≤ row.now.line)) }
 {
     let line = match row.line() {
         Some(line) => line.get(),
@@ -57,17 +59,30 @@ fn line_of(row: &LineRow) -> Result<u32, MakeError>
     }
 }
 
-/// A column in 32 bits.
+/// A column in 31 bits.
 fn column_of(row: &LineRow) -> Result<u32, MakeError>
-    ensures { IfOk result (λ column. column ≡ row.now.column) }
+    ensures ok { IfOk result (λ column. column ≡ row.now.column) }
+    ensures few { IfOk result (λ column. column < 2 ^ 31) }
+    ensures err { IfErr result (λ e. (e ≡ ColumnTooLarge) × (2 ^ 31 ≤ row.now.column)) }
 {
     let column = match row.column() {
         ColumnType::LeftEdge => 0,
         ColumnType::Column(column) => column.get(),
     };
-    match u32::try_from(column) {
-        Ok(column) => Ok(column),
-        Err(_) => Err(MakeError::ColumnTooLarge),
+    if column < u64::from(STATEMENT) {
+        Ok(column as u32)
+    } else {
+        Err(MakeError::ColumnTooLarge)
+    }
+}
+
+/// The file of a row.
+fn key_of(rows: &CoveringRows) -> SourceKey
+    ensures { result ≡ key_of rows.now }
+{
+    SourceKey {
+        unit: rows.unit,
+        file: rows.row.file_index(),
     }
 }
 
@@ -77,11 +92,11 @@ impl SourceTable {
         alloc: Global,
         lookup: &SectionLookup<R>,
     ) -> Result<SourceTable, AllocError>
-        ensures { IfOk result (λ table. table ≡ record { keys = []; sources = []; paths = [] }) }
+        ensures { IfOk result (λ table. table ≡ no_table) }
     {
         let hints = SourceHints::new(alloc, lookup)?;
         Ok(SourceTable {
-            keys: Vec::new(alloc),
+            keys: SourceKeys::new(alloc),
             sources: Vec::new(alloc),
             paths: PathBytes::new(alloc),
             hints,
@@ -97,33 +112,42 @@ impl SourceTable {
 
     /// The bytes of the paths.
     pub(crate) fn paths(&self) -> &[u8]
-        ensures { result.now ≡ self.now.paths }
+        ensures { result.now ≡ self.now.paths.bytes }
     {
         self.paths.as_slice()
     }
 
-    /// The number of the source of a file of a unit, if it has one.
-    fn number_of(&self, unit: usize, file: u64) -> Option<u32>
-        ensures { IfSome result (λ number.
-            slice_get self.now.keys number ≡ Some (record { unit = unit; file = file })) }
+    /// The number of the source of a file, where it is known at once.
+    fn known_number(&self, key: SourceKey) -> Option<u32>
+        ensures { IfSome result (λ number. slice_get self.now.keys number ≡ Some key) }
     {
-        let number = self.hints.get(unit, file)?;
-        let key = *self.keys.get(number as usize)?;
-        if key.unit == unit && key.file == file {
-            Some(number)
-        } else {
-            None
+        let number = self.hints.get(key.unit, key.file)?;
+        let known = self.keys.get(number as usize)?;
+        if known == key { Some(number) } else { None }
+    }
+
+    /// The number of the source of a file, if it has one.
+    fn number_of(&self, key: SourceKey) -> Option<u32>
+        requires { length self.now.keys < 2 ^ 32 }
+        ensures { MatchOption result (All (λ k. k ≢ key) self.now.keys)
+            (λ number. slice_get self.now.keys number ≡ Some key) }
+    {
+        if let Some(number) = self.known_number(key) {
+            return Some(number);
         }
+        let number = self.keys.find(key)?;
+        Some(number as u32)
     }
 
     /// Appends the source of a row's file. Requires an index of a unit.
     fn add<R: Reader>(
         &mut self,
         origin: &Origin<'_, R>,
-        unit: usize,
-        row: &LineRow,
+        rows: &CoveringRows,
     ) -> Result<u32, MakeError>
-        requires unit { unit < length origin.now.lookup.now }
+        requires unit { rows.now.unit < length origin.now.lookup.now }
+        requires found { AreFound origin.now.lookup.now rows.now }
+        requires absent { All (λ k. k ≢ key_of rows.now) self.old.keys }
         requires are { AreSources
             (texts_of R.bytes origin.now.strings.now origin.now.compilations.now)
             origin.now.lookup.now self.old }
@@ -131,21 +155,24 @@ impl SourceTable {
             (texts_of R.bytes origin.now.strings.now origin.now.compilations.now)
             origin.now.lookup.now self.new) }
         ensures keeps { OnOk result (Keeps self.old self.new) }
-        ensures number { IfOk result (λ number. slice_get self.new.keys number
-            ≡ Some (record { unit = unit; file = row.now.file })) }
+        ensures number { IfOk result
+            (λ number. slice_get self.new.keys number ≡ Some (key_of rows.now)) }
+        ensures err { IfErr result (IsTableFault
+            (texts_of R.bytes origin.now.strings.now origin.now.compilations.now)
+            origin.now.lookup.now) }
     {
         let number = self.sources.len();
         if number >= MOST {
             return Err(MakeError::TooManySources);
         }
-        let of_unit = &origin.lookup.units()[unit];
-        let path = origin.path_of(of_unit, row)?;
-        let offset = of_unit.offset().0.into_u64();
+        let unit = &origin.lookup.units()[rows.unit];
+        let path = origin.path_of(unit, &rows.row)?;
+        let offset = unit.offset().0.into_u64();
         let source = self.paths.source(origin.alloc, offset, path)?;
-        let file = row.file_index();
+        let key = key_of(rows);
         self.sources.push(source)?;
-        self.keys.push(SourceKey { unit, file })?;
-        self.hints.set(unit, file, number as u32);
+        self.keys.add(key)?;
+        self.hints.set(key.unit, key.file, number as u32);
         Ok(number as u32)
     }
 
@@ -154,10 +181,10 @@ impl SourceTable {
     fn source_of<R: Reader>(
         &mut self,
         origin: &Origin<'_, R>,
-        unit: usize,
-        row: &LineRow,
+        rows: &CoveringRows,
     ) -> Result<u32, MakeError>
-        requires unit { unit < length origin.now.lookup.now }
+        requires unit { rows.now.unit < length origin.now.lookup.now }
+        requires found { AreFound origin.now.lookup.now rows.now }
         requires are { AreSources
             (texts_of R.bytes origin.now.strings.now origin.now.compilations.now)
             origin.now.lookup.now self.old }
@@ -165,13 +192,16 @@ impl SourceTable {
             (texts_of R.bytes origin.now.strings.now origin.now.compilations.now)
             origin.now.lookup.now self.new) }
         ensures keeps { OnOk result (Keeps self.old self.new) }
-        ensures number { IfOk result (λ number. slice_get self.new.keys number
-            ≡ Some (record { unit = unit; file = row.now.file })) }
+        ensures number { IfOk result
+            (λ number. slice_get self.new.keys number ≡ Some (key_of rows.now)) }
+        ensures err { IfErr result (IsTableFault
+            (texts_of R.bytes origin.now.strings.now origin.now.compilations.now)
+            origin.now.lookup.now) }
     {
-        if let Some(number) = self.number_of(unit, row.file_index()) {
-            return Ok(number);
+        match self.number_of(key_of(rows)) {
+            Some(number) => Ok(number),
+            None => self.add(origin, rows),
         }
-        self.add(origin, unit, row)
     }
 
     /// The place of what a lookup finds. Requires an index of a unit.
@@ -181,6 +211,7 @@ impl SourceTable {
         found: Option<CoveringRows>,
     ) -> Result<Option<SourceLine>, MakeError>
         requires unit { IfSome found (λ f. f.unit < length origin.now.lookup.now) }
+        requires found { IfSome found (AreFound origin.now.lookup.now) }
         requires are { AreSources
             (texts_of R.bytes origin.now.strings.now origin.now.compilations.now)
             origin.now.lookup.now self.old }
@@ -192,17 +223,22 @@ impl SourceTable {
         ensures place { IfOk result (λ place. place_in self.new place ≡ found_place
             (texts_of R.bytes origin.now.strings.now origin.now.compilations.now)
             origin.now.lookup.now found) }
+        ensures column { IfOk result HasColumn }
+        ensures err { IfErr result (IsTableFault
+            (texts_of R.bytes origin.now.strings.now origin.now.compilations.now)
+            origin.now.lookup.now) }
     {
         let Some(rows) = found else {
             return Ok(None);
         };
         let line = line_of(&rows.row)?;
         let column = column_of(&rows.row)?;
-        let source = self.source_of(origin, rows.unit, &rows.row)?;
+        let source = self.source_of(origin, &rows)?;
         Ok(Some(SourceLine {
             source,
             line,
             column,
+            is_stmt: rows.row.is_stmt(),
         }))
     }
 }

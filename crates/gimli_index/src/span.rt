@@ -7,7 +7,7 @@ ghost use Rattle.gimli_index.specs.Meaning.{entry_place, path_of, place_at, star
 ghost use Rattle.gimli_index.specs.Meaning.{AreAscending};
 ghost use Rattle.gimli_index.specs.Spans.{identity_begin, paths_begin, path_at, place_among};
 
-use crate::line_index::{ENTRY_SIZE, LineIndex};
+use crate::line_index::{ENTRY_SIZE, LineIndex, column_in, is_statement_in};
 use crate::number::{long, word};
 use crate::place::NoPath;
 
@@ -42,6 +42,8 @@ pub struct PlaceSpan {
     pub line: u32,
     /// The column, 0 for the left edge.
     pub column: u32,
+    /// Whether the code is a recommended place for a breakpoint (DWARF 5, section 6.2.2).
+    pub is_stmt: bool,
     /// The offset in `.debug_line` of the unit that says so.
     pub unit: u64,
 }
@@ -96,10 +98,12 @@ impl<'a> LineIndex<'a> {
             return None;
         }
         let source = self.source(number);
+        let column = word(entry, 8);
         Some(PlaceSpan {
             path: self.path_span(source),
             line: word(entry, 4),
-            column: word(entry, 8),
+            column: column_in(column),
+            is_stmt: is_statement_in(column),
             unit: long(source, 0),
         })
     }

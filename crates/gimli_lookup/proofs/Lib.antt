@@ -28,3 +28,4 @@ pub mod SequenceCuts
 pub mod SectionAddressSteps
 pub mod StillFound
 pub mod NearerEnds
+pub mod ComponentLists

@@ -7,6 +7,7 @@ pub mod Cut
 pub mod Strings
 pub mod Paths
 pub mod Run
+pub mod Components
 pub mod Statements
 pub mod PathFiles
 pub mod UnitRun

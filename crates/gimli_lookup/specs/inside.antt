@@ -9,3 +9,4 @@ pub mod SequenceCut
 pub mod StatementLines
 pub mod Statements
 pub mod Steps
+pub mod Components

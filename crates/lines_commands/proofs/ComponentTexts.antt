@@ -6,8 +6,10 @@ use Rattle.std.proofs.lemmas.List.{map-append}
 use Rattle.std.proofs.lemmas.Slice.Eq.{starts_is}
 use Rattle.std.proofs.lemmas.Bool.Decides.{Decides-eqb}
 use Rattle.gimli_lookup.specs.Paths.{is_separator, begins_with_separator}
-use Rattle.lines_commands.specs.Components.{up, with_component, resolved, start_of, components, EndsWith}
-use Rattle.lines_commands.specs.KeptComponents.{kept, up_by}
+use Rattle.gimli_lookup.specs.Components.{up, with_component, resolved, start_of, components, EndsWith}
+use Rattle.gimli_lookup.proofs.ComponentLists.{dots, resolved_last, up_by_nothing}
+use Rattle.lines_commands.specs.KeptComponents.{kept}
+use Rattle.gimli_lookup.specs.inside.Components.{up_by}
 
 -- ---- no component has a `/`
 
@@ -98,30 +100,6 @@ ends_with_is path other text end r e t u =
 
 -- ---- one component after the other
 
-pub resolved_last : (before cs : List (List ℕ)) (c : List ℕ) → resolved before (cs ++ c ∷ []) ≡ with_component (resolved before cs) c
-resolved_last before [] c = refl
-resolved_last before (d ∷ cs) c = resolved_last (with_component before d) cs c
-
-pub up_by_root : (n : ℕ) → up_by n ([] ∷ []) ≡ [] ∷ []
-up_by_root zero = refl
-up_by_root (suc n) = up_by_root n
-
--- so many `..`
-abbrev pub dots : ℕ → List (List ℕ)
-dots zero = []
-dots (suc n) = codes ".." ∷ dots n
-
-up_dots : (n : ℕ) → up (dots n) ≡ dots (suc n)
-up_dots zero = refl
-up_dots (suc n) = refl
-
-up_by_dots : (n m : ℕ) → up_by n (dots m) ≡ dots (n + m)
-up_by_dots zero m = ap dots (omega arith)
-up_by_dots (suc n) m = ap (up_by n) (up_dots m) ∙ up_by_dots n (suc m) ∙ ap dots (omega arith)
-
-pub up_by_nothing : (n : ℕ) → up_by n [] ≡ dots n
-up_by_nothing n = up_by_dots n 0 ∙ ap dots (omega arith)
-
 -- one more `..` before the end
 pub one_up : (text : List ℕ) (n i : ℕ) → i < n → (text ++ codes "../") ++ kept (dots (n - (i + 1))) ≡ text ++ kept (dots (n - i))
 one_up text n i l =
@@ -132,10 +110,6 @@ pub all_ups : (text old : List ℕ) (n i : ℕ) → n ≤ i → text ++ kept (do
 all_ups text old n i l h =
     let e : 0 ≡ n - i = omega arith in
     sym (append-nil text) ∙ ap (λ m. text ++ kept (dots m)) e ∙ h ∙ ap (λ cs. old ++ kept cs) (sym (up_by_nothing n))
-
-pub at_root : (path : List ℕ) → 1 ≤ length path → is_separator (get_or path 0 0) ≡ true → start_of path ≡ [] ∷ []
-at_root [] l e = absurd (omega (arith, l))
-at_root (b ∷ path) l e = ap (λ v. cond v ([] ∷ []) []) e
 
 -- the written components without the last one, and that one
 pub popped : (before : List (List ℕ)) (xs ys : List (Bor (List ℕ))) (x : Bor (List ℕ)) → xs ≡ ys ++ x ∷ []

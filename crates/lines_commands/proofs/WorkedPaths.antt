@@ -1,6 +1,6 @@
 -- Worked paths: the components of each, computed from the definition, the last one first.
 use Rattle.std.proofs.Common.{◌≡◌, ℕ, List, [], ◌∷◌, codes, refl, ap, get_or, length, arith}
-use Rattle.lines_commands.specs.Components.{components, EndsWith}
+use Rattle.gimli_lookup.specs.Components.{components, EndsWith}
 
 -- `.` and doubled separators add nothing
 same_directory : components (codes "/p/.//util.h") ≡ codes "util.h" ∷ codes "p" ∷ [] ∷ []

@@ -1,5 +1,4 @@
 pub mod Choice
-pub mod Components
 pub mod Findings
 pub mod KeptComponents
 pub mod Lines

@@ -7,8 +7,9 @@ ghost use Rattle.std.specs.Prelude.{◌≡◌, ◌≤◌, ◌<◌, ◌+◌, ◌^
 ghost use Rattle.std.specs.Prelude.{List, [], IfOk, IsTrue, OnOk, map};
 ghost use Rattle.std.specs.List.{slice_split};
 ghost use Rattle.gimli_lookup.specs.Paths.{is_separator};
-ghost use Rattle.lines_commands.specs.Components.{components, start_of, with_component, EndsWith};
-ghost use Rattle.lines_commands.specs.KeptComponents.{kept, up_by};
+ghost use Rattle.gimli_lookup.specs.Components.{components, start_of, with_component, EndsWith};
+ghost use Rattle.lines_commands.specs.KeptComponents.{kept};
+ghost use Rattle.gimli_lookup.specs.inside.Components.{up_by};
 
 use crate::path_text::is_separator;
 use std::alloc::{AllocError, Global};

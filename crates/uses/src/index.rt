@@ -55,6 +55,7 @@ fn line_at(address: u64, line: u32) -> Entry {
         source: 0,
         line,
         column: 0,
+        is_stmt: true,
     };
     Entry {
         address,

@@ -8,6 +8,11 @@
 //! - `shift LINES OFFSET BY [DIRECTORY [NAME]]` prints the rows of a unit up to version 4 in
 //!   version 5, each address moved.
 //! - `index` prints what an index says that it makes of two lines.
+//! - `line_map FILE PATH LINE ADDRESS..` makes the index of an ELF file, and prints its ranges,
+//!   where the code at each address comes from, and where the code of a line begins.
+//! - `map_bytes` prints the bytes of the index of a unit of two rows and an end.
+//! - `map_damage TIMES` changes each of these bytes to each value, cuts them at each length, and
+//!   changes four at random so many times; it prints what is refused, and what is answered.
 //!
 //! After the word `then` another command may follow. A command that is refused says why, and the
 //! next one is run.
@@ -18,9 +23,12 @@ mod constants;
 mod converting;
 mod ends;
 mod index;
+mod line_map;
 mod lookup;
 mod make_object;
 mod make_unit;
+mod map_bytes;
+mod map_damage;
 mod numbers;
 mod reading;
 mod shift;
@@ -55,6 +63,9 @@ fn run(rt: &HostRuntime, command: &[String]) -> Result<()> {
         "make_unit" => make_unit::start(rt, words),
         "shift" => shift::start(rt, words),
         "index" => index::start(rt, words),
+        "line_map" => line_map::start(rt, words),
+        "map_bytes" => map_bytes::start(rt, words),
+        "map_damage" => map_damage::start(rt, words),
         _ => bail!("no command {program}"),
     }
 }

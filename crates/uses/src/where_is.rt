@@ -30,6 +30,15 @@ pub fn start(rt: &HostRuntime, words: &[String]) -> Result<()> {
 /// Adds a line for each address of an ELF file.
 fn print_places(alloc: Global, file: &[u8], addresses: &[String], text: &mut String) -> Result<()> {
     let elf = Elf::parse(file)?;
+    let program = program_of(alloc, elf)?;
+    where_is(alloc, &program, addresses, text)
+}
+
+/// What is kept of the program of an ELF file.
+pub fn program_of<'a>(
+    alloc: Global,
+    elf: Elf<'a>,
+) -> Result<Program<EndianSlice<'a, LittleEndian>>> {
     let lines = section(&elf, b".debug_line")?;
     let sections = CompilationSections {
         debug_info: section(&elf, b".debug_info")?,
@@ -40,7 +49,7 @@ fn print_places(alloc: Global, file: &[u8], addresses: &[String], text: &mut Str
     };
     let lowest = elf.lowest_code_address().unwrap_or(0);
     let program = Program::new(alloc, DebugLine::from(lines), sections, lowest)?;
-    where_is(alloc, &program, addresses, text)
+    Ok(program)
 }
 
 /// A section of an ELF file; no bytes where it has none of this name.

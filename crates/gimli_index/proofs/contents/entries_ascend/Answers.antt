@@ -1,4 +1,4 @@
-use Rattle.std.proofs.Common.{◌≡◌, ◌-◌, ◌<◌, ℕ, None, get_or, ap, arith, inl, inr}
+use Rattle.std.proofs.Common.{◌≡◌, ◌-◌, ◌<◌, ◌≤◌, ℕ, None, get_or, ap, arith, inl, inr}
 use Rattle.std.proofs.lemmas.Bool.{cases_lt}
 use Rattle.std.proofs.lemmas.Option.{get_or_from_slice_get, slice_get_within}
 use Rattle.gimli_index.specs.declared.contents.Entry.{Entry}
@@ -11,7 +11,7 @@ pub loop-index-preserved : goal.loop-index-preserved
 loop-index-preserved c =
     let addresses : ℕ → ℕ = λ i. (get_or c.args.entries.now i nowhere).address in
     let index = c.loop-index.index in
-    let risen : addresses (index - 1) < addresses index = c.if-entries-index.false in
+    let risen : addresses (index - 1) ≤ addresses index = c.if-entries-index.false in
     λ i j lt within. elim (cases_lt j index) [
       | inl before ↦ c.loop-index.invariant i j lt before
       | inr here ↦

@@ -1,11 +1,11 @@
-use Rattle.std.proofs.Common.{◌≡◌, ◌∙◌, ℕ, List, Option, Some, subst, sym}
+use Rattle.std.proofs.Common.{◌∙◌, ℕ, List, Option, Some, subst, sym}
 use Rattle.gimli_lookup.specs.Ranges.{AreFoundIn}
 use Rattle.gimli_lookup.specs.Section.{KeptUnit}
 use Rattle.gimli_index.specs.Found.{texts_of}
 use Rattle.gimli_index.specs.declared.contents.Entry.{Entry}
 use Rattle.gimli_index.specs.declared.contents.Source.{Source}
 use Rattle.gimli_index.specs.inside.Table.{Entered, IsPushed}
-use Rattle.gimli_index.proofs.Entered.{still_entered, pushed}
+use Rattle.gimli_index.proofs.Entered.{pushed, rows_found, still_entered, unit_within}
 use Rattle.gimli_index.proofs.made.take_ranges.Goals as goal
 
 pub ranges-2-preserved : goal.ranges-2-preserved
@@ -25,10 +25,26 @@ ranges-2-preserved g c =
     subst (λ (o : Option ℕ). Entered t units old before o) said.start c.ranges-2.invariant.entered in
     let found : AreFoundIn units range = subst (λ (us : List KeptUnit). AreFoundIn us range) c.ranges-2.invariant.units said.found in
     let is_pushed : IsPushed new.sources before after entry =
-    subst (λ (ss : List Source). IsPushed ss before after entry) c.sources.ensures c.in_ok-push.ensures in
+    subst (λ (ss : List Source). IsPushed ss before after entry) c.sources.ensures c.in_ok-push.ensures.pushed in
     record {
       units = said.units ∙ c.ranges-2.invariant.units;
       entered = subst (λ (o : Option ℕ). Entered t units new after o) (sym said.left)
           (pushed t units new before after range place (still_entered t units old new before (Some range.start) so_far placed.keeps placed.are) said.end found
-          placed.inside placed.place is_pushed);
+          placed.inside placed.place placed.column is_pushed);
     }
+
+pub place_of-requires-clause-found : goal.place_of-requires-clause-found
+place_of-requires-clause-found g c =
+    let units = c.args.origin.now.lookup.now in
+    let range = c.in-Some.range in
+    let said = c.in-Some.ensures in
+    let found : AreFoundIn units range = subst (λ (us : List KeptUnit). AreFoundIn us range) c.ranges-2.invariant.units said.found in
+    rows_found units range said.end found
+
+pub place_of-requires-clause-unit : goal.place_of-requires-clause-unit
+place_of-requires-clause-unit g c =
+    let units = c.args.origin.now.lookup.now in
+    let range = c.in-Some.range in
+    let said = c.in-Some.ensures in
+    let found : AreFoundIn units range = subst (λ (us : List KeptUnit). AreFoundIn us range) c.ranges-2.invariant.units said.found in
+    unit_within units range said.end found

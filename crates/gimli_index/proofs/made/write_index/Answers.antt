@@ -1,10 +1,18 @@
-use Rattle.std.proofs.Common.{◌≡◌, ◌++◌, ℕ, List, refl}
+use Rattle.std.proofs.Common.{◌≡◌, ◌++◌, refl, sym, subst}
 use Rattle.gimli_index.specs.Contents.{Fits, index_bytes}
 use Rattle.gimli_index.specs.Found.{Given, texts_of, IsAppended, IsIndexAppended}
-use Rattle.gimli_index.specs.Made.{EntriesAscend, contents_of}
+use Rattle.gimli_index.specs.Made.{EntriesAscend, IsMakeFault, contents_of}
+use Rattle.gimli_index.specs.Refused.{IsIndexFault}
 use Rattle.gimli_index.specs.declared.contents.Contents.{Contents as Parts}
-use Rattle.gimli_index.proofs.WrittenIndex.{contents_say, index_appended, with_ok}
+use Rattle.gimli_index.specs.inside.Table.{AreSources}
+use Rattle.gimli_index.proofs.Sources.{none_are_sources}
+use Rattle.gimli_index.proofs.WrittenIndex.{contents_are, contents_fault, index_appended, on_fault, with_ok}
 use Rattle.gimli_index.proofs.made.write_index.Goals as goal
+
+pub entries_of-requires : goal.entries_of-requires
+entries_of-requires g c =
+    let t = texts_of g.R.Reader.bytes c.args.strings.now c.args.compilations.now in
+    subst (AreSources t c.args.lookup.now) (sym c.in_ok-table.ensures) (none_are_sources t c.args.lookup.now)
 
 pub returns-clause-bytes : goal.returns-clause-bytes
 returns-clause-bytes g c =
@@ -25,16 +33,9 @@ returns-clause-bytes g c =
     (λ bytes fits ascending. record {
       contents = contents;
       bytes = bytes;
-      are = record {
-        fits = fits;
-        ascending = ascending;
-        says =
-            contents_say t c.args.lookup.now c.entries_of.new.table c.in_ok-entries.entries.items contents.entries contents.sources contents.paths
-            c.in_ok-entries.ensures
-            c.sources.ensures c.as_slice.ensures.value c.paths.ensures;
-        address_size = refl;
-        identity = refl;
-      };
+      are =
+          contents_are given c.entries_of.new.table c.in_ok-entries.entries.items contents c.in_ok-entries.ensures.entered c.sources.ensures
+          c.as_slice.ensures.value c.paths.ensures fits refl refl;
     })
 
 pub returns-clause-index : goal.returns-clause-index
@@ -47,3 +48,19 @@ returns-clause-index g c =
     with_ok c.write.result (IsAppended given old new) (IsAppended given old new) (IsAppended given old new) (IsIndexAppended given old new) appended appended
     appended
     (λ a b d. index_appended given old new a)
+
+pub returns-clause-err : goal.returns-clause-err
+returns-clause-err g c =
+    let t = texts_of g.R.Reader.bytes c.args.strings.now c.args.compilations.now in
+    let given : Given = record { texts = t; units = c.args.lookup.now; size = c.args.address_size; name = c.args.identity.now } in
+    let parts : Parts = record {
+      address_size = c.args.address_size;
+      sources = c.sources.result;
+      entries = c.as_slice.result;
+      paths = c.paths.result;
+      identity = c.args.identity;
+    } in
+    let contents = contents_of parts in
+    on_fault c.write.result (IsMakeFault contents) (IsIndexFault given) (λ e fault.
+    contents_fault given c.entries_of.new.table c.in_ok-entries.entries.items contents c.in_ok-entries.ensures.entered c.sources.ensures
+    c.as_slice.ensures.value c.paths.ensures e refl fault) c.write.ensures.err

@@ -1,6 +1,7 @@
 use Rattle.std.proofs.Common.{arith, ◌++◌, sym, ap, ◌∙◌}
-use Rattle.lines_commands.specs.KeptComponents.{kept, up_by}
-use Rattle.lines_commands.proofs.ComponentTexts.{up_by_root, at_root}
+use Rattle.lines_commands.specs.KeptComponents.{kept}
+use Rattle.gimli_lookup.specs.inside.Components.{up_by}
+use Rattle.gimli_lookup.proofs.ComponentLists.{up_by_root, at_root}
 use Rattle.lines_commands.proofs.components.append_start.Goals as goal
 
 pub returns-in_ok-push-in-len1-up : goal.returns-in_ok-push-in-len1-up

@@ -1,6 +1,7 @@
 use Rattle.std.proofs.Common.{◌-◌, ◌+◌, ◌++◌, ap, ◌∙◌}
 use Rattle.lines_commands.specs.KeptComponents.{kept}
-use Rattle.lines_commands.proofs.ComponentTexts.{dots, one_up, all_ups}
+use Rattle.gimli_lookup.proofs.ComponentLists.{dots}
+use Rattle.lines_commands.proofs.ComponentTexts.{one_up, all_ups}
 use Rattle.lines_commands.proofs.components.append_ups.Goals as goal
 
 pub loop-preserved : goal.loop-preserved

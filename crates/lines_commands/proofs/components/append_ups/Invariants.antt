@@ -1,6 +1,6 @@
 use Rattle.std.proofs.Common.{◌≡◌, ◌-◌, ◌++◌}
 use Rattle.lines_commands.specs.KeptComponents.{kept}
-use Rattle.lines_commands.proofs.ComponentTexts.{dots}
+use Rattle.gimli_lookup.proofs.ComponentLists.{dots}
 use Rattle.lines_commands.proofs.components.append_ups.Given as goal
 
 abbrev pub invariant-loop : goal.invariant-loop

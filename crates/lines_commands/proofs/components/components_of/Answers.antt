@@ -1,6 +1,7 @@
 use Rattle.std.proofs.Common.{arith, List, ℕ, ◌++◌, map, Bor, sym, ap, ◌∙◌}
-use Rattle.lines_commands.specs.Components.{resolved, start_of}
-use Rattle.lines_commands.specs.KeptComponents.{kept, up_by}
+use Rattle.gimli_lookup.specs.Components.{resolved, start_of}
+use Rattle.lines_commands.specs.KeptComponents.{kept}
+use Rattle.gimli_lookup.specs.inside.Components.{up_by}
 use Rattle.lines_commands.proofs.ComponentTexts.{popped}
 use Rattle.lines_commands.proofs.components.components_of.Goals as goal
 

@@ -1,6 +1,7 @@
 use Rattle.std.proofs.Common.{◌≡◌, ◌+◌, ◌<◌, ◌^◌, ◌++◌, map, vec_len}
-use Rattle.lines_commands.specs.Components.{resolved, start_of, components}
-use Rattle.lines_commands.specs.KeptComponents.{kept, up_by}
+use Rattle.gimli_lookup.specs.Components.{resolved, start_of, components}
+use Rattle.lines_commands.specs.KeptComponents.{kept}
+use Rattle.gimli_lookup.specs.inside.Components.{up_by}
 use Rattle.lines_commands.proofs.components.components_of.Given as goal
 
 abbrev pub invariant-components : goal.invariant-components

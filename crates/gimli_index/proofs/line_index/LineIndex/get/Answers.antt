@@ -1,5 +1,5 @@
-use Rattle.std.proofs.Common.{◌+◌, sym, ◌∙◌, ap, Some, option_map}
-use Rattle.gimli_index.specs.Meaning.{start_at, start_number}
+use Rattle.std.proofs.Common.{sym, ◌∙◌, ap, Some, option_map}
+use Rattle.gimli_index.specs.Meaning.{start_at}
 use Rattle.gimli_index.specs.Views.{index_of, place_of}
 use Rattle.gimli_index.proofs.Values.{value_at, no_value_at}
 use Rattle.gimli_index.proofs.line_index.LineIndex.get.Goals as goal
@@ -10,6 +10,6 @@ returns-then-index-self c = sym (no_value_at (start_at (index_of c.args.self.now
 pub returns : goal.returns
 returns c =
     let index = index_of c.args.self.now in
-    ap (λ n. Some (record { address = index.base + n; place = option_map place_of c.entry_place.result })) c.start_number.ensures.number
-    ∙ ap (λ p. Some (record { address = index.base + start_number index c.args.index; place = p })) c.entry_place.ensures
+    ap (λ n. Some (record { address = n; place = option_map place_of c.entry_place.result })) c.address_at.ensures
+    ∙ ap (λ p. Some (record { address = (start_at index c.args.index).address; place = p })) c.entry_place.ensures
     ∙ sym (value_at (start_at index) c.args.self.now.starts c.args.index c.if-index-self.false)

@@ -1,4 +1,4 @@
-use Rattle.std.proofs.Common.{◌≡◌, ◌-◌, ◌<◌, ap, arith, inl, inr}
+use Rattle.std.proofs.Common.{◌≡◌, ◌-◌, ◌≤◌, ap, arith, inl, inr}
 use Rattle.std.proofs.lemmas.Bool.{cases_lt}
 use Rattle.gimli_index.specs.Meaning.{start_number}
 use Rattle.gimli_index.specs.Views.{index_of}
@@ -8,7 +8,7 @@ pub loop-index-preserved : goal.loop-index-preserved
 loop-index-preserved c =
     let numbers = start_number (index_of c.args.self.now) in
     let index = c.loop-index.index in
-    let risen : numbers (index - 1) < numbers index = omega (arith, c.start_number.ensures.number, c.start_number-in-loop-index.ensures.number) in
+    let risen : numbers (index - 1) ≤ numbers index = omega (arith, c.start_number.ensures.number, c.start_number-in-loop-index.ensures.number) in
     λ i j lt within. elim (cases_lt j index) [
       | inl before ↦ c.loop-index.invariant i j lt before
       | inr here ↦

@@ -1,6 +1,6 @@
-use Rattle.std.proofs.Common.{◌≡◌, ◌∙◌, sym, ap}
+use Rattle.std.proofs.Common.{◌∙◌, sym, ap}
 use Rattle.gimli_lookup.specs.Paths.{row_path}
-use Rattle.gimli_index.specs.Found.{path_by, path_said, reason_of, texts_of, unit_paths}
+use Rattle.gimli_index.specs.Found.{path_by, path_said, texts_of, unit_paths}
 use Rattle.gimli_index.specs.declared.place.NoPath.TheVariants.{Reason}
 use Rattle.std.specs.Prelude.{Err}
 use Rattle.gimli_index.proofs.origin.Origin.path_of.Goals as goal

@@ -1,54 +1,95 @@
-use Rattle.std.proofs.Common.{◌≡◌, ◌<◌, ◌≤◌, ◌∙◌, ℕ, List, Some, length, map, ap, sym, subst, arith}
-use Rattle.std.specs.Prelude.{slice_get, slice_index_or}
+use Rattle.std.proofs.Common.{◌≡◌, ◌≢◌, ◌<◌, ◌∙◌, ◌++◌, ◌∷◌, [], List, length, ap, sym, subst, arith}
+use Rattle.std.specs.Prelude.{All, slice_get, slice_index_or}
 use Rattle.std.proofs.lemmas.List.{length-map}
+use Rattle.std.proofs.lemmas.Result.{err_from_is_err_and}
 use Rattle.gimli_lookup.specs.Section.{KeptUnit, ListedUnit}
 use Rattle.gimli_index.specs.Found.{texts_of}
-use Rattle.gimli_index.specs.declared.source_table.SourceKey.{SourceKey}
-use Rattle.gimli_index.proofs.Sources.{source_made, added_are, added_keeps, added_number}
+use Rattle.gimli_index.specs.declared.source_keys.SourceKey.{SourceKey}
+use Rattle.gimli_index.specs.inside.Paths.{made_path}
+use Rattle.gimli_index.specs.inside.Table.{AreSources, Table, key_of}
+use Rattle.gimli_index.proofs.Sources.{added_are, added_keeps, added_number, many_files, not_added}
 use Rattle.gimli_index.proofs.source_table.SourceTable.add.Goals as goal
 
-pub offset_bounds-units-unit : goal.offset_bounds-units-unit
-offset_bounds-units-unit g c =
+pub returns-then-number-ge-MOST-clause-err : goal.returns-then-number-ge-MOST-clause-err
+returns-then-number-ge-MOST-clause-err g c =
+    let t = texts_of g.R.Reader.bytes c.args.origin.now.strings.now c.args.origin.now.compilations.now in
+    let units = c.args.origin.now.lookup.now in
+    let f = c.args.rows.now in
+    let inside : Table = record { keys = c.self.inside.keys; sources = c.self.inside.sources.items; paths = c.self.inside.paths } in
+    many_files t units inside f c.requires.found (subst (AreSources t units) (sym c.self.view_is) c.requires.are)
+    (subst (λ (o : Table). All (λ k. k ≢ key_of f) o.keys) (sym c.self.view_is) c.requires.absent)
+    (omega (arith, c.if-number-ge-MOST.true, c.len-number.ensures, c.self.inside.sources.ok.0))
+
+pub offset_bounds-units-rows : goal.offset_bounds-units-rows
+offset_bounds-units-rows g c =
     omega (arith, c.requires.unit, ap (λ (us : List ListedUnit). length us) c.units.ensures, length-map c.args.origin.now.lookup.now (λ (u : KeptUnit). u.unit))
 
-pub bounds-units-unit : goal.bounds-units-unit
-bounds-units-unit g c =
+pub bounds-units-rows : goal.bounds-units-rows
+bounds-units-rows g c =
     omega (arith, c.requires.unit, ap (λ (us : List ListedUnit). length us) c.units.ensures, length-map c.args.origin.now.lookup.now (λ (u : KeptUnit). u.unit))
+
+pub returns-in_err-source-clause-err : goal.returns-in_err-source-clause-err
+returns-in_err-source-clause-err g c =
+    let t = texts_of g.R.Reader.bytes c.args.origin.now.strings.now c.args.origin.now.compilations.now in
+    let units = c.args.origin.now.lookup.now in
+    let f = c.args.rows.now in
+    let inside : Table = record { keys = c.self.inside.keys; sources = c.self.inside.sources.items; paths = c.self.inside.paths } in
+    let listed = c.index-units-rows.result in
+    let listed_is = c.index-units-rows.is ∙ ap (λ (us : List ListedUnit). slice_index_or us f.unit listed) c.units.ensures in
+    let fault =
+    not_added t units c.args.self.now inside f listed c.source.new.self (record { unit = 0; first = 0; size = 0; reason = 0 }) (made_path c.in_ok-path.path)
+    inside.keys inside.sources c.self.view_is c.requires.found c.requires.are c.requires.absent c.requires.unit listed_is c.in_ok-path.ensures.path in
+    let p = err_from_is_err_and c.from_residual-in_err-source.result c.from_residual-in_err-source.ensures.1 in
+    rw (p.1, p.2) (fault c.in_err-source.field-0.0 c.in_err-source.ensures.err)
+
+pub add-requires : goal.add-requires
+add-requires g c =
+    let f = c.args.rows.now in
+    let absent = subst (λ (o : Table). All (λ k. k ≢ key_of f) o.keys) (sym c.self.view_is) c.requires.absent in
+    λ k d within same. absent k d within (same ∙ c.key_of-key.ensures)
 
 pub returns-clause-are : goal.returns-clause-are
 returns-clause-are g c =
     let t = texts_of g.R.Reader.bytes c.args.origin.now.strings.now c.args.origin.now.compilations.now in
     let units = c.args.origin.now.lookup.now in
-    let listed = c.index-units-unit.result in
-    let s = c.in_ok-source.source in
-    let is = c.index-units-unit.is ∙ ap (λ (us : List ListedUnit). slice_index_or us c.args.unit listed) c.units.ensures in
+    let f = c.args.rows.now in
+    let inside : Table = record { keys = c.self.inside.keys; sources = c.self.inside.sources.items; paths = c.self.inside.paths } in
+    let listed = c.index-units-rows.result in
+    let listed_is = c.index-units-rows.is ∙ ap (λ (us : List ListedUnit). slice_index_or us f.unit listed) c.units.ensures in
     let offset = c.in_ok-source.ensures.unit ∙ c.into_u64-offset.ensures ∙ c.offset.ensures in
-    added_are c.args.self.now c.self.inside.keys.items c.push-2.new.self.items c.self.inside.sources.items c.push.new.self.items c.self.inside.paths
-    c.source.new.self
-    (record { unit = c.args.unit; file = c.file_index-file.result }) s c.self.view_is c.in_ok-push-2.ensures.items c.in_ok-push.ensures.items
-    c.in_ok-source.ensures.goes_on
-    t units c.requires.are
-    (source_made t units c.source.new.self c.args.unit c.file_index-file.result s listed c.args.row.now listed c.requires.unit is c.file_index-file.ensures
-    offset
-    (c.in_ok-source.ensures.path ∙ c.in_ok-path.ensures.path))
+    let few : length inside.sources < 0xffff_ffff = omega (arith, c.if-number-ge-MOST.false, c.len-number.ensures, c.self.inside.sources.ok.0) in
+    added_are t units c.args.self.now inside f listed c.source.new.self c.in_ok-source.source (made_path c.in_ok-path.path) c.add.new.self c.push.new.self.items
+    c.self.view_is c.requires.found c.requires.are c.requires.absent c.requires.unit listed_is c.in_ok-path.ensures.path offset c.in_ok-source.ensures.kept few
+    (c.in_ok-add.ensures ∙ ap (λ (k : SourceKey). inside.keys ++ k ∷ []) c.key_of-key.ensures) c.in_ok-push.ensures.items
 
 pub returns-clause-keeps : goal.returns-clause-keeps
 returns-clause-keeps g c =
-    added_keeps c.args.self.now c.self.inside.keys.items c.push-2.new.self.items c.self.inside.sources.items c.push.new.self.items c.self.inside.paths
-    c.source.new.self
-    (record { unit = c.args.unit; file = c.file_index-file.result }) c.in_ok-source.source c.self.view_is c.in_ok-push-2.ensures.items
-    c.in_ok-push.ensures.items c.in_ok-source.ensures.goes_on
+    let t = texts_of g.R.Reader.bytes c.args.origin.now.strings.now c.args.origin.now.compilations.now in
+    let units = c.args.origin.now.lookup.now in
+    let f = c.args.rows.now in
+    let inside : Table = record { keys = c.self.inside.keys; sources = c.self.inside.sources.items; paths = c.self.inside.paths } in
+    let listed = c.index-units-rows.result in
+    let listed_is = c.index-units-rows.is ∙ ap (λ (us : List ListedUnit). slice_index_or us f.unit listed) c.units.ensures in
+    let offset = c.in_ok-source.ensures.unit ∙ c.into_u64-offset.ensures ∙ c.offset.ensures in
+    let few : length inside.sources < 0xffff_ffff = omega (arith, c.if-number-ge-MOST.false, c.len-number.ensures, c.self.inside.sources.ok.0) in
+    added_keeps t units c.args.self.now inside f listed c.source.new.self c.in_ok-source.source (made_path c.in_ok-path.path) c.add.new.self
+    c.push.new.self.items
+    c.self.view_is c.requires.found c.requires.are c.requires.absent c.requires.unit listed_is c.in_ok-path.ensures.path offset c.in_ok-source.ensures.kept few
+    (c.in_ok-add.ensures ∙ ap (λ (k : SourceKey). inside.keys ++ k ∷ []) c.key_of-key.ensures) c.in_ok-push.ensures.items
 
 pub returns-clause-number : goal.returns-clause-number
 returns-clause-number g c =
     let t = texts_of g.R.Reader.bytes c.args.origin.now.strings.now c.args.origin.now.compilations.now in
-    let there =
-    added_number c.args.self.now c.self.inside.keys.items c.push-2.new.self.items c.self.inside.sources.items c.push.new.self.items c.self.inside.paths
-    c.source.new.self
-    (record { unit = c.args.unit; file = c.file_index-file.result }) c.in_ok-source.source c.self.view_is c.in_ok-push-2.ensures.items
-    c.in_ok-push.ensures.items c.in_ok-source.ensures.goes_on
-    t c.args.origin.now.lookup.now c.requires.are in
-    let counted : c.len-number.result ≡ length c.self.inside.sources.items = omega (arith, c.len-number.ensures, c.self.inside.sources.ok.0) in
-    ap (slice_get c.push-2.new.self.items) counted
-    ∙ there
-    ∙ ap (λ (n : ℕ). let key : SourceKey = record { unit = c.args.unit; file = n } in Some key) c.file_index-file.ensures
+    let units = c.args.origin.now.lookup.now in
+    let f = c.args.rows.now in
+    let inside : Table = record { keys = c.self.inside.keys; sources = c.self.inside.sources.items; paths = c.self.inside.paths } in
+    let listed = c.index-units-rows.result in
+    let listed_is = c.index-units-rows.is ∙ ap (λ (us : List ListedUnit). slice_index_or us f.unit listed) c.units.ensures in
+    let offset = c.in_ok-source.ensures.unit ∙ c.into_u64-offset.ensures ∙ c.offset.ensures in
+    let few : length inside.sources < 0xffff_ffff = omega (arith, c.if-number-ge-MOST.false, c.len-number.ensures, c.self.inside.sources.ok.0) in
+    let counted : c.len-number.result ≡ length inside.sources = omega (arith, c.len-number.ensures, c.self.inside.sources.ok.0) in
+    ap (slice_get c.add.new.self) counted
+    ∙ added_number t units c.args.self.now inside f listed c.source.new.self c.in_ok-source.source (made_path c.in_ok-path.path) c.add.new.self
+    c.push.new.self.items
+    c.self.view_is c.requires.found c.requires.are c.requires.absent c.requires.unit listed_is c.in_ok-path.ensures.path offset c.in_ok-source.ensures.kept few
+    (c.in_ok-add.ensures ∙ ap (λ (k : SourceKey). inside.keys ++ k ∷ []) c.key_of-key.ensures) c.in_ok-push.ensures.items

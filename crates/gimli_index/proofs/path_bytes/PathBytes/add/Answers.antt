@@ -1,0 +1,22 @@
+use Rattle.std.proofs.Common.{◌≡◌, ◌≢◌, length, sym, subst, arith}
+use Rattle.std.specs.Prelude.{All}
+use Rattle.gimli_index.specs.inside.Paths.{ArePaths, PathList}
+use Rattle.gimli_index.proofs.PathLists.{placed_last}
+use Rattle.gimli_index.proofs.path_bytes.PathBytes.add.Goals as goal
+
+pub returns-clause-placed : goal.returns-clause-placed
+returns-clause-placed c =
+    let old : PathList = record {
+      bytes = c.self.inside.bytes.items;
+      known = c.self.inside.paths;
+      firsts = c.self.inside.firsts.items;
+    } in
+    let are : ArePaths old = subst ArePaths (sym c.self.view_is) c.requires.are in
+    let absent : All (λ x. x ≢ c.args.path.now) old.known =
+    subst (λ (p : PathList). All (λ x. x ≢ c.args.path.now) p.known) (sym c.self.view_is) c.requires.absent in
+    let counted : c.len-first.result ≡ length old.bytes = omega (arith, c.len-first.ensures, c.self.inside.bytes.ok.0) in
+    rw (← c.self.view_is)
+    (placed_last old
+    (record { bytes = c.extend_from_slice.new.self.items; known = c.add.new.self; firsts = c.push.new.self.items })
+    c.args.path.now c.len-first.result are absent counted (omega (arith, are.few, counted, c.if-first-path.false))
+    c.in_ok-extend_from_slice.ensures.items c.in_ok-add.ensures c.in_ok-push.ensures.items)

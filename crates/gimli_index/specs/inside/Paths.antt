@@ -1,0 +1,78 @@
+-- The paths of an index in the making.
+use Rattle.std.specs.Prelude.{◌≡◌, ◌≢◌, ◌⊎◌, ◌≤◌, ◌<◌, ◌^◌, ℕ, ◌+◌, ◌++◌, ◌∷◌, List, [], map}
+use Rattle.std.specs.Prelude.{length, take}
+use Rattle.std.specs.Prelude.{slice_get, Some, Result, Ok, Err, All, AllPairs}
+use Rattle.gimli_index.specs.Short.{joined, IsSpanOf}
+use Rattle.gimli_index.specs.declared.contents.Source.{Source}
+use Rattle.gimli_index.specs.declared.error.MakeError.{MakeError}
+use Rattle.gimli_index.specs.declared.error.MakeError.TheVariants.{NotAscending, TooManyEntries}
+use Rattle.gimli_index.specs.declared.error.MakeError.TheVariants.{TooManySources, PathsTooLarge}
+use Rattle.gimli_index.specs.declared.error.MakeError.TheVariants.{IdentityTooLarge, LineTooLarge}
+use Rattle.gimli_index.specs.declared.error.MakeError.TheVariants.{ColumnTooLarge, OutOfMemory}
+use Rattle.gimli_index.specs.declared.place.NoPath.{NoPath}
+use Rattle.gimli_index.specs.declared.place.NoPath.TheVariants.{Reason, Outside}
+use Rattle.std.specs.declared.alloc.Global.{Global}
+use Rattle.std.specs.declared.vec.Vec.{Vec}
+
+-- texts, without where they lie
+abbrev pub texts_of : List (Vec ℕ Global) → List (List ℕ)
+texts_of keys = map (λ v. v.items) keys
+
+-- a path as it was made, or the number of a reason
+abbrev pub made_path : Result (Vec ℕ Global) ℕ → Result (List ℕ) NoPath
+made_path (Ok path) = Ok path.items
+made_path (Err reason) = Err (Reason reason)
+
+-- the bytes of paths, these paths, and where each of them begins
+pub record PathList : Type 0 where
+  pub bytes : List ℕ
+  pub known : List (List ℕ)
+  pub firsts : List ℕ
+
+abbrev pub no_paths : PathList
+no_paths = record { bytes = []; known = []; firsts = [] }
+
+-- the bytes are those of the paths, each once, one after the other
+pub record ArePaths (p : PathList) : Type 0 where
+  pub bytes : p.bytes ≡ joined p.known
+  pub few : length p.bytes < 2 ^ 32
+  pub count : length p.firsts ≡ length p.known
+  pub firsts : (k first : ℕ) → slice_get p.firsts k ≡ Some first
+      → first ≡ length (joined (take k p.known))
+  pub distinct : AllPairs (λ x y. x ≢ y) p.known
+
+-- a list goes on
+abbrev pub GoesOn : {X : Type 0} → List X → List X → Type 0
+GoesOn {X} old new = (more : List X) × (new ≡ old ++ more)
+
+-- a path was there, or came last; it begins at an offset
+pub record IsPlaced (old new : PathList) (path : List ℕ) (first : ℕ) : Type 0 where
+  pub are : ArePaths new
+  pub bytes : GoesOn old.bytes new.bytes
+  pub known : (new.known ≡ old.known) ⊎ (new.known ≡ old.known ++ path ∷ [])
+  pub span : IsSpanOf new.known first path
+
+-- why no path is placed: it isn't there, and the bytes of all paths would be too many
+abbrev pub IsPathFault : PathList → List ℕ → MakeError → Type 0
+IsPathFault p path PathsTooLarge =
+    All (λ x. x ≢ path) p.known × (2 ^ 32 ≤ length p.bytes + length path)
+IsPathFault p path OutOfMemory = Unit {0}
+IsPathFault p path NotAscending = ⊥
+IsPathFault p path TooManyEntries = ⊥
+IsPathFault p path TooManySources = ⊥
+IsPathFault p path IdentityTooLarge = ⊥
+IsPathFault p path LineTooLarge = ⊥
+IsPathFault p path ColumnTooLarge = ⊥
+
+-- what was done with a path: it was placed for a source, or the source keeps a reason
+abbrev pub IsKept : PathList → PathList → Result (List ℕ) NoPath → Source → Type 0
+IsKept old new (Ok path) s =
+    (s.reason ≡ 0) × IsPlaced old new path s.first × (s.size ≡ length path)
+IsKept old new (Err (Reason n)) s =
+    (s.reason ≡ n) × (s.reason ≢ 0) × (s.first ≡ 0) × (s.size ≡ 0) × (new ≡ old)
+IsKept old new (Err Outside) s = ⊥
+
+-- why it wasn't
+abbrev pub IsSourceFault : PathList → Result (List ℕ) NoPath → MakeError → Type 0
+IsSourceFault p (Ok path) e = IsPathFault p path e
+IsSourceFault p (Err reason) e = ⊥
