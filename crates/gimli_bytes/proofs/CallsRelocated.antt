@@ -11,7 +11,8 @@ use Rattle.gimli_bytes.specs.inside.Pieces.{put_over}
 use Rattle.gimli_bytes.specs.Number.{udata}
 use Rattle.gimli_bytes.specs.Written.{overwrite_of, patch}
 use Rattle.gimli_bytes.specs.Relocatable.{Relocatable}
-use Rattle.gimli_bytes.specs.Relocations.{Placement, Call, Bytes, AddressOf, OffsetInto, ReferenceTo, BytesAt, OffsetAt, place_of, relocated, all_relocated}
+use Rattle.gimli_bytes.specs.Hand.{Placement}
+use Rattle.gimli_bytes.specs.Relocations.{Call, Bytes, AddressOf, OffsetInto, ReferenceTo, BytesAt, OffsetAt, place_of, relocated, all_relocated}
 use Rattle.gimli_bytes.specs.Relocations.{applied, IsApart, AreInside, number_in_place, with_place, with_place_at, relocation_at, with_relocation, result_then}
 use Rattle.gimli_bytes.specs.Relocations.{after_call, after_calls, plainly_after, plainly_after_calls, CallFits, LeavesPlaces, CallsFit}
 use Rattle.gimli_bytes.specs.declared.address.Address.TheVariants.{Constant, Symbol}

@@ -38,6 +38,7 @@ opened_32 format short word = rw short (record {
   keeps = word.keeps;
   ordered = word.ordered;
   ok = word.ok;
+  completed = word.completed;
   err = λ memory_alone. tt;
   own = tt;
 })
@@ -52,6 +53,10 @@ opened_64 {sink = sink} {old = old} {mid = mid} {new = new} format long escape w
       λ keeps_bytes.
       both (sink.contents old) (number_bytes (sink.big old) 4 0xffff_ffff) (number_bytes (sink.big old) 8 0) (sink.contents mid) (sink.contents new)
       (escape.ok keeps_bytes) (word.ok keeps_bytes ∙ ap (λ (b : Bool). sink.contents mid ++ number_bytes b 8 0) escape.ordered);
+  completed =
+      λ at completes.
+      both (sink.completed at old) (number_bytes (sink.big old) 4 0xffff_ffff) (number_bytes (sink.big old) 8 0) (sink.completed at mid) (sink.completed at new)
+      (escape.completed at completes) (word.completed at completes ∙ ap (λ (b : Bool). sink.completed at mid ++ number_bytes b 8 0) escape.ordered);
   err = λ memory_alone. tt;
   own = tt;
 })

@@ -29,6 +29,7 @@ refused_after {sink = sink} {old = old} {mid = mid} {new = new} part whole keeps
   keeps = begins_then (sink.contents old) (sink.contents mid) (sink.contents new) keeps refused.keeps;
   ordered = refused.ordered ∙ ordered;
   ok = λ keeps_bytes. tt;
+  completed = λ at completes. tt;
   err = refused.err;
   own = handed_on refused.own;
 }

@@ -10,7 +10,8 @@ use Rattle.std.proofs.lemmas.List.Elements.{All-head, All-tail, All-append, All-
 use Rattle.gimli_core.specs.Numbers.{number_bytes, value_of}
 use Rattle.gimli_core.proofs.Written.{number_spelled}
 use Rattle.gimli_bytes.specs.inside.Pieces.{put_over}
-use Rattle.gimli_bytes.specs.Relocations.{Placement, place_of, relocated, all_relocated, IsApart, number_in_place, addend_in_list}
+use Rattle.gimli_bytes.specs.Hand.{Placement}
+use Rattle.gimli_bytes.specs.Relocations.{place_of, relocated, all_relocated, IsApart, number_in_place, addend_in_list}
 use Rattle.gimli_bytes.specs.declared.relocation.Relocation.{Relocation}
 use Rattle.gimli_bytes.specs.declared.relocation.Addends.{Addends}
 use Rattle.gimli_bytes.specs.declared.relocation.Addends.TheVariants.{Listed, InPlace}

@@ -33,6 +33,7 @@ use Rattle.gimli_core.specs.Numbers.{number_bytes, value_of}
 use Rattle.gimli_core.specs.Reading.{result_map}
 use Rattle.gimli_core.specs.declared.common.SectionId.{SectionId}
 use Rattle.gimli_bytes.specs.Number.{udata}
+use Rattle.gimli_bytes.specs.Hand.{Placement}
 use Rattle.gimli_bytes.specs.Written.{overwrite_of, patch}
 use Rattle.gimli_bytes.specs.declared.address.Address.{Address}
 use Rattle.gimli_bytes.specs.declared.address.Address.TheVariants.{Constant, Symbol}
@@ -46,11 +47,6 @@ use Rattle.gimli_bytes.specs.declared.relocation.Relocation.{Relocation}
 use Rattle.gimli_bytes.specs.Relocatable.{Relocatable}
 
 -- ---- what a linker does
-
--- the address of each symbol, and where each section begins
-pub record Placement : Type 0 where
-  pub symbol : ℕ → ℕ
-  pub section : SectionId → ℕ
 
 abbrev pub place_of : Placement → RelocationTarget → ℕ
 place_of placement (OfSymbol symbol) = placement.symbol symbol

@@ -12,7 +12,8 @@ ghost use Rattle.gimli_bytes.specs.declared.address.Address.{Address};
 ghost use Rattle.gimli_bytes.specs.declared.str.StringId.{StringId};
 ghost use Rattle.gimli_bytes.specs.declared.str.LineStringId.{LineStringId};
 ghost use Rattle.gimli_bytes.specs.Relocatable.{Relocatable};
-ghost use Rattle.gimli_bytes.specs.Relocations.{Placement, Call, AreInside, CallsFit, applied};
+ghost use Rattle.gimli_bytes.specs.Hand.{Placement};
+ghost use Rattle.gimli_bytes.specs.Relocations.{Call, AreInside, CallsFit, applied};
 ghost use Rattle.gimli_bytes.specs.Relocations.{after_calls, plainly_after_calls};
 ghost use Rattle.gimli_bytes.specs.Texts.{AreTexts, with_text, table_bytes, byte_count, offset_of};
 

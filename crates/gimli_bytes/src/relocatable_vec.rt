@@ -231,11 +231,20 @@ fn low_bytes(word: u64, size: u8) -> u64
 }
 
 impl<E: Endianity> Sink for RelocatableVec<E> {
+    ghost use Rattle.std.specs.Prelude.{[]};
+    ghost use Rattle.gimli_bytes.specs.Hand.{plain};
+
     ghost contents = { λ v. v.bytes };
 
     ghost big = { λ v. v.big };
 
     ghost keeps_bytes = { false };
+
+    ghost completes = { false };
+
+    ghost completed = { λ at v. [] };
+
+    ghost hand = { λ at. plain };
 
     ghost fails_for_memory_alone = { false };
 

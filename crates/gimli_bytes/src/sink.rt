@@ -1,6 +1,7 @@
 //! What a writer means, apart from its calls.
 
 ghost use Rattle.std.specs.Prelude.{ℕ, Bool, List};
+ghost use Rattle.gimli_bytes.specs.Hand.{Hand, Placement};
 ghost use Rattle.gimli_bytes.specs.declared.error.Error.{Error};
 
 /// What a [`Writer`](crate::Writer) means: its bytes, their order, and three facts of its type.
@@ -24,6 +25,15 @@ pub trait Sink {
 
     /// Whether a writer of this type keeps exactly the bytes given to it.
     ghost keeps_bytes: { Bool };
+
+    /// Whether `completed` and `hand` say what a linker makes of what a writer of this type holds.
+    ghost completes: { Bool };
+
+    /// The bytes once a linker has placed each symbol and each section so.
+    ghost completed: { Placement → Self → List ℕ };
+
+    /// How addresses and offsets into sections stand in those bytes.
+    ghost hand: { Placement → Hand };
 
     /// Whether a writer of this type refuses a `write` only with `OutOfMemory`, a `write_at` for
     /// its two bounds alone, and any other call for what is said there, or as the `write` or

@@ -1,6 +1,6 @@
 use Rattle.std.proofs.Common.{◌∙◌}
 use Rattle.gimli_build.proofs.writing.Joined.{on_ok}
-use Rattle.gimli_build.proofs.writing.Writes.{joins}
+use Rattle.gimli_build.proofs.writing.Writes.{by_writes, joins_by}
 use Rattle.gimli_build.proofs.unit.write_inside.Goals as goal
 
 pub returns-clause-writes : goal.returns-clause-writes
@@ -10,7 +10,7 @@ returns-clause-writes g c =
     let third =
     rw (second.ordered ∙ first.ordered, c.encoding-2.ensures.encoding, c.line_encoding.ensures, c.built_items.ensures.items) at
     c.write_items.ensures.writes in
-    joins first (joins second third)
+    joins_by (by_writes first) (joins_by second third)
 
 pub returns-clause-built : goal.returns-clause-built
 returns-clause-built g c = on_ok c.write_items.result (λ fit. record {

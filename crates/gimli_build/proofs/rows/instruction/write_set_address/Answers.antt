@@ -1,7 +1,8 @@
 use Rattle.std.proofs.Common.{◌+◌, Ok, ◌∙◌}
-use Rattle.gimli_bytes.specs.Number.{uleb, address_bytes}
+use Rattle.gimli_bytes.specs.Hand.{Hand}
+use Rattle.gimli_bytes.specs.Number.{uleb}
 use Rattle.gimli_build.proofs.writing.InstructionsWritten.{address_parts}
-use Rattle.gimli_build.proofs.writing.Writes.{joins, writes}
+use Rattle.gimli_build.proofs.writing.Writes.{by_writes, joins_by, wanted_alike, writes, writes_by}
 use Rattle.gimli_build.proofs.rows.instruction.write_set_address.Goals as goal
 
 pub returns : goal.returns
@@ -13,6 +14,7 @@ returns g c =
     let second = rw c.from.ensures at (writes (Ok (uleb (c.from.result + 1))) put) in
     let third = c.in_ok-write_byte-2.ensures in
     let last = c.write_address.ensures in
-    let address = writes (address_bytes (big c.write_byte-2.new.w) c.args.address.now size) last in
+    let address = writes_by (λ (hand : Hand). hand.address (big c.write_byte-2.new.w) c.args.address.now size) last in
     let fourth = rw (third.ordered ∙ put.ordered ∙ first.ordered) at address in
-    rw (← address_parts (uleb (size + 1)) (address_bytes (big c.args.w.now) c.args.address.now size)) (joins first (joins second (joins third fourth)))
+    wanted_alike (λ (hand : Hand). address_parts (uleb (size + 1)) (hand.address (big c.args.w.now) c.args.address.now size))
+    (joins_by (by_writes first) (joins_by (by_writes second) (joins_by (by_writes third) fourth)))

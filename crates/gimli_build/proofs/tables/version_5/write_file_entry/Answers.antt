@@ -2,7 +2,7 @@ use Rattle.std.proofs.Common.{ap, ◌∙◌, List}
 use Rattle.gimli_build.specs.Tables.{File}
 use Rattle.gimli_build.specs.Version5Tables.{first_form, path_texts}
 use Rattle.gimli_build.proofs.writing.Joined.{always_ok}
-use Rattle.gimli_build.proofs.writing.Writes.{joins}
+use Rattle.gimli_build.proofs.writing.Writes.{by_writes, joins_by}
 use Rattle.gimli_build.proofs.tables.version_5.write_file_entry.Goals as goal
 
 pub returns-clause-writes : goal.returns-clause-writes
@@ -10,7 +10,7 @@ returns-clause-writes g c =
     let form = c.path_form-form.ensures ∙ ap (λ (files : List File). first_form (path_texts files)) c.tables.ensures.files in
     let first = rw (form, c.format.ensures) at c.in_ok-write_line_string.ensures in
     let third = rw (c.in_ok-write_details.ensures.writes.ordered ∙ c.in_ok-write_line_string.ensures.ordered) at c.write_source.ensures in
-    joins first (joins c.in_ok-write_details.ensures.writes third)
+    joins_by first (joins_by (by_writes c.in_ok-write_details.ensures.writes) third)
 
 pub returns-clause-fit : goal.returns-clause-fit
 returns-clause-fit g c =

@@ -39,6 +39,11 @@ loop-text-preserved g c =
           (contents c.args.w.now) (contents c.loop-text.w) (contents c.write.new.self) (contents c.write_u8.new.self)
           c.loop-text-test.true c.text-item.is c.as_slice.ensures.value (c.loop-text.invariant.put keeps) (c.in_ok-write.ensures.ok keeps)
           (c.in_ok-write_u8.ensures.ok keeps);
+      completed = λ at completes.
+          text_put c.as_slice-text-items.result.now c.loop-text.text-index c.text-item.result (g.W.Sink.big c.write.new.self) c.as_slice.result.now
+          (g.W.Sink.completed at c.args.w.now) (g.W.Sink.completed at c.loop-text.w) (g.W.Sink.completed at c.write.new.self)
+          (g.W.Sink.completed at c.write_u8.new.self) c.loop-text-test.true c.text-item.is c.as_slice.ensures.value
+          (c.loop-text.invariant.completed at completes) (c.in_ok-write.ensures.completed at completes) (c.in_ok-write_u8.ensures.completed at completes);
     }
 
 pub returns-clause-appends : goal.returns-clause-appends
@@ -50,6 +55,9 @@ returns-clause-appends g c =
       ok = λ keeps. all_put c.as_slice-text-items.result.now c.self.inside.strings.keys c.loop-text.text-index c.args.self.now
           (contents c.args.w.now) (contents c.loop-text.w) c.loop-text-test.false c.as_slice-text-items.ensures.keys c.self.view_is
           (c.loop-text.invariant.put keeps);
+      completed = λ at completes. all_put c.as_slice-text-items.result.now c.self.inside.strings.keys c.loop-text.text-index c.args.self.now
+          (g.W.Sink.completed at c.args.w.now) (g.W.Sink.completed at c.loop-text.w) c.loop-text-test.false c.as_slice-text-items.ensures.keys c.self.view_is
+          (c.loop-text.invariant.completed at completes);
       err = λ memory_alone. tt;
       own = tt;
     }
