@@ -38,7 +38,7 @@ impl Sink for OwnWriter {
 
     ghost keeps_bytes = { false };
 
-    ghost completes = { false };
+    ghost completes = { λ w. false };
 
     ghost completed = { λ at w. [] };
 
@@ -93,6 +93,10 @@ impl Writer for OwnWriter {
         size: u8,
     ) -> Result<()> {
         self.write_udata_at(offset, val as u64, size)
+    }
+
+    fn write_reference(&mut self, _symbol: usize, _size: u8) -> Result<()> {
+        Err(Error::InvalidReference)
     }
 }
 

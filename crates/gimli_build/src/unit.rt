@@ -59,7 +59,8 @@ impl LineProgram {
         ensures unit { IsTrue W.keeps_bytes → OnOk result (Appends
             (unit_bytes (W.big w.old.0) encoding self.now (texts_in strings.old line_strings.old))
             (W.contents w.old.0) (W.contents w.new.0)) }
-        ensures completed { (at : Placement) → IsTrue W.completes → OnOk result (Appends
+        ensures stays { IsTrue (W.completes w.old.0) → IsTrue (W.completes w.new.0) }
+        ensures completed { (at : Placement) → IsTrue (W.completes w.old.0) → OnOk result (Appends
             (unit_bytes_by (W.hand at) (W.big w.old.0) encoding self.now
             (texts_in strings.old line_strings.old))
             (W.completed at w.old.0) (W.completed at w.new.0)) }
@@ -74,7 +75,7 @@ impl LineProgram {
         ensures own { IsTrue W.keeps_bytes → IfErr result (λ e. W.refuses e
             ⊎ IsWriteRefusal (W.big w.old.0) encoding self.now
             (texts_in strings.old line_strings.old) e) }
-        ensures completed_own { (at : Placement) → IsTrue W.completes → IfErr result (λ e.
+        ensures completed_own { (at : Placement) → IsTrue (W.completes w.old.0) → IfErr result (λ e.
             W.refuses e ⊎ (e ≡ Error.OutOfMemory) ⊎ (unit_bytes_by (W.hand at) (W.big w.old.0)
             encoding self.now (texts_in strings.old line_strings.old) ≡ Err e)) }
         ensures incompatible { IsTrue (is_incompatible encoding self.now.encoding) →
@@ -114,7 +115,8 @@ fn write_whole<W: Writer>(
     requires empty { StandsForNone program.now (texts_in strings.now line_strings.now)
         (line_text empty.now) }
     ensures writes { WritesBy W.Sink w.old w.new result
-        (λ hand. whole_bytes_by hand (W.big w.old) program.now (texts_in strings.now line_strings.now)) }
+        (λ hand. whole_bytes_by hand (W.big w.old) program.now
+        (texts_in strings.now line_strings.now)) }
     ensures built { OnOk result (IsBuilt program.now) }
     ensures short { OnOk result (length (W.contents w.new) < 2 ^ 64) }
 {
@@ -138,7 +140,8 @@ fn write_inside<W: Writer>(
     requires empty { StandsForNone program.now (texts_in strings.now line_strings.now)
         (line_text empty.now) }
     ensures writes { WritesBy W.Sink w.old w.new result
-        (λ hand. inside_bytes_by hand (W.big w.old) program.now (texts_in strings.now line_strings.now)) }
+        (λ hand. inside_bytes_by hand (W.big w.old) program.now
+        (texts_in strings.now line_strings.now)) }
     ensures built { OnOk result (IsBuilt program.now) }
 {
     write_opening(w, program.encoding())?;

@@ -12,3 +12,4 @@ pub mod TablesWritten
 pub mod RelocationLemmas
 pub mod Relocating
 pub mod CallsRelocated
+pub mod Completing

@@ -1,5 +1,5 @@
 -- The word of an offset as a number.
-use Rattle.std.proofs.Common.{◌≡◌, ℕ, ◌<◌, ◌^◌, Bool, true, false, nat_eq, refl, ap, sym}
+use Rattle.std.proofs.Common.{◌≡◌, ℕ, ◌<◌, ◌^◌, Bool, true, false, nat_eq, refl}
 use Rattle.std.proofs.lemmas.Bool.{lt-ltb, eqb-true}
 use Rattle.gimli_bytes.specs.Number.{udata}
 use Rattle.gimli_bytes.specs.Hand.{section_word}

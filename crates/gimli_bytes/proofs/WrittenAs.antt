@@ -26,6 +26,7 @@ pub refused_at_once : {W X : Type 0} {sink : Ghosts W} {wanted : Result (List �
 refused_at_once {sink = sink} old is = rw is (record {
   keeps = begins_self (sink.contents old);
   ordered = refl;
+  stays = λ completes. completes;
   ok = λ keeps_bytes. tt;
   completed = λ at completes. tt;
   err = λ memory_alone. refl;
@@ -40,10 +41,11 @@ pub no_truth : IsTrue false → ⊥
 no_truth h = cc
 
 pub plainly : {W X : Type 0} {sink : Ghosts W} {old new : W} {result : Result X Error} (wanted : Hand → Result (List ℕ) Error) (other : Result (List ℕ) Error)
-    → (IsTrue sink.completes → IsTrue false) → wanted plain ≡ other → IsAppend sink old new result other → IsAppendBy sink old new result wanted
+    → (IsTrue (sink.completes old) → IsTrue false) → wanted plain ≡ other → IsAppend sink old new result other → IsAppendBy sink old new result wanted
 plainly wanted other never is append = record {
   keeps = append.keeps;
   ordered = append.ordered;
+  stays = append.stays;
   ok = rw is append.ok;
   completed = λ at completes. absurd (no_truth (never completes));
   err = rw is append.err;
@@ -54,12 +56,13 @@ plainly wanted other never is append = record {
 }
 
 pub plainly_over : {W X : Type 0} {sink : Ghosts W} {old new : W} {result : Result X Error} (at : ℕ) (wanted : Hand → Result (List ℕ) Error)
-    (other : Result (List ℕ) Error) → (IsTrue sink.completes → IsTrue false) → wanted plain ≡ other → IsOverwrite sink old new result at other
+    (other : Result (List ℕ) Error) → (IsTrue (sink.completes old) → IsTrue false) → wanted plain ≡ other → IsOverwrite sink old new result at other
     → IsOverwriteBy sink old new result at wanted
 plainly_over at wanted other never is over = record {
   len = over.len;
   before = over.before;
   ordered = over.ordered;
+  stays = over.stays;
   refused = over.refused;
   ok = rw is over.ok;
   completed = λ places completes. absurd (no_truth (never completes));

@@ -66,18 +66,19 @@ pub record IsAppendBy {W X : Type 0} (sink : Ghosts W) (old new : W) (result : R
   -- order stays
   pub keeps : Begins (sink.contents old) (sink.contents new)
   pub ordered : sink.big new ≡ sink.big old
+  pub stays : IsTrue (sink.completes old) → IsTrue (sink.completes new)
   -- where it returns Ok, exactly the wanted bytes come after the old ones
   pub ok : IsTrue sink.keeps_bytes
       → OnOk result (Appends (wanted plain) (sink.contents old) (sink.contents new))
   -- and once a linker has completed both
-  pub completed : (at : Placement) → IsTrue sink.completes → OnOk result
+  pub completed : (at : Placement) → IsTrue (sink.completes old) → OnOk result
       (Appends (wanted (sink.hand at)) (sink.completed at old) (sink.completed at new))
   -- where it refuses, it is for memory, or for what is wanted
   pub err : IsTrue sink.fails_for_memory_alone → IfErr result (Refuses (wanted plain))
   -- whatever the writer, where it refuses, it is for what is wanted, or with what a `write` of its
   -- own refused
   pub own : IfErr result (λ e. sink.refuses e ⊎ (wanted plain ≡ Err e))
-  pub completed_own : (at : Placement) → IsTrue sink.completes
+  pub completed_own : (at : Placement) → IsTrue (sink.completes old)
       → IfErr result (λ e. sink.refuses e ⊎ (wanted (sink.hand at) ≡ Err e))
   -- where the value or the size is refused, the bytes are as they were
   pub untouched : IsTrue sink.keeps_bytes
@@ -90,9 +91,10 @@ pub record IsAppend {W X : Type 0} (sink : Ghosts W) (old new : W) (result : Res
     (wanted : Result (List ℕ) Error) : Type 0 where
   pub keeps : Begins (sink.contents old) (sink.contents new)
   pub ordered : sink.big new ≡ sink.big old
+  pub stays : IsTrue (sink.completes old) → IsTrue (sink.completes new)
   pub ok : IsTrue sink.keeps_bytes
       → OnOk result (Appends wanted (sink.contents old) (sink.contents new))
-  pub completed : (at : Placement) → IsTrue sink.completes
+  pub completed : (at : Placement) → IsTrue (sink.completes old)
       → OnOk result (Appends wanted (sink.completed at old) (sink.completed at new))
   pub err : IsTrue sink.fails_for_memory_alone → IfErr result (Refuses wanted)
   pub own : IfErr result (λ e. sink.refuses e ⊎ (wanted ≡ Err e))
@@ -104,9 +106,10 @@ pub record IsAppendInParts {W X : Type 0} (sink : Ghosts W) (old new : W) (resul
     (wanted : Result (List ℕ) Error) : Type 0 where
   pub keeps : Begins (sink.contents old) (sink.contents new)
   pub ordered : sink.big new ≡ sink.big old
+  pub stays : IsTrue (sink.completes old) → IsTrue (sink.completes new)
   pub ok : IsTrue sink.keeps_bytes
       → OnOk result (Appends wanted (sink.contents old) (sink.contents new))
-  pub completed : (at : Placement) → IsTrue sink.completes
+  pub completed : (at : Placement) → IsTrue (sink.completes old)
       → OnOk result (Appends wanted (sink.completed at old) (sink.completed at new))
   pub err : IsTrue sink.fails_for_memory_alone → IfErr result (Refuses wanted)
   pub own : IfErr result (λ e. sink.refuses e ⊎ (wanted ≡ Err e))
@@ -119,19 +122,20 @@ pub record IsOverwriteBy {W X : Type 0} (sink : Ghosts W) (old new : W) (result 
   pub len : length (sink.contents new) ≡ length (sink.contents old)
   pub before : take at (sink.contents new) ≡ take at (sink.contents old)
   pub ordered : sink.big new ≡ sink.big old
+  pub stays : IsTrue (sink.completes old) → IsTrue (sink.completes new)
   -- whatever the writer, where it refuses, no byte is changed
   pub refused : OnErr result (sink.contents new ≡ sink.contents old)
   -- where it returns Ok, exactly the wanted bytes stand from the place on
   pub ok : IsTrue sink.keeps_bytes
       → OnOk result (Overwrites at (wanted plain) (sink.contents old) (sink.contents new))
   -- and once a linker has completed both
-  pub completed : (places : Placement) → IsTrue sink.completes → OnOk result (Overwrites at
+  pub completed : (places : Placement) → IsTrue (sink.completes old) → OnOk result (Overwrites at
       (wanted (sink.hand places)) (sink.completed places old) (sink.completed places new))
   -- where it refuses, it is for what is wanted, else for the place
   pub err : IsTrue sink.fails_for_memory_alone
       → IfErr result (RefusesAt at (wanted plain) (sink.contents old))
   pub own : IfErr result (λ e. sink.refuses e ⊎ RefusesAt at (wanted plain) (sink.contents old) e)
-  pub completed_own : (places : Placement) → IsTrue sink.completes → IfErr result
+  pub completed_own : (places : Placement) → IsTrue (sink.completes old) → IfErr result
       (λ e. sink.refuses e ⊎ RefusesAt at (wanted (sink.hand places)) (sink.completed places old) e)
 
 -- the same of bytes that no linker changes
@@ -140,13 +144,14 @@ pub record IsOverwrite {W X : Type 0} (sink : Ghosts W) (old new : W) (result : 
   pub len : length (sink.contents new) ≡ length (sink.contents old)
   pub before : take at (sink.contents new) ≡ take at (sink.contents old)
   pub ordered : sink.big new ≡ sink.big old
+  pub stays : IsTrue (sink.completes old) → IsTrue (sink.completes new)
   pub refused : OnErr result (sink.contents new ≡ sink.contents old)
   pub ok : IsTrue sink.keeps_bytes
       → OnOk result (Overwrites at wanted (sink.contents old) (sink.contents new))
-  pub completed : (places : Placement) → IsTrue sink.completes → OnOk result
+  pub completed : (places : Placement) → IsTrue (sink.completes old) → OnOk result
       (Overwrites at wanted (sink.completed places old) (sink.completed places new))
   pub err : IsTrue sink.fails_for_memory_alone
       → IfErr result (RefusesAt at wanted (sink.contents old))
   pub own : IfErr result (λ e. sink.refuses e ⊎ RefusesAt at wanted (sink.contents old) e)
-  pub completed_own : (places : Placement) → IsTrue sink.completes → IfErr result
+  pub completed_own : (places : Placement) → IsTrue (sink.completes old) → IfErr result
       (λ e. sink.refuses e ⊎ RefusesAt at wanted (sink.completed places old) e)

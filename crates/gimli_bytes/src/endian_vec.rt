@@ -116,7 +116,7 @@ impl<E: Endianity> Sink for EndianVec<E> {
 
     ghost keeps_bytes = { true };
 
-    ghost completes = { false };
+    ghost completes = { λ w. false };
 
     ghost completed = { λ at v. [] };
 
@@ -195,5 +195,9 @@ impl<E: Endianity> Writer for EndianVec<E> {
         size: u8,
     ) -> Result<()> {
         self.write_udata_at(offset, val as u64, size)
+    }
+
+    fn write_reference(&mut self, _symbol: usize, _size: u8) -> Result<()> {
+        Err(Error::InvalidReference)
     }
 }

@@ -200,7 +200,7 @@ impl<E: Endianity, const N: usize> Sink for PieceVec<E, N> {
 
     ghost keeps_bytes = { true };
 
-    ghost completes = { false };
+    ghost completes = { λ w. false };
 
     ghost completed = { λ at v. [] };
 
@@ -260,6 +260,10 @@ impl<E: Endianity, const N: usize> Writer for PieceVec<E, N> {
         size: u8,
     ) -> Result<()> {
         self.write_udata_at(offset, val as u64, size)
+    }
+
+    fn write_reference(&mut self, _symbol: usize, _size: u8) -> Result<()> {
+        Err(Error::InvalidReference)
     }
 }
 

@@ -11,10 +11,9 @@ ghost use Rattle.gimli_bytes.specs.declared.error.Error.{Error};
 ///
 /// <!-- part of crates/checks_writing/src/own_writer.rt -->
 /// ```rust
-/// impl Sink for OwnWriter {
-///     ghost contents = { λ w. w.section.bytes };
+/// ghost contents = { λ w. w.section.bytes };
 ///
-///     ghost big = { λ w. false };
+/// ghost big = { λ w. false };
 /// ```
 pub trait Sink {
     /// The bytes of the section.
@@ -26,8 +25,8 @@ pub trait Sink {
     /// Whether a writer of this type keeps exactly the bytes given to it.
     ghost keeps_bytes: { Bool };
 
-    /// Whether `completed` and `hand` say what a linker makes of what a writer of this type holds.
-    ghost completes: { Bool };
+    /// Whether `completed` and `hand` say what a linker makes of what the writer holds.
+    ghost completes: { Self → Bool };
 
     /// The bytes once a linker has placed each symbol and each section so.
     ghost completed: { Placement → Self → List ℕ };

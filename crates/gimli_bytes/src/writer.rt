@@ -42,7 +42,7 @@ pub trait Writer: Sink {
     /// The length of the section in bytes, which is also the offset of what is appended next.
     fn len(&self) -> usize
         ensures contents { result ≡ length (Self.contents self.now) }
-        ensures completed { (at : Placement) → IsTrue Self.completes →
+        ensures completed { (at : Placement) → IsTrue (Self.completes self.now) →
             result ≡ length (Self.completed at self.now) };
 
     /// Appends bytes. Refused by `OutOfMemory` alone, for a type that `fails_for_memory_alone`.
@@ -122,13 +122,11 @@ pub trait Writer: Sink {
         ensures { IsOverwriteBy Self.Sink self.old self.new result offset
             (λ hand. hand.offset (Self.big self.old) section val size) };
 
-    /// Appends a reference to a symbol, of `size` bytes: always `InvalidReference`. A writer that
-    /// knows of symbols has a body of its own.
-    fn write_reference(&mut self, _symbol: usize, _size: u8) -> Result<()>
-        ensures { IsAppend Self.Sink self.old self.new result (Err Error.InvalidReference) }
-    {
-        Err(Error::InvalidReference)
-    }
+    /// Appends a reference to a symbol, of `size` bytes. A writer that knows of no symbols always
+    /// refuses it, by `InvalidReference`.
+    fn write_reference(&mut self, symbol: usize, size: u8) -> Result<()>
+        ensures { IsAppendBy Self.Sink self.old self.new result
+            (λ hand. hand.reference (Self.big self.old) symbol size) };
 
     /// Appends a byte. Refused as `write` is.
     fn write_u8(&mut self, val: u8) -> Result<()>
@@ -338,7 +336,7 @@ pub trait Writer: Sink {
         ensures after { IfOk result (λ word. length (Self.contents self.old) ≤ word.0) }
         ensures place { IsTrue Self.keeps_bytes →
             IfOk result (λ word. word.0 ≡ length (Self.contents self.old) + escape_size format) }
-        ensures completed { (at : Placement) → IsTrue Self.completes → IfOk result
+        ensures completed { (at : Placement) → IsTrue (Self.completes self.old) → IfOk result
             (λ word. word.0 ≡ length (Self.completed at self.old) + escape_size format) }
     {
         match format {

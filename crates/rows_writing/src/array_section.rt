@@ -49,7 +49,7 @@ impl Sink for ArraySection {
 
     ghost keeps_bytes = { false };
 
-    ghost completes = { false };
+    ghost completes = { λ w. false };
 
     ghost completed = { λ at w. [] };
 
@@ -115,5 +115,9 @@ impl Writer for ArraySection {
         size: u8,
     ) -> Result<()> {
         self.write_udata_at(offset, val as u64, size)
+    }
+
+    fn write_reference(&mut self, _symbol: usize, _size: u8) -> Result<()> {
+        Err(Error::InvalidReference)
     }
 }

@@ -1,5 +1,6 @@
 -- Items written one after the other.
-use Rattle.std.proofs.Common.{IsTrue, inl, inr, ◌≡◌, ℕ, ◌+◌, ◌<◌, ◌^◌, Bool, List, [], ◌∷◌, ◌++◌, Ok, Err, refl, sym, ap, ◌∙◌, append_assoc, lit<, length, get_or, add-one, take}
+use Rattle.std.proofs.Common.{IsTrue, inl, inr, ◌≡◌, ℕ, ◌+◌, ◌<◌, ◌^◌, Bool, List, [], ◌∷◌, ◌++◌, Ok, Err, refl, sym, ap, ◌∙◌, append_assoc, lit<, length}
+use Rattle.std.proofs.Common.{get_or, add-one, take}
 use Rattle.std.proofs.lemmas.List.{append-nil}
 use Rattle.std.proofs.Math.Seq.{take-suc}
 use Rattle.std.specs.Prelude.{Result}
@@ -29,7 +30,8 @@ pub record Standing (hand : Hand) (big : Bool) (encoding : Encoding) (e : LineEn
   pub parts : whole ≡ result_append (Ok done) (items_bytes_by hand big encoding e previous left)
 
 -- one item more
-pub standing_more : (hand : Hand) (big : Bool) (encoding : Encoding) (e : LineEncoding) (whole : Result (List ℕ) Error) (old new newer : List ℕ) (previous : LineRow)
+pub standing_more : (hand : Hand) (big : Bool) (encoding : Encoding) (e : LineEncoding) (whole : Result (List ℕ) Error) (old new newer : List ℕ)
+    (previous : LineRow)
     (item : BuiltItem) (left : List BuiltItem)
     → Standing hand big encoding e whole old new previous (item ∷ left) → Appends (item_bytes_by hand big encoding e previous item) new newer
     → Standing hand big encoding e whole old newer (next_previous encoding.version e.default_is_stmt previous item) left
@@ -43,7 +45,8 @@ standing_more hand big encoding e whole old new newer previous item left so more
     }
 
 -- a refused item is what refuses
-pub standing_refused : (hand : Hand) (big : Bool) (encoding : Encoding) (e : LineEncoding) (whole : Result (List ℕ) Error) (old new : List ℕ) (previous : LineRow)
+pub standing_refused : (hand : Hand) (big : Bool) (encoding : Encoding) (e : LineEncoding) (whole : Result (List ℕ) Error) (old new : List ℕ)
+    (previous : LineRow)
     (item : BuiltItem) (left : List BuiltItem) (d : Error)
     → Standing hand big encoding e whole old new previous (item ∷ left) → item_bytes_by hand big encoding e previous item ≡ Err d → whole ≡ Err d
 standing_refused hand big encoding e whole old new previous item left d so refused =
@@ -75,14 +78,15 @@ standing_start hand big encoding e old previous items = record {
 -- a refused item, after those so far
 pub items_unwritten : {W X Y : Type 0} {sink : Ghosts W} {old mid new : W} {d : Error} (encoding : Encoding) (e : LineEncoding)
     (whole : Hand → Result (List ℕ) Error) (previous : LineRow) (item : BuiltItem) (left : List BuiltItem) → Begins (sink.contents old) (sink.contents mid)
-    → sink.big mid ≡ sink.big old
+    → sink.big mid ≡ sink.big old → (IsTrue (sink.completes old) → IsTrue (sink.completes mid))
     → (IsTrue sink.keeps_bytes → Standing plain (sink.big old) encoding e (whole plain) (sink.contents old) (sink.contents mid) previous (item ∷ left))
-    → ((at : Placement) → IsTrue sink.completes
+    → ((at : Placement) → IsTrue (sink.completes old)
     → Standing (sink.hand at) (sink.big old) encoding e (whole (sink.hand at)) (sink.completed at old) (sink.completed at mid) previous (item ∷ left))
     → WritesBy {X = X} sink mid new (Err d) (λ hand. item_bytes_by hand (sink.big old) encoding e previous item) → WritesBy {X = Y} sink old new (Err d) whole
-items_unwritten {sink = sink} {old = old} {mid = mid} {new = new} {d = d} encoding e whole previous item left begins same so by refused = record {
+items_unwritten {sink = sink} {old = old} {mid = mid} {new = new} {d = d} encoding e whole previous item left begins same stays so by refused = record {
   keeps = begins_then (sink.contents old) (sink.contents mid) (sink.contents new) begins refused.keeps;
   ordered = refused.ordered ∙ same;
+  stays = λ completes. refused.stays (stays completes);
   ok = λ keeps_bytes. tt;
   completed = λ at completes. tt;
   err = λ keeps_bytes fails_for_memory_alone. first (so keeps_bytes) (refused.err keeps_bytes fails_for_memory_alone);
@@ -93,7 +97,7 @@ items_unwritten {sink = sink} {old = old} {mid = mid} {new = new} {d = d} encodi
       or_wanted
       (standing_refused (sink.hand at) (sink.big old) encoding e (whole (sink.hand at)) (sink.completed at old) (sink.completed at mid) previous item left d
       (by at completes))
-      (refused.completed_own at completes);
+      (refused.completed_own at (stays completes));
 }
   where
     first : Standing plain (sink.big old) encoding e (whole plain) (sink.contents old) (sink.contents mid) previous (item ∷ left)
@@ -105,13 +109,15 @@ items_unwritten {sink = sink} {old = old} {mid = mid} {new = new} {d = d} encodi
 -- all items
 pub items_written : {W X : Type 0} {sink : Ghosts W} {old new : W} {x : X} (encoding : Encoding) (e : LineEncoding) (whole : Hand → Result (List ℕ) Error)
     (previous : LineRow) → Begins (sink.contents old) (sink.contents new) → sink.big new ≡ sink.big old
+    → (IsTrue (sink.completes old) → IsTrue (sink.completes new))
     → (IsTrue sink.keeps_bytes → Standing plain (sink.big old) encoding e (whole plain) (sink.contents old) (sink.contents new) previous [])
-    → ((at : Placement) → IsTrue sink.completes
+    → ((at : Placement) → IsTrue (sink.completes old)
     → Standing (sink.hand at) (sink.big old) encoding e (whole (sink.hand at)) (sink.completed at old) (sink.completed at new) previous [])
     → WritesBy sink old new (Ok x) whole
-items_written {sink = sink} {old = old} {new = new} encoding e whole previous begins same so by = record {
+items_written {sink = sink} {old = old} {new = new} encoding e whole previous begins same stays so by = record {
   keeps = begins;
   ordered = same;
+  stays = stays;
   ok = λ keeps_bytes. standing_end plain (sink.big old) encoding e (whole plain) (sink.contents old) (sink.contents new) previous (so keeps_bytes);
   completed = λ at completes.
       standing_end (sink.hand at) (sink.big old) encoding e (whole (sink.hand at)) (sink.completed at old) (sink.completed at new) previous (by at completes);

@@ -12,6 +12,7 @@ pub none_called : {W X : Type 0} {sink : Ghosts W} {w : W} {x : X} → Writes si
 none_called {sink = sink} {w = w} = record {
   keeps = begins_self (sink.contents w);
   ordered = refl;
+  stays = λ completes. completes;
   ok = λ keeps_bytes. sym (append-nil (sink.contents w));
   completed = λ at completes. sym (append-nil (sink.completed at w));
   err = λ keeps_bytes fails_for_memory_alone. tt;
@@ -25,6 +26,7 @@ pub answered : {W X Y : Type 0} {sink : Ghosts W} {old new : W} {x : X} {y : Y} 
 answered so = record {
   keeps = so.keeps;
   ordered = so.ordered;
+  stays = so.stays;
   ok = so.ok;
   completed = so.completed;
   err = λ keeps_bytes fails_for_memory_alone. tt;
@@ -38,6 +40,7 @@ pub refused_alike : {W X Y : Type 0} {sink : Ghosts W} {old new : W} {e : Error}
 refused_alike {e = e} {xs = xs} ys refused = record {
   keeps = refused.keeps;
   ordered = refused.ordered;
+  stays = refused.stays;
   ok = λ keeps_bytes. tt;
   completed = λ at completes. tt;
   err = λ keeps_bytes fails_for_memory_alone. memory (refused.err keeps_bytes fails_for_memory_alone);

@@ -1,15 +1,15 @@
 -- Calls that append, one after the other.
-use Rattle.std.proofs.Common.{◌≡◌, List, [], ◌∷◌, ℕ, Ok, Err, IsTrue, refl, sym, ap, ◌∙◌, inl, inr, subst}
+use Rattle.std.proofs.Common.{◌≡◌, ◌⊎◌, List, [], ◌∷◌, ℕ, Ok, Err, IsTrue, refl, sym, ap, ◌∙◌, inl, inr, subst}
 use Rattle.std.specs.Prelude.{Result}
 use Rattle.gimli_bytes.specs.Hand.{Hand, Placement, plain}
-use Rattle.gimli_bytes.specs.Written.{Begins, Appends, Refuses, IsAppend, IsAppendBy}
+use Rattle.gimli_bytes.specs.Written.{Begins, Appends, Refuses, IsAppend, IsAppendBy, IsAppendInParts}
 use Rattle.gimli_bytes.specs.declared.error.Error.{Error}
 use Rattle.gimli_bytes.specs.declared.sink.Sink.{Ghosts}
-use Rattle.gimli_build.specs.Joined.{result_append, result_concat}
+use Rattle.gimli_build.specs.Joined.{result_append, result_concat, after_length}
 use Rattle.gimli_build.specs.inside.Joined.{RefusesFor}
 use Rattle.gimli_build.specs.inside.Writes.{Writes, WritesBy}
 use Rattle.gimli_build.proofs.writing.Joined.{SoFar, none_so_far, one_more, one_refused, all_done, on_ok, if_err, or_wanted, handed_on, part_refused}
-use Rattle.gimli_build.proofs.writing.Joined.{second_refused, appends_joined, refuses_second, begins_self, begins_then}
+use Rattle.gimli_build.proofs.writing.Joined.{first_refused, refuses_first, second_refused, appends_joined, refuses_second, begins_self, begins_then}
 
 -- two calls
 pub joins_by : {W X Y : Type 0} {sink : Ghosts W} {old mid new : W} {x : X} {r : Result Y Error} {a b : Hand → Result (List ℕ) Error}
@@ -17,6 +17,7 @@ pub joins_by : {W X Y : Type 0} {sink : Ghosts W} {old mid new : W} {x : X} {r :
 joins_by {sink = sink} {old = old} {mid = mid} {new = new} {r = r} {a = a} {b = b} first second = record {
   keeps = begins_then (sink.contents old) (sink.contents mid) (sink.contents new) first.keeps second.keeps;
   ordered = second.ordered ∙ first.ordered;
+  stays = λ completes. second.stays (first.stays completes);
   ok =
       λ keeps_bytes.
       on_ok r (appends_joined (a plain) (b plain) (sink.contents old) (sink.contents mid) (sink.contents new) (first.ok keeps_bytes)) (second.ok keeps_bytes);
@@ -25,7 +26,7 @@ joins_by {sink = sink} {old = old} {mid = mid} {new = new} {r = r} {a = a} {b = 
       on_ok r
       (appends_joined (a (sink.hand at)) (b (sink.hand at)) (sink.completed at old) (sink.completed at mid) (sink.completed at new)
       (first.completed at completes))
-      (second.completed at completes);
+      (second.completed at (first.stays completes));
   err =
       λ keeps_bytes fails_for_memory_alone.
       if_err r (λ e. refuses_second (a plain) (b plain) (sink.contents old) (sink.contents mid) e (first.ok keeps_bytes))
@@ -38,7 +39,7 @@ joins_by {sink = sink} {old = old} {mid = mid} {new = new} {r = r} {a = a} {b = 
       λ at completes.
       if_err r
       (λ e. or_wanted (second_refused (a (sink.hand at)) (b (sink.hand at)) (sink.completed at old) (sink.completed at mid) e (first.completed at completes)))
-      (second.completed_own at completes);
+      (second.completed_own at (first.stays completes));
 }
 
 -- what is wanted, said otherwise
@@ -47,6 +48,7 @@ pub wanted_alike : {W X : Type 0} {sink : Ghosts W} {old new : W} {r : Result X 
 wanted_alike {sink = sink} {old = old} {new = new} {r = r} same so = record {
   keeps = so.keeps;
   ordered = so.ordered;
+  stays = so.stays;
   ok = λ keeps_bytes. on_ok r (subst (λ w. Appends w (sink.contents old) (sink.contents new)) (same plain)) (so.ok keeps_bytes);
   completed =
       λ at completes.
@@ -66,6 +68,7 @@ pub writes_by : {W X : Type 0} {sink : Ghosts W} {old new : W} {r : Result X Err
 writes_by {r = r} wanted append = record {
   keeps = append.keeps;
   ordered = append.ordered;
+  stays = append.stays;
   ok = append.ok;
   completed = append.completed;
   err = λ keeps_bytes fails_for_memory_alone. if_err r (for_it (wanted plain)) (append.err fails_for_memory_alone);
@@ -78,6 +81,7 @@ pub writes : {W X : Type 0} {sink : Ghosts W} {old new : W} {r : Result X Error}
 writes {r = r} wanted append = record {
   keeps = append.keeps;
   ordered = append.ordered;
+  stays = append.stays;
   ok = append.ok;
   completed = append.completed;
   err = λ keeps_bytes fails_for_memory_alone. if_err r (for_it wanted) (append.err fails_for_memory_alone);
@@ -92,6 +96,7 @@ pub by_writes : {W X : Type 0} {sink : Ghosts W} {old new : W} {r : Result X Err
 by_writes so = record {
   keeps = so.keeps;
   ordered = so.ordered;
+  stays = so.stays;
   ok = so.ok;
   completed = so.completed;
   err = so.err;
@@ -104,6 +109,7 @@ pub from_by : {W X : Type 0} {sink : Ghosts W} {old new : W} {r : Result X Error
 from_by so = record {
   keeps = so.keeps;
   ordered = so.ordered;
+  stays = so.stays;
   ok = so.ok;
   completed = so.completed;
   err = so.err;
@@ -121,16 +127,86 @@ pub unwritten : {W X Y Z : Type 0} {sink : Ghosts W} {old mid new : W} {x : X} {
 unwritten {sink = sink} {old = old} {mid = mid} {new = new} {e = e} {ys = ys} zs first refused = record {
   keeps = begins_then (sink.contents old) (sink.contents mid) (sink.contents new) first.keeps refused.keeps;
   ordered = refused.ordered ∙ first.ordered;
+  stays = λ completes. refused.stays (first.stays completes);
   ok = λ keeps_bytes. tt;
   completed = λ at completes. tt;
   err = λ keeps_bytes fails_for_memory_alone. memory (refused.err keeps_bytes fails_for_memory_alone);
   own = λ keeps_bytes. handed_on (refused.own keeps_bytes);
-  completed_own = λ at completes. handed_on (refused.completed_own at completes);
+  completed_own = λ at completes. handed_on (refused.completed_own at (first.stays completes));
 }
   where
     memory : RefusesFor (Ok ys) e → RefusesFor (Ok zs) e
     memory (inl is) = inl is
     memory (inr is) = absurd cc
+
+-- the same bytes, said otherwise
+pub same_bytes : {W X : Type 0} {sink : Ghosts W} {old new : W} {r : Result X Error} {xs ys : List ℕ} → xs ≡ ys → Writes sink old new r (Ok xs)
+    → Writes sink old new r (Ok ys)
+same_bytes {sink = sink} {old = old} {new = new} {r = r} same so = subst (λ (l : List ℕ). Writes sink old new r (Ok l)) same so
+
+-- ---- refused
+
+-- before anything is known of what is wanted after it
+pub first_unwritten : {W X Y : Type 0} {sink : Ghosts W} {old new : W} {e : Error} {a : Hand → Result (List ℕ) Error} (b : Hand → Result (List ℕ) Error)
+    → WritesBy {X = X} sink old new (Err e) a
+    → WritesBy {X = Y} sink old new (Err e) (λ hand. result_append (a hand) (b hand))
+first_unwritten {sink = sink} {e = e} {a = a} b refused = record {
+  keeps = refused.keeps;
+  ordered = refused.ordered;
+  stays = refused.stays;
+  ok = λ keeps_bytes. tt;
+  completed = λ at completes. tt;
+  err = λ keeps_bytes fails_for_memory_alone. refuses_first (a plain) (b plain) e (refused.err keeps_bytes fails_for_memory_alone);
+  own = λ keeps_bytes. or_wanted (first_refused (a plain) (b plain) e) (refused.own keeps_bytes);
+  completed_own = λ at completes. or_wanted (first_refused (a (sink.hand at)) (b (sink.hand at)) e) (refused.completed_own at completes);
+}
+
+-- where bytes are wanted, for memory, or as the writer refuses
+not_wanted : {A B : Type 0} {e : Error} {xs : List ℕ} → A ⊎ ((let r : Result (List ℕ) Error = Ok xs in r) ≡ Err e) → A ⊎ B
+not_wanted (inl own) = inl own
+not_wanted (inr is) = absurd cc
+
+pub bytes_unwritten : {W X Y : Type 0} {sink : Ghosts W} {old new : W} {e : Error} {xs : List ℕ} {wanted : Hand → Result (List ℕ) Error}
+    → Writes {X = X} sink old new (Err e) (Ok xs) → WritesBy {X = Y} sink old new (Err e) wanted
+bytes_unwritten refused = record {
+  keeps = refused.keeps;
+  ordered = refused.ordered;
+  stays = refused.stays;
+  ok = λ keeps_bytes. tt;
+  completed = λ at completes. tt;
+  err = λ keeps_bytes fails_for_memory_alone. not_wanted (refused.err keeps_bytes fails_for_memory_alone);
+  own = λ keeps_bytes. not_wanted (refused.own keeps_bytes);
+  completed_own = λ at completes. not_wanted (refused.completed_own at completes);
+}
+
+pub parts_unwritten : {W X Y : Type 0} {sink : Ghosts W} {old new : W} {e : Error} {xs : List ℕ} {wanted : Hand → Result (List ℕ) Error}
+    → IsAppendInParts {X = X} sink old new (Err e) (Ok xs) → WritesBy {X = Y} sink old new (Err e) wanted
+parts_unwritten refused = record {
+  keeps = refused.keeps;
+  ordered = refused.ordered;
+  stays = refused.stays;
+  ok = λ keeps_bytes. tt;
+  completed = λ at completes. tt;
+  err = λ keeps_bytes fails_for_memory_alone. inl (refused.err fails_for_memory_alone);
+  own = λ keeps_bytes. not_wanted refused.own;
+  completed_own = λ at completes. not_wanted refused.own;
+}
+
+-- what a length counts
+pub counted_unwritten : {W X Y : Type 0} {sink : Ghosts W} {old mid new : W} {e : Error} {body : Hand → Result (List ℕ) Error}
+    (full : ℕ → Result (List ℕ) Error) → Begins (sink.contents old) (sink.contents mid) → sink.big mid ≡ sink.big old
+    → (IsTrue (sink.completes old) → IsTrue (sink.completes mid)) → WritesBy {X = X} sink mid new (Err e) body
+    → WritesBy {X = Y} sink old new (Err e) (λ hand. after_length full (body hand))
+counted_unwritten {sink = sink} {old = old} {mid = mid} {new = new} {e = e} {body = body} full begins same stays refused = record {
+  keeps = begins_then (sink.contents old) (sink.contents mid) (sink.contents new) begins refused.keeps;
+  ordered = refused.ordered ∙ same;
+  stays = λ completes. refused.stays (stays completes);
+  ok = λ keeps_bytes. tt;
+  completed = λ at completes. tt;
+  err = λ keeps_bytes fails_for_memory_alone. or_wanted (ap (after_length full)) (refused.err keeps_bytes fails_for_memory_alone);
+  own = λ keeps_bytes. or_wanted (ap (after_length full)) (refused.own keeps_bytes);
+  completed_own = λ at completes. or_wanted (ap (after_length full)) (refused.completed_own at (stays completes));
+}
 
 -- ---- the parts of a list
 
@@ -138,14 +214,16 @@ unwritten {sink = sink} {old = old} {mid = mid} {new = new} {e = e} {ys = ys} zs
 pub record WritesSoFar {W A : Type 0} (sink : Ghosts W) (part : Hand → A → Result (List ℕ) Error) (all left : List A) (old new : W) : Type 0 where
   pub keeps : Begins (sink.contents old) (sink.contents new)
   pub ordered : sink.big new ≡ sink.big old
+  pub stays : IsTrue (sink.completes old) → IsTrue (sink.completes new)
   pub put : IsTrue sink.keeps_bytes → SoFar (part plain) all left (sink.contents old) (sink.contents new)
-  pub completed : (at : Placement) → IsTrue sink.completes → SoFar (part (sink.hand at)) all left (sink.completed at old) (sink.completed at new)
+  pub completed : (at : Placement) → IsTrue (sink.completes old) → SoFar (part (sink.hand at)) all left (sink.completed at old) (sink.completed at new)
 
 pub none_written : {W A : Type 0} (sink : Ghosts W) (part : Hand → A → Result (List ℕ) Error) (all : List A) (old : W)
     → WritesSoFar sink part all all old old
 none_written sink part all old = record {
   keeps = begins_self (sink.contents old);
   ordered = refl;
+  stays = λ completes. completes;
   put = λ keeps_bytes. none_so_far (part plain) all (sink.contents old);
   completed = λ at completes. none_so_far (part (sink.hand at)) all (sink.completed at old);
 }
@@ -155,11 +233,12 @@ pub one_written : {W A X : Type 0} {sink : Ghosts W} {part : Hand → A → Resu
 one_written {sink = sink} {part = part} {all = all} {left = left} {x = x} {old = old} {mid = mid} {new = new} so more = record {
   keeps = begins_then (sink.contents old) (sink.contents mid) (sink.contents new) so.keeps more.keeps;
   ordered = more.ordered ∙ so.ordered;
+  stays = λ completes. more.stays (so.stays completes);
   put = λ keeps_bytes. one_more (part plain) all left x (sink.contents old) (sink.contents mid) (sink.contents new) (so.put keeps_bytes) (more.ok keeps_bytes);
   completed =
       λ at completes.
       one_more (part (sink.hand at)) all left x (sink.completed at old) (sink.completed at mid) (sink.completed at new) (so.completed at completes)
-      (more.completed at completes);
+      (more.completed at (so.stays completes));
 }
 
 pub one_unwritten : {W A X Y : Type 0} {sink : Ghosts W} {part : Hand → A → Result (List ℕ) Error} {all left : List A} {x : A} {old mid new : W} {e : Error}
@@ -168,6 +247,7 @@ pub one_unwritten : {W A X Y : Type 0} {sink : Ghosts W} {part : Hand → A → 
 one_unwritten {sink = sink} {part = part} {all = all} {left = left} {x = x} {old = old} {mid = mid} {new = new} {e = e} so refused = record {
   keeps = begins_then (sink.contents old) (sink.contents mid) (sink.contents new) so.keeps refused.keeps;
   ordered = refused.ordered ∙ so.ordered;
+  stays = λ completes. refused.stays (so.stays completes);
   ok = λ keeps_bytes. tt;
   completed = λ at completes. tt;
   err =
@@ -179,7 +259,7 @@ one_unwritten {sink = sink} {part = part} {all = all} {left = left} {x = x} {old
   completed_own =
       λ at completes.
       or_wanted (part_refused (part (sink.hand at)) all left x (sink.completed at old) (sink.completed at mid) e (so.completed at completes))
-      (refused.completed_own at completes);
+      (refused.completed_own at (so.stays completes));
 }
 
 pub all_written : {W A X : Type 0} {sink : Ghosts W} {part : Hand → A → Result (List ℕ) Error} {all : List A} {old new : W} {y : X}
@@ -187,6 +267,7 @@ pub all_written : {W A X : Type 0} {sink : Ghosts W} {part : Hand → A → Resu
 all_written {sink = sink} {part = part} {all = all} {old = old} {new = new} so = record {
   keeps = so.keeps;
   ordered = so.ordered;
+  stays = so.stays;
   ok = λ keeps_bytes. all_done (part plain) all (sink.contents old) (sink.contents new) (so.put keeps_bytes);
   completed = λ at completes. all_done (part (sink.hand at)) all (sink.completed at old) (sink.completed at new) (so.completed at completes);
   err = λ keeps_bytes fails_for_memory_alone. tt;

@@ -13,17 +13,18 @@ pub record WritesBy {W X : Type 0} (sink : Ghosts W) (old new : W) (result : Res
     (wanted : Hand → Result (List ℕ) Error) : Type 0 where
   pub keeps : Begins (sink.contents old) (sink.contents new)
   pub ordered : sink.big new ≡ sink.big old
+  pub stays : IsTrue (sink.completes old) → IsTrue (sink.completes new)
   pub ok : IsTrue sink.keeps_bytes
       → OnOk result (Appends (wanted plain) (sink.contents old) (sink.contents new))
   -- and once a linker has completed both
-  pub completed : (at : Placement) → IsTrue sink.completes → OnOk result
+  pub completed : (at : Placement) → IsTrue (sink.completes old) → OnOk result
       (Appends (wanted (sink.hand at)) (sink.completed at old) (sink.completed at new))
   pub err : IsTrue sink.keeps_bytes → IsTrue sink.fails_for_memory_alone
       → IfErr result (RefusesFor (wanted plain))
   -- the same of any writer that keeps its bytes, or what a call of its own refused
   pub own : IsTrue sink.keeps_bytes → IfErr result (λ e. sink.refuses e ⊎ (wanted plain ≡ Err e))
   -- and of any whose bytes a linker completes
-  pub completed_own : (at : Placement) → IsTrue sink.completes
+  pub completed_own : (at : Placement) → IsTrue (sink.completes old)
       → IfErr result (λ e. sink.refuses e ⊎ (wanted (sink.hand at) ≡ Err e))
 
 -- the same of bytes that no linker changes
@@ -31,12 +32,13 @@ pub record Writes {W X : Type 0} (sink : Ghosts W) (old new : W) (result : Resul
     (wanted : Result (List ℕ) Error) : Type 0 where
   pub keeps : Begins (sink.contents old) (sink.contents new)
   pub ordered : sink.big new ≡ sink.big old
+  pub stays : IsTrue (sink.completes old) → IsTrue (sink.completes new)
   pub ok : IsTrue sink.keeps_bytes
       → OnOk result (Appends wanted (sink.contents old) (sink.contents new))
-  pub completed : (at : Placement) → IsTrue sink.completes
+  pub completed : (at : Placement) → IsTrue (sink.completes old)
       → OnOk result (Appends wanted (sink.completed at old) (sink.completed at new))
   pub err : IsTrue sink.keeps_bytes → IsTrue sink.fails_for_memory_alone
       → IfErr result (RefusesFor wanted)
   pub own : IsTrue sink.keeps_bytes → IfErr result (λ e. sink.refuses e ⊎ (wanted ≡ Err e))
-  pub completed_own : (at : Placement) → IsTrue sink.completes
+  pub completed_own : (at : Placement) → IsTrue (sink.completes old)
       → IfErr result (λ e. sink.refuses e ⊎ (wanted ≡ Err e))

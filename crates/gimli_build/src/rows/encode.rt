@@ -92,7 +92,8 @@ fn write_item<W: Writer>(
     requires previous_line { previous.now.line < 2 ^ 63 }
     requires built { CanBuild line_encoding position item.now }
     ensures writes { WritesBy W.Sink w.old w.new result
-        (λ hand. item_bytes_by hand (W.big w.old) encoding line_encoding (at_position position previous.now)
+        (λ hand. item_bytes_by hand (W.big w.old) encoding line_encoding
+        (at_position position previous.now)
         item.now) }
     ensures fit { OnOk result (FitsItem encoding.version item.now) }
 {

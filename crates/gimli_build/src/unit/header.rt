@@ -31,7 +31,8 @@ pub(crate) fn write_header<W: Writer>(
     requires empty { StandsForNone program.now (texts_in strings.now line_strings.now)
         (line_text empty.now) }
     ensures writes { WritesBy W.Sink w.old w.new result
-        (λ hand. header_bytes_by hand (W.big w.old) program.now (texts_in strings.now line_strings.now)) }
+        (λ hand. header_bytes_by hand (W.big w.old) program.now
+        (texts_in strings.now line_strings.now)) }
     ensures fit { OnOk result (All FitsFile program.now.files) }
 {
     let size = program.format().word_size();
@@ -55,7 +56,8 @@ fn write_fields<W: Writer>(
     requires empty { StandsForNone program.now (texts_in strings.now line_strings.now)
         (line_text empty.now) }
     ensures writes { WritesBy W.Sink w.old w.new result
-        (λ hand. fields_bytes_by hand (W.big w.old) program.now (texts_in strings.now line_strings.now)) }
+        (λ hand. fields_bytes_by hand (W.big w.old) program.now
+        (texts_in strings.now line_strings.now)) }
     ensures fit { OnOk result (All FitsFile program.now.files) }
 {
     write_line_encoding(w, program.version(), program.line_encoding())?;
@@ -105,7 +107,8 @@ fn write_tables<W: Writer>(
     requires empty { StandsForNone program.now (texts_in strings.now line_strings.now)
         (line_text empty.now) }
     ensures writes { WritesBy W.Sink w.old w.new result
-        (λ hand. tables_bytes_by hand (W.big w.old) program.now (texts_in strings.now line_strings.now)) }
+        (λ hand. tables_bytes_by hand (W.big w.old) program.now
+        (texts_in strings.now line_strings.now)) }
     ensures fit { OnOk result (All FitsFile program.now.files) }
 {
     if program.version() <= 4 {

@@ -16,6 +16,7 @@ loop-item-init g c =
     record {
       keeps = begins_self (g.W.Sink.contents c.args.w.now);
       ordered = refl;
+      stays = λ completes. completes;
       fit = tt;
       way = rw c.initial-initial.ensures (record { position = start_position e c.requires.can; line = lit< tt; built = c.requires.built });
       put =
@@ -51,6 +52,7 @@ loop-item-preserved g c =
           begins_then (contents c.args.w.now) (contents c.loop-item.w) (contents c.write_item.new.w) c.loop-item.invariant.keeps
           c.in_ok-write_item.ensures.writes.keeps;
       ordered = c.in_ok-write_item.ensures.writes.ordered ∙ c.loop-item.invariant.ordered;
+      stays = λ completes. c.in_ok-write_item.ensures.writes.stays (c.loop-item.invariant.stays completes);
       fit = rw (taken_next items i item lt c.item-item.is) (fit_more version (take i items) item c.loop-item.invariant.fit c.in_ok-write_item.ensures.fit);
       way = rw moved (way_on version e c.requires.can previous item (drop (i + 1) items) way);
       put = λ keeps_bytes.
@@ -60,7 +62,7 @@ loop-item-preserved g c =
           previous item (drop (i + 1) items) so more);
       completed = λ at completes.
           let so = rw split at (c.loop-item.invariant.completed at completes) in
-          let more = rw c.loop-item.invariant.ordered at (c.in_ok-write_item.ensures.writes.completed at completes) in
+          let more = rw c.loop-item.invariant.ordered at (c.in_ok-write_item.ensures.writes.completed at (c.loop-item.invariant.stays completes)) in
           rw moved (standing_more (g.W.Sink.hand at) big c.args.encoding e (whole (g.W.Sink.hand at)) (completed at c.args.w.now)
           (completed at c.loop-item.w) (completed at c.write_item.new.w) previous item (drop (i + 1) items) so more);
     }
@@ -81,6 +83,7 @@ returns-in_err-write_item-clause-writes g c =
     let p = err_from_is_err_and c.from_residual.result c.from_residual.ensures.1 in
     rw (p.1, p.2)
     (items_unwritten c.args.encoding e whole previous item (drop (i + 1) items) c.loop-item.invariant.keeps c.loop-item.invariant.ordered
+    c.loop-item.invariant.stays
     (λ keeps_bytes. rw split at (c.loop-item.invariant.put keeps_bytes)) (λ at completes. rw split at (c.loop-item.invariant.completed at completes)) refused)
 
 pub returns-clause-writes : goal.returns-clause-writes
@@ -94,5 +97,5 @@ returns-clause-writes g c =
     let previous = at_position c.loop-item.position c.loop-item.previous.now in
     let end : length items ≤ i = omega arith in
     let all : drop i items ≡ [] = drop_all i items end in
-    items_written c.args.encoding e whole previous c.loop-item.invariant.keeps c.loop-item.invariant.ordered
+    items_written c.args.encoding e whole previous c.loop-item.invariant.keeps c.loop-item.invariant.ordered c.loop-item.invariant.stays
     (λ keeps_bytes. rw all at (c.loop-item.invariant.put keeps_bytes)) (λ at completes. rw all at (c.loop-item.invariant.completed at completes))

@@ -20,7 +20,8 @@ invariant-loop-item g l =
       put : IsTrue g.W.Sink.keeps_bytes
           → Standing plain big l.encoding l.line_encoding (items_bytes_by plain big l.encoding l.line_encoding first l.items) (contents l.fn.w)
           (contents l.w) previous (drop l.item-index l.items);
-      completed : (at : Placement) → IsTrue g.W.Sink.completes
+      stays : IsTrue (g.W.Sink.completes l.fn.w) → IsTrue (g.W.Sink.completes l.w);
+      completed : (at : Placement) → IsTrue (g.W.Sink.completes l.fn.w)
           → Standing (g.W.Sink.hand at) big l.encoding l.line_encoding
           (items_bytes_by (g.W.Sink.hand at) big l.encoding l.line_encoding first l.items) (g.W.Sink.completed at l.fn.w) (g.W.Sink.completed at l.w) previous
           (drop l.item-index l.items);

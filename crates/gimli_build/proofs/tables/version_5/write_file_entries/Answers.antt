@@ -26,7 +26,8 @@ write_file_entry-requires-clause-empty g c = λ has without.
 pub loop-index-init : goal.loop-index-init
 loop-index-init g c =
     let p = c.args.program.now in
-    let part = λ (hand : Hand). file_entry_bytes_by hand (g.W.Sink.big c.args.w.now) p.encoding.format (texts_in c.args.strings.now c.args.line_strings.now) p in
+    let part =
+    λ (hand : Hand). file_entry_bytes_by hand (g.W.Sink.big c.args.w.now) p.encoding.format (texts_in c.args.strings.now c.args.line_strings.now) p in
     record { so = none_written g.W.Sink part p.files c.args.w.now; fit = All-nil FitsFile }
 
 pub returns-in_err-write_file_entry-clause-writes : goal.returns-in_err-write_file_entry-clause-writes

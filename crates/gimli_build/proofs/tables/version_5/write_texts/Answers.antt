@@ -18,7 +18,8 @@ write_line_string-requires g c =
 
 pub loop-text-init : goal.loop-text-init
 loop-text-init g c =
-    let part = λ (hand : Hand). text_in_form_by hand (g.W.Sink.big c.args.w.now) c.args.format (texts_in c.args.strings.now c.args.line_strings.now) c.args.form.0 in
+    let part =
+    λ (hand : Hand). text_in_form_by hand (g.W.Sink.big c.args.w.now) c.args.format (texts_in c.args.strings.now c.args.line_strings.now) c.args.form.0 in
     record { so = none_written g.W.Sink part (map line_text c.args.texts.now) c.args.w.now }
 
 pub returns-in_err-write_line_string : goal.returns-in_err-write_line_string

@@ -8,6 +8,7 @@ use Rattle.gimli_build.proofs.tables.version_5.write_texts.Given as goal
 
 abbrev pub invariant-loop-text : goal.invariant-loop-text
 invariant-loop-text g l = record {
-  so : WritesSoFar g.W.Sink (λ (hand : Hand). text_in_form_by hand (g.W.Sink.big l.fn.w) l.format (texts_in l.strings l.line_strings) l.form.0) (map line_text l.texts)
+  so : WritesSoFar g.W.Sink (λ (hand : Hand). text_in_form_by hand (g.W.Sink.big l.fn.w) l.format (texts_in l.strings l.line_strings) l.form.0)
+      (map line_text l.texts)
       (drop l.text-index (map line_text l.texts)) l.fn.w l.w;
 }

@@ -46,7 +46,8 @@ returns-in_err-write_u64-in-Dwarf64-clause-appends g c =
     let p = err_from_is_err_and c.from_residual-in_err-write_u64-in-Dwarf64.result c.from_residual-in_err-write_u64-in-Dwarf64.ensures.1 in
     rw (p.1, p.2)
     (refused_after (number_bytes (g.Self.Sink.big c.write_u32-in-Dwarf64.new.self) 8 0) (open_length (g.Self.Sink.big c.args.self.now) c.args.format)
-    c.in_ok-write_u32-in-Dwarf64.ensures.keeps c.in_ok-write_u32-in-Dwarf64.ensures.ordered c.in_err-write_u64-in-Dwarf64.ensures)
+    c.in_ok-write_u32-in-Dwarf64.ensures.keeps c.in_ok-write_u32-in-Dwarf64.ensures.ordered c.in_ok-write_u32-in-Dwarf64.ensures.stays
+    c.in_err-write_u64-in-Dwarf64.ensures)
 
 -- ---- written
 
@@ -79,10 +80,12 @@ pub returns-in_err-write_u32-in-Dwarf32-clause-completed : goal.returns-in_err-w
 returns-in_err-write_u32-in-Dwarf32-clause-completed g c = λ at completes. IfOk-from_err c.from_residual.result _ c.from_residual.ensures.0
 
 pub returns-in_err-write_u32-in-Dwarf64-clause-completed : goal.returns-in_err-write_u32-in-Dwarf64-clause-completed
-returns-in_err-write_u32-in-Dwarf64-clause-completed g c = λ at completes. IfOk-from_err c.from_residual-in_err-write_u32-in-Dwarf64.result _ c.from_residual-in_err-write_u32-in-Dwarf64.ensures.0
+returns-in_err-write_u32-in-Dwarf64-clause-completed g c =
+    λ at completes. IfOk-from_err c.from_residual-in_err-write_u32-in-Dwarf64.result _ c.from_residual-in_err-write_u32-in-Dwarf64.ensures.0
 
 pub returns-in_err-write_u64-in-Dwarf64-clause-completed : goal.returns-in_err-write_u64-in-Dwarf64-clause-completed
-returns-in_err-write_u64-in-Dwarf64-clause-completed g c = λ at completes. IfOk-from_err c.from_residual-in_err-write_u64-in-Dwarf64.result _ c.from_residual-in_err-write_u64-in-Dwarf64.ensures.0
+returns-in_err-write_u64-in-Dwarf64-clause-completed g c =
+    λ at completes. IfOk-from_err c.from_residual-in_err-write_u64-in-Dwarf64.result _ c.from_residual-in_err-write_u64-in-Dwarf64.ensures.0
 
 pub returns-in_ok-write_u32-in-Dwarf32-clause-completed : goal.returns-in_ok-write_u32-in-Dwarf32-clause-completed
 returns-in_ok-write_u32-in-Dwarf32-clause-completed g c = λ at completes.
@@ -92,4 +95,4 @@ pub returns-in_ok-write_u64-in-Dwarf64-clause-completed : goal.returns-in_ok-wri
 returns-in_ok-write_u64-in-Dwarf64-clause-completed g c = λ at completes.
     place_64 c.args.format (g.Self.Sink.big c.args.self.now) 0xffff_ffff (g.Self.Sink.completed at c.args.self.now)
     (g.Self.Sink.completed at c.write_u32-in-Dwarf64.new.self) c.len-in-Dwarf64.result c.in-Dwarf64.is
-    (c.in_ok-write_u32-in-Dwarf64.ensures.completed at completes) (c.len-in-Dwarf64.ensures.completed at completes)
+    (c.in_ok-write_u32-in-Dwarf64.ensures.completed at completes) (c.len-in-Dwarf64.ensures.completed at (c.in_ok-write_u32-in-Dwarf64.ensures.stays completes))
