@@ -29,11 +29,20 @@ struct OwnWriter {
 const OWN: Error = Error::MissingBaseAddress;
 
 impl Sink for OwnWriter {
+    ghost use Rattle.std.specs.Prelude.{[]};
+    ghost use Rattle.gimli_bytes.specs.Hand.{plain};
+
     ghost contents = { λ w. w.section.bytes };
 
     ghost big = { λ w. false };
 
     ghost keeps_bytes = { false };
+
+    ghost completes = { λ w. false };
+
+    ghost completed = { λ at w. [] };
+
+    ghost hand = { λ at. plain };
 
     ghost fails_for_memory_alone = { false };
 
@@ -74,6 +83,20 @@ impl Writer for OwnWriter {
         let is_str = section == SectionId::DebugStr;
         let letter = if is_str { b'S' } else { b'L' };
         self.write(&[letter, size, (val & 0xff) as u8])
+    }
+
+    fn write_offset_at(
+        &mut self,
+        offset: usize,
+        val: usize,
+        _section: SectionId,
+        size: u8,
+    ) -> Result<()> {
+        self.write_udata_at(offset, val as u64, size)
+    }
+
+    fn write_reference(&mut self, _symbol: usize, _size: u8) -> Result<()> {
+        Err(Error::InvalidReference)
     }
 }
 

@@ -113,8 +113,12 @@ fn places_of_each_call(rt: HostRuntime) {
     check_equal(&rt, list_each(&mut section), Ok(()));
     let refused = section.write_reference(5, 5);
     check_equal(&rt, refused, Err(Error::UnsupportedWordSize(5)));
-    let refused = section.write_offset_at(18, 0, SectionId::DebugStr, 2);
+    let refused = section.write_offset_at(19, 0, SectionId::DebugStr, 2);
     check_equal(&rt, refused, Err(Error::LengthOutOfBounds));
+    let refused = section.write_offset_at(18, 0, SectionId::DebugStr, 1);
+    check_equal(&rt, refused, Err(Error::InvalidRange));
+    check_equal(&rt, section.write_at(3, b"\0\0"), Err(Error::InvalidRange));
+    check_equal(&rt, section.write_at(0, b"\0"), Ok(()));
     let bytes: &[u8] = b"\0\x02\x03\0\xff\xff\xff\xfe\0\0\0\0\0\0\0\0\0\x04\x05";
     check_equal(&rt, section.slice(), bytes);
     let offsets_and_sizes = [(1, 2), (4, 4), (8, 3), (11, 8)];

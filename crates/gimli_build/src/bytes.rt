@@ -1,8 +1,8 @@
 //! A byte, a text with the zero byte that ends it, and an offset, as they are written.
 
 ghost use Rattle.std.specs.Prelude.{[], ◌∷◌, ◌++◌, Ok};
-ghost use Rattle.gimli_build.specs.FormatWord.{format_word};
-ghost use Rattle.gimli_build.specs.inside.Writes.{Writes};
+ghost use Rattle.gimli_core.specs.Numbers.{word_size};
+ghost use Rattle.gimli_build.specs.inside.Writes.{Writes, WritesBy};
 
 use gimli_bytes::{Result, Writer};
 use gimli_core::{Format, SectionId};
@@ -30,7 +30,8 @@ pub(crate) fn write_section_offset<W: Writer>(
     offset: usize,
     section: SectionId,
 ) -> Result<()>
-    ensures { Writes W.Sink w.old w.new result (format_word (W.big w.old) format offset) }
+    ensures { WritesBy W.Sink w.old w.new result
+        (λ hand. hand.offset (W.big w.old) section offset (word_size format)) }
 {
     w.write_offset(offset, section, format.word_size())
 }

@@ -2,18 +2,20 @@
 
 ghost use Rattle.std.specs.Prelude.{◌≡◌, ◌⊎◌, ◌<◌, ◌^◌, length, IsTrue, IfOk, IfErr, OnOk, Err};
 ghost use Rattle.std.specs.Prelude.{None};
+ghost use Rattle.gimli_bytes.specs.Hand.{Placement};
 ghost use Rattle.gimli_bytes.specs.Written.{Begins, Appends, AppendsThat};
 ghost use Rattle.gimli_bytes.specs.Texts.{texts_in};
 ghost use Rattle.gimli_build.specs.LineText.{line_text};
 ghost use Rattle.gimli_build.specs.Conditions.{CanWrite};
 ghost use Rattle.gimli_build.specs.inside.Conditions.{IsBuilt};
 ghost use Rattle.gimli_build.specs.inside.EmptySource.{StandsForNone};
-ghost use Rattle.gimli_build.specs.Unit.{version_bytes, opening_bytes, inside_bytes, whole_bytes};
-ghost use Rattle.gimli_build.specs.Unit.{is_incompatible, unit_bytes};
+ghost use Rattle.gimli_build.specs.Unit.{version_bytes, opening_bytes, inside_bytes_by};
+ghost use Rattle.gimli_build.specs.Unit.{whole_bytes_by, is_incompatible, unit_bytes};
+ghost use Rattle.gimli_build.specs.Unit.{unit_bytes_by};
 ghost use Rattle.gimli_build.specs.Cause.{first_cause, IsWriteRefusal};
 ghost use Rattle.gimli_build.specs.ReadsBack.{ReadsBackAs};
 ghost use Rattle.gimli_build.specs.WrittenTables.{HaveEmptySource, KeepTables};
-ghost use Rattle.gimli_build.specs.inside.Writes.{Writes};
+ghost use Rattle.gimli_build.specs.inside.Writes.{Writes, WritesBy};
 
 mod header;
 
@@ -57,6 +59,11 @@ impl LineProgram {
         ensures unit { IsTrue W.keeps_bytes → OnOk result (Appends
             (unit_bytes (W.big w.old.0) encoding self.now (texts_in strings.old line_strings.old))
             (W.contents w.old.0) (W.contents w.new.0)) }
+        ensures stays { IsTrue (W.completes w.old.0) → IsTrue (W.completes w.new.0) }
+        ensures completed { (at : Placement) → IsTrue (W.completes w.old.0) → OnOk result (Appends
+            (unit_bytes_by (W.hand at) (W.big w.old.0) encoding self.now
+            (texts_in strings.old line_strings.old))
+            (W.completed at w.old.0) (W.completed at w.new.0)) }
         ensures reads_back { IsTrue W.keeps_bytes → OnOk result (AppendsThat
             (ReadsBackAs (W.big w.old.0) self.now (texts_in strings.new line_strings.new))
             (W.contents w.old.0) (W.contents w.new.0)) }
@@ -68,6 +75,9 @@ impl LineProgram {
         ensures own { IsTrue W.keeps_bytes → IfErr result (λ e. W.refuses e
             ⊎ IsWriteRefusal (W.big w.old.0) encoding self.now
             (texts_in strings.old line_strings.old) e) }
+        ensures completed_own { (at : Placement) → IsTrue (W.completes w.old.0) → IfErr result (λ e.
+            W.refuses e ⊎ (e ≡ Error.OutOfMemory) ⊎ (unit_bytes_by (W.hand at) (W.big w.old.0)
+            encoding self.now (texts_in strings.old line_strings.old) ≡ Err e)) }
         ensures incompatible { IsTrue (is_incompatible encoding self.now.encoding) →
             (result ≡ Err Error.IncompatibleLineProgramEncoding) × (w.new ≡ w.old) }
         ensures tables { OnOk result (HaveEmptySource self.now
@@ -104,8 +114,9 @@ fn write_whole<W: Writer>(
     requires can { CanWrite program.now (texts_in strings.now line_strings.now) }
     requires empty { StandsForNone program.now (texts_in strings.now line_strings.now)
         (line_text empty.now) }
-    ensures writes { Writes W.Sink w.old w.new result
-        (whole_bytes (W.big w.old) program.now (texts_in strings.now line_strings.now)) }
+    ensures writes { WritesBy W.Sink w.old w.new result
+        (λ hand. whole_bytes_by hand (W.big w.old) program.now
+        (texts_in strings.now line_strings.now)) }
     ensures built { OnOk result (IsBuilt program.now) }
     ensures short { OnOk result (length (W.contents w.new) < 2 ^ 64) }
 {
@@ -128,8 +139,9 @@ fn write_inside<W: Writer>(
     requires can { CanWrite program.now (texts_in strings.now line_strings.now) }
     requires empty { StandsForNone program.now (texts_in strings.now line_strings.now)
         (line_text empty.now) }
-    ensures writes { Writes W.Sink w.old w.new result
-        (inside_bytes (W.big w.old) program.now (texts_in strings.now line_strings.now)) }
+    ensures writes { WritesBy W.Sink w.old w.new result
+        (λ hand. inside_bytes_by hand (W.big w.old) program.now
+        (texts_in strings.now line_strings.now)) }
     ensures built { OnOk result (IsBuilt program.now) }
 {
     write_opening(w, program.encoding())?;

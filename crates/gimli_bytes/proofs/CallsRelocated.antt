@@ -1,22 +1,28 @@
 -- What calls leave, once the relocations are applied.
-use Rattle.std.proofs.Common.{arith, ◌≡◌, ◌≢◌, ◌⊎◌, inl, inr, ℕ, ◌+◌, ◌*◌, ◌^◌, ◌<◌, ◌≤◌, ℤ, pos, negsuc, Bool, true, false, if◌then◌else◌, List, [], ◌∷◌, ◌++◌}
+use Rattle.std.proofs.Common.{arith, ◌≡◌, ◌≢◌, ◌⊎◌, inl, inr, ℕ, ◌+◌, ◌*◌, ◌%◌, ◌^◌, ◌<◌, ◌≤◌, ℤ, pos, negsuc, Bool, true, false, if◌then◌else◌, List, [], ◌∷◌}
+use Rattle.std.proofs.Common.{◌++◌}
 use Rattle.std.proofs.Common.{length, refl, ap, sym, ◌∙◌, subst, Ok, Err, length-append, w64}
 use Rattle.std.specs.Prelude.{All, Result, nat_lt, nat_eq, ◌||◌, ◌+ℤ◌, FitsSigned}
 use Rattle.std.specs.Int.{cast_unsigned, cast_signed}
 use Rattle.std.proofs.lemmas.Int.{ints, of_z-to_z}
 use Rattle.std.proofs.lemmas.Bool.{cases_lt, ne_eqb, lt-ltb, ltb-true, ltb-false}
-use Rattle.gimli_core.specs.Numbers.{number_bytes}
+use Rattle.std.specs.List.{list_any}
+use Rattle.std.proofs.lemmas.List.Elements.{All-head, All-tail}
+use Rattle.gimli_core.specs.Numbers.{number_bytes, value_of}
 use Rattle.gimli_core.specs.Reading.{result_map}
 use Rattle.gimli_bytes.specs.inside.Pieces.{put_over}
 use Rattle.gimli_bytes.specs.Number.{udata}
 use Rattle.gimli_bytes.specs.Written.{overwrite_of, patch}
 use Rattle.gimli_bytes.specs.Relocatable.{Relocatable}
-use Rattle.gimli_bytes.specs.Relocations.{Placement, Call, Bytes, AddressOf, OffsetInto, ReferenceTo, BytesAt, OffsetAt, place_of, relocated, all_relocated}
-use Rattle.gimli_bytes.specs.Relocations.{applied, IsApart, AreInside, number_in_place, with_place, with_place_at, relocation_at, with_relocation, result_then}
-use Rattle.gimli_bytes.specs.Relocations.{after_call, after_calls, plainly_after, plainly_after_calls, CallFits, LeavesPlaces, CallsFit}
+use Rattle.gimli_bytes.specs.Hand.{Placement}
+use Rattle.gimli_bytes.specs.Relocations.{Call, Bytes, AddressOf, OffsetInto, ReferenceTo, BytesAt, OffsetAt, place_of, relocated, all_relocated}
+use Rattle.gimli_bytes.specs.Relocations.{applied, touches, number_in_place, addend_in_list, with_place, with_place_at, relocation_at, with_relocation}
+use Rattle.gimli_bytes.specs.Relocations.{result_then}
+use Rattle.gimli_bytes.specs.Relocations.{after_call, after_calls, plainly_after, plainly_after_calls, CallFits, CallsFit}
 use Rattle.gimli_bytes.specs.declared.address.Address.TheVariants.{Constant, Symbol}
 use Rattle.gimli_bytes.specs.declared.error.Error.{Error}
 use Rattle.gimli_bytes.specs.declared.error.Error.TheVariants.{
+  InvalidRange,
   ValueTooLarge,
   UnsupportedWordSize,
   OffsetOutOfBounds,
@@ -28,6 +34,10 @@ use Rattle.gimli_bytes.specs.declared.relocation.RelocationTarget.TheVariants.{O
 use Rattle.gimli_bytes.proofs.PieceLemmas.{patched-inside, length-put_over}
 use Rattle.gimli_bytes.proofs.RelocationLemmas.{length-number}
 use Rattle.gimli_bytes.proofs.Relocating.{
+  AreInside,
+  IsApart,
+  apart-from,
+  lowest_is,
   sum_is,
   word_at,
   relocated-end,
@@ -91,6 +101,24 @@ udata_parts big m size word h = by (is_size size) (nat_lt m (256 ^ size)) refl r
 
 -- ---- places
 
+-- a linker puts this number where a place with this addend stands
+abbrev pub PutsNumber : Placement → Relocatable → RelocationTarget → ℤ → ℕ → ℕ → Type 0
+PutsNumber p v target z size n = size ≤ 8 → number_in_place v.addends z size < 256 ^ size
+    → number_bytes v.big size
+    (place_of p target + cast_unsigned w64 (addend_in_list v.addends z) + value_of v.big
+    (number_bytes v.big size (number_in_place v.addends z size))) ≡ number_bytes v.big size n
+
+pub puts_sum : (p : Placement) (v : Relocatable) (target : RelocationTarget) (z : ℤ)
+    (size n q : ℕ) → place_of p target + cast_unsigned w64 z ≡ n + q * 2 ^ 64 → n < 256 ^ size
+    → PutsNumber p v target z size n
+puts_sum p v target z size n q sum fits =
+    λ short small. sum_is v.big v.addends z size (place_of p target) n q short small sum fits
+
+pub puts_lowest : (p : Placement) (v : Relocatable) (target : RelocationTarget) (z : ℤ) (size : ℕ)
+    → PutsNumber p v target z size ((place_of p target + cast_unsigned w64 z) % 256 ^ size)
+puts_lowest p v target z size =
+    λ short small. lowest_is v.big v.addends z size (place_of p target) small
+
 -- what a call leaves that writes this number once the relocations are applied
 pub record Puts (p : Placement) (v w : Relocatable) (size n : ℕ) : Type 0 where
   pub wanted : udata v.big n size ≡ Ok (number_bytes v.big size n)
@@ -99,9 +127,9 @@ pub record Puts (p : Placement) (v w : Relocatable) (size n : ℕ) : Type 0 wher
   pub big_is : w.big ≡ v.big
 
 pub puts_place : (p : Placement) (v w : Relocatable) (target : RelocationTarget) (z : ℤ)
-    (size n q : ℕ) → AreInside v → with_place v target z size ≡ Ok w
-    → place_of p target + cast_unsigned w64 z ≡ n + q * 2 ^ 64 → n < 256 ^ size → Puts p v w size n
-puts_place p v w target z size n q inside called sum fits =
+    (size n : ℕ) → AreInside v → with_place v target z size ≡ Ok w
+    → PutsNumber p v target z size n → n < 256 ^ size → Puts p v w size n
+puts_place p v w target z size n inside called sum fits =
     by (udata v.big (number_in_place v.addends z size) size) refl called
   where
     r : Relocation
@@ -118,7 +146,7 @@ puts_place p v w target z size n q inside called sum fits =
         sym (length-all p v.big v.relocations v.bytes inside) in
         let number : word_at p v.big r word ≡ number_bytes v.big size n =
         ap (word_at p v.big r) sized.word_is
-        ∙ sum_is v.big v.addends z size (place_of p target) n q sized.short sized.small sum fits
+        ∙ sum sized.short sized.small
         in
         let all : length (v.bytes ++ word) ≡ length v.bytes + size =
         omega (arith, length-append v.bytes word, long) in
@@ -164,13 +192,12 @@ overwrite_parts old new at x h =
 
 -- a number of a size over others
 pub puts_place_at : (p : Placement) (v w : Relocatable) (at : ℕ) (target : RelocationTarget) (z : ℤ)
-    (size n q : ℕ) → AreInside v → All (IsApart at size) v.relocations
-    → with_place_at v at target z size ≡ Ok w
-    → place_of p target + cast_unsigned w64 z ≡ n + q * 2 ^ 64 → n < 256 ^ size
+    (size n : ℕ) → AreInside v → with_place_at v at target z size ≡ Ok w
+    → PutsNumber p v target z size n → n < 256 ^ size
     → (patch (udata v.big n size) (applied p v) at ≡ Ok (applied p w)) × AreInside w ×
     (w.big ≡ v.big)
-puts_place_at p v w at target z size n q inside apart called sum fits =
-    by (udata v.big (number_in_place v.addends z size) size) refl called
+puts_place_at p v w at target z size n inside called sum fits =
+    free (list_any (touches at size) v.relocations) refl called
   where
     Is : Relocatable → Type 0
     Is x = (patch (udata v.big n size) (applied p v) at ≡ Ok (applied p x)) × AreInside x ×
@@ -182,9 +209,9 @@ puts_place_at p v w at target z size n q inside apart called sum fits =
     old : List ℕ
     old = all_relocated p v.big v.bytes v.relocations
 
-    over : (word new : List ℕ) → udata v.big (number_in_place v.addends z size) size ≡ Ok word
+    over : All (IsApart at size) v.relocations → (word new : List ℕ) → udata v.big (number_in_place v.addends z size) size ≡ Ok word
         → overwrite_of v.bytes at word ≡ Ok new → Is (with_relocation v r new)
-    over word new is h =
+    over apart word new is h =
         let sized = udata_parts v.big (number_in_place v.addends z size) size word is in
         let long : length word ≡ size = ap length sized.word_is
         ∙ length-number v.big size (number_in_place v.addends z size) in
@@ -192,7 +219,7 @@ puts_place_at p v w at target z size n q inside apart called sum fits =
         let same : length old ≡ length v.bytes = length-all p v.big v.relocations v.bytes inside in
         let number : word_at p v.big r word ≡ number_bytes v.big size n =
         ap (word_at p v.big r) sized.word_is
-        ∙ sum_is v.big v.addends z size (place_of p target) n q sized.short sized.small sum fits
+        ∙ sum sized.short sized.small
         in
         let there : All (IsApart at (length word)) v.relocations =
         subst (λ k. All (IsApart at k) v.relocations) (sym long) apart in
@@ -219,15 +246,24 @@ puts_place_at p v w at target z size n q inside apart called sum fits =
           refl,
         )
 
-    by : (u : Result (List ℕ) Error) → udata v.big (number_in_place v.addends z size) size ≡ u
+    by : All (IsApart at size) v.relocations → (u : Result (List ℕ) Error)
+        → udata v.big (number_in_place v.addends z size) size ≡ u
         → result_map (with_relocation v r) (patch u v.bytes at) ≡ Ok w → Is w
-    by (Err x) is e = cc
-    by (Ok word) is e = after (overwrite_of v.bytes at word) refl e
+    by apart (Err x) is e = cc
+    by apart (Ok word) is e = after (overwrite_of v.bytes at word) refl e
       where
         after : (u : Result (List ℕ) Error) → overwrite_of v.bytes at word ≡ u
             → result_map (with_relocation v r) u ≡ Ok w → Is w
-        after (Ok new) h e = subst Is (same_ok (with_relocation v r new) w e) (over word new is h)
+        after (Ok new) h e = subst Is (same_ok (with_relocation v r new) w e) (over apart word new is h)
         after (Err x) h e = cc
+
+    free : (b : Bool) → list_any (touches at size) v.relocations ≡ b
+        → result_map (with_relocation v r) (if b then Err InvalidRange else
+        patch (udata v.big (number_in_place v.addends z size) size) v.bytes at) ≡ Ok w → Is w
+    free true is e = cc
+    free false is e =
+        by (apart-from at size v.relocations is) (udata v.big (number_in_place v.addends z size) size)
+        refl e
 
 -- ---- sums
 
@@ -245,7 +281,7 @@ pub record SameCall (p : Placement) (v w : Relocatable) (call : Call) : Type 0 w
   pub big_is : w.big ≡ v.big
 
 -- bytes after the others
-more_same : (p : Placement) (v w : Relocatable) (x : List ℕ) → AreInside v
+pub more_same : (p : Placement) (v w : Relocatable) (x : List ℕ) → AreInside v
     → (let u : Relocatable = record v { bytes = v.bytes ++ x } in u) ≡ w → SameCall p v w (Bytes x)
 more_same p v w x inside is = subst (λ u. SameCall p v u (Bytes x)) is (record {
   same = ap Ok (sym (all-more p v.big v.relocations v.bytes x inside));
@@ -255,7 +291,7 @@ more_same p v w x inside is = subst (λ u. SameCall p v u (Bytes x)) is (record 
 })
 
 -- a number after the others
-number_same : (p : Placement) (v w : Relocatable) (n size : ℕ) → AreInside v
+pub number_same : (p : Placement) (v w : Relocatable) (n size : ℕ) → AreInside v
     → result_map (λ word. let u : Relocatable =
     record v { bytes = v.bytes ++ word } in u) (udata v.big n size) ≡ Ok w
     → SameCall p v w (AddressOf (Constant n) size)
@@ -277,17 +313,15 @@ placed_same : (p : Placement) (v w : Relocatable) (size n : ℕ) → Puts p v w 
 placed_same p v w size n puts = rw puts.wanted (ap Ok (sym puts.bytes_are))
 
 -- bytes over others
-over_same : (p : Placement) (v w : Relocatable) (at : ℕ) (x : List ℕ) → AreInside v
-    → All (IsApart at (length x)) v.relocations
-    → result_map (λ new. let u : Relocatable =
-    record v { bytes = new } in u) (overwrite_of v.bytes at x) ≡ Ok w
-    → SameCall p v w (BytesAt at x)
-over_same p v w at x inside apart called = by (overwrite_of v.bytes at x) refl called
+pub over_same : (p : Placement) (v w : Relocatable) (at : ℕ) (x : List ℕ) → AreInside v
+    → after_call v (BytesAt at x) ≡ Ok w → SameCall p v w (BytesAt at x)
+over_same p v w at x inside called =
+    free (list_any (touches at (length x)) v.relocations) refl called
   where
-    by : (r : Result (List ℕ) Error) → overwrite_of v.bytes at x ≡ r
+    by : All (IsApart at (length x)) v.relocations → (r : Result (List ℕ) Error) → overwrite_of v.bytes at x ≡ r
         → result_map (λ new. let u : Relocatable = record v { bytes = new } in u) r ≡ Ok w
         → SameCall p v w (BytesAt at x)
-    by (Ok new) is e =
+    by apart (Ok new) is e =
         let u : Relocatable = record v { bytes = new } in
         let put = overwrite_parts v.bytes new at x is in
         let old = all_relocated p v.big v.bytes v.relocations in
@@ -303,66 +337,79 @@ over_same p v w at x inside apart called = by (overwrite_of v.bytes at x) refl c
           inside = subst (λ k. All (λ r. r.offset + r.size ≤ k) v.relocations) (sym kept) inside;
           big_is = refl;
         })
-    by (Err y) is e = cc
+    by apart (Err y) is e = cc
+
+    free : (b : Bool) → list_any (touches at (length x)) v.relocations ≡ b
+        → result_map (λ new. let u : Relocatable = record v { bytes = new } in u)
+        (if b then Err InvalidRange else overwrite_of v.bytes at x) ≡ Ok w
+        → SameCall p v w (BytesAt at x)
+    free true is e = cc
+    free false is e =
+        by (apart-from at (length x) v.relocations is) (overwrite_of v.bytes at x) refl e
 
 no_more : (t n : ℕ) → t + n ≡ t + n + 0 * 2 ^ 64
 no_more t n = omega arith
 
 pub call_same : (p : Placement) (v w : Relocatable) (call : Call) → AreInside v → CallFits p call
-    → LeavesPlaces v.relocations call → after_call v call ≡ Ok w → SameCall p v w call
-call_same p v w (Bytes x) inside fits leaves called =
+    → after_call v call ≡ Ok w → SameCall p v w call
+call_same p v w (Bytes x) inside fits called =
     let u : Relocatable = record v { bytes = v.bytes ++ x } in
     more_same p v w x inside (same_ok u w called)
-call_same p v w (AddressOf (Constant n) size) inside fits leaves called =
+call_same p v w (AddressOf (Constant n) size) inside fits called =
     number_same p v w n size inside called
-call_same p v w (AddressOf (Symbol symbol addend) size) inside fits leaves called =
+call_same p v w (AddressOf (Symbol symbol addend) size) inside fits called =
     let n = fits.0.0 in
     let wrapped = wraps (p.symbol symbol) addend n fits.0.1 fits.1 in
-    let puts = puts_place p v w (OfSymbol symbol) addend size n wrapped.0 inside called wrapped.1
-    fits.0.2 in
+    let puts = puts_place p v w (OfSymbol symbol) addend size n inside called
+    (puts_sum p v (OfSymbol symbol) addend size n wrapped.0 wrapped.1 fits.0.2) fits.0.2 in
     record {
       same = rw fits.0.1 (placed_same p v w size n puts);
       inside = puts.inside;
       big_is =
           puts.big_is;
     }
-call_same p v w (OffsetInto section n size) inside fits leaves called =
+call_same p v w (OffsetInto section n size) inside fits called =
     let bits = of_z-to_z w64 n fits.1 in
     let sum : p.section section + cast_unsigned w64 (cast_signed w64 n) ≡ p.section section + n + 0
     * 2 ^ 64 = rw bits (no_more (p.section section) n) in
     let puts = puts_place p v w (OfSection section) (cast_signed w64 n) size (p.section section + n)
-    0 inside called sum fits.0 in
+    inside called
+    (puts_sum p v (OfSection section) (cast_signed w64 n) size (p.section section + n) 0 sum fits.0)
+    fits.0 in
     record {
       same = placed_same p v w size (p.section section + n) puts;
       inside =
           puts.inside;
       big_is = puts.big_is;
     }
-call_same p v w (ReferenceTo symbol size) inside fits leaves called =
-    let puts = puts_place p v w (OfSymbol symbol) (pos 0) size (p.symbol symbol) 0 inside called
-    (omega arith) fits in
+call_same p v w (ReferenceTo symbol size) inside fits called =
+    let puts = puts_place p v w (OfSymbol symbol) (pos 0) size (p.symbol symbol) inside called
+    (puts_sum p v (OfSymbol symbol) (pos 0) size (p.symbol symbol) 0 (omega arith) fits) fits in
     record {
       same = placed_same p v w size (p.symbol symbol) puts;
       inside = puts.inside;
       big_is =
           puts.big_is;
     }
-call_same p v w (BytesAt at x) inside fits leaves called = over_same p v w at x inside leaves called
-call_same p v w (OffsetAt at section n size) inside fits leaves called =
+call_same p v w (BytesAt at x) inside fits called = over_same p v w at x inside called
+call_same p v w (OffsetAt at section n size) inside fits called =
     let bits = of_z-to_z w64 n fits.1 in
     let sum : p.section section + cast_unsigned w64 (cast_signed w64 n) ≡ p.section section + n + 0
     * 2 ^ 64 = rw bits (no_more (p.section section) n) in
     let puts = puts_place_at p v w at (OfSection section) (cast_signed w64 n) size
-    (p.section section + n) 0 inside leaves called sum fits.0 in
+    (p.section section + n) inside called
+    (puts_sum p v (OfSection section) (cast_signed w64 n) size (p.section section + n) 0 sum fits.0)
+    fits.0 in
     record { same = puts.0; inside = puts.1; big_is = puts.2 }
 
 pub calls_same : (p : Placement) (v w : Relocatable) (calls : List Call) → AreInside v
-    → CallsFit p v calls → after_calls v calls ≡ Ok w
+    → CallsFit p calls → after_calls v calls ≡ Ok w
     → plainly_after_calls p v.big (applied p v) calls ≡ Ok (applied p w)
 calls_same p v w [] inside fit called =
     ap (λ u. let r : Result (List ℕ) Error = Ok (applied p u) in r) (same_ok v w called)
 calls_same p v w (call ∷ calls) inside fit called =
-    by (λ u is there e. calls_same p u w calls there (fit.2 u is) e) (after_call v call) refl called
+    by (λ u is there e. calls_same p u w calls there (All-tail (CallFits p) call calls fit) e)
+    (after_call v call) refl called
   where
     Others : Type 0
     Others = (u : Relocatable) → after_call v call ≡ Ok u → AreInside u → after_calls u calls ≡ Ok w
@@ -372,7 +419,7 @@ calls_same p v w (call ∷ calls) inside fit called =
         → result_then r (λ u. after_calls u calls) ≡ Ok w
         → plainly_after_calls p v.big (applied p v) (call ∷ calls) ≡ Ok (applied p w)
     by others (Ok u) is e =
-        let first = call_same p v u call inside fit.0 fit.1 is in
+        let first = call_same p v u call inside (All-head (CallFits p) call calls fit) is in
         rw first.same (subst (λ b. ◌≡◌ {A =
         Result (List ℕ) Error} (plainly_after_calls p b (applied p u) calls) (Ok (applied p w)))
         first.big_is (others u is first.inside e))

@@ -37,7 +37,9 @@ pub opened_32 : {W X Y : Type 0} {sink : Ghosts W} {old new : W} {x : X} {y : Y}
 opened_32 format short word = rw short (record {
   keeps = word.keeps;
   ordered = word.ordered;
+  stays = word.stays;
   ok = word.ok;
+  completed = word.completed;
   err = λ memory_alone. tt;
   own = tt;
 })
@@ -48,10 +50,16 @@ pub opened_64 : {W X Y Z : Type 0} {sink : Ghosts W} {old mid new : W} {x : X} {
 opened_64 {sink = sink} {old = old} {mid = mid} {new = new} format long escape word = rw long (record {
   keeps = begins_then (sink.contents old) (sink.contents mid) (sink.contents new) escape.keeps word.keeps;
   ordered = word.ordered ∙ escape.ordered;
+  stays = λ completes. word.stays (escape.stays completes);
   ok =
       λ keeps_bytes.
       both (sink.contents old) (number_bytes (sink.big old) 4 0xffff_ffff) (number_bytes (sink.big old) 8 0) (sink.contents mid) (sink.contents new)
       (escape.ok keeps_bytes) (word.ok keeps_bytes ∙ ap (λ (b : Bool). sink.contents mid ++ number_bytes b 8 0) escape.ordered);
+  completed =
+      λ at completes.
+      both (sink.completed at old) (number_bytes (sink.big old) 4 0xffff_ffff) (number_bytes (sink.big old) 8 0) (sink.completed at mid) (sink.completed at new)
+      (escape.completed at completes)
+      (word.completed at (escape.stays completes) ∙ ap (λ (b : Bool). sink.completed at mid ++ number_bytes b 8 0) escape.ordered);
   err = λ memory_alone. tt;
   own = tt;
 })

@@ -6,8 +6,10 @@ pub mod Equality
 pub mod PieceLemmas
 pub mod Parts
 pub mod WrittenAs
+pub mod SectionWords
 pub mod InitialLengths
 pub mod TablesWritten
 pub mod RelocationLemmas
 pub mod Relocating
 pub mod CallsRelocated
+pub mod Completing

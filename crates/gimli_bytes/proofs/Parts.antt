@@ -1,7 +1,7 @@
 -- Appends one after the other.
 use Rattle.std.proofs.Common.{◌≡◌, ◌⊎◌, inl, inr, ℕ, ◌≤◌, min, List, length, take, Ok, Err, refl, sym, ap, ◌∙◌, arith}
 use Rattle.std.proofs.lemmas.List.{take-take, length-take, take_all}
-use Rattle.std.specs.Prelude.{Result}
+use Rattle.std.specs.Prelude.{Result, IsTrue}
 use Rattle.gimli_bytes.specs.Written.{Begins, IsAppend, IsAppendInParts}
 use Rattle.gimli_bytes.specs.declared.error.Error.{Error}
 use Rattle.gimli_bytes.specs.declared.sink.Sink.{Ghosts}
@@ -24,11 +24,14 @@ handed_on (inr is) = absurd cc
 
 -- one that is refused, after what is written so far: for memory, whatever bytes are wanted of it and of the whole
 pub refused_after : {W X Y : Type 0} {sink : Ghosts W} {old mid new : W} {e : Error} (part whole : List ℕ) → Begins (sink.contents old) (sink.contents mid)
-    → sink.big mid ≡ sink.big old → IsAppend {X = X} sink mid new (Err e) (Ok part) → IsAppendInParts {X = Y} sink old new (Err e) (Ok whole)
-refused_after {sink = sink} {old = old} {mid = mid} {new = new} part whole keeps ordered refused = record {
+    → sink.big mid ≡ sink.big old → (IsTrue (sink.completes old) → IsTrue (sink.completes mid)) → IsAppend {X = X} sink mid new (Err e) (Ok part)
+    → IsAppendInParts {X = Y} sink old new (Err e) (Ok whole)
+refused_after {sink = sink} {old = old} {mid = mid} {new = new} part whole keeps ordered stays refused = record {
   keeps = begins_then (sink.contents old) (sink.contents mid) (sink.contents new) keeps refused.keeps;
   ordered = refused.ordered ∙ ordered;
+  stays = λ completes. refused.stays (stays completes);
   ok = λ keeps_bytes. tt;
+  completed = λ at completes. tt;
   err = refused.err;
   own = handed_on refused.own;
 }
@@ -36,4 +39,4 @@ refused_after {sink = sink} {old = old} {mid = mid} {new = new} part whole keeps
 -- the first one refused
 pub refused_first : {W X Y : Type 0} {sink : Ghosts W} {old new : W} {e : Error} (part whole : List ℕ) → IsAppend {X = X} sink old new (Err e) (Ok part)
     → IsAppendInParts {X = Y} sink old new (Err e) (Ok whole)
-refused_first {sink = sink} {old = old} part whole refused = refused_after part whole (begins_self (sink.contents old)) refl refused
+refused_first {sink = sink} {old = old} part whole refused = refused_after part whole (begins_self (sink.contents old)) refl (λ completes. completes) refused

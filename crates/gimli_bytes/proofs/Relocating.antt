@@ -1,7 +1,9 @@
 -- Relocations that are applied, call by call.
 use Rattle.std.proofs.Common.{arith, ◌≡◌, inl, inr, ℕ, ◌+◌, ◌-◌, ◌*◌, ◌/◌, ◌%◌, ◌^◌, ◌<◌, ◌≤◌, ℤ, Bool, List, [], ◌∷◌, ◌++◌, length, take, drop, refl, ap, sym}
 use Rattle.std.proofs.Common.{◌∙◌, subst, w64}
-use Rattle.std.specs.Prelude.{All}
+use Rattle.std.specs.Prelude.{All, ◌⊎◌, ◌&&◌, ◌||◌, true, false, nat_le, nat_lt}
+use Rattle.std.specs.List.{list_any}
+use Rattle.std.proofs.lemmas.Bool.{and_parts, leb-true, le-leb, ltb-false}
 use Rattle.std.specs.Int.{cast_unsigned}
 use Rattle.std.proofs.Math.Nat.{add-mul-mod_self_right, mod-eq_of_lt}
 use Rattle.std.proofs.lemmas.Nat.{pow-add, div-add-mod'}
@@ -10,7 +12,9 @@ use Rattle.std.proofs.lemmas.List.Elements.{All-head, All-tail, All-append, All-
 use Rattle.gimli_core.specs.Numbers.{number_bytes, value_of}
 use Rattle.gimli_core.proofs.Written.{number_spelled}
 use Rattle.gimli_bytes.specs.inside.Pieces.{put_over}
-use Rattle.gimli_bytes.specs.Relocations.{Placement, place_of, relocated, all_relocated, IsApart, number_in_place, addend_in_list}
+use Rattle.gimli_bytes.specs.Hand.{Placement}
+use Rattle.gimli_bytes.specs.Relocatable.{Relocatable}
+use Rattle.gimli_bytes.specs.Relocations.{place_of, relocated, all_relocated, are_within, touches, number_in_place, addend_in_list}
 use Rattle.gimli_bytes.specs.declared.relocation.Relocation.{Relocation}
 use Rattle.gimli_bytes.specs.declared.relocation.Addends.{Addends}
 use Rattle.gimli_bytes.specs.declared.relocation.Addends.TheVariants.{Listed, InPlace}
@@ -40,6 +44,49 @@ stands_at r bytes = take r.size (drop r.offset bytes)
 
 abbrev pub Inside : ℕ → List Relocation → Type 0
 Inside n rs = All (λ r. r.offset + r.size ≤ n) rs
+
+abbrev pub AreInside : Relocatable → Type 0
+AreInside v = Inside (length v.bytes) v.relocations
+
+pub inside-from : (n : ℕ) (rs : List Relocation) → are_within n rs ≡ true → Inside n rs
+inside-from n [] is = λ k d lt. absurd (omega arith)
+inside-from n (r ∷ rs) is =
+    let parts = and_parts (nat_le (r.offset + r.size) n) (are_within n rs) is in
+    All-cons (λ r. r.offset + r.size ≤ n) r rs (leb-true (r.offset + r.size) n parts.0)
+    (inside-from n rs parts.1)
+
+pub inside-to : (n : ℕ) (rs : List Relocation) → Inside n rs → are_within n rs ≡ true
+inside-to n [] inside = refl
+inside-to n (r ∷ rs) inside =
+    rw (
+      le-leb (r.offset + r.size) n (All-head (λ r. r.offset + r.size ≤ n) r rs inside),
+      inside-to n rs (All-tail (λ r. r.offset + r.size ≤ n) r rs inside),
+    ) refl
+
+-- the place of a relocation is before so many bytes from an offset on, or after them
+abbrev pub IsApart : ℕ → ℕ → Relocation → Type 0
+IsApart offset size r = (r.offset + r.size ≤ offset) ⊎ (offset + size ≤ r.offset)
+
+pub apart-from : (offset size : ℕ) (rs : List Relocation)
+    → list_any (touches offset size) rs ≡ false → All (IsApart offset size) rs
+apart-from offset size [] is = λ k d lt. absurd (omega arith)
+apart-from offset size (r ∷ rs) is =
+    by (λ h. apart-from offset size rs h) (touches offset size r) refl is
+  where
+    one : (a b : Bool) → nat_lt r.offset (offset + size) ≡ a → nat_lt offset (r.offset + r.size) ≡ b
+        → (a && b) ≡ false → IsApart offset size r
+    one false b e f h = inr (ltb-false r.offset (offset + size) e)
+    one true false e f h = inl (ltb-false offset (r.offset + r.size) f)
+    one true true e f h = absurd cc
+
+    by : (list_any (touches offset size) rs ≡ false → All (IsApart offset size) rs) → (t : Bool)
+        → touches offset size r ≡ t → (t || list_any (touches offset size) rs) ≡ false
+        → All (IsApart offset size) (r ∷ rs)
+    by others true e h = absurd cc
+    by others false e h =
+        All-cons (IsApart offset size) r rs
+        (one (nat_lt r.offset (offset + size)) (nat_lt offset (r.offset + r.size)) refl refl e)
+        (others h)
 
 word_fits : (p : Placement) (big : Bool) (r : Relocation) (n : ℕ) (there : List ℕ)
     → r.offset + r.size ≤ n → r.offset + length (word_at p big r there) ≤ n
@@ -181,7 +228,31 @@ low_sum t c m =
     let split : t + c ≡ t + c % m + c / m * m = omega (arith, div-add-mod' c m) in
     sym (add-mul-mod_self_right (t + c % m) (c / m) m) ∙ ap (λ (k : ℕ). k % m) (sym split)
 
--- what stands at a place and what the list has make one addend
+-- what stands at a place and what the list has make one addend: the lowest bytes of the sum
+pub lowest_is : (big : Bool) (addends : Addends) (z : ℤ) (size t : ℕ)
+    → number_in_place addends z size < 256 ^ size
+    → number_bytes big size
+    (t + cast_unsigned w64 (addend_in_list addends z) + value_of big
+    (number_bytes big size (number_in_place addends z size))) ≡ number_bytes big size
+    ((t + cast_unsigned w64 z) % 256 ^ size)
+lowest_is big addends z size t small =
+    let there = (number_spelled big size (number_in_place addends z size) small).value_is in
+    ap (λ (k : ℕ). number_bytes big size (t + cast_unsigned w64 (addend_in_list addends z) + k))
+    there
+    ∙ number-mod big size
+    (t + cast_unsigned w64 (addend_in_list addends z) + number_in_place addends z size)
+    ∙ ap (number_bytes big size) (low addends)
+  where
+    low : (a : Addends) → (t + cast_unsigned w64 (addend_in_list a z) + number_in_place a z size) %
+        256 ^ size ≡ (t + cast_unsigned w64 z) % 256 ^ size
+    low Listed =
+        let none : t + cast_unsigned w64 z + 0 ≡ t + cast_unsigned w64 z = omega arith in
+        rw none refl
+    low InPlace =
+        let none : t + 0 ≡ t = omega arith in
+        rw none (low_sum t (cast_unsigned w64 z) (256 ^ size))
+
+-- the sum itself, where it fits
 pub sum_is : (big : Bool) (addends : Addends) (z : ℤ) (size t n q : ℕ) → size ≤ 8
     → number_in_place addends z size < 256 ^ size → t + cast_unsigned w64 z ≡ n + q * 2 ^ 64
     → n < 256 ^ size

@@ -110,7 +110,7 @@ put_over-again old at x y same inside =
 
 -- ---- the lowest bytes of a number
 
-pow_positive : (i : ℕ) → 0 < 256 ^ i
+pub pow_positive : (i : ℕ) → 0 < 256 ^ i
 pow_positive zero = omega arith
 pow_positive (suc i) = omega (arith, pow-suc 256 i, pow_positive i)
 

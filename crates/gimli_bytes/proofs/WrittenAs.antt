@@ -1,11 +1,12 @@
 -- A call that passes its numbers on to another: what is wanted of it is what is wanted of that other.
 use Rattle.std.proofs.Common.{◌≡◌, ◌≢◌, ℕ, List, Ok, Err, refl, ap, sym, inr, length, of_z, SFits, w64, arith}
 use Rattle.std.proofs.lemmas.Bool.{ne_eqb, lt-ltb}
-use Rattle.std.specs.Prelude.{Bool, true, Result, ◌+◌, ◌-◌, ◌^◌, ◌%◌, bit_and, nat_eq, ◌||◌, ℤ, pos, negsuc}
+use Rattle.std.specs.Prelude.{IsTrue, Bool, true, false, Result, ◌+◌, ◌-◌, ◌^◌, ◌%◌, bit_and, nat_eq, ◌||◌, ℤ, pos, negsuc}
 use Rattle.gimli_core.specs.Numbers.{number_bytes}
 use Rattle.gimli_core.specs.Reading.{result_map}
 use Rattle.gimli_core.specs.declared.constants.DwEhPe.{DwEhPe}
-use Rattle.gimli_bytes.specs.Written.{IsAppend}
+use Rattle.gimli_bytes.specs.Hand.{Hand, plain}
+use Rattle.gimli_bytes.specs.Written.{IsAppend, IsAppendBy, IsOverwrite, IsOverwriteBy}
 use Rattle.gimli_bytes.specs.Number.{twos_complement, sdata, pointer_data, pointer_at_end, format_of}
 use Rattle.gimli_bytes.specs.declared.address.Address.{Address}
 use Rattle.gimli_bytes.specs.declared.address.Address.TheVariants.{Constant}
@@ -25,12 +26,50 @@ pub refused_at_once : {W X : Type 0} {sink : Ghosts W} {wanted : Result (List �
 refused_at_once {sink = sink} old is = rw is (record {
   keeps = begins_self (sink.contents old);
   ordered = refl;
+  stays = λ completes. completes;
   ok = λ keeps_bytes. tt;
+  completed = λ at completes. tt;
   err = λ memory_alone. refl;
   own = inr refl;
   untouched = λ keeps_bytes. refl;
   none = λ all_or_none. refl;
 })
+
+-- ---- a writer that no linker completes
+
+pub no_truth : IsTrue false → ⊥
+no_truth h = cc
+
+pub plainly : {W X : Type 0} {sink : Ghosts W} {old new : W} {result : Result X Error} (wanted : Hand → Result (List ℕ) Error) (other : Result (List ℕ) Error)
+    → (IsTrue (sink.completes old) → IsTrue false) → wanted plain ≡ other → IsAppend sink old new result other → IsAppendBy sink old new result wanted
+plainly wanted other never is append = record {
+  keeps = append.keeps;
+  ordered = append.ordered;
+  stays = append.stays;
+  ok = rw is append.ok;
+  completed = λ at completes. absurd (no_truth (never completes));
+  err = rw is append.err;
+  own = rw is append.own;
+  completed_own = λ at completes. absurd (no_truth (never completes));
+  untouched = rw is append.untouched;
+  none = append.none;
+}
+
+pub plainly_over : {W X : Type 0} {sink : Ghosts W} {old new : W} {result : Result X Error} (at : ℕ) (wanted : Hand → Result (List ℕ) Error)
+    (other : Result (List ℕ) Error) → (IsTrue (sink.completes old) → IsTrue false) → wanted plain ≡ other → IsOverwrite sink old new result at other
+    → IsOverwriteBy sink old new result at wanted
+plainly_over at wanted other never is over = record {
+  len = over.len;
+  before = over.before;
+  ordered = over.ordered;
+  stays = over.stays;
+  refused = over.refused;
+  ok = rw is over.ok;
+  completed = λ places completes. absurd (no_truth (never completes));
+  err = rw is over.err;
+  own = rw is over.own;
+  completed_own = λ places completes. absurd (no_truth (never completes));
+}
 
 -- ---- signed numbers
 

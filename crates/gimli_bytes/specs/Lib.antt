@@ -1,5 +1,6 @@
 pub mod Written
 pub mod Number
+pub mod Hand
 pub mod Section
 pub mod Relocatable
 pub mod Relocations

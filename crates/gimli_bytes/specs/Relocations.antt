@@ -8,7 +8,6 @@ use Rattle.std.specs.Prelude.{
   ◌+◌,
   ◌%◌,
   ◌<◌,
-  ◌≤◌,
   ◌^◌,
   ℤ,
   pos,
@@ -16,6 +15,10 @@ use Rattle.std.specs.Prelude.{
   ◌+ℤ◌,
   FitsSigned,
   Bool,
+  ◌&&◌,
+  nat_le,
+  nat_lt,
+  if◌then◌else◌,
   List,
   [],
   ◌∷◌,
@@ -28,16 +31,22 @@ use Rattle.std.specs.Prelude.{
   Ok,
   Err,
 }
+use Rattle.std.specs.List.{list_all, list_any}
 use Rattle.std.specs.Int.{w64, cast_signed, cast_unsigned}
 use Rattle.gimli_core.specs.Numbers.{number_bytes, value_of}
 use Rattle.gimli_core.specs.Reading.{result_map}
 use Rattle.gimli_core.specs.declared.common.SectionId.{SectionId}
 use Rattle.gimli_bytes.specs.Number.{udata}
+use Rattle.gimli_bytes.specs.Hand.{Hand, Placement}
 use Rattle.gimli_bytes.specs.Written.{overwrite_of, patch}
 use Rattle.gimli_bytes.specs.declared.address.Address.{Address}
 use Rattle.gimli_bytes.specs.declared.address.Address.TheVariants.{Constant, Symbol}
 use Rattle.gimli_bytes.specs.declared.error.Error.{Error}
-use Rattle.gimli_bytes.specs.declared.error.Error.TheVariants.{OutOfMemory, ValueTooLarge}
+use Rattle.gimli_bytes.specs.declared.error.Error.TheVariants.{
+  InvalidRange,
+  OutOfMemory,
+  ValueTooLarge,
+}
 use Rattle.gimli_bytes.specs.declared.relocation.Addends.{Addends}
 use Rattle.gimli_bytes.specs.declared.relocation.Addends.TheVariants.{Listed, InPlace}
 use Rattle.gimli_bytes.specs.declared.relocation.RelocationTarget.{RelocationTarget}
@@ -46,11 +55,6 @@ use Rattle.gimli_bytes.specs.declared.relocation.Relocation.{Relocation}
 use Rattle.gimli_bytes.specs.Relocatable.{Relocatable}
 
 -- ---- what a linker does
-
--- the address of each symbol, and where each section begins
-pub record Placement : Type 0 where
-  pub symbol : ℕ → ℕ
-  pub section : SectionId → ℕ
 
 abbrev pub place_of : Placement → RelocationTarget → ℕ
 place_of placement (OfSymbol symbol) = placement.symbol symbol
@@ -120,11 +124,22 @@ with_place v target addend size =
     (v.bytes ++ word))
     (udata v.big (number_in_place v.addends addend size) size)
 
+-- a place has one of so many bytes from an offset on
+abbrev pub touches : ℕ → ℕ → Relocation → Bool
+touches offset size r = nat_lt r.offset (offset + size) && nat_lt offset (r.offset + r.size)
+
+-- bytes aren't written over a place that a linker fills in
+abbrev pub unless_touched : List Relocation → ℕ → ℕ → Result (List ℕ) Error
+    → Result (List ℕ) Error
+unless_touched relocations offset size written =
+    if list_any (touches offset size) relocations then Err InvalidRange else written
+
 -- a place over the bytes from an offset on, which a linker fills in
 abbrev pub with_place_at : Relocatable → ℕ → RelocationTarget → ℤ → ℕ → Result Relocatable Error
 with_place_at v offset target addend size =
     result_map (with_relocation v (relocation_at v offset target addend size))
-    (patch (udata v.big (number_in_place v.addends addend size) size) v.bytes offset)
+    (unless_touched v.relocations offset size
+    (patch (udata v.big (number_in_place v.addends addend size) size) v.bytes offset))
 
 abbrev pub result_then : {A B : Type 0} → Result A Error → (A → Result B Error) → Result B Error
 result_then (Ok x) f = f x
@@ -139,7 +154,8 @@ after_call v (AddressOf (Symbol symbol addend) size) = with_place v (OfSymbol sy
 after_call v (OffsetInto section n size) = with_place v (OfSection section) (cast_signed w64 n) size
 after_call v (ReferenceTo symbol size) = with_place v (OfSymbol symbol) (pos 0) size
 after_call v (BytesAt offset bytes) =
-    result_map (λ new. record v { bytes = new }) (overwrite_of v.bytes offset bytes)
+    result_map (λ new. record v { bytes = new })
+    (unless_touched v.relocations offset (length bytes) (overwrite_of v.bytes offset bytes))
 after_call v (OffsetAt offset section n size) =
     with_place_at v offset (OfSection section) (cast_signed w64 n) size
 
@@ -182,7 +198,7 @@ plainly_after_calls placement big old (call ∷ calls) =
     result_then (plainly_after placement big old call)
     (λ new. plainly_after_calls placement big new calls)
 
--- ---- what calls keep
+-- ---- what each call asks for
 
 -- a sum that so many bytes hold
 abbrev pub SumFits : ℤ → ℕ → Type 0
@@ -199,23 +215,37 @@ CallFits placement (OffsetAt offset section n size) =
     (placement.section section + n < 256 ^ size) × (n < 2 ^ 64)
 CallFits placement _ = Unit {0}
 
--- the place of a relocation is before so many bytes from an offset on, or after them
-abbrev pub IsApart : ℕ → ℕ → Relocation → Type 0
-IsApart offset size r = (r.offset + r.size ≤ offset) ⊎ (offset + size ≤ r.offset)
+-- each call's does
+abbrev pub CallsFit : Placement → List Call → Type 0
+CallsFit placement calls = All (CallFits placement) calls
 
--- a call over bytes that are there leaves the places that a linker fills in
-abbrev pub LeavesPlaces : List Relocation → Call → Type 0
-LeavesPlaces relocations (BytesAt offset bytes) = All (IsApart offset (length bytes)) relocations
-LeavesPlaces relocations (OffsetAt offset section n size) = All (IsApart offset size) relocations
-LeavesPlaces relocations _ = Unit {0}
+-- each place is within so many bytes
+abbrev pub are_within : ℕ → List Relocation → Bool
+are_within size relocations = list_all (λ r. nat_le (r.offset + r.size) size) relocations
 
--- each call does both
-abbrev pub CallsFit : Placement → Relocatable → List Call → Type 0
-CallsFit placement v [] = Unit {0}
-CallsFit placement v (call ∷ calls) =
-    CallFits placement call × LeavesPlaces v.relocations call
-    × ((w : Relocatable) → after_call v call ≡ Ok w → CallsFit placement w calls)
+abbrev pub are_inside : Relocatable → Bool
+are_inside v = are_within (length v.bytes) v.relocations
 
--- each place is within the bytes
-abbrev pub AreInside : Relocatable → Type 0
-AreInside v = All (λ r. r.offset + r.size ≤ length v.bytes) v.relocations
+-- ---- what stands at the places once a linker has filled them in: the lowest bytes of each sum
+
+abbrev pub lowest_bytes : Bool → ℕ → ℕ → Result (List ℕ) Error
+lowest_bytes big sum size = udata big (sum % 256 ^ size) size
+
+abbrev pub placed_address : Placement → Bool → Address → ℕ → Result (List ℕ) Error
+placed_address placement big (Constant n) size = udata big n size
+placed_address placement big (Symbol symbol addend) size =
+    lowest_bytes big (placement.symbol symbol + cast_unsigned w64 addend) size
+
+abbrev pub placed_offset : Placement → Bool → SectionId → ℕ → ℕ → Result (List ℕ) Error
+placed_offset placement big section n size =
+    lowest_bytes big (placement.section section + n) size
+
+abbrev pub placed_reference : Placement → Bool → ℕ → ℕ → Result (List ℕ) Error
+placed_reference placement big symbol size = lowest_bytes big (placement.symbol symbol) size
+
+abbrev pub placed : Placement → Hand
+placed placement = record {
+  address = placed_address placement;
+  offset = placed_offset placement;
+  reference = placed_reference placement;
+}

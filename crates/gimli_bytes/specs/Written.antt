@@ -2,6 +2,7 @@
 -- refusal of the value or the size.
 use Rattle.std.specs.Prelude.{◌≡◌, ◌⊎◌, ℕ, List, ◌++◌, length, Result, Ok, Err, ◌+◌, nat_lt, take}
 use Rattle.std.specs.Prelude.{drop, if◌then◌else◌, IsTrue, OnOk, OnErr, IfErr}
+use Rattle.gimli_bytes.specs.Hand.{Hand, Placement, plain}
 use Rattle.gimli_bytes.specs.declared.error.Error.{Error}
 use Rattle.gimli_bytes.specs.declared.error.Error.TheVariants.{
   OutOfMemory,
@@ -57,24 +58,47 @@ RefusesAt at wanted old e = patch wanted old at ≡ Err e
 
 -- ---- whole calls, each with the writer before and after it
 
--- a call that appends, and makes at most one `write`
-pub record IsAppend {W X : Type 0} (sink : Ghosts W) (old new : W) (result : Result X Error)
-    (wanted : Result (List ℕ) Error) : Type 0 where
+-- a call that appends, and makes at most one `write`; what is wanted may depend on how addresses
+-- and offsets into sections are written
+pub record IsAppendBy {W X : Type 0} (sink : Ghosts W) (old new : W) (result : Result X Error)
+    (wanted : Hand → Result (List ℕ) Error) : Type 0 where
   -- whatever the writer, also where the call is refused: the old bytes are a beginning, and the
   -- order stays
   pub keeps : Begins (sink.contents old) (sink.contents new)
   pub ordered : sink.big new ≡ sink.big old
+  pub stays : IsTrue (sink.completes old) → IsTrue (sink.completes new)
   -- where it returns Ok, exactly the wanted bytes come after the old ones
   pub ok : IsTrue sink.keeps_bytes
-      → OnOk result (Appends wanted (sink.contents old) (sink.contents new))
+      → OnOk result (Appends (wanted plain) (sink.contents old) (sink.contents new))
+  -- and once a linker has completed both
+  pub completed : (at : Placement) → IsTrue (sink.completes old) → OnOk result
+      (Appends (wanted (sink.hand at)) (sink.completed at old) (sink.completed at new))
   -- where it refuses, it is for memory, or for what is wanted
-  pub err : IsTrue sink.fails_for_memory_alone → IfErr result (Refuses wanted)
+  pub err : IsTrue sink.fails_for_memory_alone → IfErr result (Refuses (wanted plain))
   -- whatever the writer, where it refuses, it is for what is wanted, or with what a `write` of its
   -- own refused
-  pub own : IfErr result (λ e. sink.refuses e ⊎ (wanted ≡ Err e))
+  pub own : IfErr result (λ e. sink.refuses e ⊎ (wanted plain ≡ Err e))
+  pub completed_own : (at : Placement) → IsTrue (sink.completes old)
+      → IfErr result (λ e. sink.refuses e ⊎ (wanted (sink.hand at) ≡ Err e))
   -- where the value or the size is refused, the bytes are as they were
-  pub untouched : IsTrue sink.keeps_bytes → Untouched wanted (sink.contents old) (sink.contents new)
+  pub untouched : IsTrue sink.keeps_bytes
+      → Untouched (wanted plain) (sink.contents old) (sink.contents new)
   -- where it refuses, no byte is appended
+  pub none : IsTrue sink.all_or_none → OnErr result (sink.contents new ≡ sink.contents old)
+
+-- the same of bytes that no linker changes
+pub record IsAppend {W X : Type 0} (sink : Ghosts W) (old new : W) (result : Result X Error)
+    (wanted : Result (List ℕ) Error) : Type 0 where
+  pub keeps : Begins (sink.contents old) (sink.contents new)
+  pub ordered : sink.big new ≡ sink.big old
+  pub stays : IsTrue (sink.completes old) → IsTrue (sink.completes new)
+  pub ok : IsTrue sink.keeps_bytes
+      → OnOk result (Appends wanted (sink.contents old) (sink.contents new))
+  pub completed : (at : Placement) → IsTrue (sink.completes old)
+      → OnOk result (Appends wanted (sink.completed at old) (sink.completed at new))
+  pub err : IsTrue sink.fails_for_memory_alone → IfErr result (Refuses wanted)
+  pub own : IfErr result (λ e. sink.refuses e ⊎ (wanted ≡ Err e))
+  pub untouched : IsTrue sink.keeps_bytes → Untouched wanted (sink.contents old) (sink.contents new)
   pub none : IsTrue sink.all_or_none → OnErr result (sink.contents new ≡ sink.contents old)
 
 -- a call that appends, and may make more than one `write`: where it is refused, a part may be there
@@ -82,25 +106,52 @@ pub record IsAppendInParts {W X : Type 0} (sink : Ghosts W) (old new : W) (resul
     (wanted : Result (List ℕ) Error) : Type 0 where
   pub keeps : Begins (sink.contents old) (sink.contents new)
   pub ordered : sink.big new ≡ sink.big old
+  pub stays : IsTrue (sink.completes old) → IsTrue (sink.completes new)
   pub ok : IsTrue sink.keeps_bytes
       → OnOk result (Appends wanted (sink.contents old) (sink.contents new))
+  pub completed : (at : Placement) → IsTrue (sink.completes old)
+      → OnOk result (Appends wanted (sink.completed at old) (sink.completed at new))
   pub err : IsTrue sink.fails_for_memory_alone → IfErr result (Refuses wanted)
   pub own : IfErr result (λ e. sink.refuses e ⊎ (wanted ≡ Err e))
 
 -- a call that writes over bytes that are there, from a place on
-pub record IsOverwrite {W X : Type 0} (sink : Ghosts W) (old new : W) (result : Result X Error)
-    (at : ℕ) (wanted : Result (List ℕ) Error) : Type 0 where
+pub record IsOverwriteBy {W X : Type 0} (sink : Ghosts W) (old new : W) (result : Result X Error)
+    (at : ℕ) (wanted : Hand → Result (List ℕ) Error) : Type 0 where
   -- whatever the writer, also where the call is refused: the length, the bytes before the place,
   -- and the order stay
   pub len : length (sink.contents new) ≡ length (sink.contents old)
   pub before : take at (sink.contents new) ≡ take at (sink.contents old)
   pub ordered : sink.big new ≡ sink.big old
+  pub stays : IsTrue (sink.completes old) → IsTrue (sink.completes new)
   -- whatever the writer, where it refuses, no byte is changed
   pub refused : OnErr result (sink.contents new ≡ sink.contents old)
   -- where it returns Ok, exactly the wanted bytes stand from the place on
   pub ok : IsTrue sink.keeps_bytes
-      → OnOk result (Overwrites at wanted (sink.contents old) (sink.contents new))
+      → OnOk result (Overwrites at (wanted plain) (sink.contents old) (sink.contents new))
+  -- and once a linker has completed both
+  pub completed : (places : Placement) → IsTrue (sink.completes old) → OnOk result (Overwrites at
+      (wanted (sink.hand places)) (sink.completed places old) (sink.completed places new))
   -- where it refuses, it is for what is wanted, else for the place
+  pub err : IsTrue sink.fails_for_memory_alone
+      → IfErr result (RefusesAt at (wanted plain) (sink.contents old))
+  pub own : IfErr result (λ e. sink.refuses e ⊎ RefusesAt at (wanted plain) (sink.contents old) e)
+  pub completed_own : (places : Placement) → IsTrue (sink.completes old) → IfErr result
+      (λ e. sink.refuses e ⊎ RefusesAt at (wanted (sink.hand places)) (sink.completed places old) e)
+
+-- the same of bytes that no linker changes
+pub record IsOverwrite {W X : Type 0} (sink : Ghosts W) (old new : W) (result : Result X Error)
+    (at : ℕ) (wanted : Result (List ℕ) Error) : Type 0 where
+  pub len : length (sink.contents new) ≡ length (sink.contents old)
+  pub before : take at (sink.contents new) ≡ take at (sink.contents old)
+  pub ordered : sink.big new ≡ sink.big old
+  pub stays : IsTrue (sink.completes old) → IsTrue (sink.completes new)
+  pub refused : OnErr result (sink.contents new ≡ sink.contents old)
+  pub ok : IsTrue sink.keeps_bytes
+      → OnOk result (Overwrites at wanted (sink.contents old) (sink.contents new))
+  pub completed : (places : Placement) → IsTrue (sink.completes old) → OnOk result
+      (Overwrites at wanted (sink.completed places old) (sink.completed places new))
   pub err : IsTrue sink.fails_for_memory_alone
       → IfErr result (RefusesAt at wanted (sink.contents old))
   pub own : IfErr result (λ e. sink.refuses e ⊎ RefusesAt at wanted (sink.contents old) e)
+  pub completed_own : (places : Placement) → IsTrue (sink.completes old) → IfErr result
+      (λ e. sink.refuses e ⊎ RefusesAt at wanted (sink.completed places old) e)

@@ -2,10 +2,11 @@
 
 ghost use Rattle.std.specs.Prelude.{◌≡◌, ◌++◌, [], true, IfOk, IfErr, OnOk, OnErr};
 
+use crate::address::Address;
 use crate::error::{Error, Result};
 use crate::sink::Sink;
 use crate::writer::Writer;
-use gimli_core::Endianity;
+use gimli_core::{Endianity, SectionId};
 use std::alloc::{AllocError, Global};
 use std::marker::Model;
 
@@ -105,7 +106,8 @@ impl<E: Endianity> Clone for EndianVec<E> {
 }
 
 impl<E: Endianity> Sink for EndianVec<E> {
-    ghost use Rattle.std.specs.Prelude.{◌≡◌};
+    ghost use Rattle.std.specs.Prelude.{◌≡◌, [], false};
+    ghost use Rattle.gimli_bytes.specs.Hand.{plain};
     ghost use Rattle.gimli_bytes.specs.declared.error.Error.TheVariants.{OutOfMemory};
 
     ghost contents = { λ v. v.bytes };
@@ -113,6 +115,12 @@ impl<E: Endianity> Sink for EndianVec<E> {
     ghost big = { λ v. E.big v.endian };
 
     ghost keeps_bytes = { true };
+
+    ghost completes = { λ w. false };
+
+    ghost completed = { λ at v. [] };
+
+    ghost hand = { λ at. plain };
 
     ghost fails_for_memory_alone = { true };
 
@@ -166,5 +174,30 @@ impl<E: Endianity> Writer for EndianVec<E> {
         }
         self.vec[offset..offset + bytes.len()].copy_from_slice(bytes);
         Ok(())
+    }
+
+    fn write_address(&mut self, address: Address, size: u8) -> Result<()> {
+        match address {
+            Address::Constant(val) => self.write_udata(val, size),
+            Address::Symbol { .. } => Err(Error::InvalidAddress),
+        }
+    }
+
+    fn write_offset(&mut self, val: usize, _section: SectionId, size: u8) -> Result<()> {
+        self.write_udata(val as u64, size)
+    }
+
+    fn write_offset_at(
+        &mut self,
+        offset: usize,
+        val: usize,
+        _section: SectionId,
+        size: u8,
+    ) -> Result<()> {
+        self.write_udata_at(offset, val as u64, size)
+    }
+
+    fn write_reference(&mut self, _symbol: usize, _size: u8) -> Result<()> {
+        Err(Error::InvalidReference)
     }
 }

@@ -1,7 +1,7 @@
 //! Laws of what is written, of equality and of clones.
 
 ghost use Rattle.std.specs.Prelude.{◌≡◌, ◌≢◌, ℕ, ◌+◌, ◌<◌, ◌≤◌, ◌^◌, ℤ, List, ◌∷◌, ◌++◌, length};
-ghost use Rattle.std.specs.Prelude.{drop, Some, Ok, All, slice_get, FitsSigned};
+ghost use Rattle.std.specs.Prelude.{IsTrue, drop, Some, Ok, All, slice_get, FitsSigned};
 ghost use Rattle.std.specs.Bool.{Decides};
 ghost use Rattle.std.specs.Int.{w64};
 ghost use Rattle.gimli_core.specs.Equality.{ClonesGiveSame, IsExact, IsSameClone};
@@ -12,7 +12,8 @@ ghost use Rattle.gimli_bytes.specs.declared.address.Address.{Address};
 ghost use Rattle.gimli_bytes.specs.declared.str.StringId.{StringId};
 ghost use Rattle.gimli_bytes.specs.declared.str.LineStringId.{LineStringId};
 ghost use Rattle.gimli_bytes.specs.Relocatable.{Relocatable};
-ghost use Rattle.gimli_bytes.specs.Relocations.{Placement, Call, AreInside, CallsFit, applied};
+ghost use Rattle.gimli_bytes.specs.Hand.{Placement};
+ghost use Rattle.gimli_bytes.specs.Relocations.{Call, are_inside, CallsFit, applied};
 ghost use Rattle.gimli_bytes.specs.Relocations.{after_calls, plainly_after_calls};
 ghost use Rattle.gimli_bytes.specs.Texts.{AreTexts, with_text, table_bytes, byte_count, offset_of};
 
@@ -90,10 +91,10 @@ pub fn table_bytes_length()
     ensures { (texts : List (List ℕ)) → length (table_bytes texts) ≡ byte_count texts }
 {}
 
-/// Where each sum fits its size, and no call writes over a place, the relocations applied to what
+/// Where each sum fits its size, the relocations applied to what
 /// calls wrote give what a vector of bytes alone holds of the same calls with the symbols replaced.
 pub fn relocations_give_the_same()
-    ensures { (placement : Placement) (v w : Relocatable) (calls : List Call) → AreInside v →
-        CallsFit placement v calls → after_calls v calls ≡ Ok w →
+    ensures { (placement : Placement) (v w : Relocatable) (calls : List Call) →
+        IsTrue (are_inside v) → CallsFit placement calls → after_calls v calls ≡ Ok w →
         plainly_after_calls placement v.big (applied placement v) calls ≡ Ok (applied placement w) }
 {}

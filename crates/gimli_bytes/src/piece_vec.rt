@@ -7,10 +7,11 @@ ghost use Rattle.std.specs.Int.{div_ceil};
 ghost use Rattle.gimli_bytes.specs.Pieces.{ArePieces, NeedsNoPiece};
 ghost use Rattle.gimli_bytes.specs.inside.Pieces.{put_over};
 
+use crate::address::Address;
 use crate::error::{Error, Result};
 use crate::sink::Sink;
 use crate::writer::Writer;
-use gimli_core::Endianity;
+use gimli_core::{Endianity, SectionId};
 use std::alloc::Global;
 use std::marker::Model;
 
@@ -189,7 +190,8 @@ impl<E: Endianity, const N: usize> PieceVec<E, N> {
 }
 
 impl<E: Endianity, const N: usize> Sink for PieceVec<E, N> {
-    ghost use Rattle.std.specs.Prelude.{◌≡◌};
+    ghost use Rattle.std.specs.Prelude.{◌≡◌, [], false};
+    ghost use Rattle.gimli_bytes.specs.Hand.{plain};
     ghost use Rattle.gimli_bytes.specs.declared.error.Error.TheVariants.{OutOfMemory};
 
     ghost contents = { λ v. v.bytes };
@@ -197,6 +199,12 @@ impl<E: Endianity, const N: usize> Sink for PieceVec<E, N> {
     ghost big = { λ v. E.big v.endian };
 
     ghost keeps_bytes = { true };
+
+    ghost completes = { λ w. false };
+
+    ghost completed = { λ at v. [] };
+
+    ghost hand = { λ at. plain };
 
     ghost fails_for_memory_alone = { true };
 
@@ -231,6 +239,31 @@ impl<E: Endianity, const N: usize> Writer for PieceVec<E, N> {
         }
         put(&mut self.pieces, N, offset, bytes);
         Ok(())
+    }
+
+    fn write_address(&mut self, address: Address, size: u8) -> Result<()> {
+        match address {
+            Address::Constant(val) => self.write_udata(val, size),
+            Address::Symbol { .. } => Err(Error::InvalidAddress),
+        }
+    }
+
+    fn write_offset(&mut self, val: usize, _section: SectionId, size: u8) -> Result<()> {
+        self.write_udata(val as u64, size)
+    }
+
+    fn write_offset_at(
+        &mut self,
+        offset: usize,
+        val: usize,
+        _section: SectionId,
+        size: u8,
+    ) -> Result<()> {
+        self.write_udata_at(offset, val as u64, size)
+    }
+
+    fn write_reference(&mut self, _symbol: usize, _size: u8) -> Result<()> {
+        Err(Error::InvalidReference)
     }
 }
 

@@ -1,12 +1,13 @@
 //! A writer into one vector that takes symbols and references, and lists their relocations.
 
 ghost use Rattle.std.specs.Prelude.{◌≡◌, ◌⊎◌, ◌%◌, ◌^◌, [], Bool, Ok, Err, false, true};
-ghost use Rattle.std.specs.Prelude.{IfErr, OnOk, OnErr, length, take};
+ghost use Rattle.std.specs.Prelude.{◌+◌, IfErr, OnOk, OnErr, length, take, nat_lt};
+ghost use Rattle.std.specs.List.{list_any};
 ghost use Rattle.gimli_bytes.specs.Number.{udata};
 ghost use Rattle.gimli_bytes.specs.Relocations.{number_in_place, addend_in_list, with_place};
 ghost use Rattle.gimli_bytes.specs.Relocations.{with_place_at, after_call, IsRefusal, Bytes};
 ghost use Rattle.gimli_bytes.specs.Relocations.{AddressOf, OffsetInto, ReferenceTo};
-ghost use Rattle.gimli_bytes.specs.Relocations.{BytesAt, OffsetAt};
+ghost use Rattle.gimli_bytes.specs.Relocations.{BytesAt, OffsetAt, touches};
 
 use crate::address::Address;
 use crate::endian_vec::EndianVec;
@@ -87,13 +88,26 @@ impl<E: Endianity> RelocatableVec<E> {
         self.section.write(bytes)
     }
 
-    /// Writes over the bytes from an offset on.
+    /// Writes over the bytes from an offset on. Refused by `InvalidRange` where a place has one of
+    /// them, since what a linker puts there counts from what stands there.
     pub fn write_at(&mut self, offset: usize, bytes: &[u8]) -> Result<()>
         ensures ok { OnOk result (after_call self.old (BytesAt offset bytes.now) ≡ Ok self.new) }
         ensures err { OnErr result (self.new ≡ self.old) }
         ensures cause { IfErr result (IsRefusal self.old (BytesAt offset bytes.now)) }
     {
+        if self.is_touched(offset, bytes.len()) {
+            return Err(Error::InvalidRange);
+        }
         self.section.write_at(offset, bytes)
+    }
+
+    /// Whether a place has one of so many bytes from an offset on.
+    fn is_touched(&self, offset: usize, size: usize) -> bool
+        ensures { result ≡ list_any (touches offset size) self.now.relocations }
+    {
+        self.relocations
+            .iter()
+            .any(|place| touches(offset, size, place))
     }
 
     /// Appends an address of `size` bytes. A symbol's is a place with a relocation.
@@ -130,7 +144,7 @@ impl<E: Endianity> RelocatableVec<E> {
     }
 
     /// Writes an offset into a section, of `size` bytes, over the bytes from an offset on: a place
-    /// with a relocation.
+    /// with a relocation. Refused by `InvalidRange` where another place has one of them.
     pub fn write_offset_at(
         &mut self,
         offset: usize,
@@ -184,6 +198,9 @@ impl<E: Endianity> RelocatableVec<E> {
             ⊎ (with_place_at self.old offset target addend size ≡ Err e)) }
     {
         self.relocations.reserve(1)?;
+        if self.is_touched(offset, usize::from(size)) {
+            return Err(Error::InvalidRange);
+        }
         let word = number_in_place(self.addends, addend, size);
         self.section.write_udata_at(offset, word, size)?;
         self.relocations.push_reserved(Relocation {
@@ -194,6 +211,21 @@ impl<E: Endianity> RelocatableVec<E> {
         });
         Ok(())
     }
+}
+
+/// Whether the place of a relocation has one of so many bytes from an offset on.
+fn touches(offset: usize, size: usize, place: &Relocation) -> bool
+    ensures { result ≡ touches offset size place.now }
+{
+    is_before_end(place.offset, offset, size)
+        && is_before_end(offset, place.offset, usize::from(place.size))
+}
+
+/// Whether a number is before the end of so many bytes from an offset on.
+fn is_before_end(number: usize, offset: usize, size: usize) -> bool
+    ensures { result ≡ nat_lt number (offset + size) }
+{
+    number < offset || number - offset < size
 }
 
 /// The addend that a relocation has in the list.
@@ -231,11 +263,19 @@ fn low_bytes(word: u64, size: u8) -> u64
 }
 
 impl<E: Endianity> Sink for RelocatableVec<E> {
+    ghost use Rattle.gimli_bytes.specs.Relocations.{applied, are_inside, placed};
+
     ghost contents = { λ v. v.bytes };
 
     ghost big = { λ v. v.big };
 
     ghost keeps_bytes = { false };
+
+    ghost completes = { are_inside };
+
+    ghost completed = { applied };
+
+    ghost hand = { placed };
 
     ghost fails_for_memory_alone = { false };
 

@@ -1,6 +1,7 @@
 //! What a writer means, apart from its calls.
 
 ghost use Rattle.std.specs.Prelude.{ℕ, Bool, List};
+ghost use Rattle.gimli_bytes.specs.Hand.{Hand, Placement};
 ghost use Rattle.gimli_bytes.specs.declared.error.Error.{Error};
 
 /// What a [`Writer`](crate::Writer) means: its bytes, their order, and three facts of its type.
@@ -10,10 +11,9 @@ ghost use Rattle.gimli_bytes.specs.declared.error.Error.{Error};
 ///
 /// <!-- part of crates/checks_writing/src/own_writer.rt -->
 /// ```rust
-/// impl Sink for OwnWriter {
-///     ghost contents = { λ w. w.section.bytes };
+/// ghost contents = { λ w. w.section.bytes };
 ///
-///     ghost big = { λ w. false };
+/// ghost big = { λ w. false };
 /// ```
 pub trait Sink {
     /// The bytes of the section.
@@ -24,6 +24,15 @@ pub trait Sink {
 
     /// Whether a writer of this type keeps exactly the bytes given to it.
     ghost keeps_bytes: { Bool };
+
+    /// Whether `completed` and `hand` say what a linker makes of what the writer holds.
+    ghost completes: { Self → Bool };
+
+    /// The bytes once a linker has placed each symbol and each section so.
+    ghost completed: { Placement → Self → List ℕ };
+
+    /// How addresses and offsets into sections stand in those bytes.
+    ghost hand: { Placement → Hand };
 
     /// Whether a writer of this type refuses a `write` only with `OutOfMemory`, a `write_at` for
     /// its two bounds alone, and any other call for what is said there, or as the `write` or

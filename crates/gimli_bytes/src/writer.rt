@@ -5,8 +5,10 @@ ghost use Rattle.std.specs.Prelude.{length};
 ghost use Rattle.gimli_core.specs.Numbers.{number_bytes, word_size};
 ghost use Rattle.gimli_core.specs.Numbers.{SpellsUleb128, SpellsSleb128, IsShortest};
 ghost use Rattle.gimli_bytes.specs.Written.{IsAppend, IsAppendInParts, IsOverwrite};
+ghost use Rattle.gimli_bytes.specs.Written.{IsAppendBy, IsOverwriteBy};
+ghost use Rattle.gimli_bytes.specs.Hand.{Hand, Placement};
 ghost use Rattle.gimli_bytes.specs.Number.{udata, sdata, twos_complement, uleb, sleb};
-ghost use Rattle.gimli_bytes.specs.Number.{address_bytes, escape_size, open_length, length_word};
+ghost use Rattle.gimli_bytes.specs.Number.{escape_size, open_length, length_word};
 ghost use Rattle.gimli_bytes.specs.Number.{pointer_data, pointer_at_end};
 
 use crate::address::Address;
@@ -39,7 +41,9 @@ pub trait Writer: Sink {
 
     /// The length of the section in bytes, which is also the offset of what is appended next.
     fn len(&self) -> usize
-        ensures { result ≡ length (Self.contents self.now) };
+        ensures contents { result ≡ length (Self.contents self.now) }
+        ensures completed { (at : Placement) → IsTrue (Self.completes self.now) →
+            result ≡ length (Self.completed at self.now) };
 
     /// Appends bytes. Refused by `OutOfMemory` alone, for a type that `fails_for_memory_alone`.
     fn write(&mut self, bytes: &[u8]) -> Result<()>
@@ -51,17 +55,12 @@ pub trait Writer: Sink {
     fn write_at(&mut self, offset: usize, bytes: &[u8]) -> Result<()>
         ensures { IsOverwrite Self.Sink self.old self.new result offset (Ok bytes.now) };
 
-    /// Appends an address of `size` bytes. A symbol is `InvalidAddress`; a constant is refused as
-    /// by `write_udata`. A writer that supports relocations has a body of its own.
+    /// Appends an address of `size` bytes. A writer without relocations refuses a symbol by
+    /// `InvalidAddress`, and writes a constant by `write_udata`. It has no body of its own: one
+    /// would promise for every writer what addresses become.
     fn write_address(&mut self, address: Address, size: u8) -> Result<()>
-        ensures { IsAppend Self.Sink self.old self.new result
-            (address_bytes (Self.big self.old) address size) }
-    {
-        match address {
-            Address::Constant(val) => self.write_udata(val, size),
-            Address::Symbol { .. } => Err(Error::InvalidAddress),
-        }
-    }
+        ensures { IsAppendBy Self.Sink self.old self.new result
+            (λ hand. hand.address (Self.big self.old) address size) };
 
     /// Appends an address in a pointer encoding of `.eh_frame`: as it is, or relative to the end
     /// of the section. A symbol is `InvalidAddress`, an address that is relative to anything else
@@ -105,36 +104,29 @@ pub trait Writer: Sink {
         }
     }
 
-    /// Appends an offset into a section, of `size` bytes. Refused as by `write_udata`. A writer
-    /// that supports relocations has a body of its own.
-    fn write_offset(&mut self, val: usize, _section: SectionId, size: u8) -> Result<()>
-        ensures { IsAppend Self.Sink self.old self.new result (udata (Self.big self.old) val size) }
-    {
-        self.write_udata(val as u64, size)
-    }
+    /// Appends an offset into a section, of `size` bytes. A writer without relocations writes it
+    /// by `write_udata`.
+    fn write_offset(&mut self, val: usize, section: SectionId, size: u8) -> Result<()>
+        ensures { IsAppendBy Self.Sink self.old self.new result
+            (λ hand. hand.offset (Self.big self.old) section val size) };
 
-    /// Writes an offset into a section, of `size` bytes, over the bytes from an offset on.
-    /// Refused as by `write_udata_at`.
+    /// Writes an offset into a section, of `size` bytes, over the bytes from an offset on. A
+    /// writer without relocations does so by `write_udata_at`.
     fn write_offset_at(
         &mut self,
         offset: usize,
         val: usize,
-        _section: SectionId,
+        section: SectionId,
         size: u8,
     ) -> Result<()>
-        ensures { IsOverwrite Self.Sink self.old self.new result
-            offset (udata (Self.big self.old) val size) }
-    {
-        self.write_udata_at(offset, val as u64, size)
-    }
+        ensures { IsOverwriteBy Self.Sink self.old self.new result offset
+            (λ hand. hand.offset (Self.big self.old) section val size) };
 
-    /// Appends a reference to a symbol, of `size` bytes: always `InvalidReference`. A writer that
-    /// knows of symbols has a body of its own.
-    fn write_reference(&mut self, _symbol: usize, _size: u8) -> Result<()>
-        ensures { IsAppend Self.Sink self.old self.new result (Err Error.InvalidReference) }
-    {
-        Err(Error::InvalidReference)
-    }
+    /// Appends a reference to a symbol, of `size` bytes. A writer that knows of no symbols always
+    /// refuses it, by `InvalidReference`.
+    fn write_reference(&mut self, symbol: usize, size: u8) -> Result<()>
+        ensures { IsAppendBy Self.Sink self.old self.new result
+            (λ hand. hand.reference (Self.big self.old) symbol size) };
 
     /// Appends a byte. Refused as `write` is.
     fn write_u8(&mut self, val: u8) -> Result<()>
@@ -344,6 +336,8 @@ pub trait Writer: Sink {
         ensures after { IfOk result (λ word. length (Self.contents self.old) ≤ word.0) }
         ensures place { IsTrue Self.keeps_bytes →
             IfOk result (λ word. word.0 ≡ length (Self.contents self.old) + escape_size format) }
+        ensures completed { (at : Placement) → IsTrue (Self.completes self.old) → IfOk result
+            (λ word. word.0 ≡ length (Self.completed at self.old) + escape_size format) }
     {
         match format {
             Format::Dwarf32 => {

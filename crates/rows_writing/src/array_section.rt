@@ -3,8 +3,8 @@
 ghost use Rattle.std.specs.Prelude.{◌≤◌, length, take, false};
 ghost use Rattle.gimli_core.specs.Order.{is_big};
 
-use gimli_core::RunTimeEndian;
-use gimli_write::{Error, Result, Sink, Writer};
+use gimli_core::{RunTimeEndian, SectionId};
+use gimli_write::{Address, Error, Result, Sink, Writer};
 use rows_calls::Section;
 use std::alloc::{AllocError, Global};
 
@@ -40,11 +40,20 @@ impl Section for ArraySection {
 }
 
 impl Sink for ArraySection {
+    ghost use Rattle.std.specs.Prelude.{[]};
+    ghost use Rattle.gimli_bytes.specs.Hand.{plain};
+
     ghost contents = { λ w. take w.len w.bytes.items };
 
     ghost big = { λ w. is_big w.endian };
 
     ghost keeps_bytes = { false };
+
+    ghost completes = { λ w. false };
+
+    ghost completed = { λ at w. [] };
+
+    ghost hand = { λ at. plain };
 
     ghost fails_for_memory_alone = { false };
 
@@ -85,5 +94,30 @@ impl Writer for ArraySection {
         }
         self.bytes[offset..offset + bytes.len()].copy_from_slice(bytes);
         Ok(())
+    }
+
+    fn write_address(&mut self, address: Address, size: u8) -> Result<()> {
+        match address {
+            Address::Constant(val) => self.write_udata(val, size),
+            Address::Symbol { .. } => Err(Error::InvalidAddress),
+        }
+    }
+
+    fn write_offset(&mut self, val: usize, _section: SectionId, size: u8) -> Result<()> {
+        self.write_udata(val as u64, size)
+    }
+
+    fn write_offset_at(
+        &mut self,
+        offset: usize,
+        val: usize,
+        _section: SectionId,
+        size: u8,
+    ) -> Result<()> {
+        self.write_udata_at(offset, val as u64, size)
+    }
+
+    fn write_reference(&mut self, _symbol: usize, _size: u8) -> Result<()> {
+        Err(Error::InvalidReference)
     }
 }

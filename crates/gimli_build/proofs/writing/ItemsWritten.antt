@@ -1,37 +1,43 @@
 -- Items written one after the other.
-use Rattle.std.proofs.Common.{◌≡◌, ℕ, ◌+◌, ◌<◌, ◌^◌, Bool, List, [], ◌∷◌, ◌++◌, Ok, Err, refl, sym, ap, ◌∙◌, append_assoc, lit<, length, get_or, add-one, take}
+use Rattle.std.proofs.Common.{IsTrue, inl, inr, ◌≡◌, ℕ, ◌+◌, ◌<◌, ◌^◌, Bool, List, [], ◌∷◌, ◌++◌, Ok, Err, refl, sym, ap, ◌∙◌, append_assoc, lit<, length}
+use Rattle.std.proofs.Common.{get_or, add-one, take}
 use Rattle.std.proofs.lemmas.List.{append-nil}
 use Rattle.std.proofs.Math.Seq.{take-suc}
 use Rattle.std.specs.Prelude.{Result}
 use Rattle.gimli_core.specs.declared.common.Encoding.{Encoding}
 use Rattle.gimli_core.specs.declared.common.LineEncoding.{LineEncoding}
-use Rattle.gimli_bytes.specs.Written.{Appends}
+use Rattle.gimli_bytes.specs.Hand.{Hand, Placement, plain}
+use Rattle.gimli_bytes.specs.Written.{Begins, Appends}
 use Rattle.gimli_bytes.specs.declared.error.Error.{Error}
+use Rattle.gimli_bytes.specs.declared.sink.Sink.{Ghosts}
 use Rattle.gimli_build.specs.declared.built.row.LineRow.{LineRow}
 use Rattle.gimli_build.specs.declared.built.items.BuiltItem.{BuiltItem}
 use Rattle.gimli_build.specs.declared.built.items.BuiltItem.TheVariants.{SetAddress, Row, End}
 use Rattle.gimli_build.specs.Advance.{CanEncode, IsPosition}
 use Rattle.gimli_build.specs.Conditions.{AreBuilt}
 use Rattle.gimli_build.specs.Joined.{result_append}
-use Rattle.gimli_build.specs.Items.{item_bytes, items_bytes, next_previous, FitsItem, AreFit}
+use Rattle.gimli_build.specs.inside.Joined.{RefusesFor}
+use Rattle.gimli_build.specs.inside.Writes.{WritesBy}
+use Rattle.gimli_build.specs.Items.{item_bytes_by, items_bytes_by, next_previous, FitsItem, AreFit}
 use Rattle.gimli_build.proofs.reading.ItemRuns.{start_position}
-use Rattle.gimli_build.proofs.writing.Joined.{appended_bytes, joined-joined}
+use Rattle.gimli_build.proofs.writing.Joined.{appended_bytes, joined-joined, begins_then, or_wanted}
 
 -- these bytes stand for the items so far, and those are left
-pub record Standing (big : Bool) (encoding : Encoding) (e : LineEncoding) (whole : Result (List ℕ) Error) (old new : List ℕ) (previous : LineRow)
+pub record Standing (hand : Hand) (big : Bool) (encoding : Encoding) (e : LineEncoding) (whole : Result (List ℕ) Error) (old new : List ℕ) (previous : LineRow)
     (left : List BuiltItem) : Type 0 where
   pub done : List ℕ
   pub written : new ≡ old ++ done
-  pub parts : whole ≡ result_append (Ok done) (items_bytes big encoding e previous left)
+  pub parts : whole ≡ result_append (Ok done) (items_bytes_by hand big encoding e previous left)
 
 -- one item more
-pub standing_more : (big : Bool) (encoding : Encoding) (e : LineEncoding) (whole : Result (List ℕ) Error) (old new newer : List ℕ) (previous : LineRow)
+pub standing_more : (hand : Hand) (big : Bool) (encoding : Encoding) (e : LineEncoding) (whole : Result (List ℕ) Error) (old new newer : List ℕ)
+    (previous : LineRow)
     (item : BuiltItem) (left : List BuiltItem)
-    → Standing big encoding e whole old new previous (item ∷ left) → Appends (item_bytes big encoding e previous item) new newer
-    → Standing big encoding e whole old newer (next_previous encoding.version e.default_is_stmt previous item) left
-standing_more big encoding e whole old new newer previous item left so more =
-    let a = appended_bytes (item_bytes big encoding e previous item) new newer more in
-    let rest = items_bytes big encoding e (next_previous encoding.version e.default_is_stmt previous item) left in
+    → Standing hand big encoding e whole old new previous (item ∷ left) → Appends (item_bytes_by hand big encoding e previous item) new newer
+    → Standing hand big encoding e whole old newer (next_previous encoding.version e.default_is_stmt previous item) left
+standing_more hand big encoding e whole old new newer previous item left so more =
+    let a = appended_bytes (item_bytes_by hand big encoding e previous item) new newer more in
+    let rest = items_bytes_by hand big encoding e (next_previous encoding.version e.default_is_stmt previous item) left in
     record {
       done = so.done ++ a.0;
       written = a.2 ∙ ap (λ (l : List ℕ). l ++ a.0) so.written ∙ append_assoc old so.done a.0;
@@ -39,34 +45,86 @@ standing_more big encoding e whole old new newer previous item left so more =
     }
 
 -- a refused item is what refuses
-pub standing_refused : (big : Bool) (encoding : Encoding) (e : LineEncoding) (whole : Result (List ℕ) Error) (old new : List ℕ) (previous : LineRow)
+pub standing_refused : (hand : Hand) (big : Bool) (encoding : Encoding) (e : LineEncoding) (whole : Result (List ℕ) Error) (old new : List ℕ)
+    (previous : LineRow)
     (item : BuiltItem) (left : List BuiltItem) (d : Error)
-    → Standing big encoding e whole old new previous (item ∷ left) → item_bytes big encoding e previous item ≡ Err d → whole ≡ Err d
-standing_refused big encoding e whole old new previous item left d so refused =
+    → Standing hand big encoding e whole old new previous (item ∷ left) → item_bytes_by hand big encoding e previous item ≡ Err d → whole ≡ Err d
+standing_refused hand big encoding e whole old new previous item left d so refused =
     so.parts
     ∙ ap
     (λ (r : Result (List ℕ) Error). result_append (Ok so.done)
-    (result_append r (items_bytes big encoding e (next_previous encoding.version e.default_is_stmt previous item) left)))
+    (result_append r (items_bytes_by hand big encoding e (next_previous encoding.version e.default_is_stmt previous item) left)))
     refused
 
 -- all of them
-pub standing_end : (big : Bool) (encoding : Encoding) (e : LineEncoding) (whole : Result (List ℕ) Error) (old new : List ℕ) (previous : LineRow)
-    → Standing big encoding e whole old new previous [] → Appends whole old new
-standing_end big encoding e whole old new previous so =
+pub standing_end : (hand : Hand) (big : Bool) (encoding : Encoding) (e : LineEncoding) (whole : Result (List ℕ) Error) (old new : List ℕ) (previous : LineRow)
+    → Standing hand big encoding e whole old new previous [] → Appends whole old new
+standing_end hand big encoding e whole old new previous so =
     let all : whole ≡ Ok so.done = so.parts ∙ ap (λ (l : List ℕ). let s : Result (List ℕ) Error = Ok l in s) (append-nil so.done) in
     rw all so.written
 
-pub standing_start : (big : Bool) (encoding : Encoding) (e : LineEncoding) (old : List ℕ) (previous : LineRow) (items : List BuiltItem)
-    → Standing big encoding e (items_bytes big encoding e previous items) old old previous items
-standing_start big encoding e old previous items = record {
+pub standing_start : (hand : Hand) (big : Bool) (encoding : Encoding) (e : LineEncoding) (old : List ℕ) (previous : LineRow) (items : List BuiltItem)
+    → Standing hand big encoding e (items_bytes_by hand big encoding e previous items) old old previous items
+standing_start hand big encoding e old previous items = record {
   done = [];
   written = sym (append-nil old);
-  parts = nothing (items_bytes big encoding e previous items);
+  parts = nothing (items_bytes_by hand big encoding e previous items);
 }
   where
     nothing : (r : Result (List ℕ) Error) → r ≡ result_append (Ok []) r
     nothing (Ok bytes) = refl
     nothing (Err d) = refl
+
+-- a refused item, after those so far
+pub items_unwritten : {W X Y : Type 0} {sink : Ghosts W} {old mid new : W} {d : Error} (encoding : Encoding) (e : LineEncoding)
+    (whole : Hand → Result (List ℕ) Error) (previous : LineRow) (item : BuiltItem) (left : List BuiltItem) → Begins (sink.contents old) (sink.contents mid)
+    → sink.big mid ≡ sink.big old → (IsTrue (sink.completes old) → IsTrue (sink.completes mid))
+    → (IsTrue sink.keeps_bytes → Standing plain (sink.big old) encoding e (whole plain) (sink.contents old) (sink.contents mid) previous (item ∷ left))
+    → ((at : Placement) → IsTrue (sink.completes old)
+    → Standing (sink.hand at) (sink.big old) encoding e (whole (sink.hand at)) (sink.completed at old) (sink.completed at mid) previous (item ∷ left))
+    → WritesBy {X = X} sink mid new (Err d) (λ hand. item_bytes_by hand (sink.big old) encoding e previous item) → WritesBy {X = Y} sink old new (Err d) whole
+items_unwritten {sink = sink} {old = old} {mid = mid} {new = new} {d = d} encoding e whole previous item left begins same stays so by refused = record {
+  keeps = begins_then (sink.contents old) (sink.contents mid) (sink.contents new) begins refused.keeps;
+  ordered = refused.ordered ∙ same;
+  stays = λ completes. refused.stays (stays completes);
+  ok = λ keeps_bytes. tt;
+  completed = λ at completes. tt;
+  err = λ keeps_bytes fails_for_memory_alone. first (so keeps_bytes) (refused.err keeps_bytes fails_for_memory_alone);
+  own = λ keeps_bytes.
+      or_wanted (standing_refused plain (sink.big old) encoding e (whole plain) (sink.contents old) (sink.contents mid) previous item left d (so keeps_bytes))
+      (refused.own keeps_bytes);
+  completed_own = λ at completes.
+      or_wanted
+      (standing_refused (sink.hand at) (sink.big old) encoding e (whole (sink.hand at)) (sink.completed at old) (sink.completed at mid) previous item left d
+      (by at completes))
+      (refused.completed_own at (stays completes));
+}
+  where
+    first : Standing plain (sink.big old) encoding e (whole plain) (sink.contents old) (sink.contents mid) previous (item ∷ left)
+        → RefusesFor (item_bytes_by plain (sink.big old) encoding e previous item) d → RefusesFor (whole plain) d
+    first so (inl memory) = inl memory
+    first so (inr is) =
+        inr (standing_refused plain (sink.big old) encoding e (whole plain) (sink.contents old) (sink.contents mid) previous item left d so is)
+
+-- all items
+pub items_written : {W X : Type 0} {sink : Ghosts W} {old new : W} {x : X} (encoding : Encoding) (e : LineEncoding) (whole : Hand → Result (List ℕ) Error)
+    (previous : LineRow) → Begins (sink.contents old) (sink.contents new) → sink.big new ≡ sink.big old
+    → (IsTrue (sink.completes old) → IsTrue (sink.completes new))
+    → (IsTrue sink.keeps_bytes → Standing plain (sink.big old) encoding e (whole plain) (sink.contents old) (sink.contents new) previous [])
+    → ((at : Placement) → IsTrue (sink.completes old)
+    → Standing (sink.hand at) (sink.big old) encoding e (whole (sink.hand at)) (sink.completed at old) (sink.completed at new) previous [])
+    → WritesBy sink old new (Ok x) whole
+items_written {sink = sink} {old = old} {new = new} encoding e whole previous begins same stays so by = record {
+  keeps = begins;
+  ordered = same;
+  stays = stays;
+  ok = λ keeps_bytes. standing_end plain (sink.big old) encoding e (whole plain) (sink.contents old) (sink.contents new) previous (so keeps_bytes);
+  completed = λ at completes.
+      standing_end (sink.hand at) (sink.big old) encoding e (whole (sink.hand at)) (sink.completed at old) (sink.completed at new) previous (by at completes);
+  err = λ keeps_bytes fails_for_memory_alone. tt;
+  own = λ keeps_bytes. tt;
+  completed_own = λ at completes. tt;
+}
 
 -- where the walk is, and what is left can still be built
 pub record OnTheWay (e : LineEncoding) (previous : LineRow) (left : List BuiltItem) : Type 0 where

@@ -4,7 +4,8 @@ ghost use Rattle.std.specs.Prelude.{◌≡◌, ℕ, Bool, not, nat_eq, nat_le, i
 ghost use Rattle.std.specs.Prelude.{◌++◌, ◌+◌, ◌*◌, ◌<◌, ◌≤◌, ◌^◌, Some, None, IfOk, OnOk, Ok, pos};
 ghost use Rattle.std.specs.Prelude.{◌-ℤ◌, unsigned_abs};
 ghost use Rattle.gimli_build.specs.Conditions.{CanBuild, AreBuilt};
-ghost use Rattle.gimli_build.specs.Items.{next_previous, item_bytes, items_bytes, FitsItem, AreFit};
+ghost use Rattle.gimli_build.specs.Items.{next_previous, item_bytes_by, items_bytes_by};
+ghost use Rattle.gimli_build.specs.Items.{FitsItem, AreFit};
 ghost use Rattle.gimli_build.specs.Built.{position_after};
 ghost use Rattle.gimli_build.specs.Rows.{initial_row, at_position};
 ghost use Rattle.gimli_build.specs.Advance.{CanEncode, IsPosition, CanFollow, operations};
@@ -14,7 +15,7 @@ ghost use Rattle.gimli_build.specs.Encode.{line_part, row_maker, operation_part,
 ghost use Rattle.gimli_build.specs.InstructionBytes.{instructions_bytes, FitsInstructions};
 ghost use Rattle.gimli_build.specs.FileNumber.{file_number};
 ghost use Rattle.gimli_build.specs.inside.ReadAs.{read_as};
-ghost use Rattle.gimli_build.specs.inside.Writes.{Writes};
+ghost use Rattle.gimli_build.specs.inside.Writes.{Writes, WritesBy};
 ghost use Rattle.gimli_line.specs.declared.run.instruction.LineInstruction.TheVariants.{
   AdvancePc,
   EndSequence,
@@ -42,8 +43,8 @@ pub(crate) fn write_items<W: Writer>(
 ) -> Result<()>
     requires can { CanEncode line_encoding }
     requires built { AreBuilt line_encoding (0, 0) items.now }
-    ensures writes { Writes W.Sink w.old w.new result
-        (items_bytes (W.big w.old) encoding line_encoding
+    ensures writes { WritesBy W.Sink w.old w.new result
+        (λ hand. items_bytes_by hand (W.big w.old) encoding line_encoding
         (initial_row encoding.version line_encoding.default_is_stmt) items.now) }
     ensures fit { OnOk result (AreFit encoding.version items.now) }
 {
@@ -90,8 +91,9 @@ fn write_item<W: Writer>(
     requires stands { IsPosition line_encoding position.0 position.1 }
     requires previous_line { previous.now.line < 2 ^ 63 }
     requires built { CanBuild line_encoding position item.now }
-    ensures writes { Writes W.Sink w.old w.new result
-        (item_bytes (W.big w.old) encoding line_encoding (at_position position previous.now)
+    ensures writes { WritesBy W.Sink w.old w.new result
+        (λ hand. item_bytes_by hand (W.big w.old) encoding line_encoding
+        (at_position position previous.now)
         item.now) }
     ensures fit { OnOk result (FitsItem encoding.version item.now) }
 {

@@ -6,11 +6,11 @@ ghost use Rattle.gimli_bytes.specs.Number.{has_seven_bits as holds_seven_bits};
 ghost use Rattle.gimli_build.specs.InstructionBytes.{
   instruction_bytes,
   instructions_bytes,
-  set_address_bytes,
+  set_address_bytes_by,
 };
 ghost use Rattle.gimli_build.specs.Due.{when};
 ghost use Rattle.gimli_build.specs.inside.ReadAs.{read_as};
-ghost use Rattle.gimli_build.specs.inside.Writes.{Writes};
+ghost use Rattle.gimli_build.specs.inside.Writes.{Writes, WritesBy};
 ghost use Rattle.gimli_line.specs.declared.run.instruction.LineInstruction.TheVariants.{
   SetDiscriminator,
 };
@@ -77,7 +77,8 @@ pub(crate) fn write_if<W: Writer>(w: &mut W, due: bool, instruction: LineInstruc
 /// refusal is handed on.
 #[inline(never)]
 pub(crate) fn write_set_address<W: Writer>(w: &mut W, address: &Address, size: u8) -> Result<()>
-    ensures { Writes W.Sink w.old w.new result (set_address_bytes (W.big w.old) address.now size) }
+    ensures { WritesBy W.Sink w.old w.new result
+        (λ hand. set_address_bytes_by hand (W.big w.old) address.now size) }
 {
     write_byte(w, 0)?;
     w.write_uleb128(u64::from(size) + 1)?;

@@ -16,12 +16,12 @@ ghost use Rattle.gimli_build.specs.Conditions.{CanWrite};
 ghost use Rattle.gimli_build.specs.Joined.{result_append, result_concat};
 ghost use Rattle.gimli_build.specs.Version5Tables.{first_form, path_texts, sources, needs_empty};
 ghost use Rattle.gimli_build.specs.Version5Tables.{empty_text, formats_bytes, file_formats};
-ghost use Rattle.gimli_build.specs.Version5Tables.{text_in_form, directory_table_bytes};
-ghost use Rattle.gimli_build.specs.Version5Tables.{source_bytes, file_entry_bytes};
-ghost use Rattle.gimli_build.specs.Version5Tables.{file_table_bytes};
+ghost use Rattle.gimli_build.specs.Version5Tables.{text_in_form_by, directory_table_bytes_by};
+ghost use Rattle.gimli_build.specs.Version5Tables.{source_bytes_by, file_entry_bytes_by};
+ghost use Rattle.gimli_build.specs.Version5Tables.{file_table_bytes_by};
 ghost use Rattle.gimli_build.specs.WrittenTables.{HaveEmptySource};
 ghost use Rattle.gimli_build.specs.inside.EmptySource.{IsEmptySource, StandsForNone};
-ghost use Rattle.gimli_build.specs.inside.Writes.{Writes};
+ghost use Rattle.gimli_build.specs.inside.Writes.{Writes, WritesBy};
 
 use crate::built::files::{DirectoryId, FileInfo, FileTable};
 use crate::built::line_program::LineProgram;
@@ -162,11 +162,11 @@ pub(crate) fn write_version_5_tables<W: Writer>(
     requires empty { StandsForNone program.now (texts_in strings.now line_strings.now)
         (line_text empty.now) }
     requires version { 5 ≤ program.now.encoding.version }
-    ensures writes { Writes W.Sink w.old w.new result
-        (let texts = texts_in strings.now line_strings.now in
+    ensures writes { WritesBy W.Sink w.old w.new result
+        (λ hand. let texts = texts_in strings.now line_strings.now in
         let format = program.now.encoding.format in
-        result_append (directory_table_bytes (W.big w.old) format texts program.now)
-        (file_table_bytes (W.big w.old) format texts program.now)) }
+        result_append (directory_table_bytes_by hand (W.big w.old) format texts program.now)
+        (file_table_bytes_by hand (W.big w.old) format texts program.now)) }
     ensures fit { OnOk result (All FitsFile program.now.files) }
 {
     write_directory_table(w, program, line_strings, strings)?;
@@ -181,8 +181,8 @@ fn write_directory_table<W: Writer>(
     strings: &StringTable,
 ) -> Result<()>
     requires { All (IsWithin (texts_in strings.now line_strings.now)) program.now.directories }
-    ensures { Writes W.Sink w.old w.new result
-        (directory_table_bytes (W.big w.old) program.now.encoding.format
+    ensures { WritesBy W.Sink w.old w.new result
+        (λ hand. directory_table_bytes_by hand (W.big w.old) program.now.encoding.format
         (texts_in strings.now line_strings.now) program.now) }
 {
     let directories = program.tables().directories();
@@ -226,8 +226,8 @@ fn write_texts<W: Writer>(
     strings: &StringTable,
 ) -> Result<()>
     requires { All (IsWithin (texts_in strings.now line_strings.now)) (map line_text texts.now) }
-    ensures { Writes W.Sink w.old w.new result
-        (result_concat (text_in_form (W.big w.old) format
+    ensures { WritesBy W.Sink w.old w.new result
+        (λ hand. result_concat (text_in_form_by hand (W.big w.old) format
         (texts_in strings.now line_strings.now) form.0) (map line_text texts.now)) }
 {
     for text in texts {
@@ -247,8 +247,8 @@ fn write_line_string<W: Writer>(
     strings: &StringTable,
 ) -> Result<()>
     requires { IsWithin (texts_in strings.now line_strings.now) (line_text text.now) }
-    ensures { Writes W.Sink w.old w.new result
-        (text_in_form (W.big w.old) format
+    ensures { WritesBy W.Sink w.old w.new result
+        (λ hand. text_in_form_by hand (W.big w.old) format
         (texts_in strings.now line_strings.now) form.0 (line_text text.now)) }
 {
     if text.form() != form {
@@ -279,8 +279,8 @@ fn write_file_table<W: Writer>(
     requires empty { StandsForNone program.now (texts_in strings.now line_strings.now)
         (line_text empty.now) }
     requires version { 5 ≤ program.now.encoding.version }
-    ensures writes { Writes W.Sink w.old w.new result
-        (file_table_bytes (W.big w.old) program.now.encoding.format
+    ensures writes { WritesBy W.Sink w.old w.new result
+        (λ hand. file_table_bytes_by hand (W.big w.old) program.now.encoding.format
         (texts_in strings.now line_strings.now) program.now) }
     ensures fit { OnOk result (All FitsFile program.now.files) }
 {
@@ -380,8 +380,8 @@ fn write_file_entries<W: Writer>(
         (line_text empty.now) }
     requires version { 5 ≤ program.now.encoding.version }
     requires source_form { source_form.0 ≡ first_form (sources program.now.files) }
-    ensures writes { Writes W.Sink w.old w.new result
-        (result_concat (file_entry_bytes (W.big w.old) program.now.encoding.format
+    ensures writes { WritesBy W.Sink w.old w.new result
+        (λ hand. result_concat (file_entry_bytes_by hand (W.big w.old) program.now.encoding.format
         (texts_in strings.now line_strings.now) program.now) program.now.files) }
     ensures fit { OnOk result (All FitsFile program.now.files) }
 {
@@ -409,8 +409,8 @@ fn write_file_entry<W: Writer>(
     requires empty { program.now.file_has_source ≡ true → (details file.2.now).source ≡ None
         → IsEmptySource program.now (texts_in strings.now line_strings.now) (line_text empty.now) }
     requires source_form { source_form.0 ≡ first_form (sources program.now.files) }
-    ensures writes { Writes W.Sink w.old w.new result
-        (file_entry_bytes (W.big w.old) program.now.encoding.format
+    ensures writes { WritesBy W.Sink w.old w.new result
+        (λ hand. file_entry_bytes_by hand (W.big w.old) program.now.encoding.format
         (texts_in strings.now line_strings.now) program.now
         ((line_text file.entry.0.now, file.entry.1), details file.entry.2.now)) }
     ensures fit { OnOk result
@@ -486,8 +486,8 @@ fn write_source<W: Writer>(
     requires empty { program.now.file_has_source ≡ true → (details info.now).source ≡ None
         → IsEmptySource program.now (texts_in strings.now line_strings.now) (line_text empty.now) }
     requires form { form.0 ≡ first_form (sources program.now.files) }
-    ensures { Writes W.Sink w.old w.new result
-        (source_bytes (W.big w.old) program.now.encoding.format
+    ensures { WritesBy W.Sink w.old w.new result
+        (λ hand. source_bytes_by hand (W.big w.old) program.now.encoding.format
         (texts_in strings.now line_strings.now) program.now ((Inline [], 0), details info.now)) }
 {
     if !program.file_has_source {

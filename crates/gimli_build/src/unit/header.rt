@@ -6,9 +6,9 @@ ghost use Rattle.gimli_build.specs.LineText.{line_text};
 ghost use Rattle.gimli_build.specs.inside.Tables.{FitsFile};
 ghost use Rattle.gimli_build.specs.Conditions.{CanWrite};
 ghost use Rattle.gimli_build.specs.inside.EmptySource.{StandsForNone};
-ghost use Rattle.gimli_build.specs.Unit.{operations_bytes, line_encoding_bytes, tables_bytes};
-ghost use Rattle.gimli_build.specs.Unit.{fields_bytes, header_bytes};
-ghost use Rattle.gimli_build.specs.inside.Writes.{Writes};
+ghost use Rattle.gimli_build.specs.Unit.{operations_bytes, line_encoding_bytes, tables_bytes_by};
+ghost use Rattle.gimli_build.specs.Unit.{fields_bytes_by, header_bytes_by};
+ghost use Rattle.gimli_build.specs.inside.Writes.{Writes, WritesBy};
 
 use crate::built::line_program::LineProgram;
 use crate::built::line_string::LineString;
@@ -30,8 +30,9 @@ pub(crate) fn write_header<W: Writer>(
     requires can { CanWrite program.now (texts_in strings.now line_strings.now) }
     requires empty { StandsForNone program.now (texts_in strings.now line_strings.now)
         (line_text empty.now) }
-    ensures writes { Writes W.Sink w.old w.new result
-        (header_bytes (W.big w.old) program.now (texts_in strings.now line_strings.now)) }
+    ensures writes { WritesBy W.Sink w.old w.new result
+        (λ hand. header_bytes_by hand (W.big w.old) program.now
+        (texts_in strings.now line_strings.now)) }
     ensures fit { OnOk result (All FitsFile program.now.files) }
 {
     let size = program.format().word_size();
@@ -54,8 +55,9 @@ fn write_fields<W: Writer>(
     requires can { CanWrite program.now (texts_in strings.now line_strings.now) }
     requires empty { StandsForNone program.now (texts_in strings.now line_strings.now)
         (line_text empty.now) }
-    ensures writes { Writes W.Sink w.old w.new result
-        (fields_bytes (W.big w.old) program.now (texts_in strings.now line_strings.now)) }
+    ensures writes { WritesBy W.Sink w.old w.new result
+        (λ hand. fields_bytes_by hand (W.big w.old) program.now
+        (texts_in strings.now line_strings.now)) }
     ensures fit { OnOk result (All FitsFile program.now.files) }
 {
     write_line_encoding(w, program.version(), program.line_encoding())?;
@@ -104,8 +106,9 @@ fn write_tables<W: Writer>(
     requires can { CanWrite program.now (texts_in strings.now line_strings.now) }
     requires empty { StandsForNone program.now (texts_in strings.now line_strings.now)
         (line_text empty.now) }
-    ensures writes { Writes W.Sink w.old w.new result
-        (tables_bytes (W.big w.old) program.now (texts_in strings.now line_strings.now)) }
+    ensures writes { WritesBy W.Sink w.old w.new result
+        (λ hand. tables_bytes_by hand (W.big w.old) program.now
+        (texts_in strings.now line_strings.now)) }
     ensures fit { OnOk result (All FitsFile program.now.files) }
 {
     if program.version() <= 4 {

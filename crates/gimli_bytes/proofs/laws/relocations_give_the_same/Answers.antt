@@ -1,5 +1,7 @@
+use Rattle.std.specs.Prelude.{length}
+use Rattle.gimli_bytes.proofs.Relocating.{inside-from}
 use Rattle.gimli_bytes.proofs.CallsRelocated.{calls_same}
 use Rattle.gimli_bytes.proofs.laws.relocations_give_the_same.Goals as goal
 
 pub returns : goal.returns
-returns c = calls_same
+returns c = λ p v w calls is fit called. calls_same p v w calls (inside-from (length v.bytes) v.relocations is) fit called

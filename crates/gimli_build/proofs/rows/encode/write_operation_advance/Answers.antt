@@ -4,7 +4,7 @@ use Rattle.std.proofs.lemmas.Result.{err_from_is_err_and}
 use Rattle.gimli_build.specs.Encode.{row_maker, constant_advance, operation_part}
 use Rattle.gimli_build.specs.InstructionBytes.{instruction_bytes, instructions_bytes}
 use Rattle.gimli_build.proofs.writing.OneCall.{refused_alike}
-use Rattle.gimli_build.proofs.writing.Joins.{past, by_advance}
+use Rattle.gimli_build.proofs.writing.Joins.{past, found, by_advance, by_constant}
 use Rattle.gimli_build.proofs.writing.Writes.{joins, unwritten}
 use Rattle.gimli_build.proofs.rows.encode.write_operation_advance.Goals as goal
 
@@ -37,3 +37,16 @@ returns-in_err-write_instruction-3 g c =
     let p = err_from_is_err_and c.from_residual-in_err-write_instruction-3.result c.from_residual-in_err-write_instruction-3.ensures.1 in
     rw (p.1, p.2) (unwritten (instructions_bytes (operation_part c.args.line_encoding.now c.args.opcode c.args.count)) c.in_ok-write_instruction-2.ensures
     c.in_err-write_instruction-3.ensures)
+
+pub returns-in-Some-special_opcode : goal.returns-in-Some-special_opcode
+returns-in-Some-special_opcode g c =
+    let e = c.args.line_encoding.now in
+    let s = c.args.opcode in
+    let n = c.args.count in
+    let over : nat_le (s + n * e.line_range) 255
+    ≡ false = past (nat_le (s + n * e.line_range) 255) (s + n * e.line_range) (rw (c.special_opcode.ensures, c.from-range.ensures) at c.in_default.is) in
+    let m = n - constant_advance e in
+    let there = found (nat_le (s + m * e.line_range) 255) (s + m * e.line_range) c.in-Some-special_opcode.shorter
+    (rw c.from-range.ensures at (rw (c.special_opcode-2.ensures, c.saturating_sub-rest.ensures, c.from.ensures) at c.in-Some-special_opcode.is)) in
+    let last = rw (c.maker-in-Some-special_opcode.ensures, there.1) at c.write_instruction-in-Some-special_opcode-2.ensures in
+    rw (by_constant e s n over there.0, append-nil (instruction_bytes (row_maker e (s + m * e.line_range)))) (joins c.in_ok-write_instruction.ensures last)

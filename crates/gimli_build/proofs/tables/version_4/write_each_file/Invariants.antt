@@ -1,4 +1,5 @@
 use Rattle.std.proofs.Common.{drop, take, All}
+use Rattle.gimli_bytes.specs.Hand.{Hand}
 use Rattle.gimli_build.specs.inside.Tables.{FitsFile}
 use Rattle.gimli_build.specs.Version4Tables.{file_bytes}
 use Rattle.gimli_build.proofs.writing.Writes.{WritesSoFar}
@@ -6,6 +7,6 @@ use Rattle.gimli_build.proofs.tables.version_4.write_each_file.Given as goal
 
 abbrev pub invariant-loop-index : goal.invariant-loop-index
 invariant-loop-index g l = record {
-  so : WritesSoFar g.W.Sink file_bytes l.tables.files (drop l.index l.tables.files) l.fn.w l.w;
+  so : WritesSoFar g.W.Sink (λ (hand : Hand). file_bytes) l.tables.files (drop l.index l.tables.files) l.fn.w l.w;
   fit : All FitsFile (take l.index l.tables.files);
 }

@@ -1,8 +1,12 @@
 use Rattle.std.proofs.Common.{drop, map}
+use Rattle.gimli_bytes.specs.Hand.{Hand}
 use Rattle.gimli_build.specs.LineText.{line_text}
 use Rattle.gimli_build.specs.Version4Tables.{name_bytes}
 use Rattle.gimli_build.proofs.writing.Writes.{WritesSoFar}
 use Rattle.gimli_build.proofs.tables.version_4.write_names.Given as goal
 
 abbrev pub invariant-loop-name : goal.invariant-loop-name
-invariant-loop-name g l = record { so : WritesSoFar g.W.Sink name_bytes (map line_text l.names) (drop l.name-index (map line_text l.names)) l.fn.w l.w }
+invariant-loop-name g l = record {
+  so : WritesSoFar g.W.Sink (λ (hand : Hand). name_bytes) (map line_text l.names) (drop l.name-index (map line_text l.names))
+      l.fn.w l.w;
+}

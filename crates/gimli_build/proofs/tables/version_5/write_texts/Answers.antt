@@ -1,10 +1,12 @@
-use Rattle.std.proofs.Common.{◌<◌, length, map, arith}
+use Rattle.std.proofs.Common.{◌<◌, ◌≤◌, length, map, arith}
+use Rattle.std.proofs.lemmas.List.{drop_all, length-map}
 use Rattle.std.proofs.lemmas.Result.{err_from_is_err_and}
+use Rattle.gimli_bytes.specs.Hand.{Hand}
 use Rattle.gimli_bytes.specs.Texts.{texts_in}
 use Rattle.gimli_build.specs.LineText.{line_text, IsWithin}
-use Rattle.gimli_build.specs.Version5Tables.{text_in_form}
+use Rattle.gimli_build.specs.Version5Tables.{text_in_form_by}
 use Rattle.gimli_build.proofs.writing.Joined.{next_seen, all_seen}
-use Rattle.gimli_build.proofs.writing.Writes.{none_written, one_written, one_unwritten}
+use Rattle.gimli_build.proofs.writing.Writes.{none_written, one_written, one_unwritten, all_written}
 use Rattle.gimli_build.proofs.tables.version_5.write_texts.Goals as goal
 
 pub write_line_string-requires : goal.write_line_string-requires
@@ -16,7 +18,8 @@ write_line_string-requires g c =
 
 pub loop-text-init : goal.loop-text-init
 loop-text-init g c =
-    let part = text_in_form (g.W.Sink.big c.args.w.now) c.args.format (texts_in c.args.strings.now c.args.line_strings.now) c.args.form.0 in
+    let part =
+    λ (hand : Hand). text_in_form_by hand (g.W.Sink.big c.args.w.now) c.args.format (texts_in c.args.strings.now c.args.line_strings.now) c.args.form.0 in
     record { so = none_written g.W.Sink part (map line_text c.args.texts.now) c.args.w.now }
 
 pub returns-in_err-write_line_string : goal.returns-in_err-write_line_string
@@ -38,3 +41,10 @@ loop-text-preserved g c =
     let lt : i < length texts = omega arith in
     let so = rw (next_seen line_text texts i text lt c.text-item.is) at c.loop-text.invariant.so in
     record { so = one_written so (rw c.loop-text.invariant.so.ordered at c.in_ok-write_line_string.ensures) }
+
+pub returns : goal.returns
+returns g c =
+    let texts = c.args.texts.now in
+    let i = c.loop-text.text-index in
+    let end : length (map line_text texts) ≤ i = omega (arith, length-map texts line_text) in
+    all_written (rw (drop_all i (map line_text texts) end) at c.loop-text.invariant.so)

@@ -1,6 +1,7 @@
 use Rattle.std.proofs.Common.{arith, ◌≡◌, ◌∙◌, ◌+◌, ◌≤◌, length, take, List, ℕ, refl, ap, sym, inr}
 use Rattle.std.specs.List.{concat}
 use Rattle.gimli_bytes.proofs.PieceLemmas.{HoldPieces-same, bytes-within, bytes-length, bytes-over, take-before, patched-inside, patched-past}
+use Rattle.gimli_bytes.proofs.WrittenAs.{no_truth}
 use Rattle.gimli_bytes.proofs.piece_vec.PieceVecWriter.write_at.Goals as goal
 
 pub returns-then-bytes-self : goal.returns-then-bytes-self
@@ -10,10 +11,13 @@ returns-then-bytes-self g c =
       len = refl;
       before = refl;
       ordered = refl;
+      stays = λ completes. completes;
       refused = refl;
       ok = λ _. tt;
+      completed = λ _ completes. absurd (no_truth completes);
       err = λ _. patched-past (take c.self.inside.len (concat c.self.inside.pieces.items)) c.args.offset c.args.bytes.now (omega arith) (omega arith);
       own = inr (patched-past (take c.self.inside.len (concat c.self.inside.pieces.items)) c.args.offset c.args.bytes.now (omega arith) (omega arith));
+      completed_own = λ _ completes. absurd (no_truth completes);
     })
 
 pub put-requires-clause-fits : goal.put-requires-clause-fits
@@ -30,8 +34,11 @@ returns g c =
       len = bytes-length _ _ _ same ∙ sym (bytes-length _ _ _ c.self.invariant);
       before = ap (λ (l : List ℕ). take c.args.offset l) over ∙ take-before old c.args.offset c.args.bytes.now (omega arith);
       ordered = refl;
+      stays = λ completes. completes;
       refused = tt;
+      completed = λ _ completes. absurd (no_truth completes);
       ok = λ _. patched-inside old c.args.offset c.args.bytes.now (take c.self.inside.len (concat c.put.new.pieces.items)) (omega arith) over;
       err = λ _. tt;
       own = tt;
+      completed_own = λ _ completes. absurd (no_truth completes);
     })

@@ -10,7 +10,8 @@ pub returns-in_err-write-clause-appends : goal.returns-in_err-write-clause-appen
 returns-in_err-write-clause-appends g c =
     let p = err_from_is_err_and c.from_residual.result c.from_residual.ensures.1 in
     rw (p.1, p.2)
-    (refused_after c.as_slice.result.now (table_bytes c.args.self.now) c.loop-text.invariant.keeps c.loop-text.invariant.ordered c.in_err-write.ensures)
+    (refused_after c.as_slice.result.now (table_bytes c.args.self.now) c.loop-text.invariant.keeps c.loop-text.invariant.ordered c.loop-text.invariant.stays
+    c.in_err-write.ensures)
 
 pub returns-in_err-write-clause-texts : goal.returns-in_err-write-clause-texts
 returns-in_err-write-clause-texts g c = rw (← c.self.view_is) c.self.invariant.are_texts
@@ -22,7 +23,8 @@ returns-in_err-write_u8-clause-appends g c =
     let keeps =
     begins_then (contents c.args.w.now) (contents c.loop-text.w) (contents c.write.new.self) c.loop-text.invariant.keeps c.in_ok-write.ensures.keeps in
     rw (p.1, p.2) (refused_after (number_bytes (g.W.Sink.big c.write.new.self) 1 0) (table_bytes c.args.self.now) keeps
-    (c.in_ok-write.ensures.ordered ∙ c.loop-text.invariant.ordered) c.in_err-write_u8.ensures)
+    (c.in_ok-write.ensures.ordered ∙ c.loop-text.invariant.ordered) (λ completes. c.in_ok-write.ensures.stays (c.loop-text.invariant.stays completes))
+    c.in_err-write_u8.ensures)
 
 pub returns-in_err-write_u8-clause-texts : goal.returns-in_err-write_u8-clause-texts
 returns-in_err-write_u8-clause-texts g c = rw (← c.self.view_is) c.self.invariant.are_texts
@@ -35,10 +37,17 @@ loop-text-preserved g c =
           (begins_then (contents c.args.w.now) (contents c.loop-text.w) (contents c.write.new.self) c.loop-text.invariant.keeps c.in_ok-write.ensures.keeps)
           c.in_ok-write_u8.ensures.keeps;
       ordered = c.in_ok-write_u8.ensures.ordered ∙ c.in_ok-write.ensures.ordered ∙ c.loop-text.invariant.ordered;
+      stays = λ completes. c.in_ok-write_u8.ensures.stays (c.in_ok-write.ensures.stays (c.loop-text.invariant.stays completes));
       put = λ keeps. text_put c.as_slice-text-items.result.now c.loop-text.text-index c.text-item.result (g.W.Sink.big c.write.new.self) c.as_slice.result.now
           (contents c.args.w.now) (contents c.loop-text.w) (contents c.write.new.self) (contents c.write_u8.new.self)
           c.loop-text-test.true c.text-item.is c.as_slice.ensures.value (c.loop-text.invariant.put keeps) (c.in_ok-write.ensures.ok keeps)
           (c.in_ok-write_u8.ensures.ok keeps);
+      completed = λ at completes.
+          text_put c.as_slice-text-items.result.now c.loop-text.text-index c.text-item.result (g.W.Sink.big c.write.new.self) c.as_slice.result.now
+          (g.W.Sink.completed at c.args.w.now) (g.W.Sink.completed at c.loop-text.w) (g.W.Sink.completed at c.write.new.self)
+          (g.W.Sink.completed at c.write_u8.new.self) c.loop-text-test.true c.text-item.is c.as_slice.ensures.value
+          (c.loop-text.invariant.completed at completes) (c.in_ok-write.ensures.completed at (c.loop-text.invariant.stays completes))
+          (c.in_ok-write_u8.ensures.completed at (c.in_ok-write.ensures.stays (c.loop-text.invariant.stays completes)));
     }
 
 pub returns-clause-appends : goal.returns-clause-appends
@@ -47,9 +56,13 @@ returns-clause-appends g c =
     record {
       keeps = c.loop-text.invariant.keeps;
       ordered = c.loop-text.invariant.ordered;
+      stays = c.loop-text.invariant.stays;
       ok = λ keeps. all_put c.as_slice-text-items.result.now c.self.inside.strings.keys c.loop-text.text-index c.args.self.now
           (contents c.args.w.now) (contents c.loop-text.w) c.loop-text-test.false c.as_slice-text-items.ensures.keys c.self.view_is
           (c.loop-text.invariant.put keeps);
+      completed = λ at completes. all_put c.as_slice-text-items.result.now c.self.inside.strings.keys c.loop-text.text-index c.args.self.now
+          (g.W.Sink.completed at c.args.w.now) (g.W.Sink.completed at c.loop-text.w) c.loop-text-test.false c.as_slice-text-items.ensures.keys c.self.view_is
+          (c.loop-text.invariant.completed at completes);
       err = λ memory_alone. tt;
       own = tt;
     }

@@ -1,4 +1,5 @@
 use Rattle.std.proofs.Common.{◌≡◌, ◌++◌, IsTrue, take}
+use Rattle.gimli_bytes.specs.Hand.{Placement}
 use Rattle.gimli_bytes.specs.Texts.{table_bytes}
 use Rattle.gimli_bytes.specs.inside.TextFields.{texts_of}
 use Rattle.gimli_bytes.specs.Written.{Begins}
@@ -10,5 +11,8 @@ invariant-loop-text g l =
     record {
       keeps : Begins (contents l.fn.w) (contents l.w);
       ordered : g.W.Sink.big l.w ≡ g.W.Sink.big l.fn.w;
+      stays : IsTrue (g.W.Sink.completes l.fn.w) → IsTrue (g.W.Sink.completes l.w);
+      completed : (at : Placement) → IsTrue (g.W.Sink.completes l.fn.w)
+          → g.W.Sink.completed at l.w ≡ g.W.Sink.completed at l.fn.w ++ table_bytes (texts_of (take l.text-index l.text-items));
       put : IsTrue g.W.Sink.keeps_bytes → contents l.w ≡ contents l.fn.w ++ table_bytes (texts_of (take l.text-index l.text-items));
     }

@@ -18,7 +18,7 @@ returns-in-DW_EH_PE_pcrel g c =
     let kind : c.application.result.0 ≡ 0x10 = omega arith in
     let wanted =
     relative_pointer (g.Self.Sink.big c.args.self.now) old c.args.address c.in-Constant.val c.len.result c.args.eh_pe c.format-in-DW_EH_PE_pcrel.result
-    c.args.size c.in-Constant.is (sym c.application.ensures ∙ kind) c.len.ensures c.format-in-DW_EH_PE_pcrel.ensures in
+    c.args.size c.in-Constant.is (sym c.application.ensures ∙ kind) c.len.ensures.contents c.format-in-DW_EH_PE_pcrel.ensures in
     append_as wanted call.ensures
 
 pub returns-in_default : goal.returns-in_default

@@ -4,7 +4,7 @@ use Rattle.gimli_bytes.specs.Written.{Appends}
 use Rattle.gimli_bytes.specs.Texts.{AreTexts, byte_count, texts_in}
 use Rattle.gimli_build.specs.inside.Joined.{RefusesFor}
 use Rattle.gimli_build.specs.Version5Tables.{texts_after}
-use Rattle.gimli_build.specs.Unit.{whole_bytes, unit_bytes, is_incompatible}
+use Rattle.gimli_build.specs.Unit.{whole_bytes, unit_bytes, unit_bytes_by, is_incompatible}
 use Rattle.gimli_build.proofs.writing.Joined.{appended_bytes, or_wanted}
 use Rattle.gimli_build.proofs.building.EmptySource.{can-write-after}
 use Rattle.gimli_build.proofs.reading.ReadBack.{reads-back}
@@ -86,3 +86,26 @@ returns-in_err-write_whole-clause-own g c = λ keeps_bytes.
     (λ is. refused-for big unit p (texts_in c.args.strings.now c.args.line_strings.now) (c.encoding.ensures.accepted c.requires.program).address_size
     c.in_err-write_whole.field-0.0 (inr is))
     refused)
+
+pub returns-clause-completed : goal.returns-clause-completed
+returns-clause-completed g c = λ at completes.
+    let compatible : is_incompatible c.args.encoding c.args.self.now.encoding ≡ false = search rules in
+    let written =
+    rw (c.in_ok-empty.ensures.tables.strings, c.in_ok-empty.ensures.tables.line_strings) at (c.in_ok-write_whole.ensures.writes.completed at completes) in
+    rw compatible written
+
+pub returns-in_err-write_whole-clause-completed_own : goal.returns-in_err-write_whole-clause-completed_own
+returns-in_err-write_whole-clause-completed_own g c = λ at completes.
+    let big = g.W.Sink.big c.args.w.now.0 in
+    let p = c.args.self.now in
+    let unit = c.args.encoding in
+    let hand = g.W.Sink.hand at in
+    let texts = texts_in c.args.strings.now c.args.line_strings.now in
+    let compatible : is_incompatible unit p.encoding ≡ false = search rules in
+    let q = err_from_is_err_and c.from_residual-in_err-write_whole.result c.from_residual-in_err-write_whole.ensures.1 in
+    let for_it =
+    rw (c.in_ok-empty.ensures.tables.strings, c.in_ok-empty.ensures.tables.line_strings) at
+    (c.in_err-write_whole.ensures.writes.completed_own at completes) in
+    let refused : g.W.Sink.refuses c.in_err-write_whole.field-0.0 ⊎ (unit_bytes_by hand big unit p texts ≡ Err c.in_err-write_whole.field-0.0) =
+    rw compatible for_it in
+    rw (q.1, q.2) (or_wanted inr refused)

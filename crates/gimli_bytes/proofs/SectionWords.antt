@@ -1,0 +1,13 @@
+-- The word of an offset as a number.
+use Rattle.std.proofs.Common.{◌≡◌, ℕ, ◌<◌, ◌^◌, Bool, true, false, nat_eq, refl}
+use Rattle.std.proofs.lemmas.Bool.{lt-ltb, eqb-true}
+use Rattle.gimli_bytes.specs.Number.{udata}
+use Rattle.gimli_bytes.specs.Hand.{section_word}
+
+-- of 64 bits
+pub word-is : (big : Bool) (n size : ℕ) → n < 2 ^ 64 → section_word big n size ≡ udata big n size
+word-is big n size small = by (nat_eq size 8) refl
+  where
+    by : (b : Bool) → nat_eq size 8 ≡ b → section_word big n size ≡ udata big n size
+    by false is = rw is refl
+    by true is = let eight : size ≡ 8 = eqb-true size 8 is in rw (eight, lt-ltb n (2 ^ 64) small) refl

@@ -1,0 +1,23 @@
+use Rattle.std.proofs.Common.{inl, refl}
+use Rattle.gimli_bytes.proofs.Parts.{begins_self}
+use Rattle.gimli_bytes.proofs.WrittenAs.{no_truth}
+use Rattle.gimli_bytes.proofs.Completing.{either, on_ok, on_err, any_err, grows_bytes, completed_bytes}
+use Rattle.gimli_bytes.proofs.relocatable_vec.RelocatableVecWriter.write.Goals as goal
+
+pub returns : goal.returns
+returns g c =
+    let v = c.args.self.now in
+    let w = c.write.new.self in
+    let r = c.write.result in
+    let e = c.write.ensures in
+    record {
+      keeps = either r e.ok e.err (λ is. (grows_bytes v w c.args.bytes.now is).begins) (λ same. rw same (begins_self v.bytes));
+      ordered = either r e.ok e.err (λ is. (grows_bytes v w c.args.bytes.now is).big_is) (λ same. rw same refl);
+      stays = λ inside. either r e.ok e.err (λ is. (grows_bytes v w c.args.bytes.now is).stays inside) (λ same. rw same inside);
+      ok = λ keeps. absurd (no_truth keeps);
+      completed = λ at inside. on_ok r (λ is. completed_bytes at v w c.args.bytes.now inside is) e.ok;
+      err = λ memory. absurd (no_truth memory);
+      own = any_err r (λ d. inl tt);
+      untouched = λ keeps. absurd (no_truth keeps);
+      none = λ all. on_err r (λ same. rw same refl) e.err;
+    }

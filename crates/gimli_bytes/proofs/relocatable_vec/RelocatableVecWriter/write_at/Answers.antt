@@ -1,0 +1,25 @@
+use Rattle.std.proofs.Common.{inl, refl}
+use Rattle.gimli_bytes.proofs.WrittenAs.{no_truth}
+use Rattle.gimli_bytes.proofs.Completing.{either, on_ok, on_err, any_err, over_stays, stays_inside, completed_over}
+use Rattle.gimli_bytes.proofs.relocatable_vec.RelocatableVecWriter.write_at.Goals as goal
+
+pub returns : goal.returns
+returns g c =
+    let v = c.args.self.now in
+    let w = c.write_at.new.self in
+    let r = c.write_at.result in
+    let e = c.write_at.ensures in
+    let x = c.args.bytes.now in
+    let at = c.args.offset in
+    record {
+      len = either r e.ok e.err (λ is. (over_stays v w x at is).len) (λ same. rw same refl);
+      before = either r e.ok e.err (λ is. (over_stays v w x at is).before) (λ same. rw same refl);
+      ordered = either r e.ok e.err (λ is. (over_stays v w x at is).big_is) (λ same. rw same refl);
+      stays = λ inside. either r e.ok e.err (λ is. stays_inside v w x at is inside) (λ same. rw same inside);
+      refused = on_err r (λ same. rw same refl) e.err;
+      ok = λ keeps. absurd (no_truth keeps);
+      completed = λ places inside. on_ok r (λ is. completed_over places v w x at inside is) e.ok;
+      err = λ memory. absurd (no_truth memory);
+      own = any_err r (λ d. inl tt);
+      completed_own = λ places inside. any_err r (λ d. inl tt);
+    }

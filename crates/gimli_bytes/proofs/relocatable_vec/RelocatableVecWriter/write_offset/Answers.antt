@@ -1,0 +1,25 @@
+use Rattle.std.proofs.Common.{◌<◌, ◌^◌, inl, refl, arith}
+use Rattle.gimli_bytes.proofs.Parts.{begins_self}
+use Rattle.gimli_bytes.proofs.WrittenAs.{no_truth}
+use Rattle.gimli_bytes.proofs.Completing.{either, on_ok, on_err, any_err, grows_offset, completed_offset}
+use Rattle.gimli_bytes.proofs.relocatable_vec.RelocatableVecWriter.write_offset.Goals as goal
+
+pub returns : goal.returns
+returns g c =
+    let v = c.args.self.now in
+    let w = c.write_offset.new.self in
+    let r = c.write_offset.result in
+    let e = c.write_offset.ensures in
+    let small : c.args.val < 2 ^ 64 = omega arith in
+    record {
+      keeps = either r e.ok e.err (λ is. (grows_offset v w c.args.section c.args.val c.args.size is).begins) (λ same. rw same (begins_self v.bytes));
+      ordered = either r e.ok e.err (λ is. (grows_offset v w c.args.section c.args.val c.args.size is).big_is) (λ same. rw same refl);
+      stays = λ inside. either r e.ok e.err (λ is. (grows_offset v w c.args.section c.args.val c.args.size is).stays inside) (λ same. rw same inside);
+      ok = λ keeps. absurd (no_truth keeps);
+      completed = λ at inside. on_ok r (λ is. completed_offset at v w c.args.section c.args.val c.args.size small inside is) e.ok;
+      err = λ memory. absurd (no_truth memory);
+      own = any_err r (λ d. inl tt);
+      completed_own = λ at inside. any_err r (λ d. inl tt);
+      untouched = λ keeps. absurd (no_truth keeps);
+      none = λ all. on_err r (λ same. rw same refl) e.err;
+    }

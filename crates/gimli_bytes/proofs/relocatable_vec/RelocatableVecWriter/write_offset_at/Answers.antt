@@ -1,0 +1,31 @@
+use Rattle.std.proofs.Common.{◌≡◌, ◌∙◌, ap, sym, ◌<◌, ◌^◌, inl, refl, arith, to_z, of_z, w64}
+use Rattle.std.specs.Int.{cast_signed}
+use Rattle.std.proofs.lemmas.Int.{of_z-to_z}
+use Rattle.gimli_bytes.proofs.WrittenAs.{no_truth}
+use Rattle.gimli_bytes.proofs.Completing.{either, on_ok, on_err, any_err, stays_inside_at, completed_offset_at}
+use Rattle.gimli_bytes.proofs.relocatable_vec.RelocatableVecWriter.write_offset_at.Goals as goal
+
+pub returns : goal.returns
+returns g c =
+    let v = c.args.self.now in
+    let w = c.write_place_at.new.self in
+    let r = c.write_place_at.result in
+    let e = c.write_place_at.ensures in
+    let n = c.args.val in
+    let at = c.args.offset in
+    let small : n < 2 ^ 64 = omega arith in
+    let call = c.cast_signed-addend in
+    let passed : cast_signed w64 n ≡ to_z w64 (of_z w64 call.result) = ap (to_z w64) (sym (of_z-to_z w64 n small) ∙ ap (of_z w64) (sym call.ensures)) in
+    let ok = rw (← passed) at e.ok in
+    record {
+      len = e.len;
+      before = e.before;
+      ordered = e.ordered;
+      stays = λ inside. either r ok e.err (λ is. stays_inside_at v w at c.args.section n c.args.size small is inside) (λ same. rw same inside);
+      refused = on_err r (λ same. rw same refl) e.err;
+      ok = λ keeps. absurd (no_truth keeps);
+      completed = λ places inside. on_ok r (λ is. completed_offset_at places v w at c.args.section n c.args.size small inside is) ok;
+      err = λ memory. absurd (no_truth memory);
+      own = any_err r (λ d. inl tt);
+      completed_own = λ places inside. any_err r (λ d. inl tt);
+    }

@@ -1,0 +1,39 @@
+-- How a writer writes what it may leave to a linker: addresses, offsets into sections, and
+-- references to symbols.
+use Rattle.std.specs.Prelude.{ℕ, Bool, List, Result, Ok, Err, nat_eq, if◌then◌else◌}
+use Rattle.gimli_core.specs.Numbers.{number_bytes}
+use Rattle.gimli_core.specs.declared.common.SectionId.{SectionId}
+use Rattle.gimli_bytes.specs.Number.{udata, address_bytes}
+use Rattle.gimli_bytes.specs.declared.address.Address.{Address}
+use Rattle.gimli_bytes.specs.declared.error.Error.{Error}
+use Rattle.gimli_bytes.specs.declared.error.Error.TheVariants.{InvalidReference}
+
+-- the address of each symbol, and where each section begins
+pub record Placement : Type 0 where
+  pub symbol : ℕ → ℕ
+  pub section : SectionId → ℕ
+
+-- the bytes of an address, of an offset into a section and of a reference to a symbol, each with
+-- whether the most significant byte comes first and with its size
+pub record Hand : Type 0 where
+  pub address : Bool → Address → ℕ → Result (List ℕ) Error
+  pub offset : Bool → SectionId → ℕ → ℕ → Result (List ℕ) Error
+  pub reference : Bool → ℕ → ℕ → Result (List ℕ) Error
+
+-- an offset in a section, or a length, of a size: eight bytes hold each
+abbrev pub section_word : Bool → ℕ → ℕ → Result (List ℕ) Error
+section_word big n size = if nat_eq size 8 then Ok (number_bytes big 8 n) else udata big n size
+
+abbrev pub plain_offset : Bool → SectionId → ℕ → ℕ → Result (List ℕ) Error
+plain_offset big section n size = section_word big n size
+
+abbrev pub plain_reference : Bool → ℕ → ℕ → Result (List ℕ) Error
+plain_reference big symbol size = Err InvalidReference
+
+-- as numbers; a symbol has none
+abbrev pub plain : Hand
+plain = record {
+  address = address_bytes;
+  offset = plain_offset;
+  reference = plain_reference;
+}
