@@ -20,7 +20,7 @@ use Rattle.gimli_bytes.specs.declared.error.Error.TheVariants.{
   InitialLengthOverflow,
 }
 use Rattle.gimli_bytes.specs.Texts.{offset_of, StringTables}
-use Rattle.gimli_build.specs.Codes.{DW_FORM_string}
+use Rattle.gimli_core.specs.FormNumbers.{DW_FORM_string}
 use Rattle.gimli_build.specs.LineText.{LineText, Inline, InStrings, InLineStrings}
 use Rattle.gimli_build.specs.Tables.{File}
 use Rattle.gimli_build.specs.Built.{Built}

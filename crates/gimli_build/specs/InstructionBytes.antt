@@ -24,12 +24,12 @@ use Rattle.gimli_line.specs.declared.run.instruction.LineInstruction.TheVariants
 }
 use Rattle.gimli_line.specs.run.Instruction.{Ins}
 use Rattle.gimli_build.specs.declared.built.row.LineRow.{LineRow}
-use Rattle.gimli_build.specs.Codes.{DW_LNE_end_sequence, DW_LNE_set_address}
-use Rattle.gimli_build.specs.Codes.{DW_LNE_set_discriminator, DW_LNS_advance_line}
-use Rattle.gimli_build.specs.Codes.{DW_LNS_advance_pc, DW_LNS_const_add_pc, DW_LNS_copy}
-use Rattle.gimli_build.specs.Codes.{DW_LNS_negate_stmt, DW_LNS_set_basic_block, DW_LNS_set_column}
-use Rattle.gimli_build.specs.Codes.{DW_LNS_set_epilogue_begin, DW_LNS_set_file, DW_LNS_set_isa}
-use Rattle.gimli_build.specs.Codes.{DW_LNS_set_prologue_end}
+use Rattle.gimli_line.specs.LineNumbers.{DW_LNE_end_sequence, DW_LNE_set_address}
+use Rattle.gimli_line.specs.LineNumbers.{DW_LNE_set_discriminator, DW_LNS_advance_line}
+use Rattle.gimli_line.specs.LineNumbers.{DW_LNS_advance_pc, DW_LNS_const_add_pc, DW_LNS_copy}
+use Rattle.gimli_line.specs.LineNumbers.{DW_LNS_negate_stmt, DW_LNS_set_basic_block}
+use Rattle.gimli_line.specs.LineNumbers.{DW_LNS_set_column, DW_LNS_set_epilogue_begin}
+use Rattle.gimli_line.specs.LineNumbers.{DW_LNS_set_file, DW_LNS_set_isa, DW_LNS_set_prologue_end}
 use Rattle.gimli_build.specs.FileNumber.{file_number}
 use Rattle.gimli_build.specs.Encode.{built_opcode_base}
 

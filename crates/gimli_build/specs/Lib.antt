@@ -1,4 +1,3 @@
-pub mod Codes
 pub mod Due
 pub mod FileNumber
 pub mod Rows

@@ -8,10 +8,10 @@ use Rattle.gimli_bytes.specs.Number.{uleb}
 use Rattle.gimli_bytes.specs.Texts.{with_text, index_of_text, offset_of, StringTables}
 use Rattle.gimli_bytes.specs.declared.error.Error.{Error}
 use Rattle.gimli_bytes.specs.declared.error.Error.TheVariants.{LineStringFormMismatch}
-use Rattle.gimli_build.specs.Codes.{DW_FORM_data16, DW_FORM_line_strp, DW_FORM_string, DW_FORM_strp}
-use Rattle.gimli_build.specs.Codes.{DW_FORM_udata, DW_LNCT_LLVM_source, DW_LNCT_MD5}
-use Rattle.gimli_build.specs.Codes.{DW_LNCT_directory_index, DW_LNCT_path, DW_LNCT_size}
-use Rattle.gimli_build.specs.Codes.{DW_LNCT_timestamp}
+use Rattle.gimli_core.specs.FormNumbers.{DW_FORM_data16, DW_FORM_line_strp, DW_FORM_string}
+use Rattle.gimli_core.specs.FormNumbers.{DW_FORM_strp, DW_FORM_udata}
+use Rattle.gimli_line.specs.LineNumbers.{DW_LNCT_LLVM_source, DW_LNCT_MD5, DW_LNCT_directory_index}
+use Rattle.gimli_line.specs.LineNumbers.{DW_LNCT_path, DW_LNCT_size, DW_LNCT_timestamp}
 use Rattle.gimli_build.specs.Due.{when}
 use Rattle.gimli_build.specs.LineText.{LineText, Inline, InStrings, InLineStrings}
 use Rattle.gimli_build.specs.Tables.{File}

@@ -9,6 +9,8 @@ use Rattle.gimli_core.specs.declared.attribute_value.AttributeValue.TheVariants.
   DebugLineStrRef,
   DebugStrOffsetsIndex,
 }
+use Rattle.gimli_line.specs.LineNumbers.{DW_LNCT_timestamp, DW_LNCT_size, DW_LNCT_MD5}
+use Rattle.gimli_line.specs.LineNumbers.{DW_LNCT_LLVM_source}
 use Rattle.gimli_line.specs.header.File.{File}
 use Rattle.gimli_line.specs.header.Header.{Header, directory_of, file_of, has_content}
 use Rattle.gimli_line.specs.run.EventsWithFiles.{FilesAtEnd}
@@ -46,10 +48,10 @@ bytes_here v = unwrap_or (text_here v) []
 -- which details the files of a header have, each a bit of its own
 abbrev pub details_of : Header → ℕ
 details_of h =
-    flag (nat_le h.parameters.encoding.version 4 || has_content 0x0003 h.file_formats) 1
-    + flag (nat_le h.parameters.encoding.version 4 || has_content 0x0004 h.file_formats) 2
-    + flag (has_content 0x0005 h.file_formats) 4
-    + flag (has_content 0x2001 h.file_formats) 8
+    flag (nat_le h.parameters.encoding.version 4 || has_content DW_LNCT_timestamp h.file_formats) 1
+    + flag (nat_le h.parameters.encoding.version 4 || has_content DW_LNCT_size h.file_formats) 2
+    + flag (has_content DW_LNCT_MD5 h.file_formats) 4
+    + flag (has_content DW_LNCT_LLVM_source h.file_formats) 8
 
 abbrev pub file_seen_by_c : Header → File → GimliFile
 file_seen_by_c h f = record {

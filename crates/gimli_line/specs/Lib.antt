@@ -1,3 +1,4 @@
+pub mod LineNumbers
 pub mod header
 pub mod run
 pub mod UnitAt

@@ -6,8 +6,9 @@ use Rattle.std.specs.Prelude.{Some, None, option_map}
 use Rattle.std.specs.Int.{w8, cast_signed}
 use Rattle.gimli_core.specs.Numbers.{is_address_size, SpellsUleb128}
 use Rattle.gimli_core.specs.Values.{Value, udata_value}
-use Rattle.gimli_core.specs.Production.{Production, ◌>>=◌, done, check, choose, times, list_to_zero}
-use Rattle.gimli_core.specs.Production.{within, byte, number, some_bytes, unsigned, unsigned_16}
+use Rattle.gimli_core.specs.Production.{Production, ◌>>=◌, ◌>>◌, done, check, choose, times}
+use Rattle.gimli_core.specs.Production.{list_to_zero, within, byte, number, some_bytes, unsigned}
+use Rattle.gimli_core.specs.Production.{unsigned_16}
 use Rattle.gimli_core.specs.Production.{offset_word, unit_length}
 use Rattle.gimli_core.specs.Form.{form_production}
 use Rattle.gimli_core.specs.declared.common.Encoding.{Encoding}
@@ -25,6 +26,8 @@ use Rattle.gimli_core.specs.declared.error.Error.TheVariants.{MaximumOperationsP
 use Rattle.gimli_core.specs.declared.error.Error.TheVariants.{LineRangeZero, OpcodeBaseZero}
 use Rattle.gimli_core.specs.declared.error.Error.TheVariants.{MissingFileEntryFormatPath}
 use Rattle.gimli_core.specs.Notation.{Notation}
+use Rattle.gimli_line.specs.LineNumbers.{DW_LNCT_path, DW_LNCT_directory_index, DW_LNCT_timestamp}
+use Rattle.gimli_line.specs.LineNumbers.{DW_LNCT_size, DW_LNCT_MD5, DW_LNCT_LLVM_source}
 use Rattle.gimli_line.specs.header.Parameters.{Parameters}
 use Rattle.gimli_line.specs.header.File.{File}
 use Rattle.gimli_line.specs.header.Header.{Header, UnitEntry, plain_file}
@@ -69,7 +72,7 @@ abbrev pub formats_production : Production (List FileEntryFormat)
 formats_production = do
   count ← byte
   formats ← times count format_production
-  path ← check (nat_eq (count_by (is_content 0x0001) formats) 1) MissingFileEntryFormatPath
+  check (nat_eq (count_by (is_content DW_LNCT_path) formats) 1) MissingFileEntryFormatPath
   done formats
 
 -- the values of an entry, each beside its content type
@@ -111,16 +114,16 @@ digest (Block bytes) = if nat_eq (length bytes) 16 then Some bytes else None
 digest v = None
 
 abbrev pub path_of : Entry → Value
-path_of entry = last_value 0x0001 Some (String []) entry
+path_of entry = last_value DW_LNCT_path Some (String []) entry
 
 abbrev pub file_of_entry : Entry → File
 file_of_entry entry = record {
   path_name = path_of entry;
-  directory_index = last_value 0x0002 udata_value 0 entry;
-  timestamp = last_value 0x0003 udata_value 0 entry;
-  size = last_value 0x0004 udata_value 0 entry;
-  md5 = last_value 0x0005 digest (replicate 16 0) entry;
-  source = last_value 0x2001 (λ v. Some (Some v)) None entry;
+  directory_index = last_value DW_LNCT_directory_index udata_value 0 entry;
+  timestamp = last_value DW_LNCT_timestamp udata_value 0 entry;
+  size = last_value DW_LNCT_size udata_value 0 entry;
+  md5 = last_value DW_LNCT_MD5 digest (replicate 16 0) entry;
+  source = last_value DW_LNCT_LLVM_source (λ v. Some (Some v)) None entry;
 }
 
 -- ---- the parts of a header
@@ -129,7 +132,7 @@ file_of_entry entry = record {
 abbrev pub version_production : Bool → Production ℕ
 version_production big = do
   version ← number big 2
-  known ← check (nat_le 2 version && nat_le version 5) (UnknownVersion version)
+  check (nat_le 2 version && nat_le version 5) (UnknownVersion version)
   done version
 
 -- up to version 4 the handed address size; in version 5 the unit's own, and after it a segment
@@ -138,9 +141,9 @@ abbrev pub address_size_production : ℕ → ℕ → Production ℕ
 address_size_production version handed =
     choose (nat_le version 4) (done handed) (do
       size ← byte
-      allowed ← check (is_address_size size) (UnsupportedAddressSize size)
+      check (is_address_size size) (UnsupportedAddressSize size)
       selector ← byte
-      none ← check (nat_eq selector 0) (UnsupportedSegmentSize selector)
+      check (nat_eq selector 0) (UnsupportedSegmentSize selector)
       done size)
 
 -- the fields in front of the header length, and the bytes of that length

@@ -1,7 +1,7 @@
 -- Further productions of a format, beside those of the core.
 use Rattle.std.specs.Prelude.{◌≡◌, ◌≢◌, ℕ, List, [], ◌∷◌, nat_eq, not, Option, Some, None}
 use Rattle.std.specs.Prelude.{if◌then◌else◌}
-use Rattle.gimli_core.specs.Production.{Production, ◌>>=◌, done, check, byte, text}
+use Rattle.gimli_core.specs.Production.{Production, ◌>>=◌, ◌>>◌, done, check, byte, text}
 use Rattle.gimli_core.specs.declared.error.Error.{Error}
 
 -- ---- put together
@@ -28,5 +28,5 @@ name = record { Spells = λ bytes xs. (xs ≢ []) × text.Spells bytes xs; Fault
 abbrev pub positive : Error → Production ℕ
 positive d = do
   n ← byte
-  some ← check (not (nat_eq n 0)) d
+  check (not (nat_eq n 0)) d
   done n

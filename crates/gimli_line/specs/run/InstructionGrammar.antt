@@ -32,6 +32,13 @@ use Rattle.gimli_line.specs.declared.run.instruction.LineInstruction.TheVariants
   UnknownExtended,
 }
 use Rattle.gimli_core.specs.Notation.{Notation}
+use Rattle.gimli_line.specs.LineNumbers.{DW_LNS_copy, DW_LNS_advance_pc, DW_LNS_advance_line}
+use Rattle.gimli_line.specs.LineNumbers.{DW_LNS_set_file, DW_LNS_set_column, DW_LNS_negate_stmt}
+use Rattle.gimli_line.specs.LineNumbers.{DW_LNS_set_basic_block, DW_LNS_const_add_pc}
+use Rattle.gimli_line.specs.LineNumbers.{DW_LNS_fixed_advance_pc, DW_LNS_set_prologue_end}
+use Rattle.gimli_line.specs.LineNumbers.{DW_LNS_set_epilogue_begin, DW_LNS_set_isa}
+use Rattle.gimli_line.specs.LineNumbers.{DW_LNE_end_sequence, DW_LNE_set_address}
+use Rattle.gimli_line.specs.LineNumbers.{DW_LNE_define_file, DW_LNE_set_discriminator}
 use Rattle.gimli_line.specs.run.Instruction.{Ins}
 use Rattle.gimli_line.specs.header.File.{File}
 use Rattle.gimli_line.specs.header.Header.{Header}
@@ -57,18 +64,20 @@ pub data Operand : Type 0 where
 -- the standard opcodes (DWARF 5, section 6.2.5.2)
 abbrev pub standard_opcodes : List (ℕ × Operand)
 standard_opcodes =
-    (0x01, none Copy) ∷ (0x02, uleb AdvancePc) ∷ (0x03, sleb AdvanceLine) ∷ (0x04, uleb SetFile)
-    ∷ (0x05, uleb SetColumn)
-    ∷ (0x06, none NegateStatement) ∷ (0x07, none SetBasicBlock) ∷ (0x08, none ConstAddPc)
-    ∷ (0x09, half FixedAddPc)
-    ∷ (0x0a, none SetPrologueEnd) ∷ (0x0b, none SetEpilogueBegin) ∷ (0x0c, uleb SetIsa) ∷ []
+    (DW_LNS_copy, none Copy) ∷ (DW_LNS_advance_pc, uleb AdvancePc)
+    ∷ (DW_LNS_advance_line, sleb AdvanceLine) ∷ (DW_LNS_set_file, uleb SetFile)
+    ∷ (DW_LNS_set_column, uleb SetColumn) ∷ (DW_LNS_negate_stmt, none NegateStatement)
+    ∷ (DW_LNS_set_basic_block, none SetBasicBlock) ∷ (DW_LNS_const_add_pc, none ConstAddPc)
+    ∷ (DW_LNS_fixed_advance_pc, half FixedAddPc) ∷ (DW_LNS_set_prologue_end, none SetPrologueEnd)
+    ∷ (DW_LNS_set_epilogue_begin, none SetEpilogueBegin) ∷ (DW_LNS_set_isa, uleb SetIsa) ∷ []
 
 -- the extended opcodes (DWARF 5, section 6.2.5.3; DWARF 4, section 6.2.5.3); files are defined up
 -- to version 4
 abbrev pub extended_opcodes : ℕ → List (ℕ × Operand)
 extended_opcodes version =
-    (0x01, none EndSequence) ∷ (0x02, address SetAddress) ∷ (0x04, uleb SetDiscriminator)
-    ∷ (if nat_le version 4 then (0x03, file DefineFile) ∷ [] else [])
+    (DW_LNE_end_sequence, none EndSequence) ∷ (DW_LNE_set_address, address SetAddress)
+    ∷ (DW_LNE_set_discriminator, uleb SetDiscriminator)
+    ∷ (if nat_le version 4 then (DW_LNE_define_file, file DefineFile) ∷ [] else [])
 
 module _ (notation : Notation) (h : Header) where
   abbrev pub operand_production : Operand → Production Ins

@@ -121,14 +121,10 @@ since_last_row parameters (i ∷ past) =
 
 -- ---- the pointer list
 
--- the pointers before each of these instructions, the nearest first
-abbrev pub pointers_before : Parameters → List Ins → List OperationPointer
-pointers_before parameters [] = []
-pointers_before parameters (i ∷ past) = pointer_at parameters past ∷ pointers_before parameters past
-
--- those, and the one after them
+-- the pointers after each of these instructions, the nearest first, and the start
 abbrev pub pointers : Parameters → List Ins → List OperationPointer
-pointers parameters past = pointer_at parameters past ∷ pointers_before parameters past
+pointers parameters [] = start ∷ []
+pointers parameters (i ∷ past) = pointer_at parameters (i ∷ past) ∷ pointers parameters past
 
 -- whether the last set address of the sequence is a tombstone, where the pointer before each
 -- instruction stands beside it

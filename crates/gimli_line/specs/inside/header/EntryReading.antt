@@ -4,6 +4,8 @@ use Rattle.gimli_core.specs.Notation.{Notation}
 use Rattle.gimli_core.specs.Values.{Value, udata_value}
 use Rattle.gimli_core.specs.Reading.{Read, ◌>>=◌}
 use Rattle.gimli_core.specs.declared.common.Format.{Format}
+use Rattle.gimli_line.specs.LineNumbers.{DW_LNCT_path, DW_LNCT_directory_index, DW_LNCT_timestamp}
+use Rattle.gimli_line.specs.LineNumbers.{DW_LNCT_size, DW_LNCT_MD5, DW_LNCT_LLVM_source}
 use Rattle.gimli_line.specs.header.File.{File}
 use Rattle.gimli_line.specs.header.HeaderGrammar.{Entry, digest}
 use Rattle.gimli_line.specs.inside.header.FormReading.{form_at}
@@ -16,17 +18,18 @@ value_after wanted pick content value before =
 
 -- the path of a directory
 abbrev pub path_with : Value → ℕ → Value → Value
-path_with path content value = value_after 0x0001 Some content value path
+path_with path content value = value_after DW_LNCT_path Some content value path
 
 -- a file with one more value
 abbrev pub file_with : File → ℕ → Value → File
 file_with file content value = record {
-  path_name = value_after 0x0001 Some content value file.path_name;
-  directory_index = value_after 0x0002 udata_value content value file.directory_index;
-  timestamp = value_after 0x0003 udata_value content value file.timestamp;
-  size = value_after 0x0004 udata_value content value file.size;
-  md5 = value_after 0x0005 digest content value file.md5;
-  source = value_after 0x2001 (λ v. Some (Some v)) content value file.source;
+  path_name = value_after DW_LNCT_path Some content value file.path_name;
+  directory_index =
+      value_after DW_LNCT_directory_index udata_value content value file.directory_index;
+  timestamp = value_after DW_LNCT_timestamp udata_value content value file.timestamp;
+  size = value_after DW_LNCT_size udata_value content value file.size;
+  md5 = value_after DW_LNCT_MD5 digest content value file.md5;
+  source = value_after DW_LNCT_LLVM_source (λ v. Some (Some v)) content value file.source;
 }
 
 -- the values of an entry one by one, from what stands at first

@@ -27,6 +27,7 @@ use Rattle.gimli_line.specs.header.Header.{Header, UnitEntry, plain_file}
 use Rattle.gimli_line.specs.inside.header.Outcome.{read_map}
 use Rattle.gimli_line.specs.inside.header.TableReading.{list_to_zero_at}
 use Rattle.gimli_line.specs.inside.header.FormReading.{form_at}
+use Rattle.gimli_line.specs.LineNumbers.{DW_LNCT_path}
 use Rattle.gimli_line.specs.header.HeaderGrammar.{Entry, is_content, path_of, file_of_entry}
 use Rattle.gimli_line.specs.header.HeaderGrammar.{Opening, handed_value}
 use Rattle.gimli_line.specs.declared.header.file_entry.FileEntryFormat.{FileEntryFormat}
@@ -56,7 +57,7 @@ format_at bytes =
 unfoldable pub formats_at : List ℕ → Read (List FileEntryFormat)
 formats_at bytes =
     byte_at bytes >>= λ count rest. times_at count format_at rest >>= λ formats rest.
-    if nat_eq (count_by (is_content 0x0001) formats) 1 then (Ok formats, rest)
+    if nat_eq (count_by (is_content DW_LNCT_path) formats) 1 then (Ok formats, rest)
     else (Err MissingFileEntryFormatPath, rest)
 
 module _ (notation : Notation) (format : Format) where
