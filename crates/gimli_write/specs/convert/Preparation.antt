@@ -6,10 +6,10 @@ use Rattle.std.specs.Option.{option_map_or}
 use Rattle.gimli_core.specs.declared.common.Encoding.{Encoding}
 use Rattle.gimli_core.specs.declared.common.LineEncoding.{LineEncoding}
 use Rattle.gimli_core.specs.Values.{Value}
-use Rattle.gimli_line.specs.header.File.{File}
-use Rattle.gimli_line.specs.header.Header.{Header, directory_of, file_of, has_content}
 use Rattle.gimli_line.specs.LineNumbers.{DW_LNCT_timestamp, DW_LNCT_size, DW_LNCT_MD5}
 use Rattle.gimli_line.specs.LineNumbers.{DW_LNCT_LLVM_source}
+use Rattle.gimli_line.specs.header.File.{File}
+use Rattle.gimli_line.specs.header.Header.{Header, directory_of, file_of, has_content}
 use Rattle.gimli_build.specs.LineText.{LineText, made_text, made_table}
 use Rattle.gimli_build.specs.Built.{Built, empty_built}
 use Rattle.gimli_build.specs.FirstTables.{first_directories, first_files}
