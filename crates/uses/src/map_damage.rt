@@ -44,21 +44,25 @@ pub fn start(rt: &HostRuntime, words: &[String]) -> Result<()> {
     Ok(())
 }
 
+/// A count and one more.
+fn one_more(count: u64) -> u64 {
+    count.wrapping_add(1)
+}
+
 impl Tally {
     /// Counts why an index was refused.
     fn count(&mut self, refusal: IndexError) {
-        let count = match refusal {
-            IndexError::NotIndex => &mut self.not_index,
-            IndexError::HeaderCut => &mut self.header_cut,
-            IndexError::Version(_) => &mut self.version,
-            IndexError::AddressSize(_) => &mut self.address_size,
-            IndexError::StartSize(_) => &mut self.start_size,
-            IndexError::Base(_) => &mut self.base,
-            IndexError::Cut => &mut self.cut,
-            IndexError::NotAscending => &mut self.not_ascending,
-            IndexError::PathOutside => &mut self.path_outside,
-        };
-        *count = count.wrapping_add(1);
+        match refusal {
+            IndexError::NotIndex => self.not_index = one_more(self.not_index),
+            IndexError::HeaderCut => self.header_cut = one_more(self.header_cut),
+            IndexError::Version(_) => self.version = one_more(self.version),
+            IndexError::AddressSize(_) => self.address_size = one_more(self.address_size),
+            IndexError::StartSize(_) => self.start_size = one_more(self.start_size),
+            IndexError::Base(_) => self.base = one_more(self.base),
+            IndexError::Cut => self.cut = one_more(self.cut),
+            IndexError::NotAscending => self.not_ascending = one_more(self.not_ascending),
+            IndexError::PathOutside => self.path_outside = one_more(self.path_outside),
+        }
     }
 
     /// The counts, each with the name of its refusal.
@@ -84,7 +88,7 @@ impl Tally {
             Err(refusal) => return self.count(refusal),
         };
         match index.check() {
-            Ok(()) => self.sound = self.sound.wrapping_add(1),
+            Ok(()) => self.sound = one_more(self.sound),
             Err(refusal) => self.count(refusal),
         }
         for address in &ASKED {
