@@ -25,6 +25,10 @@ pub mod Unordered
 pub mod Indexed
 pub mod Files
 pub mod SequenceCuts
+pub mod CoveringSearches
+pub mod UnitSearches
+pub mod SectionSearches
+pub mod OneSectionAnswer
 pub mod SectionAddressSteps
 pub mod StillFound
 pub mod NearerEnds

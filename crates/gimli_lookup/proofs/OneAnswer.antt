@@ -17,7 +17,7 @@ use Rattle.gimli_lookup.proofs.OnePair.{stands_there, one_pair}
 
 -- ---- one list of rows
 
-abbrev AreAlwaysDecodedOnce : Type 0
+abbrev pub AreAlwaysDecodedOnce : Type 0
 AreAlwaysDecodedOnce = (notation : Notation) (h : Header) (bytes : List ℕ) → AreDecodedOnce notation h bytes
 
 pub same_rows : (a b : List LineRow) → map row a ≡ map row b → a ≡ b
@@ -76,7 +76,7 @@ opened s sequences unended once =
     ∙ ap (λ (rs : List LineRow). rs ++ (flat_map (λ sequence. sequence) sequences ++ unended)) once.parts
     ∙ append_assoc once.front (once.last ∷ []) (flat_map (λ sequence. sequence) sequences ++ unended)
 
-same_cut : (s t : List (List LineRow)) (u v : List LineRow) → AllByRecursion EndOnce s → AllByRecursion EndOnce t → HaveNoEnd u → HaveNoEnd v
+pub same_cut : (s t : List (List LineRow)) (u v : List LineRow) → AllByRecursion EndOnce s → AllByRecursion EndOnce t → HaveNoEnd u → HaveNoEnd v
     → flat_map (λ sequence. sequence) s ++ u ≡ flat_map (λ sequence. sequence) t ++ v → s ≡ t
 same_cut [] [] u v each other none no_other is = refl
 same_cut [] (y ∷ t) u v each other none no_other is =
@@ -99,7 +99,7 @@ same_sequences once notation h s t x y =
 -- ---- one answer
 
 -- a list of sequences that has a first pair isn't one where none has a pair
-not_none : (a : ℕ) (s : List (List LineRow)) (x y : LineRow) → IsFirstPair a s x y → All (HasNoPair a) s → ⊥
+pub not_none : (a : ℕ) (s : List (List LineRow)) (x y : LineRow) → IsFirstPair a s x y → All (HasNoPair a) s → ⊥
 not_none a s x y f none =
     let within : length f.earlier < length s = omega (arith, ap (λ (t : List (List LineRow)). length t) f.parts, length-append f.earlier (f.rows ∷ f.later)) in
     subst (HasNoPair a) (stands_there a s x y f f.rows) (none (length f.earlier) f.rows within) f.is_first.index x y f.is_first.is_pair

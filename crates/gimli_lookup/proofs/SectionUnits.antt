@@ -56,7 +56,7 @@ added_unit sequences more new units u are is first end =
     ∙ ap (λ (part : List (List LineRow)). map (with_sequences sequences) units ++ (let k : KeptUnit = record { unit = u; sequences = part } in k) ∷ [])
     (last_part sequences more u first (end ∙ ap (λ (s : List (List LineRow)). length s) is))
 
-is_unit_of : {R Offset Endian : Type 0} (section : Unread) (entry : UnitEntry) (lowest : ℕ) (program : Result (SeenHeader R Offset Endian) Error)
+pub is_unit_of : {R Offset Endian : Type 0} (section : Unread) (entry : UnitEntry) (lowest : ℕ) (program : Result (SeenHeader R Offset Endian) Error)
     (u : ListedUnit) (o : ℕ)
     (sequences : List (List LineRow)) → u.offset ≡ o → IfOk program (HasUnitAt section o entry) → IfErr program (HasUnitFaultAt section o entry)
     → IfOk program (λ p. p.notation ≡ section.notation) → IsOutcome lowest program u sequences

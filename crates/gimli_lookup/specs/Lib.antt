@@ -16,4 +16,5 @@ pub mod Section
 pub mod SectionUnits
 pub mod SectionAddresses
 pub mod Ranges
+pub mod SectionSearch
 pub mod inside

@@ -1,10 +1,11 @@
 -- What the units of a section are that a lookup lists.
-use Rattle.std.specs.Prelude.{◌≡◌, ◌⊎◌, ℕ, [], drop, Some, None}
+use Rattle.std.specs.Prelude.{◌≡◌, ◌⊎◌, ℕ, List, [], map, drop, Some, None, All}
 use Rattle.gimli_core.specs.declared.error.Error.{Error}
 use Rattle.gimli_line.specs.header.Header.{Header, UnitEntry}
 use Rattle.gimli_line.specs.header.HeaderGrammar.{SpellsUnit}
 use Rattle.gimli_line.specs.run.Unread.{Unread}
 use Rattle.gimli_line.specs.UnitAt.{HasUnitFaultAt}
+use Rattle.gimli_line.specs.Units.{AreUnits}
 use Rattle.gimli_lookup.specs.Section.{KeptHeader, KeptUnit}
 use Rattle.gimli_lookup.specs.UnitRun.{IsKept}
 
@@ -28,3 +29,9 @@ pub record IsRun (section : Unread) (entry : UnitEntry) (lowest : ℕ) (u : Kept
 -- the unit is what the section has at its offset
 abbrev pub IsUnitOf : Unread → UnitEntry → ℕ → KeptUnit → Type 0
 IsUnitOf section entry lowest u = IsRefused section entry u ⊎ IsRun section entry lowest u
+
+-- these are the units that a section has, in order, and what is kept of each
+pub record AreUnitsOf (section : Unread) (entry : UnitEntry) (lowest : ℕ) (units : List KeptUnit)
+    : Type 0 where
+  pub offsets : AreUnits section.notation 0 section.bytes (map (λ u. u.unit.offset) units)
+  pub each : All (IsUnitOf section entry lowest) units

@@ -6,6 +6,8 @@ pub mod PathFiles
 pub mod RowsTaken
 pub mod Section
 pub mod SequenceCut
+pub mod UnitSearch
+pub mod SectionSearch
 pub mod StatementLines
 pub mod Statements
 pub mod Steps

@@ -1,15 +1,20 @@
 //! Laws of what a lookup returns, of strings and of paths.
 
-ghost use Rattle.std.specs.Prelude.{◌≡◌, ◌≤◌, ◌↔◌, ℕ, List, length, Ok, Err, IsTrue};
+ghost use Rattle.std.specs.Prelude.{◌≡◌, ◌≤◌, ◌↔◌, ℕ, List, length, Ok, Err, Option, IsTrue};
 ghost use Rattle.gimli_core.specs.Equality.{ClonesGiveSame, GivesSame, IsExact};
 ghost use Rattle.gimli_core.specs.Notation.{Notation};
 ghost use Rattle.gimli_line.specs.declared.run.row.LineRow.{LineRow};
 ghost use Rattle.gimli_line.specs.header.File.{File};
-ghost use Rattle.gimli_line.specs.header.Header.{Header};
+ghost use Rattle.gimli_line.specs.header.Header.{Header, UnitEntry};
+ghost use Rattle.gimli_line.specs.run.Unread.{Unread};
 ghost use Rattle.gimli_lookup.specs.FirstPair.{IsFirstPair};
 ghost use Rattle.gimli_lookup.specs.Paths.{Paths, is_absolute, directory_string};
 ghost use Rattle.gimli_lookup.specs.Paths.{file_path, EndsWithOwnPath, HasAbsoluteRoot};
 ghost use Rattle.gimli_lookup.specs.Run.{AreRowsOfSequences, IsFirstFound, IsFoundInRun};
+ghost use Rattle.gimli_lookup.specs.Ranges.{IsFoundAt};
+ghost use Rattle.gimli_lookup.specs.Section.{KeptUnit};
+ghost use Rattle.gimli_lookup.specs.SectionUnits.{AreUnitsOf};
+ghost use Rattle.gimli_lookup.specs.declared.section_lookup.CoveringRows.{CoveringRows};
 ghost use Rattle.gimli_lookup.specs.declared.path_error.PathError.TheVariants.{
   StringOffsetOutOfBounds,
   UnterminatedString,
@@ -19,7 +24,7 @@ ghost use Rattle.gimli_lookup.specs.Strings.{string_at, HasNoStringEnd, IsString
 use crate::path_error::PathError;
 use crate::string_sections::StringSections;
 use gimli_core::laws;
-use gimli_line::laws::one_decoding;
+use gimli_line::laws::{one_decoding, one_list_of_units, one_unit_or_refusal};
 
 /// An address has no more than one first pair.
 pub fn one_first_pair()
@@ -80,4 +85,16 @@ pub fn one_answer()
         AreRowsOfSequences n h rows → IsFirstFound a rows x → IsFoundInRun n h a y → x ≡ y }
 {
     one_decoding();
+}
+/// The units of a section keep one list of sequences each. So `find_in_section` finds at an address
+/// what `SectionLookup::find` does, over a lookup of the same section.
+pub fn one_answer_in_section()
+    ensures { (section : Unread) (entry : UnitEntry) (lowest a : ℕ) (units others : List KeptUnit)
+        (x y : Option CoveringRows) → AreUnitsOf section entry lowest units
+        → AreUnitsOf section entry lowest others → IsFoundAt units a x → IsFoundAt others a y
+        → x ≡ y }
+{
+    one_decoding();
+    one_list_of_units();
+    one_unit_or_refusal();
 }

@@ -7,6 +7,7 @@
 //! file. The way back, from a line of a file to [`Addresses`], goes by the same rows.
 #![tactic(auto)]
 
+mod covering_pairs;
 mod ends;
 mod index;
 mod kept_rows;
@@ -20,12 +21,14 @@ mod run;
 mod search;
 mod section_addresses;
 mod section_lookup;
+mod section_search;
 mod section_unit;
 mod sequence_cut;
 mod statements;
 mod steps;
 mod string_sections;
 mod unit_run;
+mod unit_search;
 
 pub use lookup::Lookup;
 pub use path_error::PathError;
@@ -33,6 +36,7 @@ pub use paths::Paths;
 pub use ranges::{CoveredRange, Ranges};
 pub use run::find_in_run;
 pub use section_lookup::{CoveringRows, SectionLookup};
+pub use section_search::{FoundRows, find_in_section};
 pub use section_unit::UnitLookup;
 pub use statements::Addresses;
 pub use string_sections::StringSections;

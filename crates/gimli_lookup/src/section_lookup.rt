@@ -57,7 +57,7 @@ fn unit_of<R: Reader>(units: &[UnitLookup<R>], sequence: usize) -> usize
 }
 
 /// Appends a unit. Fails only with `OutOfMemory`.
-fn push<R: Reader>(units: &mut Vec<UnitLookup<R>>, unit: UnitLookup<R>) -> Result<()>
+pub(crate) fn push<R: Reader>(units: &mut Vec<UnitLookup<R>>, unit: UnitLookup<R>) -> Result<()>
     ensures ok { IfOk result (λ _. units.new.items ≡ units.old.items ++ unit ∷ []) }
     ensures err { IfErr result (λ e. e ≡ Error.OutOfMemory) }
 {

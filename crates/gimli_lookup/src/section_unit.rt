@@ -3,8 +3,11 @@
 ghost use Rattle.std.specs.Prelude.{◌≡◌, ◌++◌, None, Some, IfErr, IfOk, IfSome, MatchOption, OnOk};
 ghost use Rattle.gimli_line.specs.header.Header.{HasOneOrder};
 
+use crate::covering_pairs::keep_pairs;
 use crate::kept_rows::KeptRows;
+use crate::section_lookup::CoveringRows;
 use crate::unit_run::run_unit;
+use crate::unit_search::search_unit;
 use gimli_core::{DebugLineOffset, EndianSlice, Endianity, Error, Reader, ReaderOffset, Result};
 use gimli_line::{IncompleteLineProgram, LineProgramHeader, OneShotLineRows};
 use std::alloc::Global;
@@ -55,6 +58,7 @@ impl<R: Reader> Model for UnitLookup<R> {
 
 impl<R: Reader> UnitLookup<R> {
     ghost use Rattle.gimli_lookup.specs.inside.Section.{IsAdded};
+    ghost use Rattle.gimli_lookup.specs.inside.SectionSearch.{bare_unit, IsSearched};
 
     /// What is kept of the program of a unit, or of its refusal: its sequences come after those of
     /// the units before it. Fails only with `OutOfMemory`.
@@ -93,6 +97,56 @@ impl<R: Reader> UnitLookup<R> {
             first,
             end: sequences.len(),
         })
+    }
+
+    /// Looks in the program of a unit for the rows that cover addresses, and keeps them behind the
+    /// pairs of the units before it. What is listed has the header where a pair was kept, or the
+    /// run has a fault. Fails only with `OutOfMemory`.
+    pub(crate) fn search(
+        alloc: Global,
+        offset: DebugLineOffset<R::Offset>,
+        program: Result<IncompleteLineProgram<R>>,
+        index: usize,
+        lowest: u64,
+        addresses: &[u64],
+        pairs: &mut Vec<CoveringRows>,
+    ) -> Result<Self>
+        requires order { IfOk program (HasOneOrder R.big) }
+        requires offset { IfOk program (λ program. program.offset ≡ offset) }
+        ensures searched { IfOk result (λ listed. IsSearched lowest index addresses.now
+            program listed pairs.old.items pairs.new.items) }
+        ensures offset { IfOk result (λ listed. listed.offset ≡ R.Offset.number offset.0) }
+        ensures err { IfErr result (λ e. e ≡ Error.OutOfMemory) }
+    {
+        let found = match program {
+            Ok(program) => search_unit(alloc, program, index, lowest, addresses)?,
+            Err(e) => return Ok(UnitLookup::bare(offset, Some(e))),
+        };
+        let before = pairs.len();
+        keep_pairs(addresses, pairs, &found.pairs)?;
+        if pairs.len() == before && found.fault.is_none() {
+            return Ok(UnitLookup::bare(offset, None));
+        }
+        Ok(UnitLookup {
+            offset,
+            run: Some(found.run),
+            fault: found.fault,
+            first: 0,
+            end: 0,
+        })
+    }
+
+    /// A unit without header and sequences.
+    fn bare(offset: DebugLineOffset<R::Offset>, fault: Option<Error>) -> Self
+        ensures { result ≡ bare_unit (R.Offset.number offset.0) fault }
+    {
+        UnitLookup {
+            offset,
+            run: None,
+            fault,
+            first: 0,
+            end: 0,
+        }
     }
 
     /// The offset of the unit in its section.

@@ -10,7 +10,7 @@ use std::alloc::Global;
 use std::marker::Model;
 
 /// Whether a row is neither under a tombstone nor below an address.
-fn stands(row: &LineRow, lowest: u64) -> bool
+pub(crate) fn stands(row: &LineRow, lowest: u64) -> bool
     ensures { result ≡ stands lowest row.now }
 {
     !row.is_under_tombstone() && lowest <= row.address()

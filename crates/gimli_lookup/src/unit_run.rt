@@ -23,7 +23,7 @@ pub(crate) struct UnitRun<R: Reader> {
 }
 
 /// A refusal of a run as its fault, unless memory was missing.
-fn as_fault(e: Error) -> Result<Option<Error>>
+pub(crate) fn as_fault(e: Error) -> Result<Option<Error>>
     ensures ok { IfOk result (λ fault. (fault ≡ Some e) × (e ≢ Error.OutOfMemory)) }
     ensures err { IfErr result (λ e. e ≡ Error.OutOfMemory) }
 {

@@ -24,9 +24,13 @@ with_part a = record a { parts = a.parts ++ filter has_rows (a.rows ∷ []); row
 abbrev pub with_end : SequenceCut → SequenceCut
 with_end a = let b = with_part a in record b { ended = length b.parts }
 
+-- a row goes to the open part
+abbrev pub with_open : LineRow → SequenceCut → SequenceCut
+with_open r a = record a { rows = a.rows ++ r ∷ [] }
+
 -- a row goes to the open part, or ends it
 abbrev pub with_place : LineRow → SequenceCut → SequenceCut
-with_place r a = if stands a.lowest r then record a { rows = a.rows ++ r ∷ [] } else with_part a
+with_place r a = if stands a.lowest r then with_open r a else with_part a
 
 -- the next row is taken in
 abbrev pub with_row : LineRow → SequenceCut → SequenceCut

@@ -1,0 +1,107 @@
+-- The first of some pairs that an address stands between.
+use Rattle.std.proofs.Common.{◌≡◌, ℕ, ◌+◌, ◌<◌, ◌≤◌, Bool, true, false, ◌&&◌, ◌||◌, cond, List, [], ◌∷◌, ◌++◌, length, take, drop, refl, sym, ap, subst, ◌∙◌}
+use Rattle.std.proofs.Common.{append_assoc}
+use Rattle.std.proofs.Common.{arith}
+use Rattle.std.specs.Prelude.{Option, Some, None, All, is_none, slice_index_or}
+use Rattle.std.specs.Option.{option_or}
+use Rattle.std.specs.List.{list_any}
+use Rattle.std.proofs.lemmas.Bool.{cond-true, cond-false, true≢false}
+use Rattle.std.proofs.lemmas.List.{drop_more, append-nil, take_more}
+use Rattle.std.proofs.lemmas.List.Elements.{All-cons, All-more, All-weaker}
+use Rattle.gimli_lookup.specs.declared.section_lookup.CoveringRows.{CoveringRows}
+use Rattle.gimli_lookup.specs.inside.UnitSearch.{is_covered, first_covering, AreClear, AreKeptBehind}
+
+-- ---- pairs one after the other
+
+pub covering_there : (a : ℕ) (pairs : List CoveringRows) (i : ℕ) (p : CoveringRows) → i < length pairs → p ≡ slice_index_or pairs i p → is_covered a p ≡ true
+    → first_covering a (drop i pairs) ≡ Some p
+covering_there a pairs i p lt is covers =
+    ap (first_covering a) (drop_more pairs i p lt ∙ ap (λ (q : CoveringRows). q ∷ drop (i + 1) pairs) (sym is))
+    ∙ cond-true (is_covered a p) (Some p) (first_covering a (drop (i + 1) pairs)) covers
+
+pub covering_later : (a : ℕ) (pairs : List CoveringRows) (i : ℕ) (p : CoveringRows) → i < length pairs → p ≡ slice_index_or pairs i p → is_covered a p ≡ false
+    → first_covering a (drop i pairs) ≡ first_covering a (drop (i + 1) pairs)
+covering_later a pairs i p lt is covers =
+    ap (first_covering a) (drop_more pairs i p lt ∙ ap (λ (q : CoveringRows). q ∷ drop (i + 1) pairs) (sym is))
+    ∙ cond-false (is_covered a p) (Some p) (first_covering a (drop (i + 1) pairs)) covers
+
+-- pairs behind others
+by_cover : (b : Bool) (p : CoveringRows) (o q r : Option CoveringRows) → o ≡ option_or q r → cond b (Some p) o ≡ option_or (cond b (Some p) q) r
+by_cover true p o q r e = refl
+by_cover false p o q r e = e
+
+pub covering_append : (a : ℕ) (xs ys : List CoveringRows) → first_covering a (xs ++ ys) ≡ option_or (first_covering a xs) (first_covering a ys)
+covering_append a [] ys = refl
+covering_append a (x ∷ xs) ys = by_cover (is_covered a x) x (first_covering a (xs ++ ys)) (first_covering a xs) (first_covering a ys) (covering_append a xs ys)
+
+-- ---- pairs that are kept where they are wanted
+
+pub pair_kept : (addresses : List ℕ) (old : List CoveringRows) (p : CoveringRows) → AreKeptBehind addresses old (p ∷ []) (old ++ p ∷ [])
+pair_kept addresses old p = record { more = p ∷ []; parts = refl; first = λ k d lt. covering_append (slice_index_or addresses k d) old (p ∷ []) }
+
+by_need : (b : Bool) (p : CoveringRows) (o : Option CoveringRows) → (b && is_none o) ≡ false → o ≡ option_or o (cond b (Some p) None)
+by_need b p (Some q) none = refl
+by_need true p None none = absurd (true≢false none)
+by_need false p None none = refl
+
+neither : (b c : Bool) → (b || c) ≡ false → (b ≡ false) × (c ≡ false)
+neither true c e = absurd (true≢false e)
+neither false c e = (refl, e)
+
+none_of : (f : ℕ → Bool) (xs : List ℕ) → list_any f xs ≡ false → All (λ a. f a ≡ false) xs
+none_of f [] none = λ k d lt. absurd (omega arith)
+none_of f (x ∷ xs) none =
+    let both = neither (f x) (list_any f xs) none in
+    All-cons (λ a. f a ≡ false) x xs both.0 (none_of f xs both.1)
+
+pub pair_let_go : (addresses : List ℕ) (old : List CoveringRows) (p : CoveringRows)
+    → list_any (λ a. is_covered a p && is_none (first_covering a old)) addresses ≡ false → AreKeptBehind addresses old (p ∷ []) old
+pair_let_go addresses old p none = record {
+  more = [];
+  parts = sym (append-nil old);
+  first = λ k d lt.
+      by_need (is_covered (slice_index_or addresses k d) p) p (first_covering (slice_index_or addresses k d) old)
+      (none_of (λ a. is_covered a p && is_none (first_covering a old)) addresses none k d lt);
+}
+
+or_assoc : (o p q : Option CoveringRows) → option_or (option_or o p) q ≡ option_or o (option_or p q)
+or_assoc None p q = refl
+or_assoc (Some x) p q = refl
+
+-- none is kept of none
+pub none_kept : (addresses : List ℕ) (old : List CoveringRows) → AreKeptBehind addresses old [] old
+none_kept addresses old = record { more = []; parts = sym (append-nil old); first = λ k d lt. at (first_covering (slice_index_or addresses k d) old) }
+  where
+    at : (o : Option CoveringRows) → o ≡ option_or o None
+    at None = refl
+    at (Some x) = refl
+
+pub kept_both : (addresses : List ℕ) (old pairs new : List CoveringRows) (p : CoveringRows) (after : List CoveringRows) → AreKeptBehind addresses old pairs new
+    → AreKeptBehind addresses new (p ∷ []) after → AreKeptBehind addresses old (pairs ++ p ∷ []) after
+kept_both addresses old pairs new p after f g = record {
+  more = f.more ++ g.more;
+  parts = g.parts ∙ ap (λ (ps : List CoveringRows). ps ++ g.more) f.parts ∙ append_assoc old f.more g.more;
+  first = λ k d lt.
+      let a = slice_index_or addresses k d in
+      g.first k d lt
+      ∙ ap (λ (o : Option CoveringRows). option_or o (first_covering a (p ∷ []))) (f.first k d lt)
+      ∙ or_assoc (first_covering a old) (first_covering a pairs) (first_covering a (p ∷ []))
+      ∙ ap (option_or (first_covering a old)) (sym (covering_append a pairs (p ∷ [])));
+}
+
+pub kept_next : (addresses : List ℕ) (old found : List CoveringRows) (i : ℕ) (new : List CoveringRows) (p : CoveringRows) (after : List CoveringRows)
+    → i < length found → p ≡ slice_index_or found i p → AreKeptBehind addresses old (take i found) new
+    → AreKeptBehind addresses new (p ∷ []) after → AreKeptBehind addresses old (take (i + 1) found) after
+kept_next addresses old found i new p after lt is f g =
+    subst (λ (ps : List CoveringRows). AreKeptBehind addresses old ps after)
+    (ap (λ (q : CoveringRows). take i found ++ q ∷ []) is ∙ sym (take_more found i p lt))
+    (kept_both addresses old (take i found) new p after f g)
+
+-- ---- the next address that is asked for
+
+pub clear_next : (addresses : List ℕ) (i from clear new : ℕ) → i < length addresses → AreClear (take i addresses) from clear → new ≤ clear
+    → (from ≤ slice_index_or addresses i 0 → new ≤ slice_index_or addresses i 0) → AreClear (take (i + 1) addresses) from new
+clear_next addresses i from clear new lt before less at =
+    All-more (λ a. from ≤ a → new ≤ a) addresses i 0 lt
+    (All-weaker (λ a. from ≤ a → clear ≤ a) (λ a. from ≤ a → new ≤ a) (λ a is le. omega (arith, is le, less)) (take i addresses) before)
+    at

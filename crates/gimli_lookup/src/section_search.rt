@@ -1,0 +1,69 @@
+//! The rows that cover some addresses, found while the units of a section are run once.
+
+ghost use Rattle.std.specs.Prelude.{◌≡◌, None, IfErr, IfOk, IsTrue};
+ghost use Rattle.gimli_core.specs.Numbers.{is_address_size};
+ghost use Rattle.gimli_line.specs.header.Header.{unit_entry};
+ghost use Rattle.gimli_line.specs.run.Unread.{unread_of};
+ghost use Rattle.gimli_lookup.specs.SectionSearch.{AreFoundInSection};
+
+use crate::covering_pairs::first_of_each;
+use crate::section_lookup::{CoveringRows, push};
+use crate::section_unit::UnitLookup;
+use gimli_core::{Error, Reader, ReaderOffset, Result};
+use gimli_line::DebugLine;
+use std::alloc::Global;
+
+/// What [`find_in_section`] finds.
+///
+/// <!-- part of crates/gimli_lookup/src/section_search.rt -->
+/// ```rust
+///     let rows = first_of_each(alloc, addresses, &pairs)?;
+///     Ok(FoundRows { units, rows })
+/// }
+/// ```
+#[derive(Drop)]
+#[derive_where(Debug; R, R::Offset)]
+pub struct FoundRows<R: Reader> {
+    /// The units of the section, in order. One of which none of the rows are, and whose run has no
+    /// fault, has no header here.
+    pub units: Vec<UnitLookup<R>>,
+    /// For each address the first rows that cover it, and the index of their unit. None where no
+    /// rows cover it.
+    pub rows: Vec<Option<CoveringRows>>,
+}
+
+/// What `SectionLookup::find` returns at each of some addresses, found while the program of each
+/// unit runs once: for few addresses, since of other rows none is kept. Fails only with
+/// `OutOfMemory`. Requires an address size of 1, 2, 4 or 8 bytes, which counts up to version 4.
+pub fn find_in_section<R: Reader>(
+    section: &DebugLine<R>,
+    alloc: Global,
+    address_size: u8,
+    lowest: u64,
+    addresses: &[u64],
+) -> Result<FoundRows<R>>
+    requires { IsTrue (is_address_size address_size) }
+    ensures ok { IfOk result (λ found. AreFoundInSection
+        (unread_of R.bytes R.big R.Offset.limit section.now)
+        (unit_entry R.bytes address_size None None) lowest addresses.now
+        found.units.items found.rows.items) }
+    ensures err { IfErr result (λ e. e ≡ Error.OutOfMemory) }
+{
+    let mut units = Vec::new(alloc);
+    let mut pairs = Vec::new(alloc);
+    let mut walk = section.units(alloc, address_size);
+    'units: while let Some(next) = walk.next()? {
+        let unit = UnitLookup::search(
+            alloc,
+            next.offset,
+            next.program,
+            units.len(),
+            lowest,
+            addresses,
+            &mut pairs,
+        )?;
+        push(&mut units, unit)?;
+    }
+    let rows = first_of_each(alloc, addresses, &pairs)?;
+    Ok(FoundRows { units, rows })
+}
