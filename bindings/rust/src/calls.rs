@@ -112,6 +112,23 @@ pub struct MapPlace {
 }
 
 #[repr(C)]
+#[derive(Clone, Copy, Debug, Default)]
+pub struct Symbol {
+    pub symbol: usize,
+    pub addend: i64,
+}
+
+#[repr(C)]
+#[derive(Clone, Copy, Debug, Default)]
+pub struct Relocation {
+    pub offset: usize,
+    pub symbol: usize,
+    pub addend: i64,
+    pub size: u32,
+    pub section: u32,
+}
+
+#[repr(C)]
 pub struct Index {
     pub at: *mut u8,
 }
@@ -127,6 +144,26 @@ extern "C" {
     pub fn gimli_line_map_check(map: *const u8, length: usize) -> u32;
     pub fn gimli_line_map_find(map: *const u8, length: usize, address: u64, place: *mut MapPlace) -> u32;
     pub fn gimli_line_map_find_all(map: *const u8, length: usize, places: *mut MapPlace, count: usize) -> u32;
+    pub fn gimli_line_map_write(
+        section: *const u8,
+        length: usize,
+        line_strings: *const u8,
+        line_strings_length: usize,
+        strings: *const u8,
+        strings_length: usize,
+        info: *const u8,
+        info_length: usize,
+        abbreviations: *const u8,
+        abbreviations_length: usize,
+        string_offsets: *const u8,
+        string_offsets_length: usize,
+        options: *const OpenOptions,
+        identity: *const u8,
+        identity_length: usize,
+        map: *mut u8,
+        room: usize,
+        size: *mut usize,
+    ) -> u32;
     pub fn gimli_line_index_open(
         section: *const u8,
         length: usize,
@@ -234,6 +271,28 @@ extern "C" {
         unit: *mut u8,
         room: usize,
         size: *mut usize,
+    ) -> u32;
+    pub fn gimli_line_write_relocatable(
+        encoding: *const Encoding,
+        big: bool,
+        details: u64,
+        in_place: bool,
+        texts: *const u8,
+        text_length: usize,
+        directories: *const Name,
+        directory_count: usize,
+        files: *const FileName,
+        file_count: usize,
+        rows: *const Row,
+        row_count: usize,
+        symbols: *const Symbol,
+        symbol_count: usize,
+        unit: *mut u8,
+        room: usize,
+        size: *mut usize,
+        relocations: *mut Relocation,
+        relocation_room: usize,
+        count: *mut usize,
     ) -> u32;
     pub fn gimli_line_index_rows_open(index: *mut Index, unit: u64, reader: *mut RowReader) -> u32;
     pub fn gimli_line_rows_next(reader: *mut RowReader, rows: *mut Row, room: usize, count: *mut usize) -> u32;

@@ -67,7 +67,7 @@ impl Error {
     pub const NEED_VERSION_4: Error = Error(29);
     /// A length or the first address of a sequence doesn't fit its word.
     pub const UNIT_TOO_LONG: Error = Error(30);
-    /// The unit is longer than the room for it.
+    /// What is written is longer than the room for it.
     pub const NO_ROOM: Error = Error(31);
     /// The handle is closed.
     pub const CLOSED: Error = Error(32);
@@ -93,6 +93,16 @@ impl Error {
     pub const NO_COMP_DIR: Error = Error(42);
     /// Options have a size that this library doesn't know.
     pub const UNKNOWN_OPTIONS: Error = Error(43);
+    /// The bytes are no ELF file that can be read.
+    pub const NO_ELF: Error = Error(44);
+    /// An ELF file has no section of this name.
+    pub const NO_SECTION: Error = Error(45);
+    /// A section of an ELF file can't be read.
+    pub const BAD_SECTION: Error = Error(46);
+    /// A map would have ranges, files, or bytes of paths or of the identity that 32 bits don't count.
+    pub const MAP_TOO_LARGE: Error = Error(47);
+    /// A line or a column that a map would have is one that 32 bits don't hold.
+    pub const PLACE_TOO_LARGE: Error = Error(48);
 
     /// The number of the header.
     pub fn number(self) -> u32 {
@@ -119,7 +129,7 @@ impl Error {
 }
 
 /// A sentence for each number, as `gimli_status_sentence` of the header has it.
-const SENTENCES: [&str; 44] = [
+const SENTENCES: [&str; 49] = [
     "the call did what it says",
     "bytes are missing",
     "an unsigned LEB128 number is too large or too long",
@@ -151,7 +161,7 @@ const SENTENCES: [&str; 44] = [
     "a row has a flag that isn't known",
     "several operations in an instruction, before version 4",
     "a length or the first address of a sequence doesn't fit its word",
-    "the unit is longer than the room for it",
+    "what is written is longer than the room for it",
     "the handle is closed",
     "a string of a path can't be told",
     "the bytes don't begin as a map does",
@@ -164,6 +174,11 @@ const SENTENCES: [&str; 44] = [
     "no line from the one asked for on has code",
     "no unit of .debug_info tells the directory of the compilation",
     "options have a size that this library doesn't know",
+    "the bytes are no ELF file that can be read",
+    "the ELF file has no section of this name",
+    "a section is cut, or its compression or relocations are unknown",
+    "a map would have more ranges, files or bytes than 32 bits count",
+    "a line or a column is more than 32 bits hold",
 ];
 
 impl fmt::Display for Error {

@@ -28,7 +28,7 @@ pub use index::{Addresses, Index, Place};
 pub use map::{Map, MapPlace, NoPath};
 pub use row::{ColumnType, LineRow, Unit, Units};
 pub use rows::Rows;
-pub use write::{Contents, Encoding};
+pub use write::{Addends, Contents, Encoding, RelocatableUnit, Relocation, Symbol};
 
 /// The sections of a linked program that lines are read from. One that a program lacks is of no bytes.
 #[derive(Clone, Copy, Debug)]

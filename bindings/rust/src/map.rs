@@ -2,6 +2,8 @@
 
 use crate::calls;
 use crate::error::Error;
+use crate::{CompilationSections, Sections};
+use std::mem::size_of;
 
 /// Why a place of a map has no path.
 #[derive(Clone, Copy, Debug, PartialEq, Eq, Hash)]
@@ -46,6 +48,33 @@ pub struct Map<'a> {
 }
 
 impl<'a> Map<'a> {
+    /// The bytes of the map of a program, which [`Map::open`] takes: of each address what an [`Index`](crate::Index) finds there, with
+    /// the whole path over the directory of the compilation. Rows below the address `lowest` are left out, as by
+    /// [`Index::open`](crate::Index::open); `identity` names what the map is made of. The order of bytes is that of `sections`.
+    ///
+    /// # Errors
+    ///
+    /// [`Error::OUT_OF_MEMORY`], [`Error::UNSUPPORTED_ADDRESS_SIZE`] where that of the sections is none of 1, 2, 4 and 8, and
+    /// [`Error::MAP_TOO_LARGE`] and [`Error::PLACE_TOO_LARGE`] where 32 bits don't count what the map would have.
+    pub fn write(
+        sections: &Sections<'_>,
+        compilations: &CompilationSections<'_>,
+        lowest: u64,
+        identity: &[u8],
+    ) -> Result<Vec<u8>, Error> {
+        // All units are read for each call: so there is more room than most maps take, which costs no memory until it is written.
+        let mut map = vec![0; 1024 + 16 * sections.debug_line.len()];
+        loop {
+            let mut size = 0;
+            let answer = write_to(sections, compilations, lowest, identity, &mut map, &mut size);
+            map.resize(size, 0);
+            if answer != Err(Error::NO_ROOM) {
+                map.shrink_to_fit();
+                return answer.map(|()| map);
+            }
+        }
+    }
+
     /// The map that bytes begin with. It looks at the header and the length alone.
     ///
     /// # Errors
@@ -124,4 +153,43 @@ impl<'a> Map<'a> {
         };
         MapPlace { path, line: place.line, column: place.column, unit: place.unit }
     }
+}
+
+fn write_to(
+    sections: &Sections<'_>,
+    compilations: &CompilationSections<'_>,
+    lowest: u64,
+    identity: &[u8],
+    map: &mut [u8],
+    size: &mut usize,
+) -> Result<(), Error> {
+    let options = calls::OpenOptions {
+        size: size_of::<calls::OpenOptions>(),
+        lowest,
+        address_size: sections.address_size,
+        big: sections.big_endian,
+    };
+    // The pointers are those of slices and of a local.
+    Error::of(unsafe {
+        calls::gimli_line_map_write(
+            sections.debug_line.as_ptr(),
+            sections.debug_line.len(),
+            sections.debug_line_str.as_ptr(),
+            sections.debug_line_str.len(),
+            sections.debug_str.as_ptr(),
+            sections.debug_str.len(),
+            compilations.debug_info.as_ptr(),
+            compilations.debug_info.len(),
+            compilations.debug_abbrev.as_ptr(),
+            compilations.debug_abbrev.len(),
+            compilations.debug_str_offsets.as_ptr(),
+            compilations.debug_str_offsets.len(),
+            &options,
+            identity.as_ptr(),
+            identity.len(),
+            map.as_mut_ptr(),
+            map.len(),
+            size,
+        )
+    })
 }

@@ -59,6 +59,24 @@ impl Encoding {
 /// assert_eq!(index.path(place.unit, place.row.file_index(), b"/source")?, b"/source/main.c");
 /// # Ok::<(), gimli_line_proved::Error>(())
 /// ```
+///
+/// A compiler, which doesn't know its addresses, hands symbols over, and gets the places that a linker fills in:
+///
+/// ```
+/// use gimli_line_proved::{Addends, Contents, Encoding, LineRow, Relocation, Symbol};
+///
+/// let mut contents = Contents::new(Encoding::new(4));
+/// contents.file(b"main.c", 0);
+/// contents.row(LineRow::at(0).with_file(1).with_line(7));
+/// contents.row(LineRow::at(6).with_end());
+/// let written = contents.write_relocatable(&[Symbol { symbol: 3, addend: 16 }], Addends::Listed)?;
+///
+/// let place = written.relocations[0];
+/// assert_eq!((written.relocations.len(), place.symbol, place.addend, place.size), (1, 3, 16, 8));
+/// // The address stands there as 0 behind the three bytes of its instruction: an extended one of 9 bytes, DW_LNE_set_address.
+/// assert_eq!(written.unit[place.offset - 3..place.offset + 8], [0, 9, 2, 0, 0, 0, 0, 0, 0, 0, 0]);
+/// # Ok::<(), gimli_line_proved::Error>(())
+/// ```
 #[derive(Clone, Debug)]
 pub struct Contents {
     encoding: Encoding,
@@ -129,8 +147,32 @@ impl Contents {
         }
     }
 
-    fn write_to(&self, unit: &mut [u8], size: &mut usize) -> Result<(), Error> {
-        let encoding = calls::Encoding {
+    /// The bytes of the unit where the first sequences begin at symbols: the first at `symbols[0]`, the next at `symbols[1]`, and so
+    /// on; one that has none begins at the address of its first row. The addresses of the rows of a sequence at a symbol are counted
+    /// from that of its first row, which is mostly 0.
+    ///
+    /// # Errors
+    ///
+    /// Those of [`Contents::write`].
+    pub fn write_relocatable(&self, symbols: &[Symbol], addends: Addends) -> Result<RelocatableUnit, Error> {
+        let symbols: Vec<_> =
+            symbols.iter().map(|it| calls::Symbol { symbol: it.symbol, addend: it.addend }).collect();
+        let mut unit = vec![0; 64 + self.texts.len() + 4 * self.rows.len()];
+        let mut relocations = vec![calls::Relocation::default(); symbols.len()];
+        loop {
+            let (mut size, mut count) = (0, 0);
+            let answer = self.write_both(&symbols, addends, &mut unit, &mut size, &mut relocations, &mut count);
+            unit.resize(size, 0);
+            relocations.resize(count, calls::Relocation::default());
+            if answer != Err(Error::NO_ROOM) {
+                let relocations = relocations.iter().map(Relocation::new).collect();
+                return answer.map(|()| RelocatableUnit { unit, relocations });
+            }
+        }
+    }
+
+    fn encoding(&self) -> calls::Encoding {
+        calls::Encoding {
             version: self.encoding.version,
             address_size: self.encoding.address_size,
             offset_size: self.encoding.offset_size,
@@ -139,7 +181,11 @@ impl Contents {
             default_is_stmt: u8::from(self.encoding.default_is_stmt),
             line_base: self.encoding.line_base,
             line_range: self.encoding.line_range,
-        };
+        }
+    }
+
+    fn write_to(&self, unit: &mut [u8], size: &mut usize) -> Result<(), Error> {
+        let encoding = self.encoding();
         // The pointers are those of slices and of a local.
         Error::of(unsafe {
             calls::gimli_line_write(
@@ -160,4 +206,93 @@ impl Contents {
             )
         })
     }
+
+    fn write_both(
+        &self,
+        symbols: &[calls::Symbol],
+        addends: Addends,
+        unit: &mut [u8],
+        size: &mut usize,
+        relocations: &mut [calls::Relocation],
+        count: &mut usize,
+    ) -> Result<(), Error> {
+        let encoding = self.encoding();
+        // The pointers are those of slices and of a local.
+        Error::of(unsafe {
+            calls::gimli_line_write_relocatable(
+                &encoding,
+                self.big_endian,
+                0,
+                addends == Addends::InPlace,
+                self.texts.as_ptr(),
+                self.texts.len(),
+                self.directories.as_ptr(),
+                self.directories.len(),
+                self.files.as_ptr(),
+                self.files.len(),
+                self.rows.as_ptr(),
+                self.rows.len(),
+                symbols.as_ptr(),
+                symbols.len(),
+                unit.as_mut_ptr(),
+                unit.len(),
+                size,
+                relocations.as_mut_ptr(),
+                relocations.len(),
+                count,
+            )
+        })
+    }
+}
+
+/// A symbol that a sequence begins at.
+#[derive(Clone, Copy, Debug, PartialEq, Eq, Hash)]
+pub struct Symbol {
+    /// Its number, to which the caller gives a meaning.
+    pub symbol: usize,
+    /// What is added to its address.
+    pub addend: i64,
+}
+
+/// Where addends stand.
+#[derive(Clone, Copy, Debug, PartialEq, Eq, Hash)]
+pub enum Addends {
+    /// In the list, as for a section `SHT_RELA`: the places are 0.
+    Listed,
+    /// At the places, as for a section `SHT_REL`: those in the list are 0.
+    InPlace,
+}
+
+/// A place of a unit that a linker fills in: with the address of a symbol, and the addend.
+#[derive(Clone, Copy, Debug, PartialEq, Eq, Hash)]
+pub struct Relocation {
+    /// The offset of the place in the unit, in bytes.
+    pub offset: usize,
+    /// The number of the symbol.
+    pub symbol: usize,
+    /// What is added to its address; 0 where addends stand at the places.
+    pub addend: i64,
+    /// The number of bytes of the place.
+    pub size: u32,
+}
+
+impl Relocation {
+    // All texts of a unit stand in it, so no target is a section.
+    fn new(relocation: &calls::Relocation) -> Relocation {
+        Relocation {
+            offset: relocation.offset,
+            symbol: relocation.symbol,
+            addend: relocation.addend,
+            size: relocation.size,
+        }
+    }
+}
+
+/// A unit, and the places of it that a linker fills in.
+#[derive(Clone, Debug, PartialEq, Eq)]
+pub struct RelocatableUnit {
+    /// The bytes, for the section `.debug_line`.
+    pub unit: Vec<u8>,
+    /// The places, in order.
+    pub relocations: Vec<Relocation>,
 }

@@ -68,12 +68,19 @@ if build sanitised where_is -fsanitize=address,undefined 2>/dev/null; then
     build sanitised_map map -fsanitize=address,undefined
     "$work/maps" "$work/small.map"
     "$work/sanitised_map" "$work/small.map" 400000 400015 400020 >/dev/null
+    build sanitised_make_map make_map -fsanitize=address,undefined
+    build sanitised_compiler compiler -fsanitize=address,undefined
     for version in 2 3 4 5; do
         # shellcheck disable=SC2086
         "$work/sanitised" "$work/built$version" $addresses >/dev/null
         # shellcheck disable=SC2086
         echo $addresses | tr ' ' '\n' | "$work/sanitised" "$work/built$version" >/dev/null
         "$work/sanitised_rows" "$work/line$version" >/dev/null
+        "$work/sanitised_make_map" "$work/built$version" "$work/made.map" >/dev/null
+        # shellcheck disable=SC2086
+        "$work/sanitised_map" "$work/made.map" $addresses >/dev/null
+        "$work/sanitised_compiler" "$version" >/dev/null
+        "$work/sanitised_compiler" "$version" in-place >/dev/null
         # It gives no memory of its own back before it ends.
         ASAN_OPTIONS=detect_leaks=0 "$work/sanitised_rewrite" "$work/line$version" "$work/line_str$version" >/dev/null
     done
@@ -85,10 +92,14 @@ fi
 if have valgrind "memory by it"; then
     build plain where_is
     build plain_rows addr2line
+    build plain_make_map make_map
+    build plain_compiler compiler
     for version in 2 5; do
         # shellcheck disable=SC2086
         valgrind -q --error-exitcode=9 --leak-check=full --errors-for-leak-kinds=all "$work/plain" "$work/built$version" $addresses >/dev/null
         valgrind -q --error-exitcode=9 --leak-check=full --errors-for-leak-kinds=all "$work/plain_rows" "$work/line$version" >/dev/null
+        valgrind -q --error-exitcode=9 --leak-check=full --errors-for-leak-kinds=all "$work/plain_make_map" "$work/built$version" "$work/made.map" >/dev/null
+        valgrind -q --error-exitcode=9 --leak-check=full --errors-for-leak-kinds=all "$work/plain_compiler" "$version" >/dev/null
         valgrind -q --error-exitcode=9 --tool=helgrind "$work/threads" "$work/line$version" 4 >/dev/null
     done
     echo "gimli_c: valgrind finds no memory that is misused or lost, and no thread that meets another"

@@ -41,6 +41,8 @@ cc -std=c11 -Wall -Wextra -Werror -O2 -I "$crate/include" "$here/c/directories.c
 cc -std=c11 -Wall -Wextra -Werror -O2 -I "$crate/include" "$here/c/opened.c" "$library" "$kit/liblibc_c.a" -o "$work/opened"
 cc -std=c11 -Wall -Wextra -Werror -O2 -I "$crate/include" "$here/c/map.c" "$library" "$kit/liblibc_c.a" -o "$work/map"
 cc -std=c11 -Wall -Wextra -Werror -O2 -I "$crate/include" "$here/c/maps.c" "$library" "$kit/liblibc_c.a" -lpthread -o "$work/maps"
+cc -std=c11 -Wall -Wextra -Werror -O2 -I "$crate/include" "$here/c/make_map.c" "$library" "$kit/liblibc_c.a" -o "$work/make_map"
+cc -std=c11 -Wall -Wextra -Werror -O2 -I "$crate/include" "$here/c/compiler.c" "$library" "$kit/liblibc_c.a" -o "$work/compiler"
 indexed=where_is
 if command -v c++ >/dev/null; then
     c++ -std=c++11 -Wall -Wextra -Werror -O2 -I "$crate/include" "$here/cpp/where_is.cc" "$library" "$kit/liblibc_c.a" -o "$work/where_is_cpp"
@@ -65,6 +67,7 @@ expected() {
 compared=0
 rewritten=0
 places=0
+mapped=0
 for version in 2 3 4 5; do
     (cd "$top/compare" && cc -g "-gdwarf-$version" -O1 sources/main.c sources/sums.c -o "$work/built")
     objcopy --dump-section ".debug_line=$work/line.bin" "$work/built" "$work/copy"
@@ -100,6 +103,17 @@ for version in 2 3 4 5; do
     "$work/where_is" "$work/compressed" $covered | sed -E "s,:[0-9]+\$,," | cmp "$work/places" -
     # shellcheck disable=SC2086
     "$work/opened" "$work/compressed" $covered | cmp <(sed -E 's,.*:,,' "$work/places") -
+    # And of the maps of both, which are named by the build id, and say the same of every address.
+    for name in built compressed; do
+        "$work/make_map" "$work/$name" "$work/$name.map" >"$work/named"
+        readelf -n "$work/$name" | sed -nE 's/.*Build ID: //p' | cmp - "$work/named"
+        # shellcheck disable=SC2086
+        "$work/map" "$work/$name.map" $covered | sed -E "s,:[0-9]+\$,," | cmp "$work/places" -
+        [ "$("$work/map" "$work/$name.map" 0 ffffffffffffffff)" = "none
+none" ]
+        mapped=$((mapped + $(wc -l <"$work/places")))
+    done
+    cmp "$work/built.map" "$work/compressed.map"
     echo "$covered" | "$work/where_is" "$work/built" | sed -E "s,:[0-9]+\$,," | cmp "$work/places" -
     [ "$("$work/where_is" "$work/built" 0 ffffffffffffffff)" = "none
 none" ]
@@ -114,6 +128,31 @@ printf '%s\n' /source/0.c:1:0 '??:2:1' none /source/0.c:4:3 none >"$work/expecte
 "$work/map" "$work/small.map" 400000 40001f 400020 400037 3fffff | cmp "$work/expected_map" -
 ! "$work/map" "$crate/include/gimli_line.h" 400000 2>"$work/said"
 [ "$(cat "$work/said")" = "map: the bytes don't begin as a map does" ]
+! "$work/make_map" "$crate/include/gimli_line.h" "$work/no.map" 2>"$work/said"
+[ "$(cat "$work/said")" = "make_map: the bytes are no ELF file that can be read" ]
+# The lines of two functions whose addresses a linker gives, by each form of relocations: addr2line finds what compiler.c wrote.
+linked=0
+if [ "$(uname -m)" = x86_64 ]; then
+    printf 'int first(void);\nint second(void);\nint main(void) { return first() * 10 + second() == 12 ? 0 : 1; }\n' >"$work/two_main.c"
+    printf '/made/two.c:%s\n' 3 3 4 8 8 9 >"$work/wanted"
+    for version in 2 3 4 5; do
+        for form in in-list in-place; do
+            "$work/compiler" $version $form >"$work/two.s"
+            cc -c "$work/two.s" -o "$work/two.o"
+            [ "$(readelf -r "$work/two.o" | sed -n '/\.debug_line/,/^$/p' | grep -c R_X86_64_64)" = 2 ]
+            cc "$work/two_main.c" "$work/two.o" -o "$work/two"
+            "$work/two"
+            asked=$(for at in "first 0" "first 4" "first 5" "second 0" "second 4" "second 5"; do
+                printf '%x\n' $((0x$(nm "$work/two" | awk -v name="${at% *}" '$3 == name {print $1}') + ${at#* }))
+            done)
+            # shellcheck disable=SC2086
+            addr2line -e "$work/two" $asked | cmp "$work/wanted" -
+            # Six rows and two ends, by another reader.
+            [ "$(readelf --debug-dump=decodedline "$work/two.o" 2>/dev/null | grep -c '^two.c  *[0-9]')" -ge 4 ]
+            linked=$((linked + $(wc -l <"$work/wanted")))
+        done
+    done
+fi
 # What is no ELF file, and a file without lines.
 [ "$("$work/opened" "$crate/include/gimli_line.h" 0 2>&1 || true)" = "opened: the bytes are no ELF file that can be read" ]
 objcopy --strip-debug "$work/built" "$work/stripped"
@@ -121,6 +160,8 @@ objcopy --strip-debug "$work/built" "$work/stripped"
 directories=$("$work/directories")
 echo "gimli_c: a map that was written by docs/INDEX.md alone is read as it was written"
 echo "gimli_c: $directories answers on directories of compilations are as made by hand"
+echo "gimli_c: $mapped places by maps that make_map made are addr2line's, and each map has its program's build id"
+echo "gimli_c: $linked lines at symbols that a linker placed are addr2line's"
 echo "gimli_c: $rewritten rows were written as they were read"
 echo "gimli_c: $places paths and lines of the examples ($indexed) are addr2line's"
 echo "gimli_c: $compared lines of the example addr2line are linetool's"

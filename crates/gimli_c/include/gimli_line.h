@@ -107,7 +107,7 @@ enum gimli_status {
     GIMLI_EXPECTED_STRING_ATTRIBUTE_VALUE = 16,
     GIMLI_OUT_OF_MEMORY = 17,
     GIMLI_NO_ROW = 18,                                 /* no row covers the address, or a map says nothing of it */
-    /* 19 to 31 are answered by gimli_line_write alone, but for 25 and 26. */
+    /* 19 to 30 are answered by the calls that write units alone, but for 25 and 26. */
     GIMLI_UNSUPPORTED_OFFSET_SIZE = 19,                /* the size of offsets isn't 4 or 8 */
     GIMLI_UNSUPPORTED_LINE_ENCODING = 20,              /* rows can't be written by the line encoding */
     GIMLI_TEXT_OUT_OF_BOUNDS = 21,                     /* a text isn't within the texts */
@@ -120,10 +120,10 @@ enum gimli_status {
     GIMLI_UNKNOWN_FLAG = 28,                           /* a row has a flag that isn't known */
     GIMLI_NEED_VERSION_4 = 29,                         /* several operations in an instruction, before version 4 */
     GIMLI_UNIT_TOO_LONG = 30,                          /* a length, or the first address of a sequence, doesn't fit its word */
-    GIMLI_NO_ROOM = 31,                                /* the unit is longer than the room for it */
+    GIMLI_NO_ROOM = 31,                                /* what is written is longer than the room for it */
     GIMLI_CLOSED = 32,                                 /* the handle is closed */
     GIMLI_UNKNOWN_PATH = 33,                           /* a string of a path can't be told */
-    /* 34 to 39 are answered by the calls of maps alone. */
+    /* 34 to 39 are answered by the calls that ask maps alone. */
     GIMLI_NO_MAP = 34,                                 /* the bytes don't begin as a map does */
     GIMLI_UNKNOWN_MAP_VERSION = 35,                    /* the version of a map is unknown */
     GIMLI_MAP_CUT = 36,                                /* a map ends before its parts do */
@@ -136,8 +136,11 @@ enum gimli_status {
     GIMLI_UNKNOWN_OPTIONS = 43,                        /* options have a size that this library doesn't know */
     /* 44 to 46 are answered by the calls over ELF files alone. */
     GIMLI_NO_ELF = 44,                                 /* the bytes are no ELF file that can be read */
-    GIMLI_NO_SECTION = 45,                             /* an ELF file has no section of this name */
-    GIMLI_BAD_SECTION = 46                             /* a section is cut, or its compression or relocations are unknown */
+    GIMLI_NO_SECTION = 45,                             /* an ELF file has no section of this name, or no build id */
+    GIMLI_BAD_SECTION = 46,                            /* a section is cut, or its compression or relocations are unknown */
+    /* 47 and 48 are answered by gimli_line_map_write alone. */
+    GIMLI_MAP_TOO_LARGE = 47,                          /* ranges, files, or bytes of paths or of the identity: 2^32 or more */
+    GIMLI_PLACE_TOO_LARGE = 48                         /* a line or a column is 2^32 or above */
 };
 
 /* A unit of the section .debug_line. */
@@ -330,6 +333,12 @@ uint32_t gimli_elf_open(const uint8_t *file, size_t length, gimli_elf *found) GI
 uint32_t gimli_elf_section(const uint8_t *file, size_t length, const uint8_t *name, size_t name_length, uint8_t *bytes, size_t room,
                            size_t *size) GIMLI_CALL GIMLI_READS(1, 2) GIMLI_READS(3, 4) GIMLI_WRITES(5, 6);
 
+/* Puts the build id of an ELF file (NT_GNU_BUILD_ID, mostly 20 bytes) into id[0] and so on, as far as there is room; *size is how many
+ * bytes it has. GIMLI_NO_SECTION where the file has none, GIMLI_BAD_SECTION where the section of it can't be read, GIMLI_NO_ELF where the
+ * file is none. Where another number than 0 is answered, nothing is written. Takes no memory. */
+uint32_t gimli_elf_build_id(const uint8_t *file, size_t length, uint8_t *id, size_t room, size_t *size)
+    GIMLI_CALL GIMLI_READS(1, 2) GIMLI_WRITES(3, 4);
+
 /* The handle of an index. It owns the index; a closed one owns nothing. It is for one thread: each call takes the handle for itself,
  * those that only read too, and a handle stays on the thread that opened it. For threads there are maps. (How a call could share what a
  * handle owns can't be proved of a type that crosses to C: docs/DECISIONS.md says what was tried.) */
@@ -406,6 +415,69 @@ static inline uint32_t gimli_line_index_open_elf(const uint8_t *file, size_t len
                                        &options, index);
     }
     for (int i = 0; i < 3; i++) free(sections[i]);
+    return status;
+}
+
+/* Makes the map of a program, at the front of `map`, and puts its number of bytes into *size. `section`, `line_strings`, `strings`,
+ * `info`, `abbreviations` and `string_offsets` are the sections .debug_line, .debug_line_str, .debug_str, .debug_info, .debug_abbrev and
+ * .debug_str_offsets, or no bytes; `identity` names what the map is made of: a build id, a checksum, or nothing. The map says of each
+ * address what an index finds there, with the whole path over the directory of the compilation; of a path that can't be told it has the
+ * reason. GIMLI_NO_ROOM where it is longer than `room`: *size is its length then. Where any other number than 0 is answered
+ * (GIMLI_UNKNOWN_OPTIONS, GIMLI_UNSUPPORTED_ADDRESS_SIZE, GIMLI_OUT_OF_MEMORY, GIMLI_MAP_TOO_LARGE, GIMLI_PLACE_TOO_LARGE) *size is 0. In both
+ * cases nothing is written to `map`. All units are read for each call, so give it room at once: 16 bytes for each byte of .debug_line
+ * are mostly more than it takes, and what isn't written of them costs no memory. It takes memory: no signal handler calls it. */
+uint32_t gimli_line_map_write(const uint8_t *section, size_t length, const uint8_t *line_strings, size_t line_strings_length,
+                              const uint8_t *strings, size_t strings_length, const uint8_t *info, size_t info_length,
+                              const uint8_t *abbreviations, size_t abbreviations_length, const uint8_t *string_offsets,
+                              size_t string_offsets_length, const gimli_open_options *options, const uint8_t *identity,
+                              size_t identity_length, uint8_t *map, size_t room, size_t *size)
+    GIMLI_CALL GIMLI_READS(1, 2) GIMLI_READS(3, 4) GIMLI_READS(5, 6) GIMLI_READS(7, 8) GIMLI_READS(9, 10) GIMLI_READS(11, 12)
+    GIMLI_READS(14, 15) GIMLI_WRITES(16, 17);
+
+/* Makes the map of an ELF file, in memory of its own, which free() gives back: of its sections, each made whole, by its order of bytes,
+ * its size of addresses and its lowest address of code (in an object file, none is left out), named by its build id where it has one.
+ * GIMLI_NO_ELF where it is none, GIMLI_NO_SECTION where it has no .debug_line, GIMLI_BAD_SECTION where one of these can't be read; else it
+ * answers as gimli_line_map_write does. Where another number than 0 is answered, *map is null and *size is 0. */
+static inline uint32_t gimli_line_map_of_elf(const uint8_t *file, size_t length, uint8_t **map, size_t *size) {
+    static const char *const names[6] = {".debug_line", ".debug_line_str", ".debug_str", ".debug_info", ".debug_abbrev", ".debug_str_offsets"};
+    uint8_t *sections[6] = {NULL, NULL, NULL, NULL, NULL, NULL}, id[64], *made = NULL;
+    size_t sizes[6] = {0, 0, 0, 0, 0, 0}, id_size = 0, room = 0;
+    gimli_elf elf;
+    gimli_open_options options = GIMLI_OPEN_OPTIONS;
+    uint32_t status = gimli_elf_open(file, length, &elf);
+    *map = NULL;
+    *size = 0;
+    for (int i = 0; i < 6 && status == GIMLI_OK; i++) sections[i] = gimli_elf_copy(file, length, names[i], &sizes[i], &status);
+    if (status == GIMLI_OK && sections[0] == NULL) status = GIMLI_NO_SECTION;
+    if (status == GIMLI_OK) {
+        uint32_t has = gimli_elf_build_id(file, length, id, sizeof id, &id_size);
+        if (has != GIMLI_OK || id_size > sizeof id) id_size = 0;
+        if (has == GIMLI_BAD_SECTION) status = has;
+        options.lowest = elf.relocatable ? 0 : elf.lowest;
+        options.address_size = elf.address_size;
+        options.big = elf.big;
+        room = sizes[0] <= SIZE_MAX / 32 ? 1024 + 16 * sizes[0] : 1024;
+    }
+    while (status == GIMLI_OK) {
+        made = (uint8_t *)malloc(room);
+        if (made == NULL) status = GIMLI_OUT_OF_MEMORY;
+        else
+            status = gimli_line_map_write(sections[0], sizes[0], gimli_bytes(sections[1]), sizes[1], gimli_bytes(sections[2]), sizes[2],
+                                          gimli_bytes(sections[3]), sizes[3], gimli_bytes(sections[4]), sizes[4],
+                                          gimli_bytes(sections[5]), sizes[5], &options, id, id_size, made, room, size);
+        if (status == GIMLI_OK) break;
+        free(made);
+        made = NULL;
+        if (status == GIMLI_NO_ROOM) {
+            room = *size;
+            status = GIMLI_OK;
+        }
+    }
+    if (made != NULL) { /* what the map doesn't take of the room is given back */
+        *map = (uint8_t *)realloc(made, *size);
+        if (*map == NULL) *map = made;
+    }
+    for (int i = 0; i < 6; i++) free(sections[i]);
     return status;
 }
 
@@ -604,6 +676,36 @@ uint32_t gimli_line_write(const gimli_encoding *encoding, bool big, uint64_t det
                           size_t *size)
     GIMLI_CALL GIMLI_READS(4, 5) GIMLI_READS(6, 7) GIMLI_READS(8, 9) GIMLI_READS(10, 11) GIMLI_WRITES(12, 13);
 
+/* A symbol that a sequence begins at. */
+typedef struct gimli_symbol {
+    size_t symbol;  /* its number, to which the caller gives a meaning, as an index into a symbol table */
+    int64_t addend; /* what is added to its address */
+} gimli_symbol;
+
+/* A place of a unit that a linker fills in: with the address of its target, and the addend (System V ABI, chapter 4). */
+typedef struct gimli_relocation {
+    size_t offset;    /* of the place in the unit, in bytes */
+    size_t symbol;    /* the number of the symbol; 0 where the target is a section */
+    int64_t addend;   /* 0 where addends stand at the places */
+    uint32_t size;    /* of the place, in bytes: the size of addresses */
+    uint32_t section; /* 0: the target is the symbol. In these units it always is, since all their texts stand in them */
+} gimli_relocation;
+
+/* Does what gimli_line_write does, for a compiler, which doesn't know its addresses: the first sequence begins at symbols[0], the next
+ * at symbols[1], and so on; one that has no symbol begins at the address of its first row. Where there is a symbol, the address of the
+ * first row stands for the symbol and its addend, and the addresses of the other rows are counted from it: mostly it is 0. Each place
+ * of a symbol goes into relocations[0] and so on, and *count is how many there are. The addends stand there and the places are 0, as for
+ * a section SHT_RELA; or, where `in_place`, the addends stand at the places and those of the relocations are 0, as for SHT_REL.
+ * GIMLI_NO_ROOM where the unit is longer than `room`, or there are more relocations than `relocation_room`: *size and *count say how
+ * many it takes then. Where any other number than 0 is answered, both are 0. In both cases neither array is written to. */
+uint32_t gimli_line_write_relocatable(const gimli_encoding *encoding, bool big, uint64_t details, bool in_place, const uint8_t *texts,
+                                      size_t text_length, const gimli_name *directories, size_t directory_count,
+                                      const gimli_file_name *files, size_t file_count, const gimli_row *rows, size_t row_count,
+                                      const gimli_symbol *symbols, size_t symbol_count, uint8_t *unit, size_t room, size_t *size,
+                                      gimli_relocation *relocations, size_t relocation_room, size_t *count)
+    GIMLI_CALL GIMLI_READS(5, 6) GIMLI_READS(7, 8) GIMLI_READS(9, 10) GIMLI_READS(11, 12) GIMLI_READS(13, 14) GIMLI_WRITES(15, 16)
+    GIMLI_WRITES(18, 19);
+
 /* What is written, as one value. Set all of it to 0 first; an array of no elements may stay null. */
 typedef struct gimli_contents {
     gimli_encoding encoding;
@@ -617,9 +719,12 @@ typedef struct gimli_contents {
     size_t file_count;
     const gimli_row *rows;
     size_t row_count;
+    const gimli_symbol *symbols;      /* those that the first sequences begin at. gimli_line_write_contents takes none */
+    size_t symbol_count;
+    bool in_place;                    /* addends stand at the places of relocations */
 } gimli_contents;
 
-/* Does what gimli_line_write does, for contents. */
+/* Does what gimli_line_write does, for contents, whose symbols it doesn't look at. */
 static inline uint32_t gimli_line_write_contents(const gimli_contents *contents, uint8_t *unit, size_t room, size_t *size) {
     static const gimli_name no_name = {0, 0};
     static const gimli_file_name no_file = {{0, 0}, 0, 0, 0, {0}};
@@ -630,6 +735,23 @@ static inline uint32_t gimli_line_write_contents(const gimli_contents *contents,
                             contents->directory_count, contents->files != NULL ? contents->files : &no_file,
                             contents->file_count, contents->rows != NULL ? contents->rows : &no_row, contents->row_count,
                             unit != NULL ? unit : &none, room, size);
+}
+
+/* Does what gimli_line_write_relocatable does, for contents. */
+static inline uint32_t gimli_line_write_relocatable_contents(const gimli_contents *contents, uint8_t *unit, size_t room, size_t *size,
+                                                             gimli_relocation *relocations, size_t relocation_room, size_t *count) {
+    static const gimli_name no_name = {0, 0};
+    static const gimli_file_name no_file = {{0, 0}, 0, 0, 0, {0}};
+    static const gimli_row no_row = {0, 0, 0, 0, 0, 0, 0, 0};
+    static const gimli_symbol no_symbol = {0, 0};
+    uint8_t none = 0;
+    gimli_relocation no_relocation;
+    return gimli_line_write_relocatable(
+        &contents->encoding, contents->big, contents->details, contents->in_place, gimli_bytes(contents->texts), contents->text_length,
+        contents->directories != NULL ? contents->directories : &no_name, contents->directory_count,
+        contents->files != NULL ? contents->files : &no_file, contents->file_count, contents->rows != NULL ? contents->rows : &no_row,
+        contents->row_count, contents->symbols != NULL ? contents->symbols : &no_symbol, contents->symbol_count,
+        unit != NULL ? unit : &none, room, size, relocations != NULL ? relocations : &no_relocation, relocation_room, count);
 }
 
 /* The name of a number that a call answered. */
@@ -682,6 +804,8 @@ static inline const char *gimli_status_name(uint32_t status) {
     case GIMLI_NO_ELF: return "GIMLI_NO_ELF";
     case GIMLI_NO_SECTION: return "GIMLI_NO_SECTION";
     case GIMLI_BAD_SECTION: return "GIMLI_BAD_SECTION";
+    case GIMLI_MAP_TOO_LARGE: return "GIMLI_MAP_TOO_LARGE";
+    case GIMLI_PLACE_TOO_LARGE: return "GIMLI_PLACE_TOO_LARGE";
     default: return "unknown status";
     }
 }
@@ -720,7 +844,7 @@ static inline const char *gimli_status_sentence(uint32_t status) {
     case GIMLI_UNKNOWN_FLAG: return "a row has a flag that isn't known";
     case GIMLI_NEED_VERSION_4: return "several operations in an instruction, before version 4";
     case GIMLI_UNIT_TOO_LONG: return "a length or the first address of a sequence doesn't fit its word";
-    case GIMLI_NO_ROOM: return "the unit is longer than the room for it";
+    case GIMLI_NO_ROOM: return "what is written is longer than the room for it";
     case GIMLI_CLOSED: return "the handle is closed";
     case GIMLI_UNKNOWN_PATH: return "a string of a path can't be told";
     case GIMLI_NO_MAP: return "the bytes don't begin as a map does";
@@ -736,6 +860,8 @@ static inline const char *gimli_status_sentence(uint32_t status) {
     case GIMLI_NO_ELF: return "the bytes are no ELF file that can be read";
     case GIMLI_NO_SECTION: return "the ELF file has no section of this name";
     case GIMLI_BAD_SECTION: return "a section is cut, or its compression or relocations are unknown";
+    case GIMLI_MAP_TOO_LARGE: return "a map would have more ranges, files or bytes than 32 bits count";
+    case GIMLI_PLACE_TOO_LARGE: return "a line or a column is more than 32 bits hold";
     default: return "the number is none that a call answers";
     }
 }

@@ -19,6 +19,7 @@ use Rattle.gimli_build.specs.declared.built.items.BuiltItem.{BuiltItem}
 use Rattle.gimli_c.specs.declared.encoding.GimliEncoding.{GimliEncoding}
 use Rattle.gimli_c.specs.declared.tables.GimliFileName.{GimliFileName}
 use Rattle.gimli_c.specs.declared.row.GimliRow.{GimliRow}
+use Rattle.gimli_c.specs.declared.items.GimliSymbol.{GimliSymbol}
 use Rattle.gimli_c.specs.Handed.{AddsDirectories, AddsFiles, encoding_of, items_handed}
 use Rattle.gimli_c.specs.inside.Handed.{IsInline, AddsItems}
 use Rattle.gimli_build.specs.ReadsBack.{ReadsBackAs}
@@ -109,16 +110,16 @@ built_source h p b =
 
 pub items_built : (details : ℕ) (e : GimliEncoding) (start between after p : Built) (texts : List (List ℕ)) (bytes ids given : List ℕ)
     (files : List GimliFileName)
-    (file_ids now : List ℕ) (rows : List GimliRow) → start.items ≡ [] → start.encoding ≡ encoding_of e
+    (file_ids now : List ℕ) (symbols : List GimliSymbol) (rows : List GimliRow) → start.items ≡ [] → start.encoding ≡ encoding_of e
     → AddsDirectories (program_with details start) between texts ids
-    → AddsFiles between after bytes given files file_ids → now ≡ file_ids → AddsItems after p (items_handed after.encoding.version now None rows)
-    → p.items ≡ items_handed e.version file_ids None rows
-items_built details e start between after p texts bytes ids given files file_ids now rows none is d f same a =
+    → AddsFiles between after bytes given files file_ids → now ≡ file_ids → AddsItems after p (items_handed after.encoding.version now symbols 0 None rows)
+    → p.items ≡ items_handed e.version file_ids symbols 0 None rows
+items_built details e start between after p texts bytes ids given files file_ids now symbols rows none is d f same a =
     let items : after.items ≡ [] = ap (λ (q : Built). q.items) f.others ∙ ap (λ (q : Built). q.items) d.others ∙ none in
     let version : after.encoding.version ≡ e.version =
     ap (λ (q : Built). q.encoding.version) f.others ∙ ap (λ (q : Built). q.encoding.version) d.others ∙ ap (λ (x : Encoding). x.version) is in
-    a.items_are ∙ ap (λ (xs : List BuiltItem). xs ++ items_handed after.encoding.version now None rows) items
-    ∙ ap (λ (v : ℕ). items_handed v now None rows) version ∙ ap (λ (xs : List ℕ). items_handed e.version xs None rows) same
+    a.items_are ∙ ap (λ (xs : List BuiltItem). xs ++ items_handed after.encoding.version now symbols 0 None rows) items
+    ∙ ap (λ (v : ℕ). items_handed v now symbols 0 None rows) version ∙ ap (λ (xs : List ℕ). items_handed e.version xs symbols 0 None rows) same
 
 -- which details are written changes nothing of what a program requires to be written, where no source is among them
 pub can_with : (details : ℕ) (p : Built) → CanWrite p no_texts → CanWrite (program_with details p) no_texts

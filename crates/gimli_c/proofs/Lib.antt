@@ -4,6 +4,7 @@ pub mod Files
 pub mod Runs
 pub mod Units
 pub mod Handings
+pub mod Sequences
 pub mod CauseLemmas
 pub mod SamePrograms
 pub mod Handles
@@ -13,3 +14,4 @@ pub mod CompDirs
 pub mod Indexes
 pub mod Readers
 pub mod Maps
+pub mod MadeMaps

@@ -37,7 +37,7 @@ file_ids h = ids_of_files h.texts (ids h) (start h).files h.files
 
 abbrev program_of : Handed → LineRow → Bool → Built
 program_of h row in_sequence =
-    record (with_tables h) { items = items_handed h.encoding.version (file_ids h) None h.rows; row = row; in_sequence = in_sequence }
+    record (with_tables h) { items = items_handed h.encoding.version (file_ids h) h.symbols 0 None h.rows; row = row; in_sequence = in_sequence }
 
 is_program_of : (h : Handed) (p : Built) → IsBuiltOf h p → p ≡ program_of h p.row p.in_sequence
 is_program_of h p b =
@@ -50,7 +50,7 @@ is_program_of h p b =
     ∙ ap (λ (fs : List File). let q : Built = record (with_tables h) { files = fs } in q) files in
     let given = b.files.ids_are ∙ ap (λ (xs : List ℕ). ids_of_files h.texts xs b.between.files h.files) d.ids_are
     ∙ ap (λ (fs : List File). ids_of_files h.texts (ids h) fs h.files) files_between in
-    let items = b.items ∙ ap (λ (xs : List ℕ). items_handed h.encoding.version xs None h.rows) given in
+    let items = b.items ∙ ap (λ (xs : List ℕ). items_handed h.encoding.version xs h.symbols 0 None h.rows) given in
     b.others ∙ ap (λ (q : Built). let r : Built = record q { items = p.items; row = p.row; in_sequence = p.in_sequence } in r) after
     ∙ ap (λ (xs : List BuiltItem). let r : Built = record (with_tables h) { items = xs; row = p.row; in_sequence = p.in_sequence } in r) items
 

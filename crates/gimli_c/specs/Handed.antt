@@ -6,7 +6,8 @@ use Rattle.std.specs.List.{slice_range}
 use Rattle.gimli_core.specs.declared.common.Encoding.{Encoding}
 use Rattle.gimli_core.specs.declared.common.LineEncoding.{LineEncoding}
 use Rattle.gimli_core.specs.declared.common.Format.TheVariants.{Dwarf32, Dwarf64}
-use Rattle.gimli_bytes.specs.declared.address.Address.TheVariants.{Constant}
+use Rattle.gimli_bytes.specs.declared.address.Address.{Address}
+use Rattle.gimli_bytes.specs.declared.address.Address.TheVariants.{Constant, Symbol}
 use Rattle.gimli_build.specs.Built.{Built}
 use Rattle.gimli_build.specs.LineText.{LineText, Inline}
 use Rattle.gimli_build.specs.Tables.{File, FileKey, Details, with_directory, index_of_directory}
@@ -18,6 +19,7 @@ use Rattle.gimli_c.specs.declared.encoding.GimliEncoding.{GimliEncoding}
 use Rattle.gimli_c.specs.declared.text.GimliName.{GimliName}
 use Rattle.gimli_c.specs.declared.tables.GimliFileName.{GimliFileName}
 use Rattle.gimli_c.specs.declared.row.GimliRow.{GimliRow}
+use Rattle.gimli_c.specs.declared.items.GimliSymbol.{GimliSymbol}
 
 -- the number of a refusal, which isn't that of a unit that is longer than the room
 abbrev pub IsRefusal : ℕ → Type 0
@@ -97,21 +99,32 @@ base_of base r = unwrap_or base r.address
 abbrev pub base_after : Option ℕ → GimliRow → Option ℕ
 base_after base r = if ends r then None else Some (base_of base r)
 
+-- the number of the sequence that the next row belongs to
+abbrev pub sequence_after : ℕ → GimliRow → ℕ
+sequence_after sequence r = if ends r then sequence + 1 else sequence
+
+-- where a sequence begins: at its symbol, where it has one, else at the address of its first row
+abbrev pub start_of : Option GimliSymbol → ℕ → Address
+start_of (Some s) address = Symbol s.symbol s.addend
+start_of None address = Constant address
+
 -- where a sequence begins its address is set
-abbrev pub items_of_start : Option ℕ → ℕ → List BuiltItem
-items_of_start (Some base) address = []
-items_of_start None address = SetAddress (Constant address) ∷ []
+abbrev pub items_of_start : Option GimliSymbol → Option ℕ → ℕ → List BuiltItem
+items_of_start symbol (Some base) address = []
+items_of_start symbol None address = SetAddress (start_of symbol address) ∷ []
 
 -- what a row adds: where a sequence begins its address, and the row or the end
-abbrev pub items_of_row : ℕ → List ℕ → Option ℕ → GimliRow → List BuiltItem
-items_of_row version ids base r =
-    items_of_start base r.address ++ item_handed version ids (base_of base r) r ∷ []
+abbrev pub items_of_row : ℕ → List ℕ → Option GimliSymbol → Option ℕ → GimliRow → List BuiltItem
+items_of_row version ids symbol base r =
+    items_of_start symbol base r.address ++ item_handed version ids (base_of base r) r ∷ []
 
--- what rows add, one after the other
-abbrev pub items_handed : ℕ → List ℕ → Option ℕ → List GimliRow → List BuiltItem
-items_handed version ids base [] = []
-items_handed version ids base (r ∷ rows) =
-    items_of_row version ids base r ++ items_handed version ids (base_after base r) rows
+-- what rows add, one after the other; the symbols are those of the sequences from the first on
+abbrev pub items_handed : ℕ → List ℕ → List GimliSymbol → ℕ → Option ℕ → List GimliRow
+    → List BuiltItem
+items_handed version ids symbols sequence base [] = []
+items_handed version ids symbols sequence base (r ∷ rows) =
+    items_of_row version ids (slice_get symbols sequence) base r
+    ++ items_handed version ids symbols (sequence_after sequence r) (base_after base r) rows
 
 -- ---- tables
 

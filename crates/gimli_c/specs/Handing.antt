@@ -12,6 +12,7 @@ use Rattle.gimli_c.specs.declared.encoding.GimliEncoding.{GimliEncoding}
 use Rattle.gimli_c.specs.declared.text.GimliName.{GimliName}
 use Rattle.gimli_c.specs.declared.tables.GimliFileName.{GimliFileName}
 use Rattle.gimli_c.specs.declared.row.GimliRow.{GimliRow}
+use Rattle.gimli_c.specs.declared.items.GimliSymbol.{GimliSymbol}
 use Rattle.gimli_c.specs.Handed.{encoding_of, line_encoding_of, has_flag, text_handed, items_handed}
 use Rattle.gimli_c.specs.Handed.{AddsDirectories, AddsFiles}
 use Rattle.gimli_c.specs.Start.{start_program}
@@ -26,10 +27,12 @@ pub record Handed : Type 0 where
   pub directories : List GimliName
   pub files : List GimliFileName
   pub rows : List GimliRow
+  -- those at which the first sequences begin
+  pub symbols : List GimliSymbol
 
 abbrev pub handed_of : GimliEncoding → Bool → ℕ → List ℕ → List GimliName → List GimliFileName
-    → List GimliRow → Handed
-handed_of encoding big details texts directories files rows = record {
+    → List GimliRow → List GimliSymbol → Handed
+handed_of encoding big details texts directories files rows symbols = record {
   encoding = encoding;
   big = big;
   details = details;
@@ -37,6 +40,7 @@ handed_of encoding big details texts directories files rows = record {
   directories = directories;
   files = files;
   rows = rows;
+  symbols = symbols;
 }
 
 -- the number of a refusal
@@ -75,7 +79,7 @@ pub record IsBuiltOf (h : Handed) (p : Built) : Type 0 where
   pub directories : AddsDirectories (program_with h.details start) between
       (map (text_handed h.texts) h.directories) directory_ids
   pub files : AddsFiles between after h.texts directory_ids h.files file_ids
-  pub items : p.items ≡ items_handed h.encoding.version file_ids None h.rows
+  pub items : p.items ≡ items_handed h.encoding.version file_ids h.symbols 0 None h.rows
   pub others : p ≡ record after { items = p.items; row = p.row; in_sequence = p.in_sequence }
   pub can : CanWrite p no_texts
 

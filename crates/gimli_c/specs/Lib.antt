@@ -10,6 +10,7 @@ pub mod FileSeen
 pub mod Handed
 pub mod Start
 pub mod Handing
+pub mod Relocated
 pub mod Refused
 pub mod Causes
 pub mod Owned
@@ -17,5 +18,7 @@ pub mod Indexed
 pub mod Reader
 pub mod CompDir
 pub mod Mapped
+pub mod MadeMap
 pub mod ElfSeen
+pub mod BuildId
 pub mod inside

@@ -22,7 +22,7 @@ use Rattle.gimli_c.specs.declared.status.TheConstants.{UNKNOWN_MAP_VERSION, MAP_
 use Rattle.gimli_c.specs.declared.status.TheConstants.{MAP_DISORDERED, MAP_PATH_OUTSIDE}
 use Rattle.gimli_c.specs.declared.status.TheConstants.{NO_SUCH_UNIT, NO_CODE, NO_COMP_DIR}
 use Rattle.gimli_c.specs.declared.status.TheConstants.{UNKNOWN_OPTIONS, NO_ELF, NO_SECTION}
-use Rattle.gimli_c.specs.declared.status.TheConstants.{BAD_SECTION}
+use Rattle.gimli_c.specs.declared.status.TheConstants.{BAD_SECTION, MAP_TOO_LARGE, PLACE_TOO_LARGE}
 
 -- the constants are these numbers, which the enum `gimli_status` of include/gimli_line.h has under
 -- the same names
@@ -74,3 +74,5 @@ pub record AreNumbered : Type 0 where
   pub no_elf : NO_ELF ≡ 44
   pub no_section : NO_SECTION ≡ 45
   pub bad_section : BAD_SECTION ≡ 46
+  pub map_too_large : MAP_TOO_LARGE ≡ 47
+  pub place_too_large : PLACE_TOO_LARGE ≡ 48

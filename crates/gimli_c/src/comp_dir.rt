@@ -13,7 +13,7 @@ use gimli_core::{EndianSlice, RunTimeEndian};
 use std::alloc::Global;
 
 /// Readers over sections that are handed over.
-fn sections_in<'s>(
+pub(crate) fn sections_in<'s>(
     info: &'s [u8],
     abbreviations: &'s [u8],
     line_strings: &'s [u8],

@@ -27,7 +27,7 @@ pub struct GimliElf {
 }
 
 /// An ELF file, or `NO_ELF`.
-fn elf_in(file: &[u8]) -> Result<Elf<'_>, u32>
+pub(crate) fn elf_in(file: &[u8]) -> Result<Elf<'_>, u32>
     ensures ok { IfOk result (λ elf. file_at file.now ≡ Ok (file_of elf)) }
     ensures err { IfErr result (λ s. (s ≡ NO_ELF) × IsNoElf file.now) }
 {

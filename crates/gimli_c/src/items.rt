@@ -1,6 +1,7 @@
 //! The rows of a unit that is written.
 
-ghost use Rattle.std.specs.Prelude.{◌≡◌, ◌≢◌, ◌<◌, ◌≤◌, ◌-◌, [], ◌∷◌, false, true, length, IfErr};
+ghost use Rattle.std.specs.Prelude.{◌≡◌, ◌≢◌, ◌<◌, ◌≤◌, ◌+◌, ◌-◌, ◌^◌, [], ◌∷◌, false, true};
+ghost use Rattle.std.specs.Prelude.{length, IfErr};
 ghost use Rattle.std.specs.Prelude.{IfNone, IfOk, IfSome, OnOk, None, slice_get, unwrap_or};
 ghost use Rattle.gimli_bytes.specs.Texts.{no_texts};
 ghost use Rattle.gimli_build.specs.declared.built.items.BuiltItem.{BuiltItem};
@@ -11,7 +12,7 @@ ghost use Rattle.gimli_c.specs.Causes.{position_after};
 ghost use Rattle.gimli_c.specs.inside.Causes.{HasNone};
 ghost use Rattle.gimli_c.specs.Handed.{IsRefusal, base_after, base_of, ends, id_of_file};
 ghost use Rattle.gimli_c.specs.Handed.{items_handed, items_of_row, items_of_start, row_handed};
-ghost use Rattle.gimli_c.specs.Handed.{row_of_file};
+ghost use Rattle.gimli_c.specs.Handed.{row_of_file, sequence_after, start_of};
 ghost use Rattle.gimli_c.specs.inside.Handed.{AddsItems};
 
 use crate::row::{
@@ -21,17 +22,28 @@ use crate::status::{NO_SUCH_FILE, OUT_OF_MEMORY, ROW_OUT_OF_ORDER, UNKNOWN_FLAG}
 use gimli_build::{FileId, LineProgram, LineRow};
 use gimli_bytes::Address;
 
-/// Adds rows in order. The address of each sequence is that of its first row. Requires a program
-/// that can be written, and leaves one.
+/// A symbol that a sequence begins at.
+#[repr(C)]
+#[derive(Clone, Copy)]
+pub struct GimliSymbol {
+    /// Its number, to which the caller gives a meaning.
+    pub symbol: usize,
+    /// What is added to its address.
+    pub addend: i64,
+}
+
+/// Adds rows in order. Each sequence begins at its symbol, and where it has none at the address of
+/// its first row. Requires a program that can be written, and leaves one.
 pub(crate) fn add_rows(
     program: &mut LineProgram,
     ids: &[FileId],
+    symbols: &[GimliSymbol],
     rows: &[GimliRow],
 ) -> Result<(), u32>
     requires { CanWrite program.old no_texts }
     ensures can { CanWrite program.new no_texts }
     ensures ok { OnOk result (AddsItems program.old program.new
-        (items_handed program.old.encoding.version ids.now None rows.now)) }
+        (items_handed program.old.encoding.version ids.now symbols.now 0 None rows.now)) }
     ensures well { previous_position program.old.items ≡ (0, 0) → OnOk result (HasNone
         (HasRowsFault program.old.line_encoding program.old.encoding.version (length ids.now)
         None (0, 0) rows.now)) }
@@ -42,10 +54,31 @@ pub(crate) fn add_rows(
         None (0, 0) rows.now s) }
 {
     let mut base = None;
+    let mut sequence = 0;
     for row in rows {
-        base = add_row(program, ids, base, row)?;
+        base = add_row(program, ids, symbol_at(symbols, sequence), base, row)?;
+        sequence = sequence_after(sequence, row);
     }
     Ok(())
+}
+
+/// The symbol of a sequence, where it has one.
+fn symbol_at(symbols: &[GimliSymbol], sequence: usize) -> Option<GimliSymbol>
+    ensures { result ≡ slice_get symbols.now sequence }
+{
+    symbols.get(sequence).copied()
+}
+
+/// The number of the sequence that the next row belongs to.
+fn sequence_after(sequence: usize, row: &GimliRow) -> usize
+    requires { sequence + 1 < 2 ^ 64 }
+    ensures { result ≡ sequence_after sequence row.now }
+{
+    if has_flag(row.flags, END_SEQUENCE) {
+        sequence + 1
+    } else {
+        sequence
+    }
 }
 
 /// Adds a row or an end, and returns the address of the sequence that the next row belongs to.
@@ -53,13 +86,14 @@ pub(crate) fn add_rows(
 fn add_row(
     program: &mut LineProgram,
     ids: &[FileId],
+    symbol: Option<GimliSymbol>,
     base: Option<u64>,
     row: &GimliRow,
 ) -> Result<Option<u64>, u32>
     requires { CanWrite program.old no_texts }
     ensures can { CanWrite program.new no_texts }
     ensures ok { OnOk result (AddsItems program.old program.new
-        (items_of_row program.old.encoding.version ids.now base row.now)) }
+        (items_of_row program.old.encoding.version ids.now symbol base row.now)) }
     ensures after { IfOk result (λ after. after ≡ base_after base row.now) }
     ensures well { (base ≡ None → previous_position program.old.items ≡ (0, 0))
         → OnOk result (HasNone
@@ -73,7 +107,7 @@ fn add_row(
         HasRowFault program.old.line_encoding program.old.encoding.version (length ids.now)
         (base_of base row.now) (previous_position program.old.items) row.now s) }
 {
-    let start = begin(program, base, row.address)?;
+    let start = begin(program, symbol, base, row.address)?;
     if row.address < start {
         return Err(ROW_OUT_OF_ORDER);
     }
@@ -86,13 +120,19 @@ fn add_row(
     }
 }
 
-/// The address of the sequence: where it begins, that of its first row, which is set. Requires a
-/// program that can be written.
-fn begin(program: &mut LineProgram, base: Option<u64>, address: u64) -> Result<u64, u32>
+/// The address that rows of the sequence are counted from: that of its first row. Where it begins,
+/// its symbol is set, or that address where it has none. Requires a program that can be written.
+fn begin(
+    program: &mut LineProgram,
+    symbol: Option<GimliSymbol>,
+    base: Option<u64>,
+    address: u64,
+) -> Result<u64, u32>
     requires { CanWrite program.old no_texts }
     ensures can { CanWrite program.new no_texts }
     ensures start { IfOk result (λ start. start ≡ unwrap_or base address) }
-    ensures ok { OnOk result (AddsItems program.old program.new (items_of_start base address)) }
+    ensures ok { OnOk result
+        (AddsItems program.old program.new (items_of_start symbol base address)) }
     ensures err { IfErr result IsRefusal }
     ensures memory { IfErr result (λ s. s ≡ OUT_OF_MEMORY) }
     ensures position { (base ≡ None → previous_position program.old.items ≡ (0, 0)) →
@@ -100,10 +140,23 @@ fn begin(program: &mut LineProgram, base: Option<u64>, address: u64) -> Result<u
 {
     match base {
         Some(base) => Ok(base),
-        None => match program.set_address(Address::Constant(address)) {
+        None => match program.set_address(start_of(symbol, address)) {
             Ok(()) => Ok(address),
             Err(_) => Err(OUT_OF_MEMORY),
         },
+    }
+}
+
+/// Where a sequence begins.
+fn start_of(symbol: Option<GimliSymbol>, address: u64) -> Address
+    ensures { result ≡ start_of symbol address }
+{
+    match symbol {
+        Some(start) => Address::Symbol {
+            symbol: start.symbol,
+            addend: start.addend,
+        },
+        None => Address::Constant(address),
     }
 }
 

@@ -5,6 +5,7 @@
 //! caller is kept after a call. `include/gimli_line.h` declares all of it.
 #![tactic(auto)]
 
+mod build_id;
 mod comp_dir;
 mod directory;
 mod elf;
@@ -17,6 +18,7 @@ pub mod laws;
 mod location;
 mod loose;
 mod map;
+mod relocatable;
 mod row;
 mod row_reader;
 mod rows;
@@ -28,6 +30,7 @@ mod unit;
 mod version;
 mod write;
 
+pub use build_id::gimli_elf_build_id;
 pub use comp_dir::gimli_line_comp_dir;
 pub use directory::gimli_line_directory;
 pub use elf::{GimliElf, gimli_elf_open, gimli_elf_section};
@@ -44,10 +47,12 @@ pub use index::{
     gimli_line_index_find_all, gimli_line_index_open, gimli_line_index_path,
     gimli_line_index_read_unit, gimli_line_index_unit, gimli_line_index_unit_count,
 };
+pub use items::GimliSymbol;
 pub use map::{
     GimliMap, GimliMapPlace, NO_PATH_OUTSIDE, gimli_line_map_check, gimli_line_map_find,
-    gimli_line_map_find_all, gimli_line_map_open,
+    gimli_line_map_find_all, gimli_line_map_open, gimli_line_map_write,
 };
+pub use relocatable::{GimliRelocation, gimli_line_write_relocatable};
 pub use row::{BASIC_BLOCK, END_SEQUENCE, EPILOGUE_BEGIN, GimliRow, IS_STMT, PROLOGUE_END};
 pub use row_reader::{
     GimliRowReader, UnitRows, gimli_line_index_rows_open, gimli_line_rows_close,

@@ -1,12 +1,14 @@
-//! Maps: an index of lines that is bytes (`docs/INDEX.md`), asked as it lies there.
+//! Maps: an index of lines that is bytes (`docs/INDEX.md`), made once and asked as it lies there.
 //!
-//! No call takes memory, and none writes but its answer: so any number of threads may ask one map
-//! at once, and so may a signal handler.
+//! No call that asks takes memory, and none writes but its answer: so any number of threads may ask
+//! one map at once, and so may a signal handler.
 
 mod ask;
 mod header;
 mod place;
+mod write;
 
 pub use ask::{gimli_line_map_find, gimli_line_map_find_all};
 pub use header::{GimliMap, gimli_line_map_check, gimli_line_map_open};
 pub use place::{GimliMapPlace, NO_PATH_OUTSIDE};
+pub use write::gimli_line_map_write;

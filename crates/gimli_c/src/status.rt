@@ -108,6 +108,11 @@ pub const NO_SECTION: u32 = 45;
 /// A section of an ELF file can't be read: it is cut, compressed in a way that is unknown, or its
 /// relocations are.
 pub const BAD_SECTION: u32 = 46;
+/// A map would have ranges, files, bytes of paths or bytes of its identity that 32 bits don't
+/// count.
+pub const MAP_TOO_LARGE: u32 = 47;
+/// A line or a column that a map would have is one that 32 bits don't hold.
+pub const PLACE_TOO_LARGE: u32 = 48;
 
 /// The number of a refusal.
 pub(crate) fn error_status(error: Error) -> u32

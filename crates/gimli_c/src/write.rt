@@ -17,7 +17,7 @@ ghost use Rattle.gimli_c.specs.Handing.{write_status};
 
 use crate::encoding::{GimliEncoding, encodings};
 use crate::file::{HAS_MD5, HAS_SIZE, HAS_TIMESTAMP, copy_bytes};
-use crate::items::add_rows;
+use crate::items::{GimliSymbol, add_rows};
 use crate::location::order;
 use crate::row::{GimliRow, has_flag};
 use crate::status::{
@@ -53,21 +53,31 @@ pub extern "C" fn gimli_line_write(
     size: &mut usize,
 ) -> u32
     ensures ok { result ≡ OK → GivesUnitOf (handed_of encoding.now big details texts.now
-        directories.now files.now rows.now) unit.old unit.new size.new }
+        directories.now files.now rows.now []) unit.old unit.new size.new }
     ensures room { result ≡ NO_ROOM → NeedsRoom (handed_of encoding.now big details texts.now
-        directories.now files.now rows.now) unit.old size.new }
+        directories.now files.now rows.now []) unit.old size.new }
     ensures fault { (s : ℕ) → encoding_fault encoding.now ≡ Some s → result ≡ s }
     ensures bad_lines { HasBadLines encoding.now → result ≡ UNSUPPORTED_LINE_ENCODING }
     ensures number { result ≢ OK → result ≢ NO_ROOM → IsRefusal result }
     ensures cause { result ≢ OK → result ≢ NO_ROOM → result ≢ OUT_OF_MEMORY → HasCause
-        (handed_of encoding.now big details texts.now directories.now files.now rows.now) result }
+        (handed_of encoding.now big details texts.now directories.now files.now rows.now [])
+        result }
     ensures refused { (s : ℕ) → HasCause (handed_of encoding.now big details texts.now
-        directories.now files.now rows.now) s → IsRefusal result }
+        directories.now files.now rows.now []) s → IsRefusal result }
     ensures err { result ≢ OK → unit.new ≡ unit.old }
     ensures none { result ≢ OK → result ≢ NO_ROOM → size.new ≡ 0 }
 {
     *size = 0;
-    let program = match built(alloc, encoding, details, texts, directories, files, rows) {
+    let program = match built(
+        alloc,
+        encoding,
+        details,
+        texts,
+        directories,
+        files,
+        rows,
+        &[],
+    ) {
         Ok(program) => program,
         Err(status) => return status,
     };
@@ -85,7 +95,7 @@ pub extern "C" fn gimli_line_write(
 }
 
 /// The program that is built of what is handed over.
-fn built(
+pub(crate) fn built(
     alloc: Global,
     encoding: &GimliEncoding,
     details: u64,
@@ -93,23 +103,29 @@ fn built(
     directories: &[GimliName],
     files: &[GimliFileName],
     rows: &[GimliRow],
+    symbols: &[GimliSymbol],
 ) -> Result<LineProgram, u32>
     ensures ok { (big : Bool) → IfOk result (λ program. IsBuiltOf
-        (handed_of encoding.now big details texts.now directories.now files.now rows.now) program) }
+        (handed_of encoding.now big details texts.now directories.now files.now rows.now
+        symbols.now)
+        program) }
     ensures fault { (s : ℕ) → encoding_fault encoding.now ≡ Some s → result ≡ Err s }
     ensures bad_lines { HasBadLines encoding.now → result ≡ Err UNSUPPORTED_LINE_ENCODING }
     ensures err { IfErr result IsRefusal }
     ensures cause { (big : Bool) → IfErr result (λ s. s ≢ OUT_OF_MEMORY → HasHandedFault
-        (handed_of encoding.now big details texts.now directories.now files.now rows.now) s) }
+        (handed_of encoding.now big details texts.now directories.now files.now rows.now
+        symbols.now)
+        s) }
     ensures well { (big : Bool) → OnOk result (HasNone (HasHandedFault
-        (handed_of encoding.now big details texts.now directories.now files.now rows.now))) }
+        (handed_of encoding.now big details texts.now directories.now files.now rows.now
+        symbols.now))) }
 {
     let (units, lines) = encodings(encoding)?;
     let start = empty_built(alloc, units, lines, texts, directories, files)?;
     let mut program = with_details(start, details);
     let ids = add_directories(alloc, &mut program, texts, directories)?;
     let file_ids = add_files(alloc, &mut program, texts, ids.as_slice(), files)?;
-    add_rows(&mut program, file_ids.as_slice(), rows)?;
+    add_rows(&mut program, file_ids.as_slice(), symbols, rows)?;
     Ok(program)
 }
 
@@ -155,7 +171,7 @@ fn section_of(
 }
 
 /// The number of a refusal.
-fn write_status(error: Error) -> u32
+pub(crate) fn write_status(error: Error) -> u32
     ensures number { result ≡ write_status error }
     ensures err { IsRefusal result }
 {

@@ -1,4 +1,4 @@
-/* Makes each reading call over buffers that end where a page begins that can't be read or written: a byte too much ends the program
+/* Makes each call over buffers that end where a page begins that can't be read or written: a byte too much ends the program
  * by a signal. Each room is tried, from none to more than enough.
  *
  *   guarded line.bin line_str.bin info.bin abbrev.bin str.bin
@@ -182,6 +182,123 @@ static void read_directory(const section *sections, size_t offset) {
     }
 }
 
+/* The map of the program, into some room. */
+static uint32_t map_of(const section *sections, const gimli_open_options *options, uint8_t *map, size_t room, size_t *size) {
+    section lines = sections[0], line_strings = sections[1], info = sections[2], abbrev = sections[3], str = sections[4];
+    return gimli_line_map_write(lines.bytes, lines.length, line_strings.bytes, line_strings.length, str.bytes, str.length, info.bytes,
+                                info.length, abbrev.bytes, abbrev.length, str.bytes, 0, options, (const uint8_t *)"name", 4, map, room,
+                                size);
+}
+
+/* The map of the program, into each room; what it says of each address near a row is what the index says. */
+static void make_map(const section *sections, gimli_open_options options, gimli_line_index *index, uint64_t units) {
+    size_t *size = guarded(sizeof *size), whole, rooms[] = {0, 1, 0, 0, 0};
+    expect(map_of(sections, &options, (uint8_t *)size, 0, size) == GIMLI_NO_ROOM && *size > 44, "gimli_line_map_write");
+    whole = *size;
+    rooms[2] = whole - 1;
+    rooms[3] = whole;
+    rooms[4] = whole + ROOM;
+    for (size_t i = 0; i < sizeof rooms / sizeof rooms[0]; i++) {
+        uint8_t *map = guarded(rooms[i]);
+        memset(map, 0xaa, rooms[i]);
+        expect(map_of(sections, &options, map, rooms[i], size) == (rooms[i] < whole ? GIMLI_NO_ROOM : GIMLI_OK) && *size == whole,
+               "gimli_line_map_write");
+        bool is_as_before = true;
+        for (size_t k = rooms[i] < whole ? 0 : whole; k < rooms[i]; k++) is_as_before = is_as_before && map[k] == 0xaa;
+        expect(is_as_before, "what gimli_line_map_write writes beside the map");
+        give_back(map, rooms[i]);
+    }
+    uint8_t *map = guarded(whole);
+    gimli_map *found = guarded(sizeof *found);
+    gimli_map_place *there = guarded(sizeof *there);
+    expect(map_of(sections, &options, map, whole, size) == GIMLI_OK && gimli_line_map_check(map, whole) == GIMLI_OK, "a map is sound");
+    expect(gimli_line_map_open(map, whole, found) == GIMLI_OK && found->identity_size == 4 && found->address_size == 8 &&
+               memcmp(map + found->identity, "name", 4) == 0, "what a map says of itself");
+    for (uint64_t unit = 0; unit < units; unit++) {
+        gimli_row_reader reader = GIMLI_ROW_READER_CLOSED;
+        gimli_index_unit about;
+        gimli_row row;
+        size_t count = 1;
+        expect(gimli_line_index_rows_open(index, unit, &reader) == GIMLI_OK, "gimli_line_index_rows_open");
+        expect(gimli_line_index_unit(index, unit, &about) == GIMLI_OK, "gimli_line_index_unit");
+        while (gimli_line_rows_next(&reader, &row, 1, &count) == GIMLI_OK && count == 1) {
+            for (uint64_t address = row.address - 1; address != row.address + 2; address++) {
+                gimli_place place;
+                uint32_t status = gimli_line_map_find(map, whole, address, there);
+                expect(gimli_line_index_find(index, address, &place) == status, "the status of gimli_line_map_find");
+                if (status != GIMLI_OK) continue;
+                expect(there->address == address && there->line == place.row.line && there->column == place.row.column &&
+                           there->no_path == 0 && gimli_map_path(map, there)[0] == '/', "the place of gimli_line_map_find");
+                expect(gimli_line_index_unit(index, place.unit, &about) == GIMLI_OK && there->unit == about.offset, "the unit of a place");
+            }
+        }
+        gimli_line_rows_close(&reader);
+    }
+    give_back(map, whole);
+    give_back(found, sizeof *found);
+    give_back(there, sizeof *there);
+    options.address_size = 3;
+    expect(map_of(sections, &options, (uint8_t *)size, 0, size) == GIMLI_UNSUPPORTED_ADDRESS_SIZE && *size == 0, "the size of addresses");
+    options.size--;
+    expect(map_of(sections, &options, (uint8_t *)size, 0, size) == GIMLI_UNKNOWN_OPTIONS && *size == 0, "the size of options");
+    give_back(size, sizeof *size);
+}
+
+/* A unit at two symbols, into each room: the places are those of its addresses, and nothing else differs from the unit at 0. */
+static void write_symbols(bool in_place) {
+    static const gimli_row rows[] = {{0, 0, 1, 3, 0, 0, 0, GIMLI_IS_STMT}, {6, 0, 0, 0, 0, 0, 0, GIMLI_END_SEQUENCE},
+                                     {0, 0, 1, 8, 0, 0, 0, GIMLI_IS_STMT}, {6, 0, 0, 0, 0, 0, 0, GIMLI_END_SEQUENCE}};
+    static const gimli_symbol symbols[] = {{5, 0x1122334455667788}, {9, -1}};
+    static const gimli_file_name file = {{0, 1}, 0, 0, 0, {0}};
+    gimli_contents contents;
+    memset(&contents, 0, sizeof contents);
+    gimli_encoding encoding = GIMLI_ENCODING(4);
+    contents.encoding = encoding;
+    contents.texts = (const uint8_t *)"f";
+    contents.text_length = 1;
+    contents.files = &file;
+    contents.file_count = 1;
+    contents.rows = rows;
+    contents.row_count = 4;
+    contents.symbols = symbols;
+    contents.symbol_count = 2;
+    contents.in_place = in_place;
+    uint8_t plain[256];
+    size_t *size = guarded(sizeof *size), *count = guarded(sizeof *count), whole;
+    expect(gimli_line_write_contents(&contents, plain, sizeof plain, &whole) == GIMLI_OK, "gimli_line_write");
+    for (size_t room = 0; room <= whole + 1; room++)
+        for (size_t slots = 0; slots <= 3; slots++) {
+            uint8_t *unit = guarded(room);
+            gimli_relocation *places = guarded(slots * sizeof *places);
+            memset(unit, 0xaa, room);
+            memset(places, 0xaa, slots * sizeof *places);
+            uint32_t status = gimli_line_write_relocatable_contents(&contents, unit, room, size, places, slots, count);
+            bool fits = room >= whole && slots >= 2, is_as_before = true;
+            expect(status == (fits ? GIMLI_OK : GIMLI_NO_ROOM) && *size == whole && *count == 2, "gimli_line_write_relocatable");
+            for (size_t i = fits ? whole : 0; i < room; i++) is_as_before = is_as_before && unit[i] == 0xaa;
+            for (size_t i = fits ? 2 * sizeof *places : 0; i < slots * sizeof *places; i++)
+                is_as_before = is_as_before && ((const uint8_t *)places)[i] == 0xaa;
+            expect(is_as_before, "what gimli_line_write_relocatable writes beside the unit");
+            for (size_t i = 0; fits && i < 2; i++) {
+                expect(places[i].symbol == symbols[i].symbol && places[i].size == 8 && places[i].section == 0 &&
+                           places[i].addend == (in_place ? 0 : symbols[i].addend), "a relocation");
+                for (size_t k = 0; k < 8; k++) {
+                    uint8_t there = in_place ? (uint8_t)((uint64_t)symbols[i].addend >> 8 * k) : 0;
+                    expect(unit[places[i].offset + k] == there, "the place of a relocation");
+                    unit[places[i].offset + k] = 0;
+                }
+            }
+            expect(!fits || memcmp(unit, plain, whole) == 0, "the other bytes of the unit");
+            give_back(unit, room);
+            give_back(places, slots * sizeof *places);
+        }
+    contents.encoding.version = 6;
+    expect(gimli_line_write_relocatable_contents(&contents, NULL, 0, size, NULL, 0, count) == GIMLI_UNKNOWN_VERSION && *size == 0 && *count == 0,
+           "a refused version");
+    give_back(size, sizeof *size);
+    give_back(count, sizeof *count);
+}
+
 int main(int argc, char **argv) {
     if (argc != 6) {
         fprintf(stderr, "usage: guarded LINES LINE_STRINGS INFO ABBREVIATIONS STRINGS\n");
@@ -208,6 +325,10 @@ int main(int argc, char **argv) {
         look_up(&index, number++);
         read_directory(sections, offset);
     }
+    options.size++;
+    make_map(sections, options, &index, number);
+    write_symbols(false);
+    write_symbols(true);
     expect(gimli_line_index_close(&index) == GIMLI_OK && index.at == NULL, "gimli_line_index_close");
     printf("%llu\n", calls);
     return 0;

@@ -4,6 +4,7 @@ use Rattle.std.proofs.lemmas.Result.{err_from_is_err_and}
 use Rattle.gimli_build.specs.Built.{Built}
 use Rattle.gimli_c.specs.Causes.{HasRowsFault}
 use Rattle.gimli_c.proofs.CauseLemmas.{row_of_rows, rows_left}
+use Rattle.gimli_c.proofs.Sequences.{items_left, few_sequences}
 use Rattle.gimli_c.proofs.items.add_rows.Goals as goal
 
 pub returns-in_err-base-clause-cause : goal.returns-in_err-base-clause-cause
@@ -26,7 +27,12 @@ loop-row-preserved c =
     let so_far = c.loop-row.invariant in
     record {
       can = first_of (search rules, grind (arith, common_steps));
-      items = first_of (search rules, grind (arith, common_steps));
+      items =
+          items_left old c.loop-row.program c.add_row.new.program c.args.ids.now c.args.symbols.now c.loop-row.sequence c.sequence_after-sequence.result
+          c.symbol_at.result c.loop-row.base c.in_ok-base.base c.args.rows.now c.loop-row.row-index _ _ c.loop-row-test.true
+          (ap (λ (q : Built). q.encoding) so_far.others) c.symbol_at.ensures c.sequence_after-sequence.ensures c.in_ok-base.ensures.after so_far.items
+          c.in_ok-base.ensures.ok.items_are;
+      few = few_sequences c.loop-row.sequence c.sequence_after-sequence.result c.loop-row.row-index _ c.sequence_after-sequence.ensures so_far.few;
       start = first_of (search rules, grind (arith, common_steps));
       faults = first_of (search rules, grind (arith, common_steps));
       well = λ s start fault.

@@ -1,4 +1,4 @@
-use Rattle.std.proofs.Common.{◌≡◌, ℕ, ◌++◌, None, length, drop}
+use Rattle.std.proofs.Common.{◌≡◌, ◌≤◌, ℕ, ◌++◌, None, length, drop}
 use Rattle.gimli_bytes.specs.Texts.{no_texts}
 use Rattle.gimli_build.specs.Conditions.{CanWrite}
 use Rattle.gimli_build.specs.Built.{previous_position}
@@ -12,7 +12,9 @@ invariant-loop-row l =
     let version = l.fn.program.encoding.version in
     record {
       can : CanWrite l.program no_texts;
-      items : l.program.items ++ items_handed version l.ids l.base (drop l.row-index l.rows) ≡ l.fn.program.items ++ items_handed version l.ids None l.rows;
+      items : l.program.items ++ items_handed version l.ids l.symbols l.sequence l.base (drop l.row-index l.rows)
+          ≡ l.fn.program.items ++ items_handed version l.ids l.symbols 0 None l.rows;
+      few : l.sequence ≤ l.row-index;
       start : previous_position l.fn.program.items ≡ (0, 0) → l.base ≡ None → previous_position l.program.items ≡ (0, 0);
       faults : (s : ℕ) → HasRowsFault l.fn.program.line_encoding version (length l.ids) l.base (previous_position l.program.items) (drop l.row-index l.rows) s
           → HasRowsFault l.fn.program.line_encoding version (length l.ids) None (previous_position l.fn.program.items) l.rows s;

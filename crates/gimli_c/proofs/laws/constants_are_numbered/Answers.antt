@@ -50,4 +50,6 @@ returns c = record {
   no_elf = refl;
   no_section = refl;
   bad_section = refl;
+  map_too_large = refl;
+  place_too_large = refl;
 }

@@ -43,7 +43,7 @@ returns-clause-ok c = λ big.
       files = files;
       items =
           items_built c.args.details c.args.encoding.now c.in_ok-start.start between after c.add_rows.new.program _ _ _ _ _ _ c.as_slice-2.result.now
-          c.args.rows.now
+          c.args.symbols.now c.args.rows.now
           (ap (λ (q : Built). q.items) c.in_ok-start.ensures.start) encoding directories files c.as_slice-2.ensures.value c.in_ok-add_rows.ensures.ok;
       others = c.in_ok-add_rows.ensures.ok.others;
       can = c.in_ok-add_rows.ensures.can;
@@ -85,7 +85,7 @@ returns-in_err-add_rows-clause-cause c = λ big.
 
 pub returns-clause-well : goal.returns-clause-well
 returns-clause-well c = λ big.
-    let h = handed_of c.args.encoding.now big c.args.details c.args.texts.now c.args.directories.now c.args.files.now c.args.rows.now in
+    let h = handed_of c.args.encoding.now big c.args.details c.args.texts.now c.args.directories.now c.args.files.now c.args.rows.now c.args.symbols.now in
     let given = c.in_ok-units.ensures in
     let directories = c.in_ok-ids.ensures.ok.others in
     let files = c.in_ok-file_ids.ensures.ok.others in

@@ -1,0 +1,181 @@
+//! Units and maps that are written: read back, and by readelf and addr2line of binutils. Where a tool is missing the test says so, and
+//! ends well.
+
+use gimli_line_proved::{
+    Addends, CompilationSections, Contents, Encoding, Error, LineRow, Map, Relocation, Sections, Symbol,
+};
+use std::fs;
+use std::path::{Path, PathBuf};
+use std::process::Command;
+
+fn folder() -> PathBuf {
+    PathBuf::from(env!("CARGO_TARGET_TMPDIR"))
+}
+
+fn has(tools: &[&str]) -> bool {
+    let all = tools.iter().all(|tool| Command::new(tool).arg("--version").output().is_ok());
+    if !all {
+        eprintln!("not tried: one of {tools:?} is missing");
+    }
+    all
+}
+
+/// Two sequences of two rows each, at 0x1000 and 0x2000.
+fn contents(version: u16) -> Contents {
+    let mut contents = Contents::new(Encoding::new(version));
+    let number = u64::from(version < 5);
+    if version >= 5 {
+        contents.directory(b"/made");
+    }
+    contents.file(b"two.c", 0);
+    for (start, line) in [(0x1000, 3), (0x2000, 8)] {
+        contents.row(LineRow::at(start).with_file(number).with_line(line));
+        contents.row(LineRow::at(start + 5).with_file(number).with_line(line + 1));
+        contents.row(LineRow::at(start + 6).with_end());
+    }
+    contents
+}
+
+/// The address, the line and whether it is an end of each row of a unit.
+fn rows(unit: &[u8]) -> Vec<(u64, u64, bool)> {
+    let sections = Sections { debug_line: unit, debug_line_str: &[], debug_str: &[], big_endian: false, address_size: 8 };
+    let rows = gimli_line_proved::Rows::open(&sections, 0).expect("it is a unit");
+    rows.map(|row| row.expect("it is a row"))
+        .map(|row| (row.address(), row.line().map_or(0, |line| line.get()), row.end_sequence()))
+        .collect()
+}
+
+/// The same rows at other addresses.
+fn wanted(first: u64, second: u64) -> Vec<(u64, u64, bool)> {
+    let mut all = Vec::new();
+    for (start, line) in [(first, 3), (second, 8)] {
+        all.extend([(start, line, false), (start + 5, line + 1, false), (start + 6, line + 1, true)]);
+    }
+    all
+}
+
+#[test]
+fn a_unit_is_read_back() {
+    for version in 2..=5 {
+        let unit = contents(version).write().expect("it is written");
+        assert_eq!(rows(&unit), wanted(0x1000, 0x2000));
+    }
+}
+
+/// Does what a linker does: the symbol of a number `n` is at `0x40_0000 + 0x100 * n`.
+fn link(unit: &mut [u8], places: &[Relocation]) {
+    for place in places {
+        let word = &mut unit[place.offset..place.offset + place.size as usize];
+        let there = u64::from_le_bytes(word.try_into().expect("eight bytes"));
+        let symbol = 0x40_0000 + 0x100 * place.symbol as u64;
+        word.copy_from_slice(&symbol.wrapping_add_signed(place.addend).wrapping_add(there).to_le_bytes());
+    }
+}
+
+#[test]
+fn symbols_are_placed() {
+    let symbols = [Symbol { symbol: 2, addend: 0x10 }, Symbol { symbol: 7, addend: -8 }];
+    for version in 2..=5 {
+        for addends in [Addends::Listed, Addends::InPlace] {
+            let contents = contents(version);
+            let written = contents.write_relocatable(&symbols, addends).expect("it is written");
+            let mut unit = written.unit.clone();
+            assert_eq!(written.relocations.iter().map(|it| (it.symbol, it.size)).collect::<Vec<_>>(), [(2, 8), (7, 8)]);
+            let listed: Vec<_> = written.relocations.iter().map(|it| it.addend).collect();
+            assert_eq!(listed, if addends == Addends::Listed { [0x10, -8] } else { [0, 0] });
+            link(&mut unit, &written.relocations);
+            assert_eq!(rows(&unit), wanted(0x40_0210, 0x40_06f8));
+            // A sequence without a symbol begins at its first row; without any, the unit is that of `write`.
+            let written = contents.write_relocatable(&symbols[..1], addends).expect("it is written");
+            let mut unit = written.unit.clone();
+            link(&mut unit, &written.relocations);
+            assert_eq!((written.relocations.len(), rows(&unit)), (1, wanted(0x40_0210, 0x2000)));
+            let plain = contents.write_relocatable(&[], addends).expect("it is written");
+            assert_eq!((Ok(plain.unit), plain.relocations), (contents.write(), Vec::new()));
+        }
+    }
+    let refused = Contents::new(Encoding::new(6)).write_relocatable(&symbols, Addends::Listed);
+    assert_eq!(refused, Err(Error::UNKNOWN_VERSION));
+}
+
+#[test]
+fn readelf_reads_a_unit() {
+    if !has(&["as", "objcopy", "readelf"]) {
+        return;
+    }
+    for version in 2..=5 {
+        let [empty, unit, object] = ["o", "unit", "with.o"].map(|name| folder().join(format!("readelf{version}.{name}")));
+        fs::write(&unit, contents(version).write().expect("it is written")).expect("a file");
+        let run = |command: &mut Command| assert!(command.status().expect("it runs").success());
+        run(Command::new("as").arg("/dev/null").arg("-o").arg(&empty));
+        let section = format!(".debug_line={}", unit.display());
+        run(Command::new("objcopy").args(["--add-section", &section]).arg(&empty).arg(&object));
+        let said = Command::new("readelf").arg("--debug-dump=decodedline").arg(&object).output().expect("it runs");
+        let said = String::from_utf8_lossy(&said.stdout).into_owned();
+        for (line, address) in [("3", "0x1000"), ("4", "0x1005"), ("8", "0x2000"), ("9", "0x2005")] {
+            let told = |words: Vec<&str>| words.len() > 2 && words[..3] == ["two.c", line, address];
+            assert!(said.lines().any(|it| told(it.split_whitespace().collect())), "{version}: {line} {address}: {said}");
+        }
+    }
+}
+
+/// The bytes of a section; none where the program lacks it.
+fn section(program: &Path, name: &str) -> Vec<u8> {
+    let file = program.with_extension(name.trim_start_matches('.'));
+    let _ = fs::remove_file(&file);
+    let dumped = format!("{name}={}", file.display());
+    let _ = Command::new("objcopy").args(["--dump-section", &dumped]).arg(program).arg(program.with_extension("copy")).output();
+    fs::read(&file).unwrap_or_default()
+}
+
+#[test]
+fn a_map_says_what_addr2line_says() {
+    if !has(&["cc", "objcopy", "addr2line", "nm"]) {
+        return;
+    }
+    for version in 2..=5 {
+        let program = folder().join(format!("mapped{version}"));
+        let built = Command::new("cc")
+            .current_dir(Path::new(env!("CARGO_MANIFEST_DIR")).join("../../compare"))
+            .args(["-g", &format!("-gdwarf-{version}"), "-O1", "sources/main.c", "sources/sums.c", "-o"])
+            .arg(&program)
+            .status();
+        assert!(built.expect("cc runs").success());
+        let [line, line_str, str, info, abbrev] =
+            [".debug_line", ".debug_line_str", ".debug_str", ".debug_info", ".debug_abbrev"].map(|name| section(&program, name));
+        let sections =
+            Sections { debug_line: &line, debug_line_str: &line_str, debug_str: &str, big_endian: false, address_size: 8 };
+        let compilations = CompilationSections {
+            debug_info: &info,
+            debug_abbrev: &abbrev,
+            debug_line_str: &line_str,
+            debug_str: &str,
+            debug_str_offsets: &[],
+            big_endian: false,
+        };
+        let bytes = Map::write(&sections, &compilations, 1, b"name").expect("it is made");
+        let map = Map::open(&bytes).expect("it is a map");
+        assert_eq!((map.check(), map.identity(), map.address_size()), (Ok(()), &b"name"[..], 8));
+        let symbols = Command::new("nm").arg(&program).output().expect("nm runs");
+        let addresses: Vec<u64> = String::from_utf8_lossy(&symbols.stdout)
+            .lines()
+            .filter(|it| it.contains(" T "))
+            .map(|it| u64::from_str_radix(&it[..16], 16).expect("an address"))
+            .collect();
+        let mut known = 0;
+        for address in addresses {
+            let said = Command::new("addr2line").arg("-e").arg(&program).arg(format!("{address:x}")).output();
+            let said = String::from_utf8_lossy(&said.expect("it runs").stdout).trim().to_string();
+            let place = map.find(address);
+            assert_eq!(place.is_none(), said.starts_with("??"), "{said}");
+            if let Some(place) = place {
+                let path = String::from_utf8_lossy(place.path.expect("it has a path")).into_owned();
+                assert_eq!(format!("{path}:{}", place.line), said.split(" (").next().unwrap_or_default());
+                known += 1;
+            }
+        }
+        assert!(known >= 2);
+        let wrong = Sections { address_size: 3, ..sections };
+        assert_eq!(Map::write(&wrong, &compilations, 1, &[]), Err(Error::UNSUPPORTED_ADDRESS_SIZE));
+    }
+}

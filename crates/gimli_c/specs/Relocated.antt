@@ -1,0 +1,73 @@
+-- A unit whose sequences begin at symbols, and the places of it that a linker fills in.
+use Rattle.std.specs.Prelude.{◌≡◌, ◌≤◌, ◌<◌, ◌⊎◌, ℕ, Bool, if◌then◌else◌, List, length, map}
+use Rattle.gimli_core.specs.declared.common.SectionId.{SectionId}
+use Rattle.gimli_core.specs.declared.common.SectionId.TheVariants.{DebugInfo, DebugLine, DebugStr}
+use Rattle.gimli_core.specs.declared.common.SectionId.TheVariants.{DebugLineStr}
+use Rattle.gimli_bytes.specs.Relocatable.{Relocatable}
+use Rattle.gimli_bytes.specs.declared.error.Error.{Error}
+use Rattle.gimli_bytes.specs.declared.relocation.Addends.{Addends}
+use Rattle.gimli_bytes.specs.declared.relocation.Addends.TheVariants.{InPlace, Listed}
+use Rattle.gimli_bytes.specs.declared.relocation.Relocation.{Relocation}
+use Rattle.gimli_bytes.specs.declared.relocation.RelocationTarget.{RelocationTarget}
+use Rattle.gimli_bytes.specs.declared.relocation.RelocationTarget.TheVariants.{OfSection, OfSymbol}
+use Rattle.gimli_build.specs.Built.{Built}
+use Rattle.gimli_c.specs.declared.relocatable.GimliRelocation.{GimliRelocation}
+use Rattle.gimli_c.specs.Handing.{Handed, IsBuiltOf, write_status}
+use Rattle.gimli_c.specs.Written.{slots_with}
+
+-- ---- what C sees of a relocation
+
+-- the number of what the value of a place is counted from: 0 for a symbol
+abbrev pub section_seen : SectionId → ℕ
+section_seen DebugInfo = 1
+section_seen DebugLine = 2
+section_seen DebugStr = 3
+section_seen DebugLineStr = 4
+
+-- a symbol and the number 0, or no symbol and the number of a section
+abbrev pub target_seen : RelocationTarget → ℕ × ℕ
+target_seen (OfSymbol symbol) = (symbol, 0)
+target_seen (OfSection section) = (0, section_seen section)
+
+abbrev pub relocation_seen : Relocation → GimliRelocation
+relocation_seen r = record {
+  offset = r.offset;
+  symbol = (target_seen r.target).0;
+  addend = r.addend;
+  size = r.size;
+  section = (target_seen r.target).1;
+}
+
+-- ---- what is written
+
+abbrev pub addends_of : Bool → Addends
+addends_of in_place = if in_place then InPlace else Listed
+
+-- the number of what a writer refuses
+abbrev pub IsWriterRefusal : ℕ → Type 0
+IsWriterRefusal status = (error : Error) × (status ≡ write_status error)
+
+-- the unit and its relocations stand at the front of the two arrays
+pub record GivesRelocatable (h : Handed) (old new : List ℕ) (size : ℕ)
+    (slots_old slots_new : List GimliRelocation) (count : ℕ) : Type 0 where
+  pub program : Built
+  pub built : IsBuiltOf h program
+  pub section : Relocatable
+  pub order : section.big ≡ h.big
+  pub fits : length section.bytes ≤ length old
+  pub written_is : new ≡ slots_with section.bytes old
+  pub size_is : size ≡ length section.bytes
+  pub few : length section.relocations ≤ length slots_old
+  pub relocations_are : slots_new ≡ slots_with (map relocation_seen section.relocations) slots_old
+  pub count_is : count ≡ length section.relocations
+
+-- the unit or its relocations are more than the room
+pub record NeedsRelocatableRoom (h : Handed) (old : List ℕ) (size : ℕ)
+    (slots_old : List GimliRelocation) (count : ℕ) : Type 0 where
+  pub program : Built
+  pub built : IsBuiltOf h program
+  pub section : Relocatable
+  pub order : section.big ≡ h.big
+  pub passes : (length old < length section.bytes) ⊎ (length slots_old < length section.relocations)
+  pub size_is : size ≡ length section.bytes
+  pub count_is : count ≡ length section.relocations

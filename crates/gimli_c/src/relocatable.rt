@@ -1,0 +1,208 @@
+//! A unit whose sequences begin at symbols, and its relocations.
+
+ghost use Rattle.std.specs.Prelude.{◌≡◌, ◌≢◌, ◌⊎◌, ◌<◌, ◌≤◌, ℕ, true, false, IfOk, Some, map};
+ghost use Rattle.gimli_bytes.specs.Texts.{no_texts};
+ghost use Rattle.gimli_build.specs.Conditions.{CanWrite};
+ghost use Rattle.gimli_c.specs.Causes.{HasHandedFault};
+ghost use Rattle.gimli_c.specs.Handed.{IsRefusal};
+ghost use Rattle.gimli_c.specs.Handing.{handed_of};
+ghost use Rattle.gimli_c.specs.Refused.{encoding_fault, HasBadLines};
+ghost use Rattle.gimli_c.specs.Relocated.{addends_of, relocation_seen, section_seen, target_seen};
+ghost use Rattle.gimli_c.specs.Relocated.{GivesRelocatable, IsWriterRefusal, NeedsRelocatableRoom};
+ghost use Rattle.gimli_c.specs.Written.{slots_with};
+
+use crate::encoding::GimliEncoding;
+use crate::file::copy_bytes;
+use crate::items::GimliSymbol;
+use crate::location::order;
+use crate::row::GimliRow;
+use crate::status::{NO_ROOM, OK, OUT_OF_MEMORY, UNSUPPORTED_LINE_ENCODING};
+use crate::tables::GimliFileName;
+use crate::text::GimliName;
+use crate::write::{built, write_status};
+use gimli_build::LineProgram;
+use gimli_bytes::{
+    Addends, DebugLine, LineStringTable, RelocatableVec, Relocation, RelocationTarget, StringTable,
+};
+use gimli_core::{RunTimeEndian, SectionId};
+use std::alloc::Global;
+
+/// A place of a unit that a linker fills in: with the address of its target, and the addend.
+#[repr(C)]
+#[derive(Clone, Copy)]
+pub struct GimliRelocation {
+    /// The offset of the place in the unit, in bytes.
+    pub offset: usize,
+    /// The number of the symbol; 0 where the target is a section.
+    pub symbol: usize,
+    /// What is added to the address of the target; 0 where addends stand at the places.
+    pub addend: i64,
+    /// The number of bytes of the place.
+    pub size: u32,
+    /// 0 where the target is a symbol, else the number of the section.
+    pub section: u32,
+}
+
+/// The number of a section.
+fn section_seen(section: SectionId) -> u32
+    ensures { result ≡ section_seen section }
+{
+    match section {
+        SectionId::DebugInfo => 1,
+        SectionId::DebugLine => 2,
+        SectionId::DebugStr => 3,
+        SectionId::DebugLineStr => 4,
+    }
+}
+
+/// A symbol and 0, or 0 and the number of a section.
+fn target_seen(target: RelocationTarget) -> (usize, u32)
+    ensures { result ≡ target_seen target }
+{
+    match target {
+        RelocationTarget::OfSymbol(symbol) => (symbol, 0),
+        RelocationTarget::OfSection(section) => (0, section_seen(section)),
+    }
+}
+
+/// A relocation, as C sees it.
+fn relocation_seen(relocation: &Relocation) -> GimliRelocation
+    ensures { result ≡ relocation_seen relocation.now }
+{
+    let (symbol, section) = target_seen(relocation.target);
+    GimliRelocation {
+        offset: relocation.offset,
+        symbol,
+        addend: relocation.addend,
+        size: u32::from(relocation.size),
+        section,
+    }
+}
+
+/// Puts relocations into an array, as far as there is room.
+fn copy_relocations(relocations: &[Relocation], room: &mut [GimliRelocation])
+    ensures { room.new ≡ slots_with (map relocation_seen relocations.now) room.old }
+{
+    for (slot, relocation) in relocations.iter().enumerate() {
+        if slot >= room.len() {
+            return;
+        }
+        room[slot] = relocation_seen(relocation);
+    }
+}
+
+/// Where addends stand.
+fn addends_of(in_place: bool) -> Addends
+    ensures { result ≡ addends_of in_place }
+{
+    if in_place {
+        Addends::InPlace
+    } else {
+        Addends::Listed
+    }
+}
+
+/// The unit of a program whose texts all stand in it, and its relocations. Requires one that can be
+/// written.
+fn relocatable_of(
+    alloc: Global,
+    program: &LineProgram,
+    big: bool,
+    addends: Addends,
+) -> gimli_bytes::Result<RelocatableVec<RunTimeEndian>>
+    requires { CanWrite program.now no_texts }
+    ensures order { IfOk result (λ section. section.big ≡ big) }
+{
+    let section = RelocatableVec::new(alloc, order(big), addends);
+    let mut section = DebugLine::from(section);
+    let mut strings = StringTable::default(alloc);
+    let mut line_strings = LineStringTable::default(alloc);
+    program.write(
+        &mut section,
+        program.encoding(),
+        &mut line_strings,
+        &mut strings,
+    )?;
+    Ok(section.0)
+}
+
+/// Whether so many bytes or so many relocations are more than the room of two arrays.
+fn passes(size: usize, room: usize, count: usize, slots: usize) -> bool
+    ensures more { result ≡ true → (room < size) ⊎ (slots < count) }
+    ensures fits { result ≡ false → (size ≤ room) × (count ≤ slots) }
+{
+    size > room || count > slots
+}
+
+/// Does what `gimli_line_write` does, where the first sequences begin at symbols: that of
+/// `symbols[0]` and so on; the others begin at the addresses of their first rows. Of a sequence at
+/// a symbol the addresses of its rows are counted from that of its first row, which stands for the
+/// symbol with its addend. The places of these addresses are told in `relocations`, in order, and
+/// `count` is how many there are. Their addends stand there, and the places are 0; or, where
+/// `in_place`, at the places. `NO_ROOM` where there are fewer bytes in `unit`, or fewer elements in
+/// `relocations`: then `size` and `count` say how many it takes, and nothing is written. Where
+/// another number than these is returned, both are 0.
+#[unsafe(no_mangle)]
+pub extern "C" fn gimli_line_write_relocatable(
+    alloc: Global,
+    encoding: &GimliEncoding,
+    big: bool,
+    details: u64,
+    in_place: bool,
+    texts: &[u8],
+    directories: &[GimliName],
+    files: &[GimliFileName],
+    rows: &[GimliRow],
+    symbols: &[GimliSymbol],
+    unit: &mut [u8],
+    size: &mut usize,
+    relocations: &mut [GimliRelocation],
+    count: &mut usize,
+) -> u32
+    ensures ok { result ≡ OK → GivesRelocatable (handed_of encoding.now big details texts.now
+        directories.now files.now rows.now symbols.now) unit.old unit.new size.new relocations.old
+        relocations.new count.new }
+    ensures room { result ≡ NO_ROOM → NeedsRelocatableRoom (handed_of encoding.now big details
+        texts.now directories.now files.now rows.now symbols.now) unit.old size.new
+        relocations.old count.new }
+    ensures fault { (s : ℕ) → encoding_fault encoding.now ≡ Some s → result ≡ s }
+    ensures bad_lines { HasBadLines encoding.now → result ≡ UNSUPPORTED_LINE_ENCODING }
+    ensures number { result ≢ OK → result ≢ NO_ROOM → IsRefusal result }
+    ensures cause { result ≢ OK → result ≢ NO_ROOM → result ≢ OUT_OF_MEMORY → HasHandedFault
+        (handed_of encoding.now big details texts.now directories.now files.now rows.now
+        symbols.now) result ⊎ IsWriterRefusal result }
+    ensures refused { (s : ℕ) → HasHandedFault (handed_of encoding.now big details texts.now
+        directories.now files.now rows.now symbols.now) s → IsRefusal result }
+    ensures err { result ≢ OK → (unit.new ≡ unit.old) × (relocations.new ≡ relocations.old) }
+    ensures none { result ≢ OK → result ≢ NO_ROOM → (size.new ≡ 0) × (count.new ≡ 0) }
+{
+    *size = 0;
+    *count = 0;
+    let program = match built(
+        alloc,
+        encoding,
+        details,
+        texts,
+        directories,
+        files,
+        rows,
+        symbols,
+    ) {
+        Ok(program) => program,
+        Err(status) => return status,
+    };
+    let section = match relocatable_of(alloc, &program, big, addends_of(in_place)) {
+        Ok(section) => section,
+        Err(e) => return write_status(e),
+    };
+    let bytes = section.slice();
+    let places = section.relocations();
+    *size = bytes.len();
+    *count = places.len();
+    if passes(bytes.len(), unit.len(), places.len(), relocations.len()) {
+        return NO_ROOM;
+    }
+    copy_bytes(bytes, unit);
+    copy_relocations(places, relocations);
+    OK
+}
