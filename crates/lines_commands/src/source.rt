@@ -184,7 +184,7 @@ impl<R: Reader> FoundRows<'_, R> {
         }
     }
 
-    /// Puts the rows in order, each address of a line once: as a statement where one of its rows is.
+    /// Puts the rows in order, each address of a line once: a statement where one of its rows is.
     fn sort(&mut self) -> Result<(), AllocError> {
         self.rows.sort()?;
         let mut distinct: Vec<SourceRow> = Vec::new(self.alloc);
