@@ -42,6 +42,12 @@ def is_flags(value):
     return isinstance(value, list) and value == [it for it in FLAGS if it in value]
 
 
+def are_rows(value):
+    return isinstance(value, list) and all(
+        list(it) == ["address", "is_stmt"] and is_address(it["address"]) and type(it["is_stmt"]) is bool for it in value
+    )
+
+
 def or_null(test):
     return lambda value: value is None or test(value)
 
@@ -53,6 +59,7 @@ def one_of(*words):
 PLACE = [("line", is_number), ("column", is_number)]
 PATH = ("path", or_null(is_text))
 BYTES = ("path_bytes", lambda value: bool(re.fullmatch("([0-9a-f]{2})+", value)))
+TEXT_BYTES = ("text_bytes", BYTES[1])
 FUNCTION = ("function", or_null(is_text))
 UNIT = ("unit", is_address)
 FOUND = [*PLACE, ("range", is_range), ("discriminator", is_number), ("flags", is_flags)]
@@ -66,6 +73,10 @@ FORMS = {
         [("address", is_address), PATH, FUNCTION, *FOUND],
     ],
     "at": [[("address", is_address), PATH, *PLACE, ("range", is_range), ("is_stmt", lambda value: type(value) is bool)]],
+    "source": [
+        [PATH, ("line", is_number), ("text", or_null(is_text)), ("rows", are_rows)],
+        [PATH, ("line", is_number), ("text", is_text), TEXT_BYTES, ("rows", are_rows)],
+    ],
     "units": [
         [UNIT, ("version", one_of(2, 3, 4, 5)), ("format", one_of(32, 64)), ("address_size", is_number)]
         + [(it, is_number) for it in ("files", "sequences", "rows", "bytes")]
@@ -133,7 +144,8 @@ def check_program(program):
     for name in ("where", "where -f"):
         check(program, name, [program, *addresses, "0"])
     for it in [it for it in found if it["path"]][:: max(1, len(found) // 20)]:
-        check(program, "at", [program, f"{it['path']}:{it['line']}"])
+        for name in ("at", "source"):
+            check(program, name, [program, f"{it['path']}:{it['line']}"])
     for name in ("units", "files", "stat"):
         check(program, name, [program])
     check(program, "check", ["--all", program])

@@ -3,8 +3,8 @@
 
     compare/speed.py PROGRAM..
 
-Prints a table for each program: 1, 1,000 and 100,000 addresses of its code, all rows printed, and a check. Each command is run
-three times, and the least processor time counts; a peer that isn't there has no line. The addresses are those of rows, drawn
+Prints one table: of each program 1, 1,000 and 100,000 addresses of its code, all rows printed, and a check. Each command is run
+three times, and the least processor time counts; a peer that isn't there has empty cells. The addresses are those of rows, drawn
 with a fixed seed. LINES_PROGRAM=FILE is asked in place of crates/lines.
 """
 import json
@@ -40,13 +40,20 @@ def print_addresses(program):
         print(json.loads(it)["address"])
 
 
+def cell(command, given=None):
+    """What a command took; empty where it isn't there."""
+    if not shutil.which(command[0]):
+        return ""
+    seconds, memory = run(command, given)
+    return f"{seconds:.2f} s, {memory:.0f} MB"
+
+
 def measure(program):
+    """Prints the lines of a program."""
     # A process of its own reads the rows: the memory of this one counts for those that it begins.
     asked = [sys.executable, __file__, "--addresses", program]
     count, *addresses = subprocess.run(asked, stdout=subprocess.PIPE, text=True).stdout.split()
-    size = os.path.getsize(program)
-    print(f"{os.path.basename(program)}: {count} rows, {size / 1e6:.1f} MB\n")
-    print("| Work | Program | Seconds | MB |\n|---|---|---|---|")
+    name = f"{os.path.basename(program)}, {int(count):,} rows"
     draw = random.Random(1)
     for count in (1, 1000, 100000):
         with tempfile.NamedTemporaryFile("w", delete=False) as file:
@@ -55,31 +62,30 @@ def measure(program):
             first = asked.readline().strip()
         words = [first] if count == 1 else []
         given = None if count == 1 else file.name
-        for name, command in (
-            ("lines where", [LINES, "where", program, *words]),
-            ("addr2line", ["addr2line", "-e", program, *words]),
-            ("eu-addr2line", ["eu-addr2line", "-e", program, *words]),
-            ("llvm-symbolizer", ["llvm-symbolizer", "--no-inlines", "--functions=none", f"--obj={program}", *words]),
-        ):
-            tell(f"{count:,} addresses", name, command, given)
+        commands = (
+            [LINES, "where", program, *words],
+            ["addr2line", "-e", program, *words],
+            ["eu-addr2line", "-e", program, *words],
+            ["llvm-symbolizer", "--no-inlines", "--functions=none", f"--obj={program}", *words],
+        )
+        work = "1 address" if count == 1 else f"{count:,} addresses"
+        tell(name, work, *(cell(it, given) for it in commands), "", "")
         os.unlink(file.name)
-    tell("all rows", "lines rows", [LINES, "rows", program])
-    tell("all rows", "lines rows --json", [LINES, "rows", "--json", program])
-    tell("all rows", "llvm-dwarfdump", ["llvm-dwarfdump", "--debug-line", program])
-    tell("all rows", "readelf", ["readelf", "--debug-dump=decodedline", program])
-    tell("check", "lines check", [LINES, "check", program])
-    tell("check", "llvm-dwarfdump", ["llvm-dwarfdump", "--verify", "--debug-line", program])
-    print()
+    rows = ["llvm-dwarfdump", "--debug-line", program], ["readelf", "--debug-dump=decodedline", program]
+    tell(name, "all rows", cell([LINES, "rows", program]), "", "", "", *map(cell, rows))
+    tell(name, "all rows in JSON", cell([LINES, "rows", "--json", program]), "", "", "", "", "")
+    verify = cell(["llvm-dwarfdump", "--verify", "--debug-line", program])
+    tell(name, "check", cell([LINES, "check", program]), "", "", "", verify, "")
 
 
-def tell(work, name, command, given=None):
-    if shutil.which(command[0]):
-        seconds, memory = run(command, given)
-        print(f"| {work} | `{name}` | {seconds:.2f} | {memory:.0f} |", flush=True)
+def tell(*cells):
+    print("| " + " | ".join(cells) + " |", flush=True)
 
 
 if sys.argv[1:2] == ["--addresses"]:
     print_addresses(sys.argv[2])
 else:
+    tell("Program", "Work", "`lines`", "addr2line", "eu-addr2line", "llvm-symbolizer", "llvm-dwarfdump", "readelf")
+    tell(*["---"] * 8)
     for it in sys.argv[1:]:
         measure(it)

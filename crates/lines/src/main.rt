@@ -3,9 +3,11 @@
 
 mod arguments;
 mod inputs;
+mod sources;
 
 use crate::arguments::arguments;
 use crate::inputs::{Inputs, inputs_of};
+use crate::sources::Sources;
 use clap::Error;
 use clap::error::ErrorKind as WordsError;
 use lines_commands::{Files, Request, Screen};
@@ -104,11 +106,16 @@ fn perform(rt: &HostRuntime, request: &Request<'_>, files: Files<'_>) -> io::Res
     let alloc = rt.alloc();
     let mut input = BufReader::new(alloc, rt.stdin())?;
     let mut out = BufWriter::new(alloc, rt.stdout())?;
+    let sources = Sources {
+        rt,
+        only: request.source,
+    };
     lines_commands::run_on(
         alloc,
         screen(rt),
         request,
         files,
+        &sources,
         &mut input,
         &mut out,
         &mut rt.stderr(),

@@ -8,11 +8,12 @@ use crate::path_sources::{PathSources, path_sources};
 use crate::path_text::PathText;
 use crate::progress::Printing;
 use crate::request::UnitChoice;
-use crate::stat::path_or_unknown;
+use crate::stat::{path_of_number, path_or_unknown};
 use crate::walk::Walk;
 use gimli_core::{Error, Reader};
 use gimli_line::{LineProgramHeader, LineRow, OneShotLineRows};
-use lines_reports::{Coverage, Difference, PathIndex, Place};
+use indexmap::IndexSet;
+use lines_reports::{Change, Coverage, Place};
 use std::alloc::{AllocError, Global};
 use std::collections::BTreeMap;
 use std::fmt;
@@ -28,7 +29,7 @@ pub(crate) fn print_diff<'o, R: Reader, O: Write, E: Write>(
     is_json: bool,
     output: &mut Output<'o, O, E>,
 ) {
-    let mut paths = PathIndex::new(alloc);
+    let mut paths = IndexSet::new(alloc);
     let Some(old) = coverage_of(alloc, old, &mut paths, output) else {
         return;
     };
@@ -39,8 +40,8 @@ pub(crate) fn print_diff<'o, R: Reader, O: Write, E: Write>(
     let Ok(differences) = old.differences(alloc, &new) else {
         return output.fail_for_memory();
     };
-    for difference in &differences {
-        print_difference(alloc, *difference, &paths, is_json, output);
+    for (place, change) in &differences {
+        print_change(alloc, *place, *change, &paths, is_json, output);
     }
     if !differences.is_empty() {
         output.refuse();
@@ -60,23 +61,23 @@ pub(crate) fn print_diff<'o, R: Reader, O: Write, E: Write>(
 }
 
 /// Prints a line that differs.
-fn print_difference<O: Write, E: Write>(
+fn print_change<O: Write, E: Write>(
     alloc: Global,
-    difference: Difference,
-    paths: &PathIndex,
+    place: Place,
+    change: Change,
+    paths: &IndexSet<Vec<u8>>,
     is_json: bool,
     output: &mut Output<'_, O, E>,
 ) {
-    let Difference { place, old, new } = difference;
-    let path = paths.path(place.path).unwrap_or(b"??");
+    let path = path_of_number(paths, place.path);
     let line = place.line;
     if !is_json {
         let path = PathText(path);
-        let change = Change { old, new };
+        let change = ChangeText(change);
         return output.print(format_args!("{path}:{line}  {change}"));
     }
-    let old = JsonCount(old);
-    let new = JsonCount(new);
+    let old = JsonCount(change.old);
+    let new = JsonCount(change.new);
     match path_fields(alloc, Some(path)) {
         Ok(path) => output.print(format_args!(
             "{{{path},\"line\":{line},\"old_bytes\":{old},\"new_bytes\":{new}}}"
@@ -87,14 +88,11 @@ fn print_difference<O: Write, E: Write>(
 
 /// How many bytes a line has in two programs, for people.
 #[derive(Clone, Copy)]
-struct Change {
-    old: Option<u64>,
-    new: Option<u64>,
-}
+struct ChangeText(Change);
 
-impl fmt::Display for Change {
+impl fmt::Display for ChangeText {
     fn fmt<W: fmt::Write>(&self, f: &mut fmt::Formatter<W>) -> fmt::Result {
-        match (self.old, self.new) {
+        match (self.0.old, self.0.new) {
             (Some(old), Some(new)) => write!(f, "{old} bytes, now {new}"),
             (Some(old), None) => write!(f, "{old} bytes, now no code"),
             (None, Some(new)) => write!(f, "no code, now {new} bytes"),
@@ -121,7 +119,7 @@ impl fmt::Display for JsonCount {
 fn coverage_of<R: Reader, O: Write, E: Write>(
     alloc: Global,
     input: &Input<R>,
-    paths: &mut PathIndex,
+    paths: &mut IndexSet<Vec<u8>>,
     output: &mut Output<'_, O, E>,
 ) -> Option<Coverage> {
     let sources = path_sources(alloc, input, output)?;
@@ -175,7 +173,7 @@ impl<R: Reader> UnitCoverage<'_, R> {
     fn add_rows(
         &mut self,
         rows: &mut OneShotLineRows<R>,
-        paths: &mut PathIndex,
+        paths: &mut IndexSet<Vec<u8>>,
         coverage: &mut Coverage,
     ) -> Result<Option<Error>, AllocError> {
         let mut before: Option<LineRow> = None;
@@ -203,7 +201,7 @@ impl<R: Reader> UnitCoverage<'_, R> {
         header: &LineProgramHeader<R>,
         row: &LineRow,
         end: u64,
-        paths: &mut PathIndex,
+        paths: &mut IndexSet<Vec<u8>>,
         coverage: &mut Coverage,
     ) -> Result<(), AllocError> {
         if row.address() < self.lowest || end <= row.address() {
@@ -221,13 +219,13 @@ impl<R: Reader> UnitCoverage<'_, R> {
         &mut self,
         header: &LineProgramHeader<R>,
         file: u64,
-        paths: &mut PathIndex,
+        paths: &mut IndexSet<Vec<u8>>,
     ) -> Result<usize, AllocError> {
         if let Some(number) = self.numbers.get(&file).copied() {
             return Ok(number);
         }
         let path = path_or_unknown(self.alloc, header, file, self.sources)?;
-        let number = paths.number_of(path)?;
+        let (number, _) = paths.insert_full(path)?;
         self.numbers.insert(file, number)?;
         Ok(number)
     }

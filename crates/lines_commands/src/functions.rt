@@ -110,6 +110,29 @@ impl<'n> Functions<'n> {
     }
 }
 
+impl Functions<'_> {
+    /// The addresses of the first function of a name: where it begins, and where it ends. One whose
+    /// bytes aren't counted ends where the next begins.
+    pub(crate) fn range_of(&self, name: &[u8]) -> Option<(u64, u64)> {
+        let mut ranges = self.ranges.iter();
+        let place = ranges.position(|range| self.table.name(range.name) == Some(name))?;
+        let range = self.ranges.get(place)?;
+        if range.size > 0 {
+            return Some((range.start, range.start.saturating_add(range.size)));
+        }
+        Some((range.start, self.next_start(range.start)))
+    }
+
+    /// Where the first function after an address begins; the greatest address where none does.
+    fn next_start(&self, address: u64) -> u64 {
+        let after = self.ranges.partition_point(|range| range.start <= address);
+        match self.ranges.get(after) {
+            Some(range) => range.start,
+            None => u64::MAX,
+        }
+    }
+}
+
 /// Whether a symbol is a function of the program, or of one of its sections.
 fn is_function(symbol: CodeSymbol, section: Option<u16>) -> bool {
     let is_there = match section {

@@ -16,7 +16,7 @@ struct Entry {
 }
 
 /// The commands.
-const COMMANDS: [Entry; 8] = [
+const COMMANDS: [Entry; 9] = [
     Entry {
         name: "where",
         about: "Prints path:line:column of each address, ??:0:0 where there is none",
@@ -24,6 +24,8 @@ const COMMANDS: [Entry; 8] = [
         arguments: &[
             Argument::Addresses,
             Argument::Functions,
+            Argument::Pretty,
+            Argument::Source,
             Argument::Basenames,
             Argument::RelativeTo,
             Argument::Bias,
@@ -38,6 +40,17 @@ const COMMANDS: [Entry; 8] = [
             Argument::Target,
             Argument::Columns,
             Argument::Range,
+            Argument::Json,
+        ],
+    },
+    Entry {
+        name: "source",
+        about: "Prints the source of a line or of a function, with the addresses of each line",
+        example: "Example: lines source -C 5 a.out src/main.c:12",
+        arguments: &[
+            Argument::Place,
+            Argument::Context,
+            Argument::Source,
             Argument::Json,
         ],
     },
@@ -175,6 +188,14 @@ enum Argument {
     Basenames,
     /// The choice of the names of functions.
     Functions,
+    /// The choice of lines of source.
+    Pretty,
+    /// The source file.
+    Source,
+    /// A line of a path, or a function.
+    Place,
+    /// How many lines are printed before a place and after it.
+    Context,
     /// The new file.
     New,
     /// The directory that paths are printed from.
@@ -211,6 +232,7 @@ impl Argument {
                 let help = "Prints the last component of each path";
                 flag(alloc, "basenames", help).conflicts_with("relative-to")
             }
+            Argument::Pretty => self.plain(alloc).conflicts_with("json"),
             _ => Ok(self.plain(alloc)),
         }
     }
@@ -267,6 +289,30 @@ impl Argument {
                 option(alloc, "allow", "KIND", help).action(ArgAction::Append)
             }
             Argument::All => flag(alloc, "all", "Tells what is usual or allowed too"),
+            _ => self.of_source(alloc),
+        }
+    }
+
+    /// The choice of lines of source.
+    fn of_source<'a>(self, alloc: Global) -> Arg<'a> {
+        match self {
+            Argument::Pretty => {
+                let help = "Prints the line of source below each answer, with a mark at the column";
+                flag(alloc, "pretty", help)
+            }
+            Argument::Source => {
+                let help = "Reads this source file in the place of those that paths name";
+                option(alloc, "source", "SOURCE", help)
+            }
+            Argument::Place => {
+                let help = "A line of each file whose path ends so, PATH:LINE, or else the name of \
+                            a function, as its symbol has it";
+                word(alloc, "PLACE", help).required(true)
+            }
+            Argument::Context => {
+                let help = "Prints so many lines before it and after it (3 if unsaid)";
+                option(alloc, "context", "N", help).short('C')
+            }
             _ => self.of_places(alloc),
         }
     }

@@ -16,17 +16,26 @@ pub(crate) fn quoted(alloc: Global, text: &str) -> Result<String, AllocError> {
 /// its bytes that isn't ASCII stands as U+FFFD, and the field `path_bytes` has its bytes in
 /// hexadecimal digits.
 pub(crate) fn path_fields(alloc: Global, path: Option<&[u8]>) -> Result<String, AllocError> {
-    let Some(path) = path else {
-        return String::from_str(alloc, "\"path\":null");
+    bytes_fields(alloc, "path", path)
+}
+
+/// A field of an object for bytes, null where there are none; what isn't UTF-8 as in a path.
+pub(crate) fn bytes_fields(
+    alloc: Global,
+    name: &str,
+    bytes: Option<&[u8]>,
+) -> Result<String, AllocError> {
+    let Some(bytes) = bytes else {
+        return format!(in alloc; "\"{name}\":null");
     };
-    if let Ok(text) = str::from_utf8(path) {
+    if let Ok(text) = str::from_utf8(bytes) {
         let text = quoted(alloc, text)?;
-        return format!(in alloc; "\"path\":{text}");
+        return format!(in alloc; "\"{name}\":{text}");
     }
-    let text = lossy(alloc, path)?;
+    let text = lossy(alloc, bytes)?;
     let text = quoted(alloc, &text)?;
-    let bytes = Digits(path);
-    format!(in alloc; "\"path\":{text},\"path_bytes\":\"{bytes}\"")
+    let digits = Digits(bytes);
+    format!(in alloc; "\"{name}\":{text},\"{name}_bytes\":\"{digits}\"")
 }
 
 /// The field `function` of an object, null where there is no name, with a comma before it. In a

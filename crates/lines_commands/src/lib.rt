@@ -32,6 +32,7 @@ mod path_sources;
 mod path_text;
 mod paths_seen;
 mod perform;
+mod pretty;
 mod program;
 mod progress;
 mod questions;
@@ -41,6 +42,9 @@ mod row_count;
 mod row_list;
 mod screen;
 mod section_source;
+mod source;
+mod source_file;
+mod source_list;
 mod stat;
 mod unit_list;
 mod unit_sections;
@@ -53,6 +57,10 @@ pub use kinds::{CheckChoice, FindingKind, KindSet, Severity};
 pub use names::{NameText, bytes_of_word, text_of_word};
 pub use numbers::{parse_address, parse_offset, parse_place, parse_target};
 pub use perform::{run, run_diff, run_on};
-pub use request::{CodeAddress, CodeLine, Command, Form, PathForm, PlaceForm, Request, UnitChoice};
+pub use request::{
+    CodeAddress, CodeLine, Command, Form, PathForm, PlaceForm, Request, SourceChoice, SourcePlace,
+    UnitChoice,
+};
 pub use screen::Screen;
+pub use source_file::{NoSources, SourceFiles};
 pub use words::{message_of, parse};

@@ -11,9 +11,11 @@ use crate::names::bytes_of_word;
 use crate::output::Output;
 use crate::path_sources::{PathSources, path_sources};
 use crate::path_text::{PathText, last_part, relative_to};
+use crate::pretty::print_line;
 use crate::program::Program;
 use crate::questions::{Asked, Questions};
 use crate::request::{CodeAddress, PathForm, PlaceForm};
+use crate::source_file::SourceFiles;
 use elf_sections::SymbolTable;
 use gimli_core::{Reader, ReaderOffset};
 use gimli_line::LineRow;
@@ -22,19 +24,20 @@ use std::alloc::{AllocError, Global};
 use std::io::{BufRead, Write};
 
 /// Prints the place of each address, or of those that a reader has where none is given.
-pub(crate) fn print_places<R: Reader, I: BufRead, O: Write, E: Write>(
+pub(crate) fn print_places<R: Reader, S: SourceFiles, I: BufRead, O: Write, E: Write>(
     alloc: Global,
     input: &Input<R>,
     symbols: SymbolTable<'_>,
     addresses: &[CodeAddress<'_>],
     form: PlaceForm<'_>,
+    files: &S,
     lines: &mut I,
     output: &mut Output<'_, O, E>,
 ) {
     let Ok(functions) = Functions::new(alloc, symbols, None) else {
         return output.fail_for_memory();
     };
-    let Some(places) = Places::new(alloc, input, functions, form, output) else {
+    let Some(places) = Places::new(alloc, input, functions, form, files, output) else {
         return;
     };
     let mut questions = Questions::new(alloc, addresses, lines, output);
@@ -49,11 +52,12 @@ pub(crate) fn print_places<R: Reader, I: BufRead, O: Write, E: Write>(
 
 /// Prints the place of each address in an object file. Each section has rows of its own, which are
 /// kept until another section is asked for.
-pub(crate) fn print_places_in_sections<I: BufRead, O: Write, E: Write>(
+pub(crate) fn print_places_in_sections<S: SourceFiles, I: BufRead, O: Write, E: Write>(
     alloc: Global,
     files: Files<'_>,
     addresses: &[CodeAddress<'_>],
     form: PlaceForm<'_>,
+    sources: &S,
     lines: &mut I,
     output: &mut Output<'_, O, E>,
 ) {
@@ -63,7 +67,9 @@ pub(crate) fn print_places_in_sections<I: BufRead, O: Write, E: Write>(
             break;
         }
         match questions.section() {
-            Ok(Some(name)) => print_in_section(alloc, files, &name, form, &mut questions, output),
+            Ok(Some(name)) => {
+                print_in_section(alloc, files, &name, form, sources, &mut questions, output);
+            }
             Ok(None) => print_without_section(form, &mut questions, output),
             Err(_) => output.fail_for_memory(),
         }
@@ -71,11 +77,12 @@ pub(crate) fn print_places_in_sections<I: BufRead, O: Write, E: Write>(
 }
 
 /// Prints the places of the addresses that follow each other in a section.
-fn print_in_section<I: BufRead, O: Write, E: Write>(
+fn print_in_section<S: SourceFiles, I: BufRead, O: Write, E: Write>(
     alloc: Global,
     files: Files<'_>,
     name: &[u8],
     form: PlaceForm<'_>,
+    sources: &S,
     questions: &mut Questions<'_, I>,
     output: &mut Output<'_, O, E>,
 ) {
@@ -84,7 +91,8 @@ fn print_in_section<I: BufRead, O: Write, E: Write>(
             let Ok(functions) = Functions::new(alloc, program.symbols(), program.section()) else {
                 return output.fail_for_memory();
             };
-            if let Some(places) = Places::new(alloc, &program.input(), functions, form, output) {
+            let input = program.input();
+            if let Some(places) = Places::new(alloc, &input, functions, form, sources, output) {
                 places.print_in_section(name, questions, output);
             }
             return;
@@ -133,25 +141,28 @@ fn print_no_address<O: Write, E: Write>(
 
 /// The rows of all units of a section, and how their places are printed.
 #[derive(Drop)]
-struct Places<'f, 'n, R: Reader> {
+struct Places<'f, 'n, R: Reader, S> {
     alloc: Global,
     lookup: SectionLookup<R>,
     sources: PathSources<R>,
     functions: Functions<'n>,
     form: PlaceForm<'f>,
+    /// Where source files are read from.
+    files: &'f S,
     /// The directory that paths are printed from; empty where none is named.
     directory: Vec<u8>,
 }
 
-impl<'f, 'n, R: Reader> Places<'f, 'n, R> {
+impl<'f, 'n, R: Reader, S: SourceFiles> Places<'f, 'n, R, S> {
     /// Reads the rows. None where memory is missing, which is reported.
     fn new<O: Write, E: Write>(
         alloc: Global,
         input: &Input<R>,
         functions: Functions<'n>,
         form: PlaceForm<'f>,
+        files: &'f S,
         output: &mut Output<'_, O, E>,
-    ) -> Option<Places<'f, 'n, R>> {
+    ) -> Option<Places<'f, 'n, R, S>> {
         let lookup = look_up(alloc, input, output)?;
         let sources = path_sources(alloc, input, output)?;
         let directory = match form.paths {
@@ -168,6 +179,7 @@ impl<'f, 'n, R: Reader> Places<'f, 'n, R> {
             sources,
             functions,
             form,
+            files,
             directory,
         })
     }
@@ -270,17 +282,20 @@ impl<'f, 'n, R: Reader> Places<'f, 'n, R> {
         path: Option<&[u8]>,
         output: &mut Output<'_, O, E>,
     ) {
-        let path = path.map(|path| self.shown_path(path));
+        let shown = path.map(|path| self.shown_path(path));
         if self.form.is_json {
-            return match self.json_fields(address, path) {
+            return match self.json_fields(address, shown) {
                 Ok(fields) => print_json(address, self.form.bias, found, &fields, output),
                 Err(_) => output.fail_for_memory(),
             };
         }
         let function = self.function_at(address);
-        let path = PathText(path.unwrap_or(b"??"));
+        let shown = PathText(shown.unwrap_or(b"??"));
         let (line, column) = line_and_column(found);
-        output.print(format_args!("{function}{path}:{line}:{column}"));
+        output.print(format_args!("{function}{shown}:{line}:{column}"));
+        if let Some(path) = path.filter(|_| self.form.has_source) {
+            print_line(self.alloc, self.files, path, line, column, output);
+        }
     }
 
     /// The fields of a JSON object that are texts.

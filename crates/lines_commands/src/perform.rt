@@ -17,6 +17,8 @@ use crate::program::Program;
 use crate::report::Verdict;
 use crate::request::{Command, Request};
 use crate::screen::Screen;
+use crate::source::print_source;
+use crate::source_file::{NoSources, SourceFiles};
 use crate::stat::print_stat;
 use elf_sections::ElfError;
 use std::alloc::Global;
@@ -41,16 +43,26 @@ pub fn run<I: BufRead, O: Write, E: Write>(
     ensures no_lines_fails { request.now.kind ≡ Kind.Elf → (HasLines files.entry.file.now → ⊥)
         → IfErr result (λ e. error_kind e ≡ ErrorKind.OutOfMemory) }
 {
-    run_on(alloc, Screen::none(), request, files, input, out, err)
+    run_on(
+        alloc,
+        Screen::none(),
+        request,
+        files,
+        &NoSources,
+        input,
+        out,
+        err,
+    )
 }
 
-/// Does what `run` does, where outputs may be terminals: headings and faults are set off there, and
-/// a long command prints how far it is.
-pub fn run_on<I: BufRead, O: Write, E: Write>(
+/// Does what `run` does, where source files may be read, and outputs may be terminals: headings and
+/// faults are set off there, and a long command prints how far it is.
+pub fn run_on<S: SourceFiles, I: BufRead, O: Write, E: Write>(
     alloc: Global,
     screen: Screen,
     request: &Request<'_>,
     files: Files<'_>,
+    sources: &S,
     input: &mut I,
     out: &mut O,
     err: &mut E,
@@ -72,7 +84,15 @@ pub fn run_on<I: BufRead, O: Write, E: Write>(
             return Ok(Verdict::Faulty.status());
         }
     };
-    perform(alloc, &request.command, &program, files, input, &mut output);
+    perform(
+        alloc,
+        &request.command,
+        &program,
+        files,
+        sources,
+        input,
+        &mut output,
+    );
     output.finish()
 }
 
@@ -155,17 +175,19 @@ impl<'w> Command<'w> {
     pub fn prints_functions(&self) -> bool {
         match self {
             Command::Where { form, .. } => form.has_function,
+            Command::Source(_) => true,
             _ => false,
         }
     }
 }
 
 /// Does what a command asks for.
-fn perform<I: BufRead, O: Write, E: Write>(
+fn perform<S: SourceFiles, I: BufRead, O: Write, E: Write>(
     alloc: Global,
     command: &Command<'_>,
     program: &Program<'_>,
     files: Files<'_>,
+    sources: &S,
     input: &mut I,
     output: &mut Output<'_, O, E>,
 ) {
@@ -173,12 +195,17 @@ fn perform<I: BufRead, O: Write, E: Write>(
     match command {
         Command::Where { addresses, form } if sections.is_linked => {
             let symbols = program.symbols();
-            print_places(alloc, sections, symbols, addresses, *form, input, output);
+            print_places(
+                alloc, sections, symbols, addresses, *form, sources, input, output,
+            );
         }
         Command::Where { addresses, form } => {
-            print_places_in_sections(alloc, files, addresses, *form, input, output);
+            print_places_in_sections(alloc, files, addresses, *form, sources, input, output);
         }
         Command::At(line) => print_addresses(alloc, sections, *line, output),
+        Command::Source(choice) => {
+            print_source(alloc, sections, program.symbols(), *choice, sources, output);
+        }
         Command::Units { is_json } => print_units(alloc, sections, *is_json, output),
         Command::Files { units, is_json } => {
             let is_json = *is_json;

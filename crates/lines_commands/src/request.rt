@@ -16,6 +16,8 @@ pub struct Request<'w> {
     pub line_str: Option<&'w str>,
     /// The file with the section `.debug_str`, for a raw section.
     pub strings: Option<&'w str>,
+    /// The source file that is read in the place of those that paths name.
+    pub source: Option<&'w str>,
     /// What is printed.
     pub command: Command<'w>,
 }
@@ -30,6 +32,8 @@ pub enum Command<'w> {
     },
     /// The addresses of a line.
     At(CodeLine<'w>),
+    /// The source of a line or of a function, with its addresses.
+    Source(SourceChoice<'w>),
     /// A line for each unit.
     Units {
         is_json: bool,
@@ -81,6 +85,53 @@ pub struct CodeLine<'w> {
     pub is_json: bool,
 }
 
+/// Which lines of source are printed, and how.
+///
+/// <!-- part of crates/lines_commands/src/words.rt -->
+/// ```rust
+/// "source" => Ok(Command::Source(SourceChoice {
+///     place: source_place_of(matches)?,
+///     context: context_of(matches)?,
+///     is_json: matches.get_flag("json"),
+/// })),
+/// ```
+#[derive(Clone, Copy, Debug, PartialEq, Eq)]
+pub struct SourceChoice<'w> {
+    /// The place.
+    pub place: SourcePlace<'w>,
+    /// How many lines are printed before it and after it.
+    pub context: u64,
+    /// Whether each line is a JSON object.
+    pub is_json: bool,
+}
+
+/// A place in the source.
+///
+/// <!-- part of crates/lines_commands/src/words.rt -->
+/// ```rust
+/// match parse_target(word) {
+///     Some((path, line)) => Ok(SourcePlace::Line { path, line }),
+///     None => Ok(SourcePlace::Function(word)),
+/// }
+/// ```
+#[derive(Clone, Copy, Debug, PartialEq, Eq)]
+pub enum SourcePlace<'w> {
+    /// A line of the files whose whole path ends with the components of another.
+    Line { path: &'w str, line: u64 },
+    /// The code of the function of a name.
+    Function(&'w str),
+}
+
+impl<'w> SourcePlace<'w> {
+    /// The path or the name.
+    pub(crate) fn word(self) -> &'w str {
+        match self {
+            SourcePlace::Line { path, .. } => path,
+            SourcePlace::Function(name) => name,
+        }
+    }
+}
+
 /// How places are printed.
 #[derive(Clone, Copy, Debug, PartialEq, Eq)]
 pub struct PlaceForm<'w> {
@@ -88,6 +139,8 @@ pub struct PlaceForm<'w> {
     pub is_json: bool,
     /// Whether the name of the function is printed too.
     pub has_function: bool,
+    /// Whether the line of source is printed too.
+    pub has_source: bool,
     /// How much of a path is printed.
     pub paths: PathForm<'w>,
     /// What is subtracted from each address.

@@ -40,6 +40,9 @@ impl Screen {
 }
 
 impl Style {
+    /// Nothing is set off.
+    pub(crate) const PLAIN: Style = Style { begin: "", end: "" };
+
     /// What begins so on a terminal with colours, and nothing elsewhere.
     fn new(is_coloured: bool, begin: &'static str) -> Style {
         if is_coloured {
@@ -48,7 +51,7 @@ impl Style {
                 end: "\u{1b}[0m",
             }
         } else {
-            Style { begin: "", end: "" }
+            Style::PLAIN
         }
     }
 }

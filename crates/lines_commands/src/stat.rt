@@ -12,7 +12,8 @@ use crate::walk::Walk;
 use gimli_core::{Error, Format, Reader, ReaderOffset};
 use gimli_line::{IncompleteLineProgram, LineProgramHeader, LineRow, OneShotLineRows};
 use gimli_lookup::PathError;
-use lines_reports::{PathIndex, Tally};
+use indexmap::IndexSet;
+use lines_reports::{Spent, Tally};
 use std::alloc::{AllocError, Global};
 use std::collections::BTreeMap;
 use std::io::Write;
@@ -68,7 +69,8 @@ struct Stat {
     not_statements: u64,
     /// The bytes of each unit, with its offset.
     units: Vec<(u64, u64)>,
-    paths: PathIndex,
+    /// The paths of files, each once; its number is its place here.
+    paths: IndexSet<Vec<u8>>,
     /// The rows of each path, by its number.
     files: BTreeMap<usize, u64>,
     /// The same, the most rows first.
@@ -86,7 +88,7 @@ impl Stat {
             ends: 0,
             not_statements: 0,
             units: Vec::new(alloc),
-            paths: PathIndex::new(alloc),
+            paths: IndexSet::new(alloc),
             files: BTreeMap::new(alloc),
             largest: Vec::new(alloc),
         }
@@ -159,7 +161,7 @@ impl Stat {
     ) -> Result<(), AllocError> {
         for (file, count) in files {
             let path = path_or_unknown(self.alloc, header, *file, sources)?;
-            let number = self.paths.number_of(path)?;
+            let (number, _) = self.paths.insert_full(path)?;
             let before = self.files.get(&number).copied().unwrap_or(0);
             self.files.insert(number, before.saturating_add(*count))?;
         }
@@ -214,10 +216,8 @@ impl Stat {
         if !is_json {
             output.print_heading("what                   times     bytes  operands   share");
         }
-        for number in 0..usize::MAX {
-            let Some((spent, share)) = self.tally.share(number) else {
-                break;
-            };
+        for spent in Spent::ALL {
+            let share = self.tally.share(spent);
             let name = spent.name();
             let times = share.times;
             let bytes = share.bytes;
@@ -268,7 +268,7 @@ impl Stat {
         }
         let all = self.rows.saturating_sub(self.ends);
         for (count, number) in self.largest.iter().rev().take(LARGEST) {
-            let path = self.paths.path(*number).unwrap_or(b"??");
+            let path = path_of_number(&self.paths, *number);
             if !is_json {
                 let path = PathText(path);
                 let percent = Percent(*count, all);
@@ -290,6 +290,14 @@ fn unit_bytes<R: Reader>(header: &LineProgramHeader<R>) -> u64 {
         Format::Dwarf64 => 12,
     };
     header.unit_length().into_u64().saturating_add(length_bytes)
+}
+
+/// The path of a number.
+pub(crate) fn path_of_number(paths: &IndexSet<Vec<u8>>, number: usize) -> &[u8] {
+    match paths.get_index(number) {
+        Some(path) => path,
+        None => b"??",
+    }
 }
 
 /// The path of a file of a header; `??` where it has none.

@@ -14,12 +14,19 @@ use crate::kinds::{CheckChoice, KindSet};
 use crate::names::{MessageText, NameText};
 use crate::numbers::{parse_address, parse_code_address, parse_offset, parse_target};
 use crate::request::{
-    CodeAddress, CodeLine, Command, Form, PathForm, PlaceForm, Request, UnitChoice,
+    CodeAddress, CodeLine, Command, Form, PathForm, PlaceForm, Request, SourceChoice, SourcePlace,
+    UnitChoice,
 };
 use clap::error::ErrorKind;
 use clap::{ArgMatches, Error};
-use rows_reading::{AddressSize, parse_order, parse_size};
+use rows_reading::{AddressSize, parse_digits, parse_order, parse_size};
 use std::alloc::{AllocError, Global};
+
+/// How many lines the command `source` prints before a place and after it, where nothing is said.
+const CONTEXT: u64 = 3;
+
+/// The most lines that it prints there.
+const MOST_CONTEXT: u64 = 100_000;
 
 /// What words ask for, of which the first is the program's name.
 pub fn parse<'w>(alloc: Global, words: &'w [&'w str]) -> Result<Request<'w>, Error> {
@@ -70,6 +77,7 @@ fn request_of<'w>(alloc: Global, matches: &ArgMatches<'w>) -> Result<Request<'w>
         kind: kind_of(matches)?,
         line_str: matches.get_str("line-str"),
         strings: matches.get_str("str"),
+        source: matches.get_str("source"),
         command: command_of(alloc, name, matches)?,
     })
 }
@@ -122,6 +130,11 @@ fn command_of<'w>(
                 is_json: matches.get_flag("json"),
             }))
         }
+        "source" => Ok(Command::Source(SourceChoice {
+            place: source_place_of(matches)?,
+            context: context_of(matches)?,
+            is_json: matches.get_flag("json"),
+        })),
         "units" => Ok(Command::Units {
             is_json: matches.get_flag("json"),
         }),
@@ -200,6 +213,32 @@ fn target_of<'w>(matches: &ArgMatches<'w>) -> Result<(&'w str, u64), Mistake<'w>
     }
 }
 
+/// The line of a path that is named, or else the function of a name.
+fn source_place_of<'w>(matches: &ArgMatches<'w>) -> Result<SourcePlace<'w>, Mistake<'w>> {
+    let word = matches.get_str("PLACE").unwrap_or("");
+    if word.is_empty() {
+        return Err(Mistake::Word(
+            word,
+            "a path, a colon and a line, or the name of a function",
+        ));
+    }
+    match parse_target(word) {
+        Some((path, line)) => Ok(SourcePlace::Line { path, line }),
+        None => Ok(SourcePlace::Function(word)),
+    }
+}
+
+/// How many lines are printed before a place and after it.
+fn context_of<'w>(matches: &ArgMatches<'w>) -> Result<u64, Mistake<'w>> {
+    let Some(word) = matches.get_str("context") else {
+        return Ok(CONTEXT);
+    };
+    match parse_digits(word, 10) {
+        Some(context) if context <= MOST_CONTEXT => Ok(context),
+        _ => Err(Mistake::Word(word, "a number of lines up to 100000")),
+    }
+}
+
 /// The unit that is named, or all of them.
 fn units_of<'w>(matches: &ArgMatches<'w>) -> Result<UnitChoice, Mistake<'w>>
     ensures named { IfOk result (ChoosesUnits (first_value (found_of matches.now) (codes "UNIT"))) }
@@ -226,6 +265,7 @@ fn place_form_of<'w>(matches: &ArgMatches<'w>) -> Result<PlaceForm<'w>, Mistake<
     Ok(PlaceForm {
         is_json: matches.get_flag("json"),
         has_function: matches.get_flag("functions"),
+        has_source: matches.get_flag("pretty"),
         paths,
         bias: bias_of(matches)?,
     })

@@ -1,17 +1,16 @@
 //! What `lines stat` and `lines diff` count, over line programs.
 //!
 //! [`Tally`] counts what the bytes of a section are spent on, [`Coverage`] which bytes of code each
-//! line of a file has, and [`Difference`] compares those of two programs.
+//! line of a file has, and [`Change`] says how those of two programs differ.
 #![tactic(auto)]
 
 mod coverage;
-mod path_index;
+pub mod laws;
 mod sizes;
 mod spent;
 mod tally;
 
-pub use coverage::{Coverage, Difference, Place};
-pub use path_index::PathIndex;
+pub use coverage::{Change, Coverage, Place};
 pub use sizes::{InstructionBytes, instruction_bytes};
 pub use spent::Spent;
 pub use tally::{Share, Tally};

@@ -1,92 +1,165 @@
 //! What the bytes of a section of line programs are spent on.
 
-ghost use Rattle.std.specs.Prelude.{◌<◌};
+ghost use Rattle.std.specs.Prelude.{◌≡◌, ◌<◌};
+ghost use Rattle.gimli_line.specs.run.Instruction.{ins_seen};
+ghost use Rattle.lines_reports.specs.Spent.{number, spent_on};
 
 use gimli_core::Reader;
 use gimli_line::LineInstruction;
 
-/// What bytes of a section are spent on.
+/// What bytes of a section are spent on; instructions by DWARF 5, sections 6.2.5.1 to 6.2.5.3.
+///
+/// <!-- part of crates/lines_commands/src/stat.rt -->
+/// ```rust
+/// for spent in Spent::ALL {
+///     let share = self.tally.share(spent);
+///     let name = spent.name();
+/// ```
 #[derive(Clone, Copy, Debug, PartialEq, Eq)]
-pub struct Spent(usize);
-
-/// How many there are.
-pub(crate) const KINDS: usize = 22;
-
-/// Their names: of instructions those of DWARF 5, sections 6.2.5.2 and 6.2.5.3.
-const NAMES: [&str; KINDS] = [
-    "header",
-    "tables",
-    "special",
-    "copy",
-    "advance_pc",
-    "advance_line",
-    "set_file",
-    "set_column",
-    "negate_stmt",
-    "set_basic_block",
-    "const_add_pc",
-    "fixed_advance_pc",
-    "set_prologue_end",
-    "set_epilogue_begin",
-    "set_isa",
-    "unknown_standard",
-    "end_sequence",
-    "set_address",
-    "define_file",
-    "set_discriminator",
-    "unknown_extended",
-    "unread",
-];
+pub enum Spent {
+    /// The header of a unit, without its tables.
+    Header,
+    /// The tables of a header.
+    Tables,
+    /// Special opcodes.
+    Special,
+    /// `DW_LNS_copy`
+    Copy,
+    /// `DW_LNS_advance_pc`
+    AdvancePc,
+    /// `DW_LNS_advance_line`
+    AdvanceLine,
+    /// `DW_LNS_set_file`
+    SetFile,
+    /// `DW_LNS_set_column`
+    SetColumn,
+    /// `DW_LNS_negate_stmt`
+    NegateStatement,
+    /// `DW_LNS_set_basic_block`
+    SetBasicBlock,
+    /// `DW_LNS_const_add_pc`
+    ConstAddPc,
+    /// `DW_LNS_fixed_advance_pc`
+    FixedAddPc,
+    /// `DW_LNS_set_prologue_end`
+    SetPrologueEnd,
+    /// `DW_LNS_set_epilogue_begin`
+    SetEpilogueBegin,
+    /// `DW_LNS_set_isa`
+    SetIsa,
+    /// A standard opcode that isn't known.
+    UnknownStandard,
+    /// `DW_LNE_end_sequence`
+    EndSequence,
+    /// `DW_LNE_set_address`
+    SetAddress,
+    /// `DW_LNE_define_file`
+    DefineFile,
+    /// `DW_LNE_set_discriminator`
+    SetDiscriminator,
+    /// An extended opcode that isn't known.
+    UnknownExtended,
+    /// What can't be read.
+    Unread,
+}
 
 impl Spent {
-    /// The header of a unit, without its tables.
-    pub(crate) const HEADER: Spent = Spent(0);
-    /// The tables of a header.
-    pub(crate) const TABLES: Spent = Spent(1);
-    /// What can't be read.
-    pub(crate) const UNREAD: Spent = Spent(21);
+    /// All of them, in the order of a unit's parts and of opcodes.
+    pub const ALL: [Spent; 22] = [
+        Spent::Header,
+        Spent::Tables,
+        Spent::Special,
+        Spent::Copy,
+        Spent::AdvancePc,
+        Spent::AdvanceLine,
+        Spent::SetFile,
+        Spent::SetColumn,
+        Spent::NegateStatement,
+        Spent::SetBasicBlock,
+        Spent::ConstAddPc,
+        Spent::FixedAddPc,
+        Spent::SetPrologueEnd,
+        Spent::SetEpilogueBegin,
+        Spent::SetIsa,
+        Spent::UnknownStandard,
+        Spent::EndSequence,
+        Spent::SetAddress,
+        Spent::DefineFile,
+        Spent::SetDiscriminator,
+        Spent::UnknownExtended,
+        Spent::Unread,
+    ];
 
-    /// The kind of a number below the count of them.
-    pub(crate) fn of_number(number: usize) -> Spent {
-        Spent(number.min(KINDS - 1))
+    /// Its place among all, and its name: of an instruction that of its opcode.
+    fn entry(self) -> (usize, &'static str)
+        ensures number { result.0 ≡ number self }
+        ensures bound { result.0 < 22 }
+    {
+        match self {
+            Spent::Header => (0, "header"),
+            Spent::Tables => (1, "tables"),
+            Spent::Special => (2, "special"),
+            Spent::Copy => (3, "copy"),
+            Spent::AdvancePc => (4, "advance_pc"),
+            Spent::AdvanceLine => (5, "advance_line"),
+            Spent::SetFile => (6, "set_file"),
+            Spent::SetColumn => (7, "set_column"),
+            Spent::NegateStatement => (8, "negate_stmt"),
+            Spent::SetBasicBlock => (9, "set_basic_block"),
+            Spent::ConstAddPc => (10, "const_add_pc"),
+            Spent::FixedAddPc => (11, "fixed_advance_pc"),
+            Spent::SetPrologueEnd => (12, "set_prologue_end"),
+            Spent::SetEpilogueBegin => (13, "set_epilogue_begin"),
+            Spent::SetIsa => (14, "set_isa"),
+            Spent::UnknownStandard => (15, "unknown_standard"),
+            Spent::EndSequence => (16, "end_sequence"),
+            Spent::SetAddress => (17, "set_address"),
+            Spent::DefineFile => (18, "define_file"),
+            Spent::SetDiscriminator => (19, "set_discriminator"),
+            Spent::UnknownExtended => (20, "unknown_extended"),
+            Spent::Unread => (21, "unread"),
+        }
     }
 
-    /// Its number.
+    /// Its place among all.
     pub(crate) fn number(self) -> usize
-        ensures { result < 22 }
+        ensures number { result ≡ number self }
+        ensures bound { result < 22 }
     {
-        self.0.min(KINDS - 1)
+        self.entry().0
     }
 
     /// Its name.
     pub fn name(self) -> &'static str {
-        NAMES[self.number()]
+        self.entry().1
     }
 
-    /// An instruction.
-    pub(crate) fn on<R: Reader>(instruction: &LineInstruction<R>) -> Spent {
-        Spent(match instruction {
-            LineInstruction::Special(_) => 2,
-            LineInstruction::Copy => 3,
-            LineInstruction::AdvancePc(_) => 4,
-            LineInstruction::AdvanceLine(_) => 5,
-            LineInstruction::SetFile(_) => 6,
-            LineInstruction::SetColumn(_) => 7,
-            LineInstruction::NegateStatement => 8,
-            LineInstruction::SetBasicBlock => 9,
-            LineInstruction::ConstAddPc => 10,
-            LineInstruction::FixedAddPc(_) => 11,
-            LineInstruction::SetPrologueEnd => 12,
-            LineInstruction::SetEpilogueBegin => 13,
-            LineInstruction::SetIsa(_) => 14,
-            LineInstruction::UnknownStandard0(_) => 15,
-            LineInstruction::UnknownStandard1(_, _) => 15,
-            LineInstruction::UnknownStandardN(_, _) => 15,
-            LineInstruction::EndSequence => 16,
-            LineInstruction::SetAddress(_) => 17,
-            LineInstruction::DefineFile(_) => 18,
-            LineInstruction::SetDiscriminator(_) => 19,
-            LineInstruction::UnknownExtended(_, _) => 20,
-        })
+    /// The opcode of an instruction.
+    pub(crate) fn on<R: Reader>(instruction: &LineInstruction<R>) -> Spent
+        ensures { result ≡ spent_on (ins_seen R.bytes R.Offset.number instruction.now) }
+    {
+        match instruction {
+            LineInstruction::Special(_) => Spent::Special,
+            LineInstruction::Copy => Spent::Copy,
+            LineInstruction::AdvancePc(_) => Spent::AdvancePc,
+            LineInstruction::AdvanceLine(_) => Spent::AdvanceLine,
+            LineInstruction::SetFile(_) => Spent::SetFile,
+            LineInstruction::SetColumn(_) => Spent::SetColumn,
+            LineInstruction::NegateStatement => Spent::NegateStatement,
+            LineInstruction::SetBasicBlock => Spent::SetBasicBlock,
+            LineInstruction::ConstAddPc => Spent::ConstAddPc,
+            LineInstruction::FixedAddPc(_) => Spent::FixedAddPc,
+            LineInstruction::SetPrologueEnd => Spent::SetPrologueEnd,
+            LineInstruction::SetEpilogueBegin => Spent::SetEpilogueBegin,
+            LineInstruction::SetIsa(_) => Spent::SetIsa,
+            LineInstruction::UnknownStandard0(_) => Spent::UnknownStandard,
+            LineInstruction::UnknownStandard1(_, _) => Spent::UnknownStandard,
+            LineInstruction::UnknownStandardN(_, _) => Spent::UnknownStandard,
+            LineInstruction::EndSequence => Spent::EndSequence,
+            LineInstruction::SetAddress(_) => Spent::SetAddress,
+            LineInstruction::DefineFile(_) => Spent::DefineFile,
+            LineInstruction::SetDiscriminator(_) => Spent::SetDiscriminator,
+            LineInstruction::UnknownExtended(_, _) => Spent::UnknownExtended,
+        }
     }
 }

@@ -1,11 +1,26 @@
 //! Counts of what the bytes of a section are spent on.
 
+ghost use Rattle.std.specs.Prelude.{◌≡◌, ◌≢◌, ◌∷◌, ◌++◌, [], List, IfErr, OnErr, OnOk};
+ghost use Rattle.gimli_line.specs.run.InstructionGrammar.{instruction_production};
+ghost use Rattle.lines_reports.specs.Pieces.{fields_size, header_pieces, plain_piece, ArePieces};
+ghost use Rattle.lines_reports.specs.Pieces.{Piece};
+ghost use Rattle.lines_reports.specs.Tally.{share_of, no_share, sum_of, with_piece, Counts};
+ghost use Rattle.lines_reports.specs.inside.Progress.{AreCounted};
+ghost use Rattle.lines_reports.specs.declared.spent.Spent.{Spent as Kind};
+
 use crate::sizes::instruction_bytes;
-use crate::spent::{KINDS, Spent};
+use crate::spent::Spent;
 use gimli_core::{Error, Format, Reader, ReaderOffset, Result};
 use gimli_line::{LineInstructions, LineProgramHeader};
 
 /// What was spent on one thing.
+///
+/// <!-- part of crates/lines_commands/src/stat.rt -->
+/// ```rust
+/// for spent in Spent::ALL {
+///     let share = self.tally.share(spent);
+///     let name = spent.name();
+/// ```
 #[derive(Clone, Copy, Debug, PartialEq, Eq)]
 pub struct Share {
     /// How many there are of it.
@@ -25,29 +40,53 @@ impl Share {
     };
 
     /// All its bytes.
-    pub fn all_bytes(self) -> u64 {
+    pub fn all_bytes(self) -> u64
+        ensures { result ≡ sum_of self.bytes self.operands }
+    {
         self.bytes.saturating_add(self.operands)
+    }
+
+    /// The same and one piece more.
+    fn with_piece(self, bytes: u64, operands: u64) -> Share
+        ensures { (kind : Kind) → result ≡ with_piece self
+            (record { kind = kind; bytes = bytes; operands = operands }) }
+    {
+        Share {
+            times: self.times.saturating_add(1),
+            bytes: self.bytes.saturating_add(bytes),
+            operands: self.operands.saturating_add(operands),
+        }
     }
 }
 
 /// What the bytes of units are spent on.
+///
+/// <!-- part of crates/lines_commands/src/stat.rt -->
+/// ```rust
+/// for spent in Spent::ALL {
+///     let share = self.tally.share(spent);
+///     let name = spent.name();
+/// ```
 #[derive(Clone, Copy, Debug, PartialEq, Eq)]
 pub struct Tally {
-    shares: [Share; KINDS],
+    shares: [Share; 22],
 }
 
 impl Tally {
     /// Nothing was counted.
-    pub fn new() -> Tally {
+    pub fn new() -> Tally
+        ensures { (kind : Kind) → share_of result kind ≡ no_share }
+    {
         Tally {
-            shares: [Share::NONE; KINDS],
+            shares: [Share::NONE; 22],
         }
     }
 
-    /// What was spent on each thing that is there.
-    pub fn share(&self, number: usize) -> Option<(Spent, Share)> {
-        let share = self.shares.get(number)?;
-        Some((Spent::of_number(number), *share))
+    /// What was spent on one thing.
+    pub fn share(&self, kind: Spent) -> Share
+        ensures { result ≡ share_of self.now kind }
+    {
+        self.shares[kind.number()]
     }
 
     /// Counts the bytes of a unit of so many, and returns the fault that ends its program.
@@ -55,76 +94,82 @@ impl Tally {
         &mut self,
         header: &LineProgramHeader<R>,
         bytes: u64,
-    ) -> Option<Error> {
+    ) -> Option<Error>
+        ensures { (pieces : List Piece)
+            × ArePieces header.now.notation header.now.meaning header.now.meaning.program pieces
+            × Counts self.old (header_pieces header.now.meaning bytes ++ pieces) self.new }
+    {
+        let fields = header_bytes(header);
         let program = header.raw_program_buf();
-        let fixed = header_bytes(header);
         let tables = bytes
-            .saturating_sub(fixed)
+            .saturating_sub(fields)
             .saturating_sub(program.len().into_u64());
-        self.add(Spent::HEADER, fixed, 0);
-        self.add(Spent::TABLES, tables, 0);
+        self.add(Spent::Header, fields, 0);
+        self.add(Spent::Tables, tables, 0);
         self.add_program(header, program)
     }
 
     /// Counts so many bytes that can't be read.
-    pub fn add_unread(&mut self, bytes: u64) {
+    pub fn add_unread(&mut self, bytes: u64)
+        ensures none { bytes ≡ 0 → self.new ≡ self.old }
+        ensures some { bytes ≢ 0
+            → Counts self.old (plain_piece Kind.Unread bytes ∷ []) self.new }
+    {
         if bytes > 0 {
-            self.add(Spent::UNREAD, bytes, 0);
+            self.add(Spent::Unread, bytes, 0);
         }
     }
 
     /// Counts the instructions of a program up to its end or its first fault, which is returned.
-    fn add_program<R: Reader>(
-        &mut self,
-        header: &LineProgramHeader<R>,
-        program: R,
-    ) -> Option<Error> {
+    fn add_program<R: Reader>(&mut self, header: &LineProgramHeader<R>, program: R) -> Option<Error>
+        requires { R.bytes program ≡ header.now.meaning.program }
+        ensures { (pieces : List Piece)
+            × ArePieces header.now.notation header.now.meaning header.now.meaning.program pieces
+            × Counts self.old pieces self.new }
+    {
         let mut rest = program;
-        let mut instructions = header.instructions();
-        let mut fault = None;
-        for _ in 0..u64::MAX {
-            match self.add_next(header, &mut instructions, &mut rest) {
-                Ok(true) => {}
-                Ok(false) => break,
-                Err(error) => {
-                    fault = Some(error);
-                    break;
-                }
-            }
-        }
+        let end = self.add_instructions(header, &mut rest);
         self.add_unread(rest.len().into_u64());
-        fault
+        end.err()
     }
 
-    /// Counts the next instruction; false at the end. Takes its bytes away.
-    fn add_next<R: Reader>(
+    /// Counts the instructions of a program up to its end or its first fault, which is returned,
+    /// and takes their bytes away.
+    fn add_instructions<R: Reader>(
         &mut self,
         header: &LineProgramHeader<R>,
-        instructions: &mut LineInstructions<R>,
         rest: &mut R,
-    ) -> Result<bool> {
-        let Some(instruction) = instructions.next_instruction(header)? else {
-            return Ok(false);
-        };
-        let bytes = instruction_bytes(&instruction, rest)?;
-        self.add(Spent::on(&instruction), bytes.opcode, bytes.operands);
-        Ok(true)
+    ) -> Result<()>
+        requires bytes { R.bytes rest.old ≡ header.now.meaning.program }
+        ensures counted { AreCounted header.now.notation header.now.meaning
+            header.now.meaning.program self.old (R.bytes rest.new) self.new }
+        ensures end { OnOk result (R.bytes rest.new ≡ []) }
+        ensures fault { IfErr result ((instruction_production header.now.notation
+            header.now.meaning).Fault (R.bytes rest.new)) }
+        ensures some { OnErr result (R.bytes rest.new ≢ []) }
+    {
+        let mut instructions = header.instructions();
+        'instructions: while let Some(instruction) = instructions.next_instruction(header)? {
+            let bytes = instruction_bytes(&instruction, rest)?;
+            self.add(Spent::on(&instruction), bytes.opcode, bytes.operands);
+        }
+        Ok(())
     }
 
-    /// Counts one thing.
-    fn add(&mut self, spent: Spent, bytes: u64, operands: u64) {
-        let number = spent.number();
-        let before = self.shares[number];
-        self.shares[number] = Share {
-            times: before.times.saturating_add(1),
-            bytes: before.bytes.saturating_add(bytes),
-            operands: before.operands.saturating_add(operands),
-        };
+    /// Counts one piece.
+    fn add(&mut self, kind: Spent, bytes: u64, operands: u64)
+        ensures { Counts self.old
+            (record { kind = kind; bytes = bytes; operands = operands } ∷ []) self.new }
+    {
+        let number = kind.number();
+        self.shares[number] = self.shares[number].with_piece(bytes, operands);
     }
 }
 
 /// The bytes of a header before its tables (DWARF 5, section 6.2.4).
-fn header_bytes<R: Reader>(header: &LineProgramHeader<R>) -> u64 {
+fn header_bytes<R: Reader>(header: &LineProgramHeader<R>) -> u64
+    ensures { result ≡ fields_size header.now.meaning }
+{
     // Its length, its version, and how many bytes of the header follow.
     let lengths = match header.format() {
         Format::Dwarf32 => 10u64,
@@ -136,9 +181,5 @@ fn header_bytes<R: Reader>(header: &LineProgramHeader<R>) -> u64 {
         4 => 1,
         _ => 3,
     };
-    let opcodes = header.standard_opcode_lengths().len().into_u64();
-    opcodes
-        .saturating_add(lengths)
-        .saturating_add(later)
-        .saturating_add(5)
+    lengths + later + 5 + u64::from(header.opcode_base()).saturating_sub(1)
 }

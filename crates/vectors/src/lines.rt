@@ -2,15 +2,30 @@
 
 use crate::run::print_errors;
 use clap::Error;
-use lines_commands::{Files, Request, Screen, SymbolFiles, UnitFiles, run, run_diff};
+use lines_commands::{
+    Files, Request, Screen, SourceFiles, SymbolFiles, UnitFiles, run_diff, run_on,
+};
 use rows_reading::Stop;
-use std::alloc::Global;
+use std::alloc::{AllocError, Global};
 use std::io;
 use std::io::Write;
 
+/// The source file of a row, whatever its path; None where none is named.
+#[derive(Clone, Copy)]
+struct RowSource<'n>(Option<&'n [u8]>);
+
+impl SourceFiles for RowSource<'_> {
+    fn source(&self, alloc: Global, _path: &[u8]) -> Result<Option<Vec<u8>>, AllocError> {
+        match self.0 {
+            Some(bytes) => Ok(Some(Vec::from_slice(alloc, bytes)?)),
+            None => Ok(None),
+        }
+    }
+}
+
 /// Runs the program `lines`, by its words, of which the first is its name. Its file is the input of
-/// the row, and a file of texts is a part that a word names by `@`. Standard input is empty.
-/// Returns the status of the program.
+/// the row, and a file of texts or of source is a part that a word names by `@`. Standard input is
+/// empty. Returns the status of the program.
 pub fn run_lines<'r>(
     alloc: Global,
     words: &[&str],
@@ -32,7 +47,19 @@ pub fn run_lines<'r>(
                 Some(new) => Some(part_of(words, named, Some(new))),
                 None => None,
             };
-            match perform(alloc, &request, files, new, out, &mut err) {
+            let source = match request.source {
+                Some(name) => Some(part_of(words, named, Some(name))),
+                None => None,
+            };
+            match perform(
+                alloc,
+                &request,
+                files,
+                RowSource(source),
+                new,
+                out,
+                &mut err,
+            ) {
                 Ok(status) => status,
                 Err(_) => return Err(Stop::Memory),
             }
@@ -55,13 +82,15 @@ fn perform(
     alloc: Global,
     request: &Request<'_>,
     files: Files<'_>,
+    source: RowSource<'_>,
     new: Option<&[u8]>,
     out: &mut Vec<u8>,
     err: &mut Vec<u8>,
 ) -> io::Result<u8> {
     let Some(file) = new else {
         let mut input: &[u8] = &[];
-        return run(alloc, request, files, &mut input, out, err);
+        let screen = Screen::none();
+        return run_on(alloc, screen, request, files, &source, &mut input, out, err);
     };
     let new = Files { file, ..files };
     run_diff(
