@@ -5,24 +5,26 @@ _lines() {
     local of_file="--raw --address-size --line-str --str --help" options
     COMPREPLY=()
     if [ "$COMP_CWORD" = 1 ]; then
-        COMPREPLY=($(compgen -W "where at source units files rows check stat diff help --help --version" -- "$word"))
+        COMPREPLY=($(compgen -W "where index at source units files rows check stat diff help --help --version" -- "$word"))
         return
     fi
     case $before in
         --raw) COMPREPLY=($(compgen -W "little big" -- "$word")); return ;;
         --address-size) COMPREPLY=($(compgen -W "1 2 4 8" -- "$word")); return ;;
         --deny | --allow) COMPREPLY=($(compgen -W "$kinds" -- "$word")); return ;;
-        --relative-to) COMPREPLY=($(compgen -d -- "$word")); return ;;
+        --index | --output | -o) COMPREPLY=($(compgen -f -- "$word")); return ;;
+        --relative-to | --maps) COMPREPLY=($(compgen -d -- "$word")); return ;;
         --bias | --context | -C) return ;;
     esac
     case $command in
-        where) options="$of_file --basenames --relative-to --bias --functions --pretty --source --json" ;;
+        where) options="$of_file --basenames --relative-to --bias --functions --pretty --source --index --maps --files --json" ;;
+        index) options="$of_file --output" ;;
         at) options="$of_file --columns --range --json" ;;
         source) options="$of_file --context --source --json" ;;
         rows) options="$of_file --whole-paths --json" ;;
         check) options="$of_file --deny --allow --all --json" ;;
         units | files | stat | diff) options="$of_file --json" ;;
-        help) COMPREPLY=($(compgen -W "where at source units files rows check stat diff" -- "$word")); return ;;
+        help) COMPREPLY=($(compgen -W "where index at source units files rows check stat diff" -- "$word")); return ;;
         *) return ;;
     esac
     case $word in

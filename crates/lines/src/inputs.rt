@@ -8,7 +8,7 @@ use std::io::{Read, Write};
 use std::{fmt, fs, io};
 
 /// The name that stands for standard input.
-const STANDARD_INPUT: &str = "-";
+pub(crate) const STANDARD_INPUT: &str = "-";
 
 /// The bytes of the files that a request names, and how they are read.
 #[derive(Drop)]
@@ -104,7 +104,7 @@ fn report_missing(rt: &HostRuntime, name: &str, missing: &Missing) {
 }
 
 /// Reports why a file isn't read.
-fn report(rt: &HostRuntime, name: &str, reason: impl fmt::Display + Drop) {
+pub(crate) fn report(rt: &HostRuntime, name: &str, reason: impl fmt::Display + Drop) {
     let name = NameText(name);
     // Where standard error can't be written to, the status still says it.
     let _ = writeln!(rt.stderr(), "lines: {name}: {reason}");
@@ -145,7 +145,7 @@ fn named_or<'s>(named: &'s [u8], own: &'s [u8]) -> &'s [u8] {
 }
 
 /// Whether a name can be opened: the files of the kit take text alone. One that can't is reported.
-fn can_be_opened(rt: &HostRuntime, name: &str) -> io::Result<bool> {
+pub(crate) fn can_be_opened(rt: &HostRuntime, name: &str) -> io::Result<bool> {
     let bytes = lines_commands::bytes_of_word(rt.alloc(), name)?;
     if bytes.as_slice() == name.as_bytes() {
         return Ok(true);
@@ -159,7 +159,7 @@ fn can_be_opened(rt: &HostRuntime, name: &str) -> io::Result<bool> {
 }
 
 /// The bytes of a file; None where it can't be read, which is reported.
-fn read(rt: &HostRuntime, name: &str) -> io::Result<Option<Vec<u8>>> {
+pub(crate) fn read(rt: &HostRuntime, name: &str) -> io::Result<Option<Vec<u8>>> {
     if name == STANDARD_INPUT {
         let mut bytes = Vec::new(rt.alloc());
         rt.stdin().read_to_end(&mut bytes)?;

@@ -2,15 +2,17 @@
 #![tactic(auto)]
 
 mod arguments;
+mod indexes;
 mod inputs;
 mod sources;
 
 use crate::arguments::arguments;
+use crate::indexes::{ask, ask_lines, write_index};
 use crate::inputs::{Inputs, inputs_of};
 use crate::sources::Sources;
 use clap::Error;
 use clap::error::ErrorKind as WordsError;
-use lines_commands::{Files, Request, Screen};
+use lines_commands::{Command, Files, Request, Screen};
 use std::io::{BufReader, BufWriter, ErrorKind, IsTerminal, Write};
 use std::process::ExitCode;
 use std::{env, io};
@@ -71,6 +73,12 @@ fn explain(rt: &HostRuntime, error: &Error) -> io::Result<u8> {
 /// Reads the sections and the files that a request names, does what it asks for, and returns the
 /// status of the program.
 fn run(rt: &HostRuntime, mut request: Request<'_>) -> io::Result<u8> {
+    match &request.command {
+        Command::Index { out } => return write_index(rt, &request, *out),
+        Command::Ask { index, .. } => return ask(rt, &request, *index),
+        Command::AskLines { names, .. } => return ask_lines(rt, &request, *names),
+        _ => {}
+    }
     let Some(inputs) = inputs_of(rt, &request, request.file)? else {
         return Ok(REFUSED);
     };
@@ -124,7 +132,7 @@ fn perform(rt: &HostRuntime, request: &Request<'_>, files: Files<'_>) -> io::Res
 
 /// What the outputs are shown on. A terminal is shown colours, unless the variable `NO_COLOR` has a
 /// text, or `TERM` says that it knows none.
-fn screen(rt: &HostRuntime) -> Screen {
+pub(crate) fn screen(rt: &HostRuntime) -> Screen {
     let is_refused = match env::var(rt, "NO_COLOR") {
         Ok(text) => !text.is_empty(),
         Err(_) => false,

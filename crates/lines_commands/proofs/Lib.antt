@@ -1,3 +1,4 @@
 pub mod ComponentTexts
+pub mod LineParts
 pub mod Separators
 mod WorkedPaths

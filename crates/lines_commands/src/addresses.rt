@@ -2,7 +2,7 @@
 
 use crate::components::{components_of, ends_with};
 use crate::fields::{ShownColumn, column_of, line_of};
-use crate::input::Input;
+use crate::input::{Input, NOT_LINKED};
 use crate::json_text::path_fields;
 use crate::lookup::look_up;
 use crate::names::{NameText, bytes_of_word};
@@ -29,10 +29,7 @@ pub(crate) fn print_addresses<R: Reader, O: Write, E: Write>(
     output: &mut Output<'_, O, E>,
 ) {
     if !input.is_linked {
-        return output.tell(
-            "an object file, whose addresses are not known before it is linked; the command where \
-             takes a section and an offset in it",
-        );
+        return output.tell(NOT_LINKED);
     }
     let Some(lookup) = look_up(alloc, input, output) else {
         return;

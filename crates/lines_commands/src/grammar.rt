@@ -29,8 +29,17 @@ const COMMANDS: [Entry; 9] = [
             Argument::Basenames,
             Argument::RelativeTo,
             Argument::Bias,
+            Argument::Index,
+            Argument::Maps,
+            Argument::FileLines,
             Argument::Json,
         ],
+    },
+    Entry {
+        name: "index",
+        about: "Writes an index of the lines, for where --index and where --maps",
+        example: "Example: lines index a.out -o a.out.lines",
+        arguments: &[Argument::Out],
     },
     Entry {
         name: "at",
@@ -99,9 +108,8 @@ const COMMANDS: [Entry; 9] = [
     },
 ];
 
-/// What each command takes: a file, and how it is read.
-const OF_FILE: [Argument; 5] = [
-    Argument::File,
+/// What each command takes beside its file: how that is read.
+const OF_FILE: [Argument; 4] = [
     Argument::Raw,
     Argument::AddressSize,
     Argument::LineStr,
@@ -144,6 +152,12 @@ impl Entry {
         let command = Command::new(alloc, self.name)
             .about(self.about)
             .after_help(self.example);
+        let file = if self.name == "where" {
+            Argument::AskedFile
+        } else {
+            Argument::File
+        };
+        let command = with_arguments(alloc, command, &[file])?;
         let command = with_arguments(alloc, command, &OF_FILE)?;
         with_arguments(alloc, command, self.arguments)
     }
@@ -168,6 +182,16 @@ fn with_arguments<'a>(
 enum Argument {
     /// The file.
     File,
+    /// The file whose places are asked for, where no option says what is asked.
+    AskedFile,
+    /// The index that is asked.
+    Index,
+    /// The folder of the indexes that are asked.
+    Maps,
+    /// The choice of lines that name a file each.
+    FileLines,
+    /// The file that an index is written to.
+    Out,
     /// The order of a raw section.
     Raw,
     /// The size of an address, which an ELF file says itself.
@@ -233,6 +257,27 @@ impl Argument {
                 flag(alloc, "basenames", help).conflicts_with("relative-to")
             }
             Argument::Pretty => self.plain(alloc).conflicts_with("json"),
+            Argument::AskedFile => asked_file(alloc),
+            Argument::Index => {
+                let help = "Asks an index in the place of FILE, which may be left out; where it \
+                            is named, the index has to be its own";
+                option(alloc, "index", "INDEX", help).conflicts_with("functions")
+            }
+            Argument::Maps => {
+                let help = "Reads lines of a build id and an address, and asks DIR/xx/rest.lines \
+                            of each";
+                option(alloc, "maps", "DIR", help).conflicts_with_all(&[
+                    "index",
+                    "functions",
+                    "raw",
+                    "line-str",
+                    "str",
+                ])
+            }
+            Argument::FileLines => {
+                let help = "Reads lines of a file and an address, in the place of FILE";
+                flag(alloc, "files", help).conflicts_with_all(&["index", "maps", "functions"])
+            }
             _ => Ok(self.plain(alloc)),
         }
     }
@@ -240,12 +285,7 @@ impl Argument {
     /// The argument, where it stands beside all others.
     fn plain<'a>(self, alloc: Global) -> Arg<'a> {
         match self {
-            Argument::File => word(
-                alloc,
-                "FILE",
-                "An ELF file, or with --raw a section .debug_line; - is standard input",
-            )
-            .required(true),
+            Argument::File => file(alloc).required(true),
             Argument::Raw => option(
                 alloc,
                 "raw",
@@ -338,6 +378,11 @@ impl Argument {
                     "Prints the name of the function that holds the address, before the path";
                 flag(alloc, "functions", help).short('f')
             }
+            Argument::Out => {
+                let help = "Where the index goes; without it to FILE with .lines after it, \
+                            and - is standard output";
+                option(alloc, "output", "OUT", help).short('o')
+            }
             Argument::New => {
                 word(alloc, "NEW", "The new program; FILE is the old one").required(true)
             }
@@ -349,6 +394,22 @@ impl Argument {
             _ => flag(alloc, "json", "Prints a JSON object a line"),
         }
     }
+}
+
+/// The file.
+fn file<'a>(alloc: Global) -> Arg<'a> {
+    word(
+        alloc,
+        "FILE",
+        "An ELF file, or with --raw a section .debug_line; - is standard input",
+    )
+}
+
+/// The file whose places are asked for. It may be left out where an index is named, and has no
+/// place beside lines that say what they ask.
+fn asked_file<'a>(alloc: Global) -> Result<Arg<'a>, AllocError> {
+    let file = file(alloc).required_unless_present_any(&["index", "maps", "files"])?;
+    file.conflicts_with_all(&["maps", "files"])
 }
 
 /// A word that stands by itself.

@@ -7,6 +7,10 @@ use gimli_line::DebugLine;
 use gimli_lookup::StringSections;
 use rows_reading::AddressSize;
 
+/// Why an object file is refused by a command that needs addresses.
+pub(crate) const NOT_LINKED: &str = "an object file, whose addresses are not known before it is \
+    linked; the command where takes a section and an offset in it";
+
 /// How the bytes of a file are read.
 #[derive(Clone, Copy, Debug, PartialEq, Eq)]
 pub enum Kind {

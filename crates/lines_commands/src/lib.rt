@@ -15,16 +15,22 @@ mod file_list;
 mod finding;
 mod functions;
 mod grammar;
+mod index_fault;
+mod index_places;
 mod input;
 mod input_error;
 mod instruction_start;
 mod json_text;
 mod kinds;
+mod line_answers;
+mod line_question;
 mod listing;
 mod locate;
 mod lookup;
+mod made_index;
 mod names;
 mod numbers;
+mod opened_index;
 mod output;
 mod overlaps;
 mod path_fault;
@@ -51,15 +57,19 @@ mod unit_sections;
 mod walk;
 mod words;
 
+pub use index_places::run_ask;
 pub use input::{Files, Kind, Notation, SymbolFiles, UnitFiles};
 pub use input_error::InputError;
 pub use kinds::{CheckChoice, FindingKind, KindSet, Severity};
+pub use line_answers::{IndexFiles, run_ask_lines};
+pub use line_question::parse_line_question;
+pub use made_index::{MadeIndex, make_index, program_identity};
 pub use names::{NameText, bytes_of_word, text_of_word};
 pub use numbers::{parse_address, parse_offset, parse_place, parse_target};
 pub use perform::{run, run_diff, run_on};
 pub use request::{
-    CodeAddress, CodeLine, Command, Form, PathForm, PlaceForm, Request, SourceChoice, SourcePlace,
-    UnitChoice,
+    CodeAddress, CodeLine, Command, Form, LineNames, PathForm, PlaceForm, Request, SourceChoice,
+    SourcePlace, UnitChoice,
 };
 pub use screen::Screen;
 pub use source_file::{NoSources, SourceFiles};

@@ -10,7 +10,7 @@ use crate::lookup::look_up;
 use crate::names::bytes_of_word;
 use crate::output::Output;
 use crate::path_sources::{PathSources, path_sources};
-use crate::path_text::{PathText, last_part, relative_to};
+use crate::path_text::{PathText, shown_path};
 use crate::pretty::print_line;
 use crate::program::Program;
 use crate::questions::{Asked, Questions};
@@ -128,8 +128,20 @@ fn print_without_section<I: BufRead, O: Write, E: Write>(
     questions.go_on(output);
 }
 
+/// Prints that an offset in a section is no address of a linked program.
+pub(crate) fn print_for_object<O: Write, E: Write>(
+    form: PlaceForm<'_>,
+    section: &str,
+    offset: u64,
+    output: &mut Output<'_, O, E>,
+) {
+    print_unknown(form, None, output);
+    let section = PathText(section.as_bytes());
+    output.tell(format_args!("{section}+0x{offset:x} is for object files; say an address"));
+}
+
 /// Prints that a word is no address.
-fn print_no_address<O: Write, E: Write>(
+pub(crate) fn print_no_address<O: Write, E: Write>(
     form: PlaceForm<'_>,
     word: &[u8],
     output: &mut Output<'_, O, E>,
@@ -190,11 +202,7 @@ impl<'f, 'n, R: Reader, S: SourceFiles> Places<'f, 'n, R, S> {
         match asked {
             Asked::Address(CodeAddress::Linked(address)) => self.print_place(address, output),
             Asked::Address(CodeAddress::InSection { section, offset }) => {
-                print_unknown(self.form, None, output);
-                let section = PathText(section.as_bytes());
-                output.tell(format_args!(
-                    "{section}+0x{offset:x} is for object files; say an address"
-                ));
+                print_for_object(self.form, section, offset, output);
             }
             Asked::Unknown(word) => print_no_address(self.form, word, output),
             Asked::Nothing => print_unknown(self.form, None, output),
@@ -307,16 +315,12 @@ impl<'f, 'n, R: Reader, S: SourceFiles> Places<'f, 'n, R, S> {
 
     /// What is printed of a path.
     fn shown_path<'p>(&self, path: &'p [u8]) -> &'p [u8] {
-        match self.form.paths {
-            PathForm::Whole => path,
-            PathForm::LastPart => last_part(path),
-            PathForm::From(_) => relative_to(path, &self.directory),
-        }
+        shown_path(path, self.form.paths, &self.directory)
     }
 }
 
 /// Prints that there is no place.
-fn print_unknown<O: Write, E: Write>(
+pub(crate) fn print_unknown<O: Write, E: Write>(
     form: PlaceForm<'_>,
     address: Option<u64>,
     output: &mut Output<'_, O, E>,

@@ -7,6 +7,7 @@ use crate::finding::Finding;
 use crate::input_error::InputError;
 use crate::json_text::JsonOffset;
 use crate::kinds::{CheckChoice, FindingKind};
+use crate::line_answers::IndexFiles;
 use crate::names::NameText;
 use crate::report::Verdict;
 use crate::request::Form;
@@ -198,10 +199,43 @@ impl<'o, O: Write, E: Write> Output<'o, O, E> {
         self.verdict = Verdict::Faulty;
     }
 
+    /// Reports a sentence on another file.
+    pub(crate) fn tell_of(&mut self, name: &str, sentence: impl fmt::Display + Drop)
+        ensures { self.new.verdict ≡ Verdict.Faulty }
+    {
+        self.note_of(name, sentence);
+        self.refuse();
+    }
+
+    /// The index at a place; None where there is none, which is reported.
+    pub(crate) fn index_at<S: IndexFiles>(
+        &mut self,
+        source: &mut S,
+        place: &str,
+    ) -> Option<Vec<u8>> {
+        match source.index_at(place, self.err) {
+            Ok(made) => {
+                if made.status != 0 {
+                    self.refuse();
+                }
+                made.bytes
+            }
+            Err(error) => {
+                self.fail(error);
+                None
+            }
+        }
+    }
+
     /// Says a sentence on the file on standard error, which is no fault of it.
     pub(crate) fn note(&mut self, sentence: impl fmt::Display + Drop) {
+        self.note_of(self.name, sentence);
+    }
+
+    /// Says a sentence on a file on standard error.
+    fn note_of(&mut self, name: &str, sentence: impl fmt::Display + Drop) {
         if self.failure.is_ok() {
-            let name = NameText(self.name);
+            let name = NameText(name);
             let Style { begin, end } = self.screen.fault();
             // Where standard error can't be written to, the status still says it.
             let _ = writeln!(self.err, "lines: {name}: {begin}{sentence}{end}");

@@ -78,6 +78,11 @@ impl<R: Reader> PathSources<R> {
         &self.strings
     }
 
+    /// The directories of compilations.
+    pub(crate) fn compilations(&self) -> &Compilations<R> {
+        &self.compilations
+    }
+
     /// The whole path of a file of a header, by the directory of the compilation whose line program
     /// this is. Where none is known, the path stays as `Paths` has it. Refused as `PathError` says.
     pub(crate) fn of_file(

@@ -3,6 +3,7 @@
 ghost use Rattle.std.specs.Prelude.{◌≡◌};
 ghost use Rattle.gimli_lookup.specs.Paths.{is_separator};
 
+use crate::request::PathForm;
 use std::fmt;
 
 /// A path as text. What could change a terminal stands as `\x` and two hexadecimal digits: a
@@ -55,6 +56,15 @@ pub(crate) fn last_part(path: &[u8]) -> &[u8] {
     match path.iter().rposition(|byte| is_separator(*byte)) {
         Some(place) => path.get(place.saturating_add(1)..).unwrap_or(path),
         None => path,
+    }
+}
+
+/// What is printed of a path. The directory is the one that paths are printed from.
+pub(crate) fn shown_path<'p>(path: &'p [u8], form: PathForm<'_>, directory: &[u8]) -> &'p [u8] {
+    match form {
+        PathForm::Whole => path,
+        PathForm::LastPart => last_part(path),
+        PathForm::From(_) => relative_to(path, directory),
     }
 }
 

@@ -152,7 +152,7 @@ fn program_of<'i, O: Write, E: Write>(
 impl<'w> Command<'w> {
     /// Whether paths are printed: the texts and the sections of units are read for these alone.
     pub fn prints_paths(&self) -> bool {
-        !matches!(self, Command::Units { .. })
+        !matches!(self, Command::Units { .. } | Command::Ask { .. })
     }
 
     /// The new file of the command `diff`.
@@ -217,5 +217,6 @@ fn perform<S: SourceFiles, I: BufRead, O: Write, E: Write>(
         Command::Check(choice) => print_check(alloc, sections, *choice, output),
         Command::Stat { is_json } => print_stat(alloc, sections, *is_json, output),
         Command::Diff { .. } => output.tell("the command diff takes two files"),
+        _ => output.tell("the command asks or makes an index"),
     }
 }

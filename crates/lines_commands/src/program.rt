@@ -1,6 +1,7 @@
 //! The sections of a program, lent by its file or made anew.
 
 ghost use Rattle.std.specs.Prelude.{◌≡◌, OnOk};
+ghost use Rattle.elf_sections.specs.SectionBytes.{bytes_of};
 ghost use Rattle.lines_commands.specs.Lines.{HasLines};
 
 use crate::functions::SymbolSections;
@@ -132,6 +133,13 @@ impl<'i> Program<'i> {
             SectionPlace::Only(index) => u16::try_from(index).ok(),
             SectionPlace::AllAtZero => None,
         }
+    }
+
+    /// The bytes of the line programs.
+    pub(crate) fn lines(&self) -> &[u8]
+        ensures { result.now ≡ bytes_of self.now.lines }
+    {
+        self.lines.as_slice()
     }
 
     /// The symbols.

@@ -30,6 +30,21 @@ pub enum Command<'w> {
         addresses: Vec<CodeAddress<'w>>,
         form: PlaceForm<'w>,
     },
+    /// The places of addresses by an index, a file that is named.
+    Ask {
+        index: &'w str,
+        addresses: Vec<CodeAddress<'w>>,
+        form: PlaceForm<'w>,
+    },
+    /// The places of lines of standard input, which say what they ask.
+    AskLines {
+        names: LineNames<'w>,
+        form: PlaceForm<'w>,
+    },
+    /// The index of the lines, into a file that may be named.
+    Index {
+        out: Option<&'w str>,
+    },
     /// The addresses of a line.
     At(CodeLine<'w>),
     /// The source of a line or of a function, with its addresses.
@@ -59,6 +74,15 @@ pub enum Command<'w> {
         new: &'w str,
         is_json: bool,
     },
+}
+
+/// What a line names before an address.
+#[derive(Clone, Copy, Debug, PartialEq, Eq)]
+pub enum LineNames<'w> {
+    /// A build id; the indexes are in this folder.
+    BuildIds(&'w str),
+    /// A file.
+    Files,
 }
 
 /// Where code stands.

@@ -14,8 +14,8 @@ use crate::kinds::{CheckChoice, KindSet};
 use crate::names::{MessageText, NameText};
 use crate::numbers::{parse_address, parse_code_address, parse_offset, parse_target};
 use crate::request::{
-    CodeAddress, CodeLine, Command, Form, PathForm, PlaceForm, Request, SourceChoice, SourcePlace,
-    UnitChoice,
+    CodeAddress, CodeLine, Command, Form, LineNames, PathForm, PlaceForm, Request, SourceChoice,
+    SourcePlace, UnitChoice,
 };
 use clap::error::ErrorKind;
 use clap::{ArgMatches, Error};
@@ -73,7 +73,7 @@ fn request_of<'w>(alloc: Global, matches: &ArgMatches<'w>) -> Result<Request<'w>
         return Err(Mistake::Word("", "a command"));
     };
     Ok(Request {
-        file: matches.get_str("FILE").unwrap_or(""),
+        file: file_of(matches),
         kind: kind_of(matches)?,
         line_str: matches.get_str("line-str"),
         strings: matches.get_str("str"),
@@ -116,9 +116,9 @@ fn command_of<'w>(
     matches: &ArgMatches<'w>,
 ) -> Result<Command<'w>, Mistake<'w>> {
     match name {
-        "where" => Ok(Command::Where {
-            addresses: addresses_of(alloc, matches)?,
-            form: place_form_of(matches)?,
+        "where" => where_of(alloc, matches),
+        "index" => Ok(Command::Index {
+            out: matches.get_str("output"),
         }),
         "at" => {
             let (path, line) = target_of(matches)?;
@@ -161,6 +161,56 @@ fn command_of<'w>(
         }),
         _ => Err(Mistake::Word(name, "a command")),
     }
+}
+
+/// The command `where`, by what it asks.
+fn where_of<'w>(alloc: Global, matches: &ArgMatches<'w>) -> Result<Command<'w>, Mistake<'w>> {
+    let form = place_form_of(matches)?;
+    if let Some(index) = matches.get_str("index") {
+        let addresses = asked_addresses(alloc, matches)?;
+        return Ok(Command::Ask {
+            index,
+            addresses,
+            form,
+        });
+    }
+    if let Some(folder) = matches.get_str("maps") {
+        let names = LineNames::BuildIds(folder);
+        return Ok(Command::AskLines { names, form });
+    }
+    if matches.get_flag("files") {
+        let names = LineNames::Files;
+        return Ok(Command::AskLines { names, form });
+    }
+    let addresses = addresses_of(alloc, matches)?;
+    Ok(Command::Where { addresses, form })
+}
+
+/// The file; empty where none is named. Beside an index the first word may be an address.
+fn file_of<'w>(matches: &ArgMatches<'w>) -> &'w str {
+    match first_address(matches) {
+        Some(_) => "",
+        None => matches.get_str("FILE").unwrap_or(""),
+    }
+}
+
+/// The address that stands in the place of the file, beside an index.
+fn first_address(matches: &ArgMatches<'_>) -> Option<u64> {
+    matches.get_str("index")?;
+    parse_address(matches.get_str("FILE")?)
+}
+
+/// The addresses that are named beside an index.
+fn asked_addresses<'w>(
+    alloc: Global,
+    matches: &ArgMatches<'w>,
+) -> Result<Vec<CodeAddress<'w>>, Mistake<'w>> {
+    let mut addresses = addresses_of(alloc, matches)?;
+    if let Some(first) = first_address(matches) {
+        let first = CodeAddress::Linked(first);
+        addresses.insert(0, first).map_err(AllocError::from)?;
+    }
+    Ok(addresses)
 }
 
 /// The addresses that are named.
