@@ -16,7 +16,7 @@ struct Entry {
 }
 
 /// The commands.
-const COMMANDS: [Entry; 9] = [
+const COMMANDS: [Entry; 10] = [
     Entry {
         name: "where",
         about: "Prints path:line:column of each address, ??:0:0 where there is none",
