@@ -1,5 +1,6 @@
 -- The items of rows whose sequences begin at symbols: what is there and what is still to come.
-use Rattle.std.proofs.Common.{◌≡◌, ℕ, ◌+◌, ◌<◌, ◌≤◌, Bool, true, false, if◌then◌else◌, List, ◌∷◌, ◌++◌, length, drop, Option, slice_get, get_or, sym, ap, subst, ◌∙◌}
+use Rattle.std.proofs.Common.{◌≡◌, ℕ, ◌+◌, ◌<◌, ◌≤◌, Bool, true, false, if◌then◌else◌, List, ◌∷◌, ◌++◌, length, drop, Option, slice_get, get_or, sym, ap, subst}
+use Rattle.std.proofs.Common.{◌∙◌}
 use Rattle.std.proofs.Common.{arith, append_assoc}
 use Rattle.std.proofs.lemmas.List.{at_drop_more}
 use Rattle.gimli_core.specs.declared.common.Encoding.{Encoding}
@@ -28,7 +29,8 @@ items_left old now after ids symbols sequence next symbol base base_next rows i 
     ∙ ap (λ (s : Option GimliSymbol). now.items ++ (one old.encoding s ++ rest next base_next)) symbol_is
     ∙ ap (λ (n : ℕ). now.items ++ (one old.encoding (slice_get symbols sequence) ++ rest n base_next)) next_is
     ∙ ap (λ (b : Option ℕ). now.items ++ (one old.encoding (slice_get symbols sequence) ++ rest (sequence_after sequence r) b)) base_is
-    ∙ ap (λ (xs : List BuiltItem). now.items ++ xs) (sym (at_drop_more (λ (xs : List GimliRow). items_handed version ids symbols sequence base xs) rows i d within))
+    ∙ ap (λ (xs : List BuiltItem). now.items ++ xs)
+    (sym (at_drop_more (λ (xs : List GimliRow). items_handed version ids symbols sequence base xs) rows i d within))
     ∙ so_far
 
 -- no more sequences have ended than there were rows

@@ -109,7 +109,8 @@ module _ (notation : Notation) (h : Header) where
       let whole : rest ≡ front ++ after.bytes = same ∙ takes.1 in
       let spells : SpellsInstruction notation h front i =
       subst (λ (n : Notation). SpellsInstruction n h front i) notes (subst (λ (k : Ins). SpellsInstruction before.notation h front k) one takes.2) in
-      let own : sizes ≡ record { opcode = opcode_size front; operands = length front - opcode_size front } = ok_same (counted notation h front after.bytes whole spells) in
+      let own : sizes ≡ record { opcode = opcode_size front; operands = length front - opcode_size front } =
+      ok_same (counted notation h front after.bytes whole spells) in
       let behind : left ≡ after.bytes = leaves notation h front after.bytes whole spells in
       let piece : ◌≡◌ {A = Piece} (record { kind = kind; bytes = sizes.opcode; operands = sizes.operands }) (instruction_piece i front) =
       ap (λ (k : Spent). let p : Piece = record { kind = k; bytes = sizes.opcode; operands = sizes.operands } in p) on
