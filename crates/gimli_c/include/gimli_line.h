@@ -140,7 +140,7 @@ enum gimli_status {
     GIMLI_BAD_SECTION = 46,                            /* a section is cut, or its compression or relocations are unknown */
     /* 47 and 48 are answered by gimli_line_map_write alone. */
     GIMLI_MAP_TOO_LARGE = 47,                          /* ranges, files, or bytes of paths or of the identity: 2^32 or more */
-    GIMLI_PLACE_TOO_LARGE = 48                         /* a line or a column is 2^32 or above */
+    GIMLI_PLACE_TOO_LARGE = 48                         /* a line is 2^32 or above, or a column 2^31 or above */
 };
 
 /* A unit of the section .debug_line. */

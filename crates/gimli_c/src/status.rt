@@ -111,7 +111,7 @@ pub const BAD_SECTION: u32 = 46;
 /// A map would have ranges, files, bytes of paths or bytes of its identity that 32 bits don't
 /// count.
 pub const MAP_TOO_LARGE: u32 = 47;
-/// A line or a column that a map would have is one that 32 bits don't hold.
+/// A line that a map would have is one that 32 bits don't hold, or a column one that 31 don't.
 pub const PLACE_TOO_LARGE: u32 = 48;
 
 /// The number of a refusal.
