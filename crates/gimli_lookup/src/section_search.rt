@@ -15,10 +15,11 @@ use std::alloc::Global;
 
 /// What [`find_in_section`] finds.
 ///
-/// <!-- part of crates/gimli_lookup/src/section_search.rt -->
+/// <!-- part of crates/lines_commands/src/lookup.rt -->
 /// ```rust
-///     let rows = first_of_each(alloc, addresses, &pairs)?;
-///     Ok(FoundRows { units, rows })
+/// Covering::Found { addresses, found } => {
+///     let index = addresses.iter().position(|asked| *asked == address)?;
+///     *found.rows.get(index)?
 /// }
 /// ```
 #[derive(Drop)]

@@ -6,7 +6,7 @@ use crate::fields::{JsonFlags, column_of, line_of};
 use crate::functions::{Functions, ShownFunction};
 use crate::input::{Files, Input};
 use crate::json_text::path_fields;
-use crate::lookup::look_up;
+use crate::lookup::{Covering, look_up_any, look_up_each};
 use crate::names::bytes_of_word;
 use crate::output::Output;
 use crate::path_sources::{PathSources, path_sources};
@@ -19,7 +19,7 @@ use crate::source_file::SourceFiles;
 use elf_sections::SymbolTable;
 use gimli_core::{Reader, ReaderOffset};
 use gimli_line::LineRow;
-use gimli_lookup::{CoveringRows, PathError, SectionLookup, UnitLookup};
+use gimli_lookup::{CoveringRows, PathError, UnitLookup};
 use std::alloc::{AllocError, Global};
 use std::io::{BufRead, Write};
 
@@ -37,7 +37,11 @@ pub(crate) fn print_places<R: Reader, S: SourceFiles, I: BufRead, O: Write, E: W
     let Ok(functions) = Functions::new(alloc, symbols, None) else {
         return output.fail_for_memory();
     };
-    let Some(places) = Places::new(alloc, input, functions, form, files, output) else {
+    let named = Named {
+        addresses,
+        section: None,
+    };
+    let Some(places) = Places::new(alloc, input, functions, named, form, files, output) else {
         return;
     };
     let mut questions = Questions::new(alloc, addresses, lines, output);
@@ -47,6 +51,59 @@ pub(crate) fn print_places<R: Reader, S: SourceFiles, I: BufRead, O: Write, E: W
             None => break,
         }
         questions.go_on(output);
+    }
+}
+
+/// The addresses that are named, of a linked program or of a section of an object file.
+#[derive(Clone, Copy)]
+struct Named<'a> {
+    addresses: &'a [CodeAddress<'a>],
+    /// The name of the section; None for a linked program.
+    section: Option<&'a [u8]>,
+}
+
+impl Named<'_> {
+    /// Reads the rows for these addresses, or where none is named, for any. None where memory is
+    /// missing, which is reported.
+    fn look_up<R: Reader, O: Write, E: Write>(
+        self,
+        alloc: Global,
+        input: &Input<R>,
+        bias: u64,
+        output: &mut Output<'_, O, E>,
+    ) -> Option<Covering<R>> {
+        if self.addresses.is_empty() {
+            return look_up_any(alloc, input, output);
+        }
+        match self.unmoved(alloc, bias) {
+            Ok(addresses) => look_up_each(alloc, input, addresses, output),
+            Err(_) => {
+                output.fail_for_memory();
+                None
+            }
+        }
+    }
+
+    /// The addresses that are looked for, before the program was moved by a bias.
+    fn unmoved(self, alloc: Global, bias: u64) -> Result<Vec<u64>, AllocError> {
+        let mut unmoved = Vec::new(alloc);
+        for address in self.addresses {
+            let own = self.own(address).and_then(|own| own.checked_sub(bias));
+            if let Some(own) = own {
+                unmoved.push(own)?;
+            }
+        }
+        Ok(unmoved)
+    }
+
+    /// The address, if it is one of the program or of the section.
+    fn own(self, address: &CodeAddress<'_>) -> Option<u64> {
+        match (*address, self.section) {
+            (CodeAddress::Linked(address), None) => Some(address),
+            (CodeAddress::InSection { section, offset }, Some(name))
+                if section.as_bytes() == name => Some(offset),
+            _ => None,
+        }
     }
 }
 
@@ -68,7 +125,12 @@ pub(crate) fn print_places_in_sections<S: SourceFiles, I: BufRead, O: Write, E: 
         }
         match questions.section() {
             Ok(Some(name)) => {
-                print_in_section(alloc, files, &name, form, sources, &mut questions, output);
+                let named = Named {
+                    addresses,
+                    section: Some(&name),
+                };
+                let questions = &mut questions;
+                print_in_section(alloc, files, &name, named, form, sources, questions, output);
             }
             Ok(None) => print_without_section(form, &mut questions, output),
             Err(_) => output.fail_for_memory(),
@@ -81,6 +143,7 @@ fn print_in_section<S: SourceFiles, I: BufRead, O: Write, E: Write>(
     alloc: Global,
     files: Files<'_>,
     name: &[u8],
+    named: Named<'_>,
     form: PlaceForm<'_>,
     sources: &S,
     questions: &mut Questions<'_, I>,
@@ -91,8 +154,9 @@ fn print_in_section<S: SourceFiles, I: BufRead, O: Write, E: Write>(
             let Ok(functions) = Functions::new(alloc, program.symbols(), program.section()) else {
                 return output.fail_for_memory();
             };
-            let input = program.input();
-            if let Some(places) = Places::new(alloc, &input, functions, form, sources, output) {
+            let input = &program.input();
+            let places = Places::new(alloc, input, functions, named, form, sources, output);
+            if let Some(places) = places {
                 places.print_in_section(name, questions, output);
             }
             return;
@@ -155,7 +219,7 @@ pub(crate) fn print_no_address<O: Write, E: Write>(
 #[derive(Drop)]
 struct Places<'f, 'n, R: Reader, S> {
     alloc: Global,
-    lookup: SectionLookup<R>,
+    lookup: Covering<R>,
     sources: PathSources<R>,
     functions: Functions<'n>,
     form: PlaceForm<'f>,
@@ -166,16 +230,18 @@ struct Places<'f, 'n, R: Reader, S> {
 }
 
 impl<'f, 'n, R: Reader, S: SourceFiles> Places<'f, 'n, R, S> {
-    /// Reads the rows. None where memory is missing, which is reported.
+    /// Reads the rows, for the addresses that are named, or where none is, for any. None where
+    /// memory is missing, which is reported.
     fn new<O: Write, E: Write>(
         alloc: Global,
         input: &Input<R>,
         functions: Functions<'n>,
+        named: Named<'_>,
         form: PlaceForm<'f>,
         files: &'f S,
         output: &mut Output<'_, O, E>,
     ) -> Option<Places<'f, 'n, R, S>> {
-        let lookup = look_up(alloc, input, output)?;
+        let lookup = named.look_up(alloc, input, form.bias, output)?;
         let sources = path_sources(alloc, input, output)?;
         let directory = match form.paths {
             PathForm::From(directory) => bytes_of_word(alloc, directory),
