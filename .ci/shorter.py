@@ -10,7 +10,7 @@ import re
 import sources
 
 # The width of a line of calls behind its indentation, of a cell of the table of laws, and of a row that holds two laws.
-WIDTH, CELL, ROW = 140, 300, 160
+WIDTH, CELL, ROW = 160, 300, 160
 INDENT = "    "
 # A clause is shared where that saves more characters than these.
 MUCH = 80
