@@ -15,6 +15,8 @@ pub(crate) enum IndexFault {
 }
 
 impl From<IndexError> for IndexFault {
+    ghost use Rattle.lines_commands.specs.declared.index_fault.IndexFault.{IndexFault};
+
     ghost from_gives = { λ e fault. fault ≡ IndexFault.Index e };
 
     fn from(error: IndexError) -> IndexFault {
