@@ -68,7 +68,7 @@ fn link(unit: &mut [u8], places: &[Relocation]) {
         let word = &mut unit[place.offset..place.offset + place.size as usize];
         let there = u64::from_le_bytes(word.try_into().expect("eight bytes"));
         let symbol = 0x40_0000 + 0x100 * place.symbol as u64;
-        word.copy_from_slice(&symbol.wrapping_add_signed(place.addend).wrapping_add(there).to_le_bytes());
+        word.copy_from_slice(&symbol.wrapping_add(place.addend as u64).wrapping_add(there).to_le_bytes());
     }
 }
 

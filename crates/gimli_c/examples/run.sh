@@ -139,7 +139,7 @@ if [ "$(uname -m)" = x86_64 ]; then
         for form in in-list in-place; do
             "$work/compiler" $version $form >"$work/two.s"
             cc -c "$work/two.s" -o "$work/two.o"
-            [ "$(readelf -r "$work/two.o" | sed -n '/\.debug_line/,/^$/p' | grep -c R_X86_64_64)" = 2 ]
+            [ "$(readelf -r "$work/two.o" | sed -n '/\.rela\.debug_line/,/^$/p' | grep -c R_X86_64_64)" = 2 ]
             cc "$work/two_main.c" "$work/two.o" -o "$work/two"
             "$work/two"
             asked=$(for at in "first 0" "first 4" "first 5" "second 0" "second 4" "second 5"; do

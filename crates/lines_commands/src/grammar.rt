@@ -266,17 +266,11 @@ impl Argument {
             Argument::Maps => {
                 let help = "Reads lines of a build id and an address, and asks DIR/xx/rest.lines \
                             of each";
-                option(alloc, "maps", "DIR", help).conflicts_with_all(&[
-                    "index",
-                    "functions",
-                    "raw",
-                    "line-str",
-                    "str",
-                ])
+                without(option(alloc, "maps", "DIR", help), &BESIDE_MAPS)
             }
             Argument::FileLines => {
                 let help = "Reads lines of a file and an address, in the place of FILE";
-                flag(alloc, "files", help).conflicts_with_all(&["index", "maps", "functions"])
+                without(flag(alloc, "files", help), &BESIDE_FILES)
             }
             _ => Ok(self.plain(alloc)),
         }
@@ -408,8 +402,29 @@ fn file<'a>(alloc: Global) -> Arg<'a> {
 /// The file whose places are asked for. It may be left out where an index is named, and has no
 /// place beside lines that say what they ask.
 fn asked_file<'a>(alloc: Global) -> Result<Arg<'a>, AllocError> {
-    let file = file(alloc).required_unless_present_any(&["index", "maps", "files"])?;
-    file.conflicts_with_all(&["maps", "files"])
+    let mut file = file(alloc);
+    for other in &INSTEAD_OF_FILE {
+        file = file.required_unless_present(other)?;
+    }
+    without(file, &["maps", "files"])
+}
+
+/// What stands in the place of the file.
+const INSTEAD_OF_FILE: [&str; 3] = ["index", "maps", "files"];
+
+/// What has no place beside indexes that lines of build ids name.
+const BESIDE_MAPS: [&str; 5] = ["index", "functions", "raw", "line-str", "str"];
+
+/// What has no place beside lines that name files.
+const BESIDE_FILES: [&str; 3] = ["index", "maps", "functions"];
+
+/// An argument that has no place beside these.
+fn without<'a>(argument: Arg<'a>, others: &[&'static str]) -> Result<Arg<'a>, AllocError> {
+    let mut argument = argument;
+    for other in others {
+        argument = argument.conflicts_with(other)?;
+    }
+    Ok(argument)
 }
 
 /// A word that stands by itself.

@@ -56,13 +56,13 @@ pub(crate) fn print_places<R: Reader, S: SourceFiles, I: BufRead, O: Write, E: W
 
 /// The addresses that are named, of a linked program or of a section of an object file.
 #[derive(Clone, Copy)]
-struct Named<'a> {
-    addresses: &'a [CodeAddress<'a>],
+struct Named<'a, 'w, 'n> {
+    addresses: &'a [CodeAddress<'w>],
     /// The name of the section; None for a linked program.
-    section: Option<&'a [u8]>,
+    section: Option<&'n [u8]>,
 }
 
-impl Named<'_> {
+impl Named<'_, '_, '_> {
     /// Reads the rows for these addresses, or where none is named, for any. None where memory is
     /// missing, which is reported.
     fn look_up<R: Reader, O: Write, E: Write>(
@@ -143,7 +143,7 @@ fn print_in_section<S: SourceFiles, I: BufRead, O: Write, E: Write>(
     alloc: Global,
     files: Files<'_>,
     name: &[u8],
-    named: Named<'_>,
+    named: Named<'_, '_, '_>,
     form: PlaceForm<'_>,
     sources: &S,
     questions: &mut Questions<'_, I>,
@@ -236,7 +236,7 @@ impl<'f, 'n, R: Reader, S: SourceFiles> Places<'f, 'n, R, S> {
         alloc: Global,
         input: &Input<R>,
         functions: Functions<'n>,
-        named: Named<'_>,
+        named: Named<'_, '_, '_>,
         form: PlaceForm<'f>,
         files: &'f S,
         output: &mut Output<'_, O, E>,
