@@ -37,11 +37,7 @@ pub(crate) fn print_places<R: Reader, S: SourceFiles, I: BufRead, O: Write, E: W
     let Ok(functions) = Functions::new(alloc, symbols, None) else {
         return output.fail_for_memory();
     };
-    let named = Named {
-        addresses,
-        section: None,
-    };
-    let Some(places) = Places::new(alloc, input, functions, named, form, files, output) else {
+    let Some(places) = Places::new(alloc, input, functions, addresses, form, files, output) else {
         return;
     };
     let mut questions = Questions::new(alloc, addresses, lines, output);
@@ -54,57 +50,42 @@ pub(crate) fn print_places<R: Reader, S: SourceFiles, I: BufRead, O: Write, E: W
     }
 }
 
-/// The addresses that are named, of a linked program or of a section of an object file.
-#[derive(Clone, Copy)]
-struct Named<'a, 'w, 'n> {
-    addresses: &'a [CodeAddress<'w>],
-    /// The name of the section; None for a linked program.
-    section: Option<&'n [u8]>,
-}
-
-impl Named<'_, '_, '_> {
-    /// Reads the rows for these addresses, or where none is named, for any. None where memory is
-    /// missing, which is reported.
-    fn look_up<R: Reader, O: Write, E: Write>(
-        self,
-        alloc: Global,
-        input: &Input<R>,
-        bias: u64,
-        output: &mut Output<'_, O, E>,
-    ) -> Option<Covering<R>> {
-        if self.addresses.is_empty() {
-            return look_up_any(alloc, input, output);
-        }
-        match self.unmoved(alloc, bias) {
-            Ok(addresses) => look_up_each(alloc, input, addresses, output),
-            Err(_) => {
-                output.fail_for_memory();
-                None
-            }
+/// Reads the rows for the addresses of a linked program that are named, or where none is named, for
+/// any. None where memory is missing, which is reported.
+fn look_up_named<R: Reader, O: Write, E: Write>(
+    alloc: Global,
+    input: &Input<R>,
+    addresses: &[CodeAddress<'_>],
+    bias: u64,
+    output: &mut Output<'_, O, E>,
+) -> Option<Covering<R>> {
+    if addresses.is_empty() {
+        return look_up_any(alloc, input, output);
+    }
+    match unmoved(alloc, addresses, bias) {
+        Ok(addresses) => look_up_each(alloc, input, addresses, output),
+        Err(_) => {
+            output.fail_for_memory();
+            None
         }
     }
+}
 
-    /// The addresses that are looked for, before the program was moved by a bias.
-    fn unmoved(self, alloc: Global, bias: u64) -> Result<Vec<u64>, AllocError> {
-        let mut unmoved = Vec::new(alloc);
-        for address in self.addresses {
-            let own = self.own(address).and_then(|own| own.checked_sub(bias));
-            if let Some(own) = own {
+/// The addresses that are looked for, before the program was moved by a bias.
+fn unmoved(
+    alloc: Global,
+    addresses: &[CodeAddress<'_>],
+    bias: u64,
+) -> Result<Vec<u64>, AllocError> {
+    let mut unmoved = Vec::new(alloc);
+    for address in addresses {
+        if let CodeAddress::Linked(address) = *address {
+            if let Some(own) = address.checked_sub(bias) {
                 unmoved.push(own)?;
             }
         }
-        Ok(unmoved)
     }
-
-    /// The address, if it is one of the program or of the section.
-    fn own(self, address: &CodeAddress<'_>) -> Option<u64> {
-        match (*address, self.section) {
-            (CodeAddress::Linked(address), None) => Some(address),
-            (CodeAddress::InSection { section, offset }, Some(name))
-                if section.as_bytes() == name => Some(offset),
-            _ => None,
-        }
-    }
+    Ok(unmoved)
 }
 
 /// Prints the place of each address in an object file. Each section has rows of its own, which are
@@ -125,12 +106,7 @@ pub(crate) fn print_places_in_sections<S: SourceFiles, I: BufRead, O: Write, E: 
         }
         match questions.section() {
             Ok(Some(name)) => {
-                let named = Named {
-                    addresses,
-                    section: Some(&name),
-                };
-                let questions = &mut questions;
-                print_in_section(alloc, files, &name, named, form, sources, questions, output);
+                print_in_section(alloc, files, &name, form, sources, &mut questions, output);
             }
             Ok(None) => print_without_section(form, &mut questions, output),
             Err(_) => output.fail_for_memory(),
@@ -143,7 +119,6 @@ fn print_in_section<S: SourceFiles, I: BufRead, O: Write, E: Write>(
     alloc: Global,
     files: Files<'_>,
     name: &[u8],
-    named: Named<'_, '_, '_>,
     form: PlaceForm<'_>,
     sources: &S,
     questions: &mut Questions<'_, I>,
@@ -155,7 +130,7 @@ fn print_in_section<S: SourceFiles, I: BufRead, O: Write, E: Write>(
                 return output.fail_for_memory();
             };
             let input = &program.input();
-            let places = Places::new(alloc, input, functions, named, form, sources, output);
+            let places = Places::new(alloc, input, functions, &[], form, sources, output);
             if let Some(places) = places {
                 places.print_in_section(name, questions, output);
             }
@@ -236,12 +211,12 @@ impl<'f, 'n, R: Reader, S: SourceFiles> Places<'f, 'n, R, S> {
         alloc: Global,
         input: &Input<R>,
         functions: Functions<'n>,
-        named: Named<'_, '_, '_>,
+        addresses: &[CodeAddress<'_>],
         form: PlaceForm<'f>,
         files: &'f S,
         output: &mut Output<'_, O, E>,
     ) -> Option<Places<'f, 'n, R, S>> {
-        let lookup = named.look_up(alloc, input, form.bias, output)?;
+        let lookup = look_up_named(alloc, input, addresses, form.bias, output)?;
         let sources = path_sources(alloc, input, output)?;
         let directory = match form.paths {
             PathForm::From(directory) => bytes_of_word(alloc, directory),
