@@ -28,7 +28,6 @@ mod again;
 mod check;
 mod comparison;
 mod files;
-mod indexes;
 mod lines;
 mod parts;
 mod rows;
