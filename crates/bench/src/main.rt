@@ -5,7 +5,8 @@
 //! - `write SEQUENCES` builds a program of so many sequences and writes it, seven times.
 //! - `convert FILE OFFSET TIMES` reads a unit, converts it and writes it.
 //! - `lookup FILE OFFSET WORK TIMES` does one work of a lookup on a unit, or on a section.
-//! - `stored` does each of these four once, on the files of the stored run.
+//! - `index FILE WORK TIMES` does one work of an index that is bytes on a section.
+//! - `stored` does each of these once, on the files of the stored run.
 //!
 //! Sections are in little-endian order, with addresses of eight bytes. Standard output has what was
 //! counted and a sum over it, so that no work is left out. The instructions of a work are those of
@@ -13,6 +14,7 @@
 #![tactic(auto)]
 
 mod convert;
+mod index;
 mod lookup;
 mod order;
 mod read;
@@ -60,6 +62,7 @@ fn perform(rt: &HostRuntime, words: &[&str]) -> io::Result<()> {
         ["read", path, times, "sequences"] => read::run(rt, path, times, What::Sequences),
         ["write", sequences] => write::run(rt, sequences),
         ["convert", path, offset, times] => convert::run(rt, path, offset, times),
+        ["index", path, work, times] => index::run(rt, path, work, times),
         ["lookup", path, offset, work, times] => lookup::run(rt, path, offset, work, times),
         _ => Err(io::Error::from(ErrorKind::InvalidInput)),
     }

@@ -15,6 +15,9 @@ pub(crate) const CONVERT: u8 = 1;
 /// The work that looks addresses up.
 pub(crate) const LOOKUP: u8 = 2;
 
+/// The work that makes an index that is bytes, and asks it.
+pub(crate) const INDEX: u8 = 3;
+
 /// The least significant byte first, in a work.
 #[derive(Clone, Copy, Debug, PartialEq, Eq)]
 pub(crate) struct OrderOf<const WORK: u8>;

@@ -17,8 +17,9 @@ ghost use Rattle.gimli_lookup.specs.inside.Steps.{HaveNoUnorderedPair, IsFirstUn
 
 use crate::ends::{nearer, next_step, next_unordered};
 use crate::kept_rows::KeptRows;
-use crate::search;
 use crate::steps::{Step, steps_of};
+use crate::walk::{Stand, steps_from};
+use crate::{search, walk};
 use gimli_core::{Error, Result};
 use gimli_line::LineRow;
 use std::alloc::Global;
@@ -120,6 +121,20 @@ fn sequence_at(steps: &[Step], a: u64, probes: &mut u64) -> Option<usize>
     steps[count - 1].sequence
 }
 
+/// What the last of so many steps says. Requires the number of steps whose address is at most `a`.
+fn last_of_steps(steps: &[Step], a: u64, count: usize) -> Option<usize>
+    requires index { count ≤ length steps.now }
+    requires before { (k : ℕ) (d : Step) → k < count → (slice_index_or steps.now k d).from ≤ a }
+    requires after { (k : ℕ) (d : Step) → count ≤ k → k < length steps.now
+        → a < (slice_index_or steps.now k d).from }
+    ensures { result ≡ step_at a steps.now }
+{
+    if count == 0 {
+        return None;
+    }
+    steps[count - 1].sequence
+}
+
 /// The first rows that cover `a`, of the sequences whose addresses go down and that stand before
 /// `end`; None where there are none. Each is searched row by row.
 fn find_unordered(
@@ -199,33 +214,78 @@ impl Index {
         (Some(found), probes)
     }
 
+    /// What `find` returns, without its probes. Requires the sequences that the index was made of,
+    /// and what the steps say at `a`.
+    fn find_from(
+        &self,
+        sequences: &[KeptRows],
+        a: u64,
+        sequence: Option<usize>,
+        stand: &mut Stand,
+    ) -> Option<Found>
+        requires index { IsIndexOf self.now sequences.now }
+        requires sequence { sequence ≡ step_at a self.now.steps.items }
+        ensures { IsFoundIn a sequences.now result }
+    {
+        let unordered = self.unordered.as_slice();
+        let mut probes = 0;
+        let Some(sequence) = sequence else {
+            return find_unordered(unordered, sequences, sequences.len(), a, &mut probes);
+        };
+        if let Some(found) = find_unordered(unordered, sequences, sequence, a, &mut probes) {
+            return Some(found);
+        }
+        let Some((row, next)) = walk::find_from(&sequences[sequence], a, stand, sequence) else {
+            return None;
+        };
+        Some(Found {
+            sequence,
+            row,
+            next,
+        })
+    }
+
     /// What `find` returns at `a`, and the address up to which it returns the same; None where it
-    /// does so at all addresses from `a` on. Requires the sequences that the index was made of.
+    /// does so at all addresses from `a` on. The search begins where a walk stands, which goes on
+    /// to `a`. Requires the sequences that the index was made of.
     pub(crate) fn find_with_end(
         &self,
         sequences: &[KeptRows],
         a: u64,
+        stand: &mut Stand,
     ) -> (Option<Found>, Option<u64>)
         requires { IsIndexOf self.now sequences.now }
         ensures above { IfSome result.1 (λ end. a < end) }
         ensures found { (b : ℕ) → a ≤ b → IsBefore b result.1 → IsFoundIn b sequences.now result.0 }
     {
-        let (found, _) = self.find(sequences, a);
-        let end = self.end_after(sequences, a, &found);
+        let steps = self.steps.as_slice();
+        let count = steps_from(steps, a, stand.steps);
+        stand.steps = count;
+        let sequence = last_of_steps(steps, a, count);
+        let found = self.find_from(sequences, a, sequence, stand);
+        let end = self.end_after(sequences, a, count, &found);
         (found, end)
     }
 
     /// The address up to which what is found at `a` is found. Requires the sequences that the index
-    /// was made of.
-    fn end_after(&self, sequences: &[KeptRows], a: u64, found: &Option<Found>) -> Option<u64>
+    /// was made of, and the number of steps whose address is at most `a`.
+    fn end_after(
+        &self,
+        sequences: &[KeptRows],
+        a: u64,
+        count: usize,
+        found: &Option<Found>,
+    ) -> Option<u64>
         requires index { IsIndexOf self.now sequences.now }
+        requires before { (k : ℕ) (d : Step) → k < count
+            → (slice_index_or self.now.steps.items k d).from ≤ a }
+        requires after { (k : ℕ) (d : Step) → count ≤ k → k < length self.now.steps.items
+            → a < (slice_index_or self.now.steps.items k d).from }
         requires found { IsFoundIn a sequences.now found.now }
         ensures above { IfSome result (λ end. a < end) }
         ensures found { (b : ℕ) → a ≤ b → IsBefore b result → IsFoundIn b sequences.now found.now }
     {
         let steps = self.steps.as_slice();
-        let mut probes = 0;
-        let count = steps_up_to(steps, a, &mut probes);
         let unordered = next_unordered(self.unordered.as_slice(), sequences, a);
         let end = nearer(next_step(steps, a, count), unordered);
         match found {

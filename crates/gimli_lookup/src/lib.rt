@@ -29,6 +29,7 @@ mod steps;
 mod string_sections;
 mod unit_run;
 mod unit_search;
+mod walk;
 
 pub use lookup::Lookup;
 pub use path_error::PathError;

@@ -4,6 +4,7 @@ ghost use Rattle.std.specs.Prelude.{◌≡◌, ◌<◌, Some, None, IfSome, Matc
 ghost use Rattle.gimli_lookup.specs.Ranges.{AreFoundIn};
 
 use crate::section_lookup::{CoveringRows, SectionLookup};
+use crate::walk::Stand;
 use gimli_core::{Reader, ReaderOffset};
 use std::marker::Model;
 
@@ -42,6 +43,7 @@ pub struct CoveredRange {
 pub struct Ranges<'a, R: Reader> {
     lookup: &'a SectionLookup<R>,
     from: Option<u64>,
+    stand: Stand,
 }
 
 impl<'a, R: Reader> Model for Ranges<'a, R> {
@@ -56,7 +58,8 @@ impl<'a, R: Reader> Model for Ranges<'a, R> {
 }
 
 impl<'a, R: Reader> Ranges<'a, R> {
-    /// The next range. None once all have been given.
+    /// The next range. None once all have been given. Where addresses go up in each sequence, all
+    /// ranges together look at each row and at each sequence a few times.
     pub fn next_range(&mut self) -> Option<CoveredRange>
         ensures start { MatchOption result (self.old.from ≡ None)
             (λ range. self.old.from ≡ Some range.start) }
@@ -66,7 +69,7 @@ impl<'a, R: Reader> Ranges<'a, R> {
         ensures units { self.new.units ≡ self.old.units }
     {
         let start = self.from?;
-        let range = self.lookup.range_from(start);
+        let range = self.lookup.range_from(start, &mut self.stand);
         self.from = range.end;
         Some(range)
     }
@@ -84,6 +87,7 @@ impl<R: Reader> SectionLookup<R> {
         Ranges {
             lookup: self,
             from: Some(0),
+            stand: Stand::default(),
         }
     }
 }

@@ -11,7 +11,7 @@ use gimli_line::LineRow;
 
 /// The index of the first row whose address is above `a`, or the number of rows where there is
 /// none. Requires addresses that never go down.
-fn first_above(rows: &KeptRows, a: u64, probes: &mut u64) -> usize
+pub(crate) fn first_above(rows: &KeptRows, a: u64, probes: &mut u64) -> usize
     requires order { never_go_down rows.now ≡ true }
     requires count { probes.old + length rows.now < 2 ^ 64 }
     ensures index { result ≤ length rows.now }

@@ -2,7 +2,7 @@
 
 ghost use Rattle.std.specs.Prelude.{◌≡◌, ◌<◌, ◌≤◌, ◌+◌, ◌-◌, ◌*◌, ◌++◌, ◌∷◌, [], ℕ, length, map};
 ghost use Rattle.std.specs.Prelude.{drop, sum_by, take, slice_index_or, All, Any, IfErr, IfOk};
-ghost use Rattle.std.specs.Prelude.{IfSome, IsTrue, MatchOption, None};
+ghost use Rattle.std.specs.Prelude.{IfSome, IsTrue, MatchOption, None, true};
 ghost use Rattle.gimli_core.specs.Notation.{notation_of};
 ghost use Rattle.gimli_core.specs.Numbers.{is_address_size};
 ghost use Rattle.gimli_line.specs.Units.{AreUnits};
@@ -20,6 +20,7 @@ use crate::index::Index;
 use crate::kept_rows::KeptRows;
 use crate::ranges::CoveredRange;
 use crate::section_unit::UnitLookup;
+use crate::walk::Stand;
 use gimli_core::{EndianSlice, Endianity, Error, Reader, ReaderOffset, Result};
 use gimli_line::{DebugLine, LineRow};
 use std::alloc::Global;
@@ -54,6 +55,29 @@ fn unit_of<R: Reader>(units: &[UnitLookup<R>], sequence: usize) -> usize
         }
     }
     low
+}
+
+/// Whether a unit has the sequence at an index.
+fn has_sequence<R: Reader>(unit: &UnitLookup<R>, sequence: usize) -> bool
+    ensures first { result ≡ true → unit.now.first ≤ sequence }
+    ensures end { result ≡ true → sequence < unit.now.end }
+{
+    let indexes = unit.indexes();
+    indexes.start <= sequence && sequence < indexes.end
+}
+
+/// The index of the unit that has the sequence at an index: one that is near, else that which is
+/// found by halves. Requires units that have the sequences up to some index after it.
+fn unit_near<R: Reader>(units: &[UnitLookup<R>], sequence: usize, near: usize) -> usize
+    requires { (end : ℕ) × AreAdjacent 0 units.now end × (sequence < end) }
+    ensures unit { result < length units.now }
+    ensures first { (d : ListedUnit) → (slice_index_or units.now result d).first ≤ sequence }
+    ensures end { (d : ListedUnit) → sequence < (slice_index_or units.now result d).end }
+{
+    if near < units.len() && has_sequence(&units[near], sequence) {
+        return near;
+    }
+    unit_of(units, sequence)
 }
 
 /// Appends a unit. Fails only with `OutOfMemory`.
@@ -228,20 +252,27 @@ impl<R: Reader> SectionLookup<R> {
         }
     }
 
-    /// What `find` returns at the address `a`, and up to where it returns the same.
-    pub(crate) fn range_from(&self, a: u64) -> CoveredRange
+    /// What `find` returns at the address `a`, and up to where it returns the same. The search
+    /// begins where a walk stands, which goes on to `a`.
+    pub(crate) fn range_from(&self, a: u64, stand: &mut Stand) -> CoveredRange
         ensures start { result.start ≡ a }
         ensures end { IfSome result.end (λ end. a < end) }
         ensures found { AreFoundIn self.now result }
     {
-        let (found, end) = self.index.find_with_end(self.sequences.as_slice(), a);
+        let (found, end) = self
+            .index
+            .find_with_end(self.sequences.as_slice(), a, stand);
         let rows = match found {
             None => None,
-            Some(found) => Some(CoveringRows {
-                unit: unit_of(self.units.as_slice(), found.sequence),
-                row: found.row,
-                next: found.next,
-            }),
+            Some(found) => {
+                let unit = unit_near(self.units.as_slice(), found.sequence, stand.unit);
+                stand.unit = unit;
+                Some(CoveringRows {
+                    unit,
+                    row: found.row,
+                    next: found.next,
+                })
+            }
         };
         CoveredRange {
             start: a,

@@ -9,8 +9,8 @@ use Rattle.gimli_lookup.proofs.Sections.{all_are}
 use Rattle.gimli_lookup.proofs.SectionPairs.{index_within, unit_found}
 use Rattle.gimli_lookup.proofs.section_lookup.SectionLookup.range_from.Goals as goal
 
-pub unit_of-requires : goal.unit_of-requires
-unit_of-requires g c =
+pub unit_near-unit-requires : goal.unit_near-unit-requires
+unit_near-unit-requires g c =
     let a = c.args.a in
     let sequences = c.as_slice.result.now in
     let found = c.in-Some.found in
@@ -35,7 +35,7 @@ returns-in-Some-clause-found g c = λ b le before.
     let first =
     MatchOption-at_some (All (HasNoPair b) sequences) (λ (f : Found). IsFirstPairIn b sequences f.sequence f.row f.next) found c.in-Some.is
     (c.find_with_end-found.ensures.found b le before) in
-    unit_found b c.self.inside.sequences.items sequences c.self.inside.units.items c.as_slice-in-Some.result.now c.args.self.now c.unit_of.result found.sequence
+    unit_found b c.self.inside.sequences.items sequences c.self.inside.units.items c.as_slice-in-Some.result.now c.args.self.now c.unit_near-unit.result found.sequence
     found.row found.next
-    c.self.invariant.0 c.self.view_is c.as_slice.ensures.value c.as_slice-in-Some.ensures.value c.unit_of.ensures.unit c.unit_of.ensures.first
-    c.unit_of.ensures.end first
+    c.self.invariant.0 c.self.view_is c.as_slice.ensures.value c.as_slice-in-Some.ensures.value c.unit_near-unit.ensures.unit c.unit_near-unit.ensures.first
+    c.unit_near-unit.ensures.end first
