@@ -4,4 +4,5 @@ pub mod refusals
 pub mod spellings
 pub mod reading
 pub mod building
+pub mod linking
 mod WorkedUnits

@@ -5,6 +5,8 @@ use Rattle.gimli_core.specs.declared.common.LineEncoding.{LineEncoding}
 use Rattle.gimli_core.specs.declared.common.Format.{Format}
 use Rattle.gimli_core.specs.declared.common.Format.TheVariants.{Dwarf32, Dwarf64}
 use Rattle.gimli_bytes.specs.Number.{uleb}
+use Rattle.gimli_bytes.specs.Hand.{Placement}
+use Rattle.gimli_bytes.specs.Relocations.{placed}
 use Rattle.gimli_bytes.specs.declared.address.Address.TheVariants.{Constant, Symbol}
 use Rattle.gimli_bytes.specs.declared.error.Error.TheVariants.{IncompatibleLineProgramEncoding, UnsupportedVersion, NeedVersion, LineStringFormMismatch}
 use Rattle.gimli_bytes.specs.declared.error.Error.TheVariants.{ValueTooLarge, InvalidAddress}
@@ -14,7 +16,8 @@ use Rattle.gimli_build.specs.Tables.{File, no_details}
 use Rattle.gimli_build.specs.Built.{Built, empty_built}
 use Rattle.gimli_build.specs.Rows.{initial_row}
 use Rattle.gimli_build.specs.Version5Tables.{texts_after}
-use Rattle.gimli_build.specs.Unit.{base_byte, unit_bytes}
+use Rattle.gimli_build.specs.Unit.{base_byte, unit_bytes, unit_bytes_by}
+use Rattle.gimli_build.specs.Linked.{placed_item, placed_program}
 use Rattle.gimli_build.specs.Cause.{first_cause}
 use Rattle.gimli_build.specs.declared.built.items.BuiltItem.{BuiltItem}
 use Rattle.gimli_build.specs.declared.built.items.BuiltItem.TheVariants.{SetAddress, Row, End}
@@ -135,6 +138,30 @@ missing_source_by_reference : unit_bytes false encoding_5 (missing_source []) (t
     ∷ 0x09 ∷ 0x00 ∷ 0x00 ∷ 0x00 ∷ 0x00 ∷ 0x0d ∷ 0x00 ∷ 0x00 ∷ 0x00 ∷ [])
 unfolding uleb base_byte
 missing_source_by_reference = refl
+
+-- ---- once a linker has placed symbols and sections
+
+-- symbol 0 at 0x401000, and each section at 0x20
+abbrev there : Placement
+there = record { symbol = λ n. 0x401000; section = λ s. 0x20 }
+
+-- a row at the symbol and 4, and an end 8 after it
+abbrev by_symbol : Built
+by_symbol = record by_reference { items = SetAddress (Symbol 0 (pos 4)) ∷ row_at 5 0 0 1 ∷ End 8 0 ∷ [] }
+
+linked_unit : unit_bytes_by (placed there) false encoding_5 by_symbol (texts_in [] (w ∷ a ∷ []))
+    ≡ Ok (0x3e ∷ 0x00 ∷ 0x00 ∷ 0x00 ∷ 0x05 ∷ 0x00 ∷ 0x08 ∷ 0x00 ∷ 0x25 ∷ 0x00 ∷ 0x00 ∷ 0x00 ∷ 0x01 ∷ 0x01 ∷ 0x01 ∷ 0xfb ∷ 0x0e ∷ 0x0d
+    ∷ 0x00 ∷ 0x01 ∷ 0x01 ∷ 0x01 ∷ 0x01 ∷ 0x00 ∷ 0x00 ∷ 0x00 ∷ 0x01 ∷ 0x00 ∷ 0x00 ∷ 0x01 ∷ 0x01 ∷ 0x01 ∷ 0x1f ∷ 0x01 ∷ 0x20 ∷ 0x00 ∷ 0x00 ∷ 0x00
+    ∷ 0x02 ∷ 0x01 ∷ 0x1f ∷ 0x02 ∷ 0x0f ∷ 0x01 ∷ 0x23 ∷ 0x00 ∷ 0x00 ∷ 0x00 ∷ 0x00
+    ∷ 0x00 ∷ 0x09 ∷ 0x02 ∷ 0x04 ∷ 0x10 ∷ 0x40 ∷ 0x00 ∷ 0x00 ∷ 0x00 ∷ 0x00 ∷ 0x00 ∷ 0x01 ∷ 0x02 ∷ 0x08 ∷ 0x00 ∷ 0x01 ∷ 0x01 ∷ [])
+unfolding uleb base_byte
+linked_unit = refl
+
+symbol_replaced : (placed_program there by_symbol).items ≡ SetAddress (Constant 0x401004) ∷ row_at 5 0 0 1 ∷ End 8 0 ∷ []
+symbol_replaced = refl
+
+negative_addend : placed_item there (SetAddress (Symbol 0 (negsuc 3))) ≡ SetAddress (Constant 0x400ffc)
+negative_addend = refl
 
 -- ---- causes
 

@@ -4,6 +4,7 @@ pub mod ItemRuns
 pub mod EventsBack
 pub mod NoFiles
 pub mod ReadyTexts
+pub mod EmittedTexts
 pub mod HeldOffsets
 pub mod TablesBack
 pub mod UnitHeader

@@ -25,6 +25,7 @@ pub mod Version4Tables
 pub mod Version5Tables
 pub mod Unit
 pub mod Cause
+pub mod Linked
 pub mod NoFiles
 pub mod Stored
 pub mod Texts

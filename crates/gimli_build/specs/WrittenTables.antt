@@ -1,5 +1,5 @@
 -- What `write` leaves of the two tables of texts that it is handed.
-use Rattle.std.specs.Prelude.{◌≡◌, ◌⊎◌, ◌≤◌, ℕ, List, IsTrue}
+use Rattle.std.specs.Prelude.{◌≡◌, ◌⊎◌, ◌≤◌, IsTrue}
 use Rattle.gimli_core.specs.declared.common.Encoding.{Encoding}
 use Rattle.gimli_bytes.specs.Texts.{StringTables}
 use Rattle.gimli_build.specs.Built.{Built}

@@ -50,6 +50,12 @@ ghost use Rattle.gimli_build.specs.declared.built.files.FileInfo.{FileInfo};
 ghost use Rattle.gimli_build.specs.declared.built.line_string.LineString.{LineString};
 ghost use Rattle.gimli_build.specs.LineText.{line_text};
 ghost use Rattle.gimli_build.specs.TableFields.{details};
+ghost use Rattle.gimli_bytes.specs.Hand.{Placement};
+ghost use Rattle.gimli_bytes.specs.Relocations.{placed, counted};
+ghost use Rattle.gimli_bytes.specs.Texts.{StringTables};
+ghost use Rattle.gimli_build.specs.Linked.{placed_program, SumsFit, TextsBeginAtZero};
+ghost use Rattle.gimli_build.specs.Unit.{unit_bytes, unit_bytes_by};
+ghost use Rattle.gimli_build.specs.Version5Tables.{texts_after};
 
 use crate::built::files::{DirectoryId, FileId, FileInfo};
 use crate::built::items::BuiltItem;
@@ -59,7 +65,8 @@ use crate::built::row::LineRow;
 pub use gimli_bytes::laws::{
     clones_are_same, clones_of_addresses_and_ids, clones_of_errors_are_same,
     equal_addresses_and_ids, equal_addresses_and_ids_hash_alike, equal_errors_are_same,
-    sleb_is_shortest, table_bytes_length, text_at_offset, uleb_is_shortest, with_text_are_texts,
+    placed_sums_are_numbers, relocations_give_the_same, sleb_is_shortest, table_bytes_length,
+    text_at_offset, uleb_is_shortest, with_text_are_texts,
 };
 use std::alloc::AllocError;
 use std::hash::Hash;
@@ -220,4 +227,18 @@ pub fn clones_say_the_same()
 pub fn equal_texts_hash_alike()
     ensures { (s t : LineString) → line_text s ≡ line_text t →
         ⟦<LineString as Hash>⟧.hash_input s ≡ ⟦<LineString as Hash>⟧.hash_input t }
+{}
+
+/// Where each sum that a linker makes fits its size, a unit whose relocations are applied is what
+/// is written, as numbers, of the same program with its symbols replaced; an offset of a text
+/// counts from where its section begins, and is the number itself where that is 0.
+pub fn placed_units_are_numbers()
+    ensures counted { (at : Placement) (big : Bool) (unit : Encoding) (p : Built)
+        (handed : StringTables) → SumsFit at p (texts_after p handed) →
+        unit_bytes_by (placed at) big unit p handed
+        ≡ unit_bytes_by (counted at) big unit (placed_program at p) handed }
+    ensures plain { (at : Placement) (big : Bool) (unit : Encoding) (p : Built)
+        (handed : StringTables) → SumsFit at p (texts_after p handed) → TextsBeginAtZero at →
+        unit_bytes_by (placed at) big unit p handed
+        ≡ unit_bytes big unit (placed_program at p) handed }
 {}

@@ -3,6 +3,7 @@
 ghost use Rattle.std.specs.Prelude.{◌≡◌, ◌⊎◌, ◌<◌, ◌^◌, length, IsTrue, IfOk, IfErr, OnOk, Err};
 ghost use Rattle.std.specs.Prelude.{None};
 ghost use Rattle.gimli_bytes.specs.Hand.{Placement};
+ghost use Rattle.gimli_bytes.specs.Relocations.{placed};
 ghost use Rattle.gimli_bytes.specs.Written.{Begins, Appends, AppendsThat};
 ghost use Rattle.gimli_bytes.specs.Texts.{texts_in};
 ghost use Rattle.gimli_build.specs.LineText.{line_text};
@@ -14,6 +15,7 @@ ghost use Rattle.gimli_build.specs.Unit.{whole_bytes_by, is_incompatible, unit_b
 ghost use Rattle.gimli_build.specs.Unit.{unit_bytes_by};
 ghost use Rattle.gimli_build.specs.Cause.{first_cause, IsWriteRefusal};
 ghost use Rattle.gimli_build.specs.ReadsBack.{ReadsBackAs};
+ghost use Rattle.gimli_build.specs.Linked.{placed_program, SumsFit, TextsBeginAtZero};
 ghost use Rattle.gimli_build.specs.WrittenTables.{HaveEmptySource, KeepTables};
 ghost use Rattle.gimli_build.specs.inside.Writes.{Writes, WritesBy};
 
@@ -67,6 +69,11 @@ impl LineProgram {
         ensures reads_back { IsTrue W.keeps_bytes → OnOk result (AppendsThat
             (ReadsBackAs (W.big w.old.0) self.now (texts_in strings.new line_strings.new))
             (W.contents w.old.0) (W.contents w.new.0)) }
+        ensures linked { (at : Placement) → IsTrue (W.completes w.old.0) → W.hand at ≡ placed at →
+            SumsFit at self.now (texts_in strings.new line_strings.new) → TextsBeginAtZero at →
+            OnOk result (AppendsThat (ReadsBackAs (W.big w.old.0) (placed_program at self.now)
+            (texts_in strings.new line_strings.new))
+            (W.completed at w.old.0) (W.completed at w.new.0)) }
         ensures no_cause { IsTrue W.keeps_bytes → OnOk result (first_cause (W.big w.old.0)
             encoding self.now (texts_in strings.old line_strings.old) ≡ None) }
         ensures err { IsTrue W.keeps_bytes → IsTrue W.fails_for_memory_alone → IfErr result
@@ -119,6 +126,8 @@ fn write_whole<W: Writer>(
         (texts_in strings.now line_strings.now)) }
     ensures built { OnOk result (IsBuilt program.now) }
     ensures short { OnOk result (length (W.contents w.new) < 2 ^ 64) }
+    ensures completed_short { (at : Placement) → IsTrue (W.completes w.old) → OnOk result
+        (length (W.completed at w.new) < 2 ^ 64) }
 {
     let format = program.format();
     let length = w.write_initial_length(format)?;

@@ -55,10 +55,10 @@ same_ok x y h = cc
 
 -- ---- numbers of a size
 
-abbrev is_size : ℕ → Bool
+abbrev pub is_size : ℕ → Bool
 is_size size = nat_eq size 1 || nat_eq size 2 || nat_eq size 3 || nat_eq size 4 || nat_eq size 8
 
-size_short : (size : ℕ) → is_size size ≡ true → size ≤ 8
+pub size_short : (size : ℕ) → is_size size ≡ true → size ≤ 8
 size_short size is = by (cases_lt 8 size)
   where
     by : (8 < size) ⊎ (size ≤ 8) → size ≤ 8
@@ -267,7 +267,7 @@ puts_place_at p v w at target z size n inside called sum fits =
 
 -- ---- sums
 
-wraps : (t : ℕ) (z : ℤ) (n : ℕ) → pos t +ℤ z ≡ pos n → FitsSigned w64 z
+pub wraps : (t : ℕ) (z : ℤ) (n : ℕ) → pos t +ℤ z ≡ pos n → FitsSigned w64 z
     → (q : ℕ) × (t + cast_unsigned w64 z ≡ n + q * 2 ^ 64)
 wraps t (pos a) n e f = (0, omega (arith, ints, e))
 wraps t (negsuc a) n e f = (1, omega (arith, ints, e, f.sfits))

@@ -1,6 +1,6 @@
 -- What calls of a section with relocations leave, once a linker has completed it.
 use Rattle.std.proofs.Common.{arith, ◌≡◌, ℕ, ◌+◌, ◌%◌, ◌<◌, ◌≤◌, ◌^◌, ℤ, pos, Bool, true, false, List, ◌++◌, length, take, refl, ap, sym, ◌∙◌}
-use Rattle.std.proofs.Common.{Ok, Err, OnOk, OnErr, IfErr, w64, subst}
+use Rattle.std.proofs.Common.{Ok, Err, OnOk, OnErr, w64, subst}
 use Rattle.std.specs.Prelude.{Result, nat_lt, if◌then◌else◌}
 use Rattle.std.specs.Int.{cast_unsigned, cast_signed}
 use Rattle.std.specs.List.{list_any}
@@ -42,10 +42,6 @@ on_ok (Err e) f p = tt
 pub on_err : {X : Type 0} (r : Result X Error) {P Q : Type 0} → (P → Q) → OnErr r P → OnErr r Q
 on_err (Ok x) f p = tt
 on_err (Err e) f p = f p
-
-pub any_err : {X : Type 0} (r : Result X Error) {P : Error → Type 0} → ((e : Error) → P e) → IfErr r P
-any_err (Ok x) f = tt
-any_err (Err e) f = f e
 
 -- ---- whatever the places
 

@@ -12,4 +12,6 @@ pub mod TablesWritten
 pub mod RelocationLemmas
 pub mod Relocating
 pub mod CallsRelocated
+pub mod PlacedNumbers
 pub mod Completing
+pub mod RelocatableRefusals

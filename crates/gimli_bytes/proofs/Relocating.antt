@@ -212,7 +212,7 @@ inside_last n rs r inside fits =
 -- ---- sums
 
 -- the sum of 64 bits, in the lowest bytes
-sum_low : (size t c n q : ℕ) → size ≤ 8 → t + c ≡ n + q * 2 ^ 64 → n < 256 ^ size
+pub sum_low : (size t c n q : ℕ) → size ≤ 8 → t + c ≡ n + q * 2 ^ 64 → n < 256 ^ size
     → (t + c) % 256 ^ size ≡ n
 sum_low size t c n q short sum fits =
     let parts : 8 - size + size ≡ 8 = omega arith in

@@ -14,6 +14,7 @@ use Rattle.std.specs.Prelude.{
   negsuc,
   ◌+ℤ◌,
   FitsSigned,
+  unsigned_abs,
   Bool,
   ◌&&◌,
   nat_le,
@@ -36,15 +37,18 @@ use Rattle.std.specs.Int.{w64, cast_signed, cast_unsigned}
 use Rattle.gimli_core.specs.Numbers.{number_bytes, value_of}
 use Rattle.gimli_core.specs.Reading.{result_map}
 use Rattle.gimli_core.specs.declared.common.SectionId.{SectionId}
-use Rattle.gimli_bytes.specs.Number.{udata}
-use Rattle.gimli_bytes.specs.Hand.{Hand, Placement}
+use Rattle.gimli_bytes.specs.Number.{udata, address_bytes}
+use Rattle.gimli_bytes.specs.Hand.{Hand, Placement, section_word, plain_reference}
 use Rattle.gimli_bytes.specs.Written.{overwrite_of, patch}
 use Rattle.gimli_bytes.specs.declared.address.Address.{Address}
 use Rattle.gimli_bytes.specs.declared.address.Address.TheVariants.{Constant, Symbol}
 use Rattle.gimli_bytes.specs.declared.error.Error.{Error}
 use Rattle.gimli_bytes.specs.declared.error.Error.TheVariants.{
   InvalidRange,
+  LengthOutOfBounds,
+  OffsetOutOfBounds,
   OutOfMemory,
+  UnsupportedWordSize,
   ValueTooLarge,
 }
 use Rattle.gimli_bytes.specs.declared.relocation.Addends.{Addends}
@@ -163,6 +167,16 @@ after_call v (OffsetAt offset section n size) =
 abbrev pub IsRefusal : Relocatable → Call → Error → Type 0
 IsRefusal v call e = (e ≡ OutOfMemory) ⊎ (after_call v call ≡ Err e)
 
+-- what any call of such a section may refuse with, but for a constant address: memory, bytes over a
+-- place that a linker fills in, a size that no number has, and a place that is past the end
+abbrev pub IsRelocatableRefusal : Error → Type 0
+IsRelocatableRefusal OutOfMemory = Unit {0}
+IsRelocatableRefusal InvalidRange = Unit {0}
+IsRelocatableRefusal (UnsupportedWordSize size) = Unit {0}
+IsRelocatableRefusal OffsetOutOfBounds = Unit {0}
+IsRelocatableRefusal LengthOutOfBounds = Unit {0}
+IsRelocatableRefusal e = ⊥
+
 -- what calls leave, up to the first that is refused
 abbrev pub after_calls : Relocatable → List Call → Result Relocatable Error
 after_calls v [] = Ok v
@@ -248,4 +262,25 @@ placed placement = record {
   address = placed_address placement;
   offset = placed_offset placement;
   reference = placed_reference placement;
+}
+
+-- ---- the same as numbers
+
+-- an address once its symbol is placed
+abbrev pub address_placed : Placement → Address → Address
+address_placed placement (Constant n) = Constant n
+address_placed placement (Symbol symbol addend) =
+    Constant (unsigned_abs (pos (placement.symbol symbol) +ℤ addend))
+
+-- an offset into a section, counted from where the sections are counted from
+abbrev pub counted_offset : Placement → Bool → SectionId → ℕ → ℕ → Result (List ℕ) Error
+counted_offset placement big section n size =
+    section_word big (placement.section section + n) size
+
+-- as `plain` has them, but for such offsets
+abbrev pub counted : Placement → Hand
+counted placement = record {
+  address = address_bytes;
+  offset = counted_offset placement;
+  reference = plain_reference;
 }

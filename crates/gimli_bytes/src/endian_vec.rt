@@ -1,6 +1,6 @@
 //! A writer into one vector.
 
-ghost use Rattle.std.specs.Prelude.{◌≡◌, ◌++◌, [], true, IfOk, IfErr, OnOk, OnErr};
+ghost use Rattle.std.specs.Prelude.{◌≡◌, ◌++◌, [], true, length, IfOk, IfErr, IsOk, OnOk, OnErr};
 
 use crate::address::Address;
 use crate::error::{Error, Result};
@@ -78,6 +78,7 @@ impl<E: Endianity> EndianVec<E> {
             (self.new ≡ record self.old { bytes = self.old.bytes ++ bytes.now }) }
         ensures err { OnErr result (self.new ≡ self.old) }
         ensures memory { IfErr result (λ e. e ≡ Error.OutOfMemory) }
+        ensures room { length bytes.now ≡ 0 → IsOk result }
     {
         self.vec.extend_from_slice(bytes)?;
         Ok(())
@@ -148,6 +149,7 @@ impl<E: Endianity> Writer for EndianVec<E> {
             (self.new ≡ record self.old { bytes = self.old.bytes ++ bytes.now }) }
         ensures err { OnErr result (self.new ≡ self.old) }
         ensures memory { IfErr result (λ e. e ≡ Error.OutOfMemory) }
+        ensures room { length bytes.now ≡ 0 → IsOk result }
     {
         match bytes {
             [byte] => {

@@ -264,6 +264,7 @@ fn low_bytes(word: u64, size: u8) -> u64
 
 impl<E: Endianity> Sink for RelocatableVec<E> {
     ghost use Rattle.gimli_bytes.specs.Relocations.{applied, are_inside, placed};
+    ghost use Rattle.gimli_bytes.specs.Relocations.{IsRelocatableRefusal};
 
     ghost contents = { λ v. v.bytes };
 
@@ -279,7 +280,7 @@ impl<E: Endianity> Sink for RelocatableVec<E> {
 
     ghost fails_for_memory_alone = { false };
 
-    ghost refuses = { λ e. Unit {0} };
+    ghost refuses = { IsRelocatableRefusal };
 
     ghost all_or_none = { true };
 }

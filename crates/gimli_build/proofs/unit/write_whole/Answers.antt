@@ -1,4 +1,4 @@
-use Rattle.std.proofs.Common.{◌≡◌, ℕ, List, IsTrue, ◌+◌, ◌-◌, ◌++◌, length, Ok, refl, sym, ap, ◌∙◌, arith, append_assoc, inr}
+use Rattle.std.proofs.Common.{◌≡◌, ℕ, List, IsTrue, ◌+◌, ◌-◌, ◌<◌, ◌^◌, ◌++◌, length, Ok, refl, sym, ap, ◌∙◌, arith, append_assoc, inr}
 use Rattle.std.specs.Prelude.{Result}
 use Rattle.gimli_bytes.specs.Number.{length_word}
 use Rattle.gimli_bytes.specs.Hand.{Hand, Placement, plain}
@@ -9,6 +9,7 @@ use Rattle.gimli_build.specs.Joined.{result_append}
 use Rattle.gimli_build.specs.Unit.{escape_bytes, inside_bytes_by}
 use Rattle.std.proofs.lemmas.Result.{err_from_is_err_and}
 use Rattle.gimli_build.proofs.writing.Joined.{on_ok, if_err, or_wanted, begins_then, begins_before}
+use Rattle.gimli_build.proofs.linking.Lengths.{patched_length}
 use Rattle.gimli_build.proofs.writing.Frames.{framed, frame_refused, open_word, escape_is, escape_long, length_word_long}
 use Rattle.gimli_build.proofs.writing.Writes.{counted_unwritten, parts_unwritten}
 use Rattle.gimli_build.proofs.unit.write_whole.Goals as goal
@@ -82,6 +83,20 @@ returns-clause-writes g c =
           (λ word is. length_word_long big format n word is) e refused))
           (rw (ordered, c.format-format.ensures) at (c.write_initial_length_at.ensures.completed_own at (inside.stays (opening.appends.stays completes))));
     }
+
+pub returns-clause-completed_short : goal.returns-clause-completed_short
+returns-clause-completed_short g c = λ at completes.
+    let inside = c.in_ok-write_inside.ensures.writes in
+    let there = inside.stays (c.in_ok-length.ensures.appends.stays completes) in
+    let long : length (g.W.Sink.completed at c.write_inside.new.w) < 2 ^ 64 = omega (arith, c.len.ensures.completed at there) in
+    on_ok c.write_initial_length_at.result
+    (λ written. omega (
+      arith,
+      long,
+      patched_length _ (g.W.Sink.completed at c.write_inside.new.w) (g.W.Sink.completed at c.write_initial_length_at.new.self)
+          c.in_ok-length.length.0 written,
+    ))
+    (c.write_initial_length_at.ensures.completed at there)
 
 pub returns-in_err-length-clause-writes : goal.returns-in_err-length-clause-writes
 returns-in_err-length-clause-writes g c =

@@ -1,4 +1,4 @@
-use Rattle.std.proofs.Common.{◌≡◌, [], ◌∷◌, ◌++◌, List, ℕ, Ok, ap, sym}
+use Rattle.std.proofs.Common.{◌∷◌, ◌++◌, List, ℕ, Ok, ap, sym}
 use Rattle.std.proofs.lemmas.List.{append-nil}
 use Rattle.gimli_bytes.specs.Number.{uleb}
 use Rattle.gimli_build.proofs.writing.Writes.{joins, same_bytes, writes}

@@ -1,7 +1,8 @@
 use Rattle.std.proofs.Common.{inl, refl}
 use Rattle.gimli_bytes.proofs.Parts.{begins_self}
 use Rattle.gimli_bytes.proofs.WrittenAs.{no_truth}
-use Rattle.gimli_bytes.proofs.Completing.{either, on_ok, on_err, any_err, grows_bytes, completed_bytes}
+use Rattle.gimli_bytes.proofs.Completing.{either, on_ok, on_err, grows_bytes, completed_bytes}
+use Rattle.gimli_bytes.proofs.RelocatableRefusals.{if_err, bytes_refused}
 use Rattle.gimli_bytes.proofs.relocatable_vec.RelocatableVecWriter.write.Goals as goal
 
 pub returns : goal.returns
@@ -17,7 +18,7 @@ returns g c =
       ok = λ keeps. absurd (no_truth keeps);
       completed = λ at inside. on_ok r (λ is. completed_bytes at v w c.args.bytes.now inside is) e.ok;
       err = λ memory. absurd (no_truth memory);
-      own = any_err r (λ d. inl tt);
+      own = if_err r (λ d is. inl (bytes_refused v c.args.bytes.now d is)) e.cause;
       untouched = λ keeps. absurd (no_truth keeps);
       none = λ all. on_err r (λ same. rw same refl) e.err;
     }

@@ -1,7 +1,8 @@
-use Rattle.std.proofs.Common.{inl, refl}
+use Rattle.std.proofs.Common.{refl}
 use Rattle.gimli_bytes.proofs.Parts.{begins_self}
 use Rattle.gimli_bytes.proofs.WrittenAs.{no_truth}
-use Rattle.gimli_bytes.proofs.Completing.{either, on_ok, on_err, any_err, grows_address, completed_address}
+use Rattle.gimli_bytes.proofs.Completing.{either, on_ok, on_err, grows_address, completed_address}
+use Rattle.gimli_bytes.proofs.RelocatableRefusals.{if_err, address_refused, placed_refused}
 use Rattle.gimli_bytes.proofs.relocatable_vec.RelocatableVecWriter.write_address.Goals as goal
 
 pub returns : goal.returns
@@ -17,8 +18,8 @@ returns g c =
       ok = λ keeps. absurd (no_truth keeps);
       completed = λ at inside. on_ok r (λ is. completed_address at v w c.args.address c.args.size inside is) e.ok;
       err = λ memory. absurd (no_truth memory);
-      own = any_err r (λ d. inl tt);
-      completed_own = λ at inside. any_err r (λ d. inl tt);
+      own = if_err r (address_refused v c.args.address c.args.size) e.cause;
+      completed_own = λ at inside. if_err r (placed_refused at v c.args.address c.args.size) e.cause;
       untouched = λ keeps. absurd (no_truth keeps);
       none = λ all. on_err r (λ same. rw same refl) e.err;
     }

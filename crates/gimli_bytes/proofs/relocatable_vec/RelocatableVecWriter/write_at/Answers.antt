@@ -1,6 +1,7 @@
 use Rattle.std.proofs.Common.{inl, refl}
 use Rattle.gimli_bytes.proofs.WrittenAs.{no_truth}
-use Rattle.gimli_bytes.proofs.Completing.{either, on_ok, on_err, any_err, over_stays, stays_inside, completed_over}
+use Rattle.gimli_bytes.proofs.Completing.{either, on_ok, on_err, over_stays, stays_inside, completed_over}
+use Rattle.gimli_bytes.proofs.RelocatableRefusals.{if_err, bytes_at_refused}
 use Rattle.gimli_bytes.proofs.relocatable_vec.RelocatableVecWriter.write_at.Goals as goal
 
 pub returns : goal.returns
@@ -20,6 +21,6 @@ returns g c =
       ok = λ keeps. absurd (no_truth keeps);
       completed = λ places inside. on_ok r (λ is. completed_over places v w x at inside is) e.ok;
       err = λ memory. absurd (no_truth memory);
-      own = any_err r (λ d. inl tt);
-      completed_own = λ places inside. any_err r (λ d. inl tt);
+      own = if_err r (λ d is. inl (bytes_at_refused v at x d is)) e.cause;
+      completed_own = λ places inside. if_err r (λ d is. inl (bytes_at_refused v at x d is)) e.cause;
     }

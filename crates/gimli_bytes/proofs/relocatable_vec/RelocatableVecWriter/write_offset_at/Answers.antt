@@ -2,7 +2,8 @@ use Rattle.std.proofs.Common.{◌≡◌, ◌∙◌, ap, sym, ◌<◌, ◌^◌, i
 use Rattle.std.specs.Int.{cast_signed}
 use Rattle.std.proofs.lemmas.Int.{of_z-to_z}
 use Rattle.gimli_bytes.proofs.WrittenAs.{no_truth}
-use Rattle.gimli_bytes.proofs.Completing.{either, on_ok, on_err, any_err, stays_inside_at, completed_offset_at}
+use Rattle.gimli_bytes.proofs.Completing.{either, on_ok, on_err, stays_inside_at, completed_offset_at}
+use Rattle.gimli_bytes.proofs.RelocatableRefusals.{if_err, place_at_refused}
 use Rattle.gimli_bytes.proofs.relocatable_vec.RelocatableVecWriter.write_offset_at.Goals as goal
 
 pub returns : goal.returns
@@ -26,6 +27,6 @@ returns g c =
       ok = λ keeps. absurd (no_truth keeps);
       completed = λ places inside. on_ok r (λ is. completed_offset_at places v w at c.args.section n c.args.size small inside is) ok;
       err = λ memory. absurd (no_truth memory);
-      own = any_err r (λ d. inl tt);
-      completed_own = λ places inside. any_err r (λ d. inl tt);
+      own = if_err r (λ d is. inl (place_at_refused v at _ _ c.args.size d is)) e.cause;
+      completed_own = λ places inside. if_err r (λ d is. inl (place_at_refused v at _ _ c.args.size d is)) e.cause;
     }

@@ -1,7 +1,9 @@
-use Rattle.std.proofs.Common.{inl, refl}
+use Rattle.std.proofs.Common.{inl, refl, pos}
+use Rattle.gimli_bytes.specs.declared.relocation.RelocationTarget.TheVariants.{OfSymbol}
 use Rattle.gimli_bytes.proofs.Parts.{begins_self}
 use Rattle.gimli_bytes.proofs.WrittenAs.{no_truth}
-use Rattle.gimli_bytes.proofs.Completing.{either, on_ok, on_err, any_err, grows_reference, completed_reference}
+use Rattle.gimli_bytes.proofs.Completing.{either, on_ok, on_err, grows_reference, completed_reference}
+use Rattle.gimli_bytes.proofs.RelocatableRefusals.{if_err, place_refused}
 use Rattle.gimli_bytes.proofs.relocatable_vec.RelocatableVecWriter.write_reference.Goals as goal
 
 pub returns : goal.returns
@@ -17,8 +19,8 @@ returns g c =
       ok = λ keeps. absurd (no_truth keeps);
       completed = λ at inside. on_ok r (λ is. completed_reference at v w c.args.symbol c.args.size inside is) e.ok;
       err = λ memory. absurd (no_truth memory);
-      own = any_err r (λ d. inl tt);
-      completed_own = λ at inside. any_err r (λ d. inl tt);
+      own = if_err r (λ d is. inl (place_refused v (OfSymbol c.args.symbol) (pos 0) c.args.size d is)) e.cause;
+      completed_own = λ at inside. if_err r (λ d is. inl (place_refused v (OfSymbol c.args.symbol) (pos 0) c.args.size d is)) e.cause;
       untouched = λ keeps. absurd (no_truth keeps);
       none = λ all. on_err r (λ same. rw same refl) e.err;
     }

@@ -1,13 +1,16 @@
-use Rattle.std.proofs.Common.{rules, ◌≡◌, ◌⊎◌, ◌<◌, ◌^◌, false, length, Ok, Err, inr, ap, ◌∙◌, arith, length-append}
+use Rattle.std.proofs.Common.{rules, ◌≡◌, ◌⊎◌, ◌<◌, ◌^◌, false, length, Ok, Err, inr, ap, sym, ◌∙◌, arith, length-append}
 use Rattle.std.proofs.lemmas.Result.{err_from_is_err_and}
 use Rattle.gimli_bytes.specs.Written.{Appends}
 use Rattle.gimli_bytes.specs.Texts.{AreTexts, byte_count, texts_in}
 use Rattle.gimli_build.specs.inside.Joined.{RefusesFor}
 use Rattle.gimli_build.specs.Version5Tables.{texts_after}
-use Rattle.gimli_build.specs.Unit.{whole_bytes, unit_bytes, unit_bytes_by, is_incompatible}
+use Rattle.gimli_bytes.specs.Relocations.{placed}
+use Rattle.gimli_build.specs.Linked.{placed_program, SumsFit}
+use Rattle.gimli_build.specs.Unit.{whole_bytes, whole_bytes_by, unit_bytes, unit_bytes_by, is_incompatible}
 use Rattle.gimli_build.proofs.writing.Joined.{appended_bytes, or_wanted}
 use Rattle.gimli_build.proofs.building.EmptySource.{can-write-after}
 use Rattle.gimli_build.proofs.reading.ReadBack.{reads-back}
+use Rattle.gimli_build.proofs.linking.PlacedUnits.{placed-plain, is-built, can-write}
 use Rattle.gimli_build.proofs.refusals.Causes.{no-cause, refused-for}
 use Rattle.gimli_build.proofs.built.line_program.LineProgram.write.Goals as goal
 
@@ -40,6 +43,36 @@ returns-clause-reads_back g c = λ keeps_bytes.
       λ notation unit_entry sections well.
           reads-back notation unit_entry sections big c.args.encoding p texts a.0 short c.in_ok-write_whole.ensures.built c.requires are_texts are_line_texts
           held line_held is well,
+    )
+
+pub returns-clause-linked : goal.returns-clause-linked
+returns-clause-linked g c = λ at completes is_placed fit zero.
+    let big = g.W.Sink.big c.args.w.now.0 in
+    let p = c.args.self.now in
+    let texts = texts_in c.args.strings.now c.args.line_strings.now in
+    let old = g.W.Sink.completed at c.args.w.now.0 in
+    let new = g.W.Sink.completed at c.write_whole.new.w in
+    let same = c.in_ok-empty.ensures.tables.strings in
+    let line_same = c.in_ok-empty.ensures.tables.line_strings in
+    let are_texts : AreTexts (texts_after p texts).strings = rw same at c.in_ok-empty.ensures.texts in
+    let are_line_texts : AreTexts (texts_after p texts).line_strings = rw line_same at c.in_ok-empty.ensures.line_texts in
+    let held : byte_count (texts_after p texts).strings < 2 ^ 64 = rw same at c.in_ok-empty.ensures.short in
+    let line_held : byte_count (texts_after p texts).line_strings < 2 ^ 64 = rw line_same at c.in_ok-empty.ensures.line_short in
+    let sums : SumsFit at p (texts_after p texts) = rw (same, line_same) at fit in
+    let written = rw (same, line_same, is_placed) at (c.in_ok-write_whole.ensures.writes.completed at completes) in
+    let a = appended_bytes (whole_bytes_by (placed at) big p (texts_after p texts)) old new written in
+    let compatible : is_incompatible c.args.encoding p.encoding ≡ false = search rules in
+    let by_hand : unit_bytes_by (placed at) big c.args.encoding p texts ≡ Ok a.0 = rw compatible a.1 in
+    let is : unit_bytes big c.args.encoding (placed_program at p) texts ≡ Ok a.0 =
+    sym (placed-plain at big c.args.encoding p texts sums zero) ∙ by_hand in
+    let long = ap length a.2 ∙ length-append old a.0 in
+    let short : length a.0 < 2 ^ 64 = omega (arith, long, c.in_ok-write_whole.ensures.completed_short at completes) in
+    rw (same, line_same) (
+      a.0,
+      a.2,
+      λ notation unit_entry sections well.
+          reads-back notation unit_entry sections big c.args.encoding (placed_program at p) texts a.0 short
+          (is-built at p c.in_ok-write_whole.ensures.built) (can-write at p texts c.requires) are_texts are_line_texts held line_held is well,
     )
 
 pub returns-clause-no_cause : goal.returns-clause-no_cause

@@ -1,0 +1,13 @@
+-- Bytes that are written over others change no length.
+use Rattle.std.proofs.Common.{◌≡◌, ℕ, List, length, Ok, Err, ap, ◌∙◌}
+use Rattle.std.specs.Prelude.{Result}
+use Rattle.gimli_bytes.specs.Written.{patch}
+use Rattle.gimli_bytes.specs.declared.error.Error.{Error}
+use Rattle.gimli_bytes.proofs.PieceLemmas.{length-put_over}
+use Rattle.gimli_bytes.proofs.CallsRelocated.{overwrite_parts}
+
+pub patched_length : (wanted : Result (List ℕ) Error) (old new : List ℕ) (at : ℕ) → patch wanted old at ≡ Ok new → length new ≡ length old
+patched_length (Ok bytes) old new at h =
+    let over = overwrite_parts old new at bytes h in
+    ap length over.new_is ∙ length-put_over old at bytes over.fits
+patched_length (Err e) old new at h = cc

@@ -1,0 +1,37 @@
+-- What a linker puts at a place, where it fits: the number itself.
+use Rattle.std.proofs.Common.{◌≡◌, ℕ, ◌+◌, ◌*◌, ◌^◌, ◌<◌, Bool, true, false, nat_eq, refl, ap, sym, ◌∙◌, w64}
+use Rattle.std.proofs.Math.Nat.{mod-eq_of_lt}
+use Rattle.std.proofs.lemmas.Bool.{eqb-true}
+use Rattle.std.specs.Int.{cast_unsigned}
+use Rattle.gimli_bytes.specs.Number.{udata, address_bytes}
+use Rattle.gimli_bytes.specs.Hand.{Placement, section_word}
+use Rattle.gimli_bytes.specs.Relocations.{AddressOf, CallFits, lowest_bytes, placed_address, address_placed}
+use Rattle.gimli_bytes.specs.declared.address.Address.{Address}
+use Rattle.gimli_bytes.specs.declared.address.Address.TheVariants.{Constant, Symbol}
+use Rattle.gimli_bytes.proofs.SectionWords.{word-is}
+use Rattle.gimli_bytes.proofs.Relocating.{sum_low}
+use Rattle.gimli_bytes.proofs.CallsRelocated.{is_size, size_short, wraps}
+
+pub placed-word : (big : Bool) (n size : ℕ) → n < 256 ^ size → lowest_bytes big n size ≡ section_word big n size
+placed-word big n size fits = ap (λ k. udata big k size) (mod-eq_of_lt fits) ∙ by (nat_eq size 8) refl
+  where
+    by : (b : Bool) → nat_eq size 8 ≡ b → udata big n size ≡ section_word big n size
+    by false is = rw is refl
+    by true is =
+        let eight : size ≡ 8 = eqb-true size 8 is in
+        let small : n < 2 ^ 64 = rw eight at fits in
+        sym (word-is big n size small)
+
+pub placed-address : (at : Placement) (big : Bool) (address : Address) (size : ℕ) → CallFits at (AddressOf address size)
+    → placed_address at big address size ≡ address_bytes big (address_placed at address) size
+placed-address at big (Constant n) size fits = refl
+placed-address at big (Symbol symbol addend) size fits =
+    let n = fits.0.0 in
+    let sum = wraps (at.symbol symbol) addend n fits.0.1 fits.1 in
+    rw fits.0.1 (by n sum.0 sum.1 fits.0.2 (is_size size) refl)
+  where
+    by : (n q : ℕ) → at.symbol symbol + cast_unsigned w64 addend ≡ n + q * 2 ^ 64 → n < 256 ^ size → (b : Bool) → is_size size ≡ b
+        → lowest_bytes big (at.symbol symbol + cast_unsigned w64 addend) size ≡ udata big n size
+    by n q sum small true is =
+        ap (λ k. udata big k size) (sum_low size (at.symbol symbol) (cast_unsigned w64 addend) n q (size_short size is) sum small)
+    by n q sum small false is = rw is refl
