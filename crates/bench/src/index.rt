@@ -103,15 +103,7 @@ fn index_of(alloc: Global, lookup: &SectionLookup<Slice<'_>>) -> Result<Vec<u8>,
         return Err(MakeError::OutOfMemory);
     };
     let mut bytes = Vec::new(alloc);
-    write_index(
-        alloc,
-        lookup,
-        &strings,
-        &compilations,
-        8,
-        b"",
-        &mut bytes,
-    )?;
+    write_index(alloc, lookup, &strings, &compilations, 8, b"", &mut bytes)?;
     Ok(bytes)
 }
 
@@ -164,7 +156,7 @@ fn findings(bytes: &[u8], times: u64) -> Tally {
     };
     let length = last.address.saturating_sub(first.address);
     for _ in 0..times {
-        tally = find_all(&index, first.address, length.max(1));
+        tally = find_all(&index, first.address, length);
     }
     tally
 }
@@ -177,7 +169,7 @@ fn find_all(index: &LineIndex<'_>, lowest: u64, length: u64) -> Tally {
         random = random
             .wrapping_mul(6_364_136_223_846_793_005)
             .wrapping_add(1_442_695_040_888_963_407);
-        let address = lowest.wrapping_add((random >> 11) % length);
+        let address = lowest.wrapping_add((random >> 11).checked_rem(length).unwrap_or(0));
         if let Some(place) = index.find(address) {
             let size = place.path.map_or(0, |path| path.len());
             tally.count = tally.count.wrapping_add(1);

@@ -52,7 +52,8 @@ fn perform_stored(rt: &HostRuntime) -> io::Result<()> {
     perform(rt, &["read", "two_units.section", "2"])?;
     perform(rt, &["write", "2"])?;
     perform(rt, &["convert", "unit.section", "0", "2"])?;
-    perform(rt, &["lookup", "demo.section", "0", "find", "1"])
+    perform(rt, &["lookup", "demo.section", "0", "find", "1"])?;
+    perform(rt, &["index", "demo.section", "find", "1"])
 }
 
 /// Does the work that words tell.
