@@ -30,7 +30,7 @@ const OWN: Error = Error::MissingBaseAddress;
 
 impl Sink for OwnWriter {
     ghost use Rattle.std.specs.Prelude.{[]};
-    ghost use Rattle.gimli_bytes.specs.Hand.{plain};
+    ghost use Rattle.gimli_write.specs.Hand.{plain};
 
     ghost contents = { λ w. w.section.bytes };
 

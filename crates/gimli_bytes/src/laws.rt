@@ -9,7 +9,6 @@ ghost use Rattle.gimli_core.specs.Equality.{ClonesGiveSame, IsExact, IsSameClone
 ghost use Rattle.gimli_core.specs.Numbers.{SpellsUleb128, SpellsSleb128, IsShortest};
 ghost use Rattle.gimli_bytes.specs.HashAlike.{HashAlike};
 ghost use Rattle.gimli_bytes.specs.Number.{uleb, sleb, address_bytes};
-ghost use Rattle.gimli_core.specs.declared.common.SectionId.{SectionId};
 ghost use Rattle.gimli_bytes.specs.declared.address.Address.{Address};
 ghost use Rattle.gimli_bytes.specs.declared.str.StringId.{StringId};
 ghost use Rattle.gimli_bytes.specs.declared.str.LineStringId.{LineStringId};
@@ -18,7 +17,7 @@ ghost use Rattle.gimli_bytes.specs.Hand.{Placement, section_word};
 ghost use Rattle.gimli_bytes.specs.Relocations.{Call, are_inside, CallsFit, applied};
 ghost use Rattle.gimli_bytes.specs.Relocations.{after_calls, plainly_after_calls};
 ghost use Rattle.gimli_bytes.specs.Relocations.{AddressOf, CallFits, address_placed};
-ghost use Rattle.gimli_bytes.specs.Relocations.{placed_address, placed_offset, placed_reference};
+ghost use Rattle.gimli_bytes.specs.Relocations.{placed_address, lowest_bytes};
 ghost use Rattle.gimli_bytes.specs.Texts.{AreTexts, with_text, table_bytes, byte_count, offset_of};
 
 use crate::address::Address;
@@ -103,15 +102,11 @@ pub fn relocations_give_the_same()
         plainly_after_calls placement v.big (applied placement v) calls ≡ Ok (applied placement w) }
 {}
 
-/// What a linker puts at a place, where the sum fits its size, is that number.
+/// What a linker puts at a place is the sum itself, where it fits the size.
 pub fn placed_sums_are_numbers()
     ensures address { (at : Placement) (big : Bool) (address : Address) (size : ℕ) →
         CallFits at (AddressOf address size) → placed_address at big address size
         ≡ address_bytes big (address_placed at address) size }
-    ensures offset { (at : Placement) (big : Bool) (section : SectionId) (n size : ℕ) →
-        at.section section + n < 256 ^ size → placed_offset at big section n size
-        ≡ section_word big (at.section section + n) size }
-    ensures reference { (at : Placement) (big : Bool) (symbol size : ℕ) →
-        at.symbol symbol < 256 ^ size → placed_reference at big symbol size
-        ≡ section_word big (at.symbol symbol) size }
+    ensures other { (big : Bool) (n size : ℕ) → n < 256 ^ size →
+        lowest_bytes big n size ≡ section_word big n size }
 {}

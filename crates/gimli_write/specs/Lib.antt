@@ -2,6 +2,10 @@ pub mod convert
 pub mod TextReading
 pub mod RoundTrip
 pub use Rattle.gimli_bytes.specs.Written
+pub use Rattle.gimli_bytes.specs.Hand
+pub use Rattle.gimli_bytes.specs.Number
+pub use Rattle.gimli_bytes.specs.Relocatable
+pub use Rattle.gimli_bytes.specs.Relocations
 pub use Rattle.gimli_bytes.specs.Texts as StringTables
 pub use Rattle.gimli_build.specs.Advance
 pub use Rattle.gimli_build.specs.Built
@@ -16,6 +20,7 @@ pub use Rattle.gimli_build.specs.InstructionBytes
 pub use Rattle.gimli_build.specs.Items
 pub use Rattle.gimli_build.specs.LentRow
 pub use Rattle.gimli_build.specs.LineText
+pub use Rattle.gimli_build.specs.Linked
 pub use Rattle.gimli_build.specs.NoFiles
 pub use Rattle.gimli_build.specs.ReadsBack
 pub use Rattle.gimli_build.specs.Rows
@@ -30,6 +35,11 @@ pub use Rattle.gimli_build.specs.Unit
 pub use Rattle.gimli_build.specs.UnitReader
 pub use Rattle.gimli_build.specs.Version4Tables
 pub use Rattle.gimli_build.specs.Version5Tables
+pub use Rattle.gimli_bytes.specs.declared.address.Address
+pub use Rattle.gimli_bytes.specs.declared.error.Error
+pub use Rattle.gimli_bytes.specs.declared.relocation.Addends
+pub use Rattle.gimli_bytes.specs.declared.relocation.Relocation
+pub use Rattle.gimli_bytes.specs.declared.relocation.RelocationTarget
 pub use Rattle.gimli_build.specs.declared.built.items.BuiltItem
 pub use Rattle.gimli_build.specs.declared.built.row.LineRow
 pub mod inside

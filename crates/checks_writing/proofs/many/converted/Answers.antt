@@ -1,8 +1,8 @@
 -- A converted program can be written.
 use Rattle.std.proofs.Common.{rules, ℕ}
 use Rattle.std.specs.Prelude.{Option, Some, None}
-use Rattle.gimli_bytes.specs.declared.address.Address.{Address}
-use Rattle.gimli_bytes.specs.declared.address.Address.TheVariants.{Constant}
+use Rattle.gimli_write.specs.Address.{Address}
+use Rattle.gimli_write.specs.Address.TheVariants.{Constant}
 use Rattle.gimli_write.specs.convert.Conversion.{outcome_with}
 use Rattle.gimli_write.specs.convert.DoneConversions.{DoneConversion}
 use Rattle.gimli_write.specs.convert.Sources.{source_of}

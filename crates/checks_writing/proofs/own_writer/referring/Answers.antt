@@ -1,7 +1,7 @@
 use Rattle.std.proofs.Common.{rules, ◌≡◌, ℕ, false, List, [], ◌∷◌, sym, subst, ap}
 use Rattle.std.proofs.lemmas.List.Elements.{All-nil, All-cons}
 use Rattle.std.specs.Prelude.{All, IfSome}
-use Rattle.gimli_bytes.specs.Texts.{StringTables, texts_in}
+use Rattle.gimli_write.specs.StringTables.{StringTables, texts_in}
 use Rattle.gimli_write.specs.LineText.{LineText, line_text, IsWithin, HasNoZero}
 use Rattle.gimli_write.specs.Tables.{File}
 use Rattle.gimli_write.specs.Built.{Built}
