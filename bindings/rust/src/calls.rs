@@ -174,6 +174,23 @@ extern "C" {
         options: *const OpenOptions,
         index: *mut Index,
     ) -> u32;
+    pub fn gimli_line_index_open_with_info(
+        section: *const u8,
+        length: usize,
+        line_strings: *const u8,
+        line_strings_length: usize,
+        strings: *const u8,
+        strings_length: usize,
+        info: *const u8,
+        info_length: usize,
+        abbreviations: *const u8,
+        abbreviations_length: usize,
+        string_offsets: *const u8,
+        string_offsets_length: usize,
+        options: *const OpenOptions,
+        index: *mut Index,
+    ) -> u32;
+    pub fn gimli_line_index_comp_dir(index: *mut Index, unit: u64, directory: *mut u8, room: usize, size: *mut usize) -> u32;
     pub fn gimli_line_index_close(index: *mut Index) -> u32;
     pub fn gimli_line_index_find(index: *mut Index, address: u64, place: *mut Place) -> u32;
     pub fn gimli_line_index_find_all(

@@ -5,7 +5,7 @@ use crate::error::Error;
 use crate::file::{File, Text};
 use crate::row::LineRow;
 use crate::rows::Rows;
-use crate::Sections;
+use crate::{CompilationSections, Sections};
 use std::cell::RefCell;
 use std::mem::size_of;
 use std::ptr::null_mut;
@@ -59,6 +59,15 @@ pub struct Index {
     handle: RefCell<calls::Index>,
 }
 
+fn options(sections: &Sections<'_>, lowest: u64) -> calls::OpenOptions {
+    calls::OpenOptions {
+        size: size_of::<calls::OpenOptions>(),
+        lowest,
+        address_size: sections.address_size,
+        big: sections.big_endian,
+    }
+}
+
 impl Index {
     /// Runs all units of a program once. Rows below the address `lowest` are left out, since a linker leaves
     /// code that it drops at low addresses, mostly at 0: so 1 is the least that answers right there, and 0 leaves none out.
@@ -69,12 +78,7 @@ impl Index {
     /// that can't be read is no error: [`Index::unit`] tells its fault.
     pub fn open(sections: &Sections<'_>, lowest: u64) -> Result<Index, Error> {
         let mut handle = calls::Index { at: null_mut() };
-        let options = calls::OpenOptions {
-            size: size_of::<calls::OpenOptions>(),
-            lowest,
-            address_size: sections.address_size,
-            big: sections.big_endian,
-        };
+        let options = options(sections, lowest);
         // The pointers are those of slices, and the handle is a closed one.
         Error::of(unsafe {
             calls::gimli_line_index_open(
@@ -84,6 +88,41 @@ impl Index {
                 sections.debug_line_str.len(),
                 sections.debug_str.as_ptr(),
                 sections.debug_str.len(),
+                &options,
+                &mut handle,
+            )
+        })?;
+        Ok(Index { handle: RefCell::new(handle) })
+    }
+
+    /// Does the same, and keeps the directory of each compilation, which whole paths go on from up to version 4: no other is needed
+    /// for [`Index::path`] then. The strings are those of `sections`.
+    ///
+    /// # Errors
+    ///
+    /// Those of [`Index::open`].
+    pub fn open_with_info(
+        sections: &Sections<'_>,
+        compilations: &CompilationSections<'_>,
+        lowest: u64,
+    ) -> Result<Index, Error> {
+        let mut handle = calls::Index { at: null_mut() };
+        let options = options(sections, lowest);
+        // The pointers are those of slices, and the handle is a closed one.
+        Error::of(unsafe {
+            calls::gimli_line_index_open_with_info(
+                sections.debug_line.as_ptr(),
+                sections.debug_line.len(),
+                sections.debug_line_str.as_ptr(),
+                sections.debug_line_str.len(),
+                sections.debug_str.as_ptr(),
+                sections.debug_str.len(),
+                compilations.debug_info.as_ptr(),
+                compilations.debug_info.len(),
+                compilations.debug_abbrev.as_ptr(),
+                compilations.debug_abbrev.len(),
+                compilations.debug_str_offsets.as_ptr(),
+                compilations.debug_str_offsets.len(),
                 &options,
                 &mut handle,
             )
@@ -127,7 +166,8 @@ impl Index {
     /// (`DW_AT_comp_dir`, as `CompilationSections::comp_dir` tells it), from which a relative path
     /// goes on up to version 4. In version 5 the unit has the directory too, and `comp_dir` counts
     /// where that one is relative: then each relative directory goes on from it. Where it has no
-    /// bytes, such a path stays relative.
+    /// bytes, the directory counts that the index has of the unit, and where it has none such a path
+    /// stays relative. The paths of files that rows have are kept.
     ///
     /// # Errors
     ///
@@ -153,6 +193,37 @@ impl Index {
             path.resize(size, 0);
             if fits {
                 return Ok(path);
+            }
+        }
+    }
+
+    /// The directory of the compilation that the index has of a unit. None where it has none, or one of no bytes.
+    ///
+    /// # Errors
+    ///
+    /// [`Error::NO_SUCH_UNIT`].
+    pub fn comp_dir(&self, unit: u64) -> Result<Option<Vec<u8>>, Error> {
+        let mut directory = vec![0; 256];
+        loop {
+            let mut size = 0;
+            // The handle is an open one, and the pointer is that of a vector.
+            let answer = Error::of(unsafe {
+                calls::gimli_line_index_comp_dir(
+                    &mut *self.handle.borrow_mut(),
+                    unit,
+                    directory.as_mut_ptr(),
+                    directory.len(),
+                    &mut size,
+                )
+            });
+            if answer == Err(Error::NO_COMP_DIR) {
+                return Ok(None);
+            }
+            answer?;
+            let fits = size <= directory.len();
+            directory.resize(size, 0);
+            if fits {
+                return Ok(Some(directory));
             }
         }
     }

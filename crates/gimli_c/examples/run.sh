@@ -102,7 +102,7 @@ for version in 2 3 4 5; do
     # shellcheck disable=SC2086
     "$work/where_is" "$work/compressed" $covered | sed -E "s,:[0-9]+\$,," | cmp "$work/places" -
     # shellcheck disable=SC2086
-    "$work/opened" "$work/compressed" $covered | cmp <(sed -E 's,.*:,,' "$work/places") -
+    "$work/opened" "$work/compressed" $covered | cmp "$work/places" -
     # And of the maps of both, which are named by the build id, and say the same of every address.
     for name in built compressed; do
         "$work/make_map" "$work/$name" "$work/$name.map" >"$work/named"

@@ -12,6 +12,7 @@ pub mod IndexHandles
 pub mod ReaderHandles
 pub mod CompDirs
 pub mod Indexes
+pub mod KeptPaths
 pub mod Readers
 pub mod Maps
 pub mod MadeMaps
