@@ -308,6 +308,16 @@ uint32_t gimli_line_map_find(const uint8_t *map, size_t length, uint64_t address
 uint32_t gimli_line_map_find_all(const uint8_t *map, size_t length, gimli_map_place *places, size_t count)
     GIMLI_CALL GIMLI_READS(1, 2) GIMLI_CHANGES(3, 4);
 
+/* Tells the addresses for a breakpoint at a line of the files that a path names: by its last components (stl_map.h, bits/stl_map.h), or
+ * whole where it begins with a separator; `.` and `..` are resolved by text. Of each run of ranges of that line that stand side by side
+ * the address of the first that is a statement. Where the line has none, those of the next line that has; *found_line is that line. They
+ * go into addresses[0] and so on, ascending, as far as there is room; *count is how many there are. GIMLI_NO_CODE where no line from it
+ * on has any; one of GIMLI_NO_MAP to GIMLI_MAP_HEADER where the bytes begin with no map. Where another number than 0 is answered, nothing
+ * is written. Looks at each range twice. */
+uint32_t gimli_line_map_addresses_of(const uint8_t *map, size_t length, const uint8_t *path, size_t path_length, uint64_t line,
+                                     uint64_t *found_line, uint64_t *addresses, size_t room, size_t *count)
+    GIMLI_CALL GIMLI_READS(1, 2) GIMLI_READS(3, 4) GIMLI_WRITES(7, 8);
+
 /* The bytes of the path of a place, of which there are place->path_size; null where it has none. */
 static inline const char *gimli_map_path(const uint8_t *map, const gimli_map_place *place) {
     return place->path != 0 ? (const char *)map + place->path : NULL;

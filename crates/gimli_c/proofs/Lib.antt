@@ -16,3 +16,5 @@ pub mod KeptPaths
 pub mod Readers
 pub mod Maps
 pub mod MadeMaps
+pub mod LineCounts
+pub mod TakenOne

@@ -20,6 +20,7 @@ pub mod Reader
 pub mod CompDir
 pub mod Mapped
 pub mod MadeMap
+pub mod MapLines
 pub mod ElfSeen
 pub mod BuildId
 pub mod inside
