@@ -1,9 +1,12 @@
 -- How many addresses a line has: no more than there are rows.
-use Rattle.std.proofs.Common.{◌≤◌, ℕ, ◌+◌, Bool, true, false, if◌then◌else◌, List, [], ◌∷◌, ◌++◌, length, not, arith, length-append}
+use Rattle.std.proofs.Common.{◌≤◌, nat_eq, ℕ, ◌+◌, Bool, true, false, if◌then◌else◌, List, [], ◌∷◌, ◌++◌, length, not, arith, length-append}
 use Rattle.std.specs.Prelude.{flat_map}
 use Rattle.std.specs.List.{slice_split, onto_first}
 use Rattle.gimli_line.specs.declared.run.row.LineRow.{LineRow}
-use Rattle.gimli_lookup.specs.Statements.{first_statement}
+use Rattle.std.proofs.lemmas.List.{length-map}
+use Rattle.gimli_index.specs.Lines.{addresses_of, row_of, rows_of}
+use Rattle.gimli_index.specs.Meaning.{Start}
+use Rattle.gimli_lookup.specs.Statements.{first_statement, is_of_line}
 
 -- a row before a run adds at most one address
 one_more : (r : LineRow) (run : List LineRow) → length (first_statement (r ∷ run)) ≤ length (first_statement run) + 1
@@ -26,3 +29,7 @@ few_addresses p (r ∷ rows) = by (p r)
     by : (b : Bool) → length (flat_map first_statement (if b then [] ∷ slice_split p rows else onto_first r (slice_split p rows))) ≤ length (r ∷ rows)
     by true = let rest = few_addresses p rows in omega (arith, rest)
     by false = let rest = few_addresses p rows in let more = onto_one r (slice_split p rows) in omega (arith, rest, more)
+
+pub few_of_line : (path : List ℕ) (starts : List Start) (line : ℕ) → length (addresses_of path starts line) ≤ length starts
+few_of_line path starts line =
+    omega (arith, few_addresses (λ r. not (is_of_line (nat_eq 1) line r)) (rows_of path starts), length-map starts (row_of path))

@@ -7,7 +7,7 @@ use Rattle.gimli_c.specs.Written.{slots_with}
 use Rattle.gimli_c.proofs.Arrays.{written_take}
 
 module _ {A : Type 0} (xs : List A) (n : ℕ) (x : A) (rest : List A) (is : drop n xs ≡ x ∷ rest) where
-  within : n < length xs
+  pub within : n < length xs
   within = let count = ap (λ (ys : List A). length ys) is in omega (arith, count, length-drop n xs)
 
   -- the item that comes next, and what comes after it

@@ -25,8 +25,8 @@ fn put_address(address: u64, slot: usize, room: &mut [u64])
 /// most so many.
 fn put_addresses(found: Addresses<'_, '_>, most: usize, room: &mut [u64]) -> usize
     requires { length (addresses_left found) ≤ most }
-    ensures put { room.new ≡ slots_with (addresses_left found) room.old }
-    ensures count { result ≡ length (addresses_left found) }
+    ensures put { room.new ≡ slots_with (addresses_left found.entry) room.old }
+    ensures count { result ≡ length (addresses_left found.entry) }
 {
     let mut left = found;
     for slot in 0..most {
