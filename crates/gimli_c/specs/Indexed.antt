@@ -1,5 +1,6 @@
 -- What an index keeps, and what it answers.
-use Rattle.std.specs.Prelude.{◌≡◌, ◌≢◌, ◌^◌, ◌⊎◌, ℕ, Bool, true, List, [], ◌∷◌, length, map, All, Option}
+use Rattle.std.specs.Prelude.{◌≡◌, ◌≢◌, ◌^◌, ◌⊎◌, ℕ, Bool, true, List, [], ◌∷◌, length, map, All}
+use Rattle.std.specs.Prelude.{Option}
 use Rattle.std.specs.Prelude.{Some, None, Ok, Err, nat_eq, slice_get}
 use Rattle.std.specs.Option.{option_map_or}
 use Rattle.std.specs.List.{AllZip}
@@ -179,8 +180,8 @@ pub record GivesPath (i : SectionIndex) (unit file : ℕ) (comp_dir whole : List
   pub is_file : IsFileOf i unit file header entry
   pub is_path : file_path (paths_in i header comp_dir) entry ≡ Ok whole
 
--- the path that the index keeps of a file of a unit without a fault; it is the one that goes on from
--- the index's own directory (law `kept_paths_are_whole`)
+-- the path that the index keeps of a file of a unit without a fault; it is the one that goes on
+-- from the index's own directory (law `kept_paths_are_whole`)
 pub record KeepsPath (i : SectionIndex) (unit file : ℕ) (whole : List ℕ) : Type 0 where
   pub kept : KeptUnit
   pub is_unit : slice_get i.units unit ≡ Some kept

@@ -50,8 +50,8 @@ pub use index::{
 };
 pub use items::GimliSymbol;
 pub use map::{
-    GimliMap, GimliMapPlace, NO_PATH_OUTSIDE, gimli_line_map_addresses_of, gimli_line_map_check, gimli_line_map_find,
-    gimli_line_map_find_all, gimli_line_map_open, gimli_line_map_write,
+    GimliMap, GimliMapPlace, NO_PATH_OUTSIDE, gimli_line_map_addresses_of, gimli_line_map_check,
+    gimli_line_map_find, gimli_line_map_find_all, gimli_line_map_open, gimli_line_map_write,
 };
 pub use relocatable::{GimliRelocation, gimli_line_write_relocatable};
 pub use row::{BASIC_BLOCK, END_SEQUENCE, EPILOGUE_BEGIN, GimliRow, IS_STMT, PROLOGUE_END};

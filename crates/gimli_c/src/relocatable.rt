@@ -1,6 +1,7 @@
 //! A unit whose sequences begin at symbols, and its relocations.
 
-ghost use Rattle.std.specs.Prelude.{◌≡◌, ◌≢◌, ◌⊎◌, ◌<◌, ◌≤◌, ℕ, true, false, IfOk, IsTrue, Some, map};
+ghost use Rattle.std.specs.Prelude.{◌≡◌, ◌≢◌, ◌⊎◌, ◌<◌, ◌≤◌, ℕ, true, false, IfOk, IsTrue, Some};
+ghost use Rattle.std.specs.Prelude.{map};
 ghost use Rattle.gimli_bytes.specs.Relocations.{are_inside};
 ghost use Rattle.gimli_bytes.specs.Texts.{no_texts};
 ghost use Rattle.gimli_build.specs.Conditions.{CanWrite};

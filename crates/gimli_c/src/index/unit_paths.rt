@@ -1,6 +1,7 @@
 //! The paths that an index keeps: of the files that rows have.
 
-ghost use Rattle.std.specs.Prelude.{◌≡◌, ◌<◌, ◌++◌, ◌∷◌, ℕ, IfErr, IfOk, IfSome, OnOk, Some, [], length};
+ghost use Rattle.std.specs.Prelude.{◌≡◌, ◌<◌, ◌++◌, ◌∷◌, ℕ, IfErr, IfOk, IfSome, OnOk, Some, []};
+ghost use Rattle.std.specs.Prelude.{length};
 ghost use Rattle.std.specs.Prelude.{option_map, slice_get, slice_index_or, unwrap_or};
 ghost use Rattle.std.specs.List.{AllZip};
 ghost use Rattle.std.specs.declared.alloc.Global.{Global};
@@ -129,7 +130,8 @@ fn directory_of(
     }
 }
 
-/// No marks, one for each number that a file of a header may have. Refused by `OUT_OF_MEMORY` alone.
+/// No marks, one for each number that a file of a header may have. Refused by `OUT_OF_MEMORY`
+/// alone.
 fn no_marks(alloc: Global, header: &LineProgramHeader<Slice<'_>>) -> Result<Vec<bool>, u32>
     ensures err { IfErr result (λ s. s ≡ OUT_OF_MEMORY) }
 {
@@ -172,7 +174,8 @@ impl<'s> PathMaker<'_, 's> {
         requires { unit < length self.now.lookup.now }
         ensures ok { (d : KeptUnit) → IfOk result (IsMadeOf
             (strings (λ s. s.slice.now) self.now.strings)
-            (λ offset. option_map (λ s. s.slice.now) (directory_for self.now.compilations.now offset))
+            (λ offset. option_map (λ s. s.slice.now)
+            (directory_for self.now.compilations.now offset))
             (slice_index_or self.now.lookup.now unit d)) }
         ensures err { IfErr result (λ s. s ≡ OUT_OF_MEMORY) }
     {
@@ -186,7 +189,8 @@ impl<'s> PathMaker<'_, 's> {
     pub(crate) fn all_paths(&self) -> Result<Vec<UnitPaths>, u32>
         ensures ok { IfOk result (λ kept. AllZip (IsMadeOf
             (strings (λ s. s.slice.now) self.now.strings)
-            (λ offset. option_map (λ s. s.slice.now) (directory_for self.now.compilations.now offset)))
+            (λ offset. option_map (λ s. s.slice.now)
+            (directory_for self.now.compilations.now offset)))
             self.now.lookup.now kept.items) }
         ensures err { IfErr result (λ s. s ≡ OUT_OF_MEMORY) }
     {

@@ -14,12 +14,14 @@ put_addresses-requires c =
 
 pub returns-clause-found : goal.returns-clause-found
 returns-clause-found c = λ _.
-    let found = addresses_of c.args.path.now (starts_of (index_of c.in-Ok.index)) in
-    (addresses_left c.in-Some.found,
-     record {
-       index = index_of c.in-Ok.index;
-       is = c.in-Ok.ensures.map;
-       is_first = subst (λ (line : ℕ). IsFirstLine found c.args.line line) (sym c.line.ensures) c.in-Some.ensures.0;
-       addresses_are = c.in-Some.ensures.1 ∙ ap (λ (line : ℕ). found line) (sym c.line.ensures);
-     },
-     c.put_addresses.ensures.put, c.put_addresses.ensures.count)
+    let found = addresses_of c.args.path.now (starts_of (index_of c.in-Ok.index)) in (
+      addresses_left c.in-Some.found,
+      record {
+        index = index_of c.in-Ok.index;
+        is = c.in-Ok.ensures.map;
+        is_first = subst (λ (line : ℕ). IsFirstLine found c.args.line line) (sym c.line.ensures) c.in-Some.ensures.0;
+        addresses_are = c.in-Some.ensures.1 ∙ ap (λ (line : ℕ). found line) (sym c.line.ensures);
+      },
+      c.put_addresses.ensures.put,
+      c.put_addresses.ensures.count,
+    )
