@@ -1,5 +1,5 @@
 -- How many addresses a line has: no more than there are rows.
-use Rattle.std.proofs.Common.{◌≡◌, ◌≤◌, nat_eq, ℕ, ◌+◌, Bool, true, false, if◌then◌else◌, List, [], ◌∷◌, ◌++◌, length, not, arith, length-append}
+use Rattle.std.proofs.Common.{◌≡◌, ◌≤◌, nat_eq, ℕ, ◌+◌, Bool, true, false, if◌then◌else◌, List, [], ◌∷◌, length, not, arith, length-append}
 use Rattle.std.specs.Prelude.{flat_map}
 use Rattle.std.specs.List.{slice_split, onto_first}
 use Rattle.gimli_line.specs.declared.run.row.LineRow.{LineRow}

@@ -1,4 +1,4 @@
-use Rattle.std.proofs.Common.{List, ℕ, length, map, subst, sym, ap, ◌<◌, ◌≤◌, ◌⊎◌, ◌∙◌, inl, inr}
+use Rattle.std.proofs.Common.{List, ℕ, length, map, subst, ap, ◌<◌, ◌≤◌, ◌⊎◌, ◌∙◌, inl, inr}
 use Rattle.gimli_bytes.specs.declared.relocation.Relocation.{Relocation}
 use Rattle.gimli_c.specs.Relocated.{relocation_seen}
 use Rattle.gimli_c.specs.Written.{slots_with}

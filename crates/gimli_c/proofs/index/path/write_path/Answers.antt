@@ -1,6 +1,5 @@
-use Rattle.std.proofs.Common.{◌≡◌, ℕ, List, subst, sym, ◌∙◌, arith, inl, refl}
-use Rattle.std.specs.Prelude.{length}
-use Rattle.gimli_c.specs.Indexed.{HasNoPath, GivesPath, TellsPath}
+use Rattle.std.proofs.Common.{◌≡◌, ℕ, List, subst, sym, ◌∙◌, arith}
+use Rattle.gimli_c.specs.Indexed.{HasNoPath}
 use Rattle.gimli_c.proofs.Indexes.{path_not_ok}
 use Rattle.gimli_c.proofs.index.path.write_path.Goals as goal
 

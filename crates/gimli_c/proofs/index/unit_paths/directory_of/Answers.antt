@@ -1,5 +1,5 @@
-use Rattle.std.proofs.Common.{◌≡◌, ℕ, List, [], sym, ap, ◌∙◌}
-use Rattle.std.specs.Prelude.{Option, option_map, unwrap_or}
+use Rattle.std.proofs.Common.{[], sym, ap, ◌∙◌}
+use Rattle.std.specs.Prelude.{option_map, unwrap_or}
 use Rattle.gimli_c.proofs.Indexes.{ok_more}
 use Rattle.gimli_c.proofs.index.unit_paths.directory_of.Goals as goal
 

@@ -1,4 +1,4 @@
-use Rattle.std.proofs.Common.{◌≡◌, ℕ, List, ◌∙◌}
+use Rattle.std.proofs.Common.{◌∙◌}
 use Rattle.std.specs.Option.{option_map}
 use Rattle.gimli_compilation.specs.Directories.{directory_for}
 use Rattle.gimli_lookup.specs.Strings.{Strings}

@@ -1,4 +1,4 @@
-use Rattle.std.proofs.Common.{◌≡◌, ℕ, List, [], sym, ap, subst, ◌∙◌}
+use Rattle.std.proofs.Common.{ℕ, List, [], ap, subst, ◌∙◌}
 use Rattle.std.specs.Prelude.{option_map, slice_index_or, unwrap_or}
 use Rattle.gimli_compilation.specs.Directories.{directory_for}
 use Rattle.gimli_lookup.specs.Section.{ListedUnit}
