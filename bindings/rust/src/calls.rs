@@ -1,5 +1,71 @@
 //! The calls of include/gimli_line.h that the crate uses, as they are declared there.
 
+use crate::error::Error;
+use crate::write::Encoding;
+use crate::Sections;
+use std::mem::size_of;
+
+/// Declares calls. `[name: T]` stands for a pointer to elements and how many there are, `[mut name: T]` for a pointer by which they are
+/// written to.
+macro_rules! declared {
+    ($($call:ident($($parameters:tt)*);)*) => { $(declared!(@ $call () $($parameters)*);)* };
+    (@ $call:ident ($($name:tt: $of:ty,)*)) => { extern "C" { pub fn $call($($name: $of),*) -> u32; } };
+    (@ $call:ident ($($done:tt)*) [mut $name:ident: $of:ty] $(, $($others:tt)*)?) => {
+        declared!(@ $call ($($done)* $name: *mut $of, _: usize,) $($($others)*)?);
+    };
+    (@ $call:ident ($($done:tt)*) [$name:ident: $of:ty] $(, $($others:tt)*)?) => {
+        declared!(@ $call ($($done)* $name: *const $of, _: usize,) $($($others)*)?);
+    };
+    (@ $call:ident ($($done:tt)*) $name:ident: $of:ty $(, $($others:tt)*)?) => {
+        declared!(@ $call ($($done)* $name: $of,) $($($others)*)?);
+    };
+}
+
+/// Makes a call. `[slice]` stands for the pointer of a slice and its length, `[mut slice]` for those of one that is written to.
+macro_rules! call {
+    ($call:ident($($arguments:tt)*)) => { call!(@ $call () $($arguments)*) };
+    (@ $call:ident ($($done:expr,)*)) => { crate::calls::$call($($done),*) };
+    (@ $call:ident ($($done:expr,)*) [mut $slice:expr] $(, $($others:tt)*)?) => {
+        call!(@ $call ($($done,)* $slice.as_mut_ptr(), $slice.len(),) $($($others)*)?)
+    };
+    (@ $call:ident ($($done:expr,)*) [$slice:expr] $(, $($others:tt)*)?) => {
+        call!(@ $call ($($done,)* $slice.as_ptr(), $slice.len(),) $($($others)*)?)
+    };
+    (@ $call:ident ($($done:expr,)*) $value:expr $(, $($others:tt)*)?) => {
+        call!(@ $call ($($done,)* $value,) $($($others)*)?)
+    };
+}
+pub(crate) use call;
+
+/// What a call gives that puts it into an array, and tells how much there is: it is made again where the array was too small, which it
+/// answers by `NO_ROOM`, or not at all.
+pub fn whole<T: Clone + Default>(
+    first: usize,
+    mut call: impl FnMut(&mut [T], &mut usize) -> Result<(), Error>,
+) -> Result<Vec<T>, Error> {
+    let mut array = vec![T::default(); first];
+    loop {
+        let mut count = 0;
+        let answer = call(&mut array, &mut count);
+        if answer != Err(Error::NO_ROOM) {
+            answer?;
+        }
+        let is_whole = answer.is_ok() && count <= array.len();
+        array.resize(count, T::default());
+        if is_whole {
+            return Ok(array);
+        }
+    }
+}
+
+/// What a call gives, or None where it answers this status.
+pub fn unless<T>(none: Error, answer: Result<T, Error>) -> Result<Option<T>, Error> {
+    match answer {
+        Err(status) if status == none => Ok(None),
+        answer => answer.map(Some),
+    }
+}
+
 #[repr(C)]
 #[derive(Clone, Copy, Debug, Default)]
 pub struct Row {
@@ -38,6 +104,17 @@ pub struct OpenOptions {
     pub big: bool,
 }
 
+impl OpenOptions {
+    pub fn new(sections: &Sections<'_>, lowest: u64) -> OpenOptions {
+        OpenOptions {
+            size: size_of::<OpenOptions>(),
+            lowest,
+            address_size: sections.address_size,
+            big: sections.big_endian,
+        }
+    }
+}
+
 #[repr(C)]
 #[derive(Clone, Copy, Debug, Default)]
 pub struct Text {
@@ -57,19 +134,6 @@ pub struct File {
     pub size: u64,
     pub details: u64,
     pub md5: [u8; 16],
-}
-
-#[repr(C)]
-#[derive(Clone, Copy)]
-pub struct Encoding {
-    pub version: u16,
-    pub address_size: u8,
-    pub offset_size: u8,
-    pub minimum_instruction_length: u8,
-    pub maximum_operations_per_instruction: u8,
-    pub default_is_stmt: u8,
-    pub line_base: i8,
-    pub line_range: u8,
 }
 
 #[repr(C)]
@@ -138,163 +202,60 @@ pub struct RowReader {
     pub at: *mut u8,
 }
 
-extern "C" {
-    pub fn gimli_version() -> u32;
-    pub fn gimli_line_map_open(map: *const u8, length: usize, found: *mut Map) -> u32;
-    pub fn gimli_line_map_check(map: *const u8, length: usize) -> u32;
-    pub fn gimli_line_map_find(map: *const u8, length: usize, address: u64, place: *mut MapPlace) -> u32;
-    pub fn gimli_line_map_find_all(map: *const u8, length: usize, places: *mut MapPlace, count: usize) -> u32;
-    pub fn gimli_line_map_write(
-        section: *const u8,
-        length: usize,
-        line_strings: *const u8,
-        line_strings_length: usize,
-        strings: *const u8,
-        strings_length: usize,
-        info: *const u8,
-        info_length: usize,
-        abbreviations: *const u8,
-        abbreviations_length: usize,
-        string_offsets: *const u8,
-        string_offsets_length: usize,
-        options: *const OpenOptions,
-        identity: *const u8,
-        identity_length: usize,
-        map: *mut u8,
-        room: usize,
-        size: *mut usize,
-    ) -> u32;
-    pub fn gimli_line_index_open(
-        section: *const u8,
-        length: usize,
-        line_strings: *const u8,
-        line_strings_length: usize,
-        strings: *const u8,
-        strings_length: usize,
-        options: *const OpenOptions,
-        index: *mut Index,
-    ) -> u32;
-    pub fn gimli_line_index_close(index: *mut Index) -> u32;
-    pub fn gimli_line_index_find(index: *mut Index, address: u64, place: *mut Place) -> u32;
-    pub fn gimli_line_index_find_all(
-        index: *mut Index,
-        places: *mut Place,
-        count: usize,
-    ) -> u32;
-    pub fn gimli_line_index_path(
-        index: *mut Index,
-        unit: u64,
-        file: u64,
-        comp_dir: *const u8,
-        comp_dir_length: usize,
-        path: *mut u8,
-        room: usize,
-        size: *mut usize,
-    ) -> u32;
-    pub fn gimli_line_comp_dir(
-        info: *const u8,
-        info_length: usize,
-        abbreviations: *const u8,
-        abbreviations_length: usize,
-        line_strings: *const u8,
-        line_strings_length: usize,
-        strings: *const u8,
-        strings_length: usize,
-        string_offsets: *const u8,
-        string_offsets_length: usize,
-        big: bool,
-        offset: u64,
-        directory: *mut u8,
-        room: usize,
-        size: *mut usize,
-    ) -> u32;
-    pub fn gimli_line_index_unit_count(index: *mut Index, count: *mut usize) -> u32;
-    pub fn gimli_line_index_unit(index: *mut Index, unit: u64, found: *mut IndexUnit) -> u32;
-    pub fn gimli_line_index_addresses(
-        index: *mut Index,
-        unit: u64,
-        file: u64,
-        line: u64,
-        found_line: *mut u64,
-        addresses: *mut u64,
-        room: usize,
-        count: *mut usize,
-    ) -> u32;
-    pub fn gimli_line_index_addresses_of(
-        index: *mut Index,
-        path: *const u8,
-        path_length: usize,
-        line: u64,
-        found_line: *mut u64,
-        addresses: *mut u64,
-        room: usize,
-        count: *mut usize,
-    ) -> u32;
-    pub fn gimli_line_rows_open(
-        section: *const u8,
-        length: usize,
-        big: bool,
-        address_size: u8,
-        offset: usize,
-        reader: *mut RowReader,
-    ) -> u32;
-    pub fn gimli_line_index_file(
-        index: *mut Index,
-        unit: u64,
-        number: u64,
-        file: *mut File,
-        path: *mut u8,
-        path_room: usize,
-        directory: *mut u8,
-        directory_room: usize,
-    ) -> u32;
-    pub fn gimli_line_index_directory(
-        index: *mut Index,
-        unit: u64,
-        number: u64,
-        directory: *mut Text,
-        bytes: *mut u8,
-        room: usize,
-    ) -> u32;
-    pub fn gimli_line_write(
-        encoding: *const Encoding,
-        big: bool,
-        details: u64,
-        texts: *const u8,
-        text_length: usize,
-        directories: *const Name,
-        directory_count: usize,
-        files: *const FileName,
-        file_count: usize,
-        rows: *const Row,
-        row_count: usize,
-        unit: *mut u8,
-        room: usize,
-        size: *mut usize,
-    ) -> u32;
-    pub fn gimli_line_write_relocatable(
-        encoding: *const Encoding,
-        big: bool,
-        details: u64,
-        in_place: bool,
-        texts: *const u8,
-        text_length: usize,
-        directories: *const Name,
-        directory_count: usize,
-        files: *const FileName,
-        file_count: usize,
-        rows: *const Row,
-        row_count: usize,
-        symbols: *const Symbol,
-        symbol_count: usize,
-        unit: *mut u8,
-        room: usize,
-        size: *mut usize,
-        relocations: *mut Relocation,
-        relocation_room: usize,
-        count: *mut usize,
-    ) -> u32;
-    pub fn gimli_line_index_rows_open(index: *mut Index, unit: u64, reader: *mut RowReader) -> u32;
-    pub fn gimli_line_rows_next(reader: *mut RowReader, rows: *mut Row, room: usize, count: *mut usize) -> u32;
-    pub fn gimli_line_rows_close(reader: *mut RowReader) -> u32;
+declared! {
+    gimli_version();
+    gimli_line_map_open([map: u8], found: *mut Map);
+    gimli_line_map_check([map: u8]);
+    gimli_line_map_find([map: u8], address: u64, place: *mut MapPlace);
+    gimli_line_map_find_all([map: u8], [mut places: MapPlace]);
+    gimli_line_map_addresses_of(
+        [map: u8], [path: u8], line: u64, found_line: *mut u64, [mut addresses: u64], count: *mut usize
+    );
+    gimli_line_map_write(
+        [section: u8], [line_strings: u8], [strings: u8], [info: u8], [abbreviations: u8], [string_offsets: u8],
+        options: *const OpenOptions, [identity: u8], [mut map: u8], size: *mut usize
+    );
+    gimli_line_index_open_with_info(
+        [section: u8], [line_strings: u8], [strings: u8], [info: u8], [abbreviations: u8], [string_offsets: u8],
+        options: *const OpenOptions, index: *mut Index
+    );
+    gimli_line_index_comp_dir(index: *mut Index, unit: u64, [mut directory: u8], size: *mut usize);
+    gimli_line_index_close(index: *mut Index);
+    gimli_line_index_find(index: *mut Index, address: u64, place: *mut Place);
+    gimli_line_index_find_all(index: *mut Index, [mut places: Place]);
+    gimli_line_index_path(
+        index: *mut Index, unit: u64, file: u64, [comp_dir: u8], [mut path: u8], size: *mut usize
+    );
+    gimli_line_comp_dir(
+        [info: u8], [abbreviations: u8], [line_strings: u8], [strings: u8], [string_offsets: u8], big: bool,
+        offset: u64, [mut directory: u8], size: *mut usize
+    );
+    gimli_line_index_unit_count(index: *mut Index, count: *mut usize);
+    gimli_line_index_unit(index: *mut Index, unit: u64, found: *mut IndexUnit);
+    gimli_line_index_addresses(
+        index: *mut Index, unit: u64, file: u64, line: u64, found_line: *mut u64, [mut addresses: u64],
+        count: *mut usize
+    );
+    gimli_line_index_addresses_of(
+        index: *mut Index, [path: u8], line: u64, found_line: *mut u64, [mut addresses: u64], count: *mut usize
+    );
+    gimli_line_index_file(
+        index: *mut Index, unit: u64, number: u64, file: *mut File, [mut path: u8], [mut directory: u8]
+    );
+    gimli_line_index_directory(index: *mut Index, unit: u64, number: u64, directory: *mut Text, [mut bytes: u8]);
+    gimli_line_write(
+        encoding: *const Encoding, big: bool, details: u64, [texts: u8], [directories: Name], [files: FileName],
+        [rows: Row], [mut unit: u8], size: *mut usize
+    );
+    gimli_line_write_relocatable(
+        encoding: *const Encoding, big: bool, details: u64, in_place: bool, [texts: u8], [directories: Name],
+        [files: FileName], [rows: Row], [symbols: Symbol], [mut unit: u8], size: *mut usize,
+        [mut relocations: Relocation], count: *mut usize
+    );
+    gimli_line_rows_open(
+        [section: u8], big: bool, address_size: u8, offset: usize, reader: *mut RowReader
+    );
+    gimli_line_index_rows_open(index: *mut Index, unit: u64, reader: *mut RowReader);
+    gimli_line_rows_next(reader: *mut RowReader, [mut rows: Row], count: *mut usize);
+    gimli_line_rows_close(reader: *mut RowReader);
 }

@@ -1,6 +1,6 @@
 //! The directories of compilations.
 
-use crate::calls;
+use crate::calls::{call, unless, whole};
 use crate::error::Error;
 
 /// The sections of a linked program that say where it was compiled. One that a program lacks is of
@@ -30,38 +30,15 @@ impl CompilationSections<'_> {
     ///
     /// [`Error::OUT_OF_MEMORY`].
     pub fn comp_dir(&self, offset: u64) -> Result<Option<Vec<u8>>, Error> {
-        let mut directory = vec![0; 256];
-        loop {
-            let mut size = 0;
-            // The pointers are those of slices.
-            let answer = Error::of(unsafe {
-                calls::gimli_line_comp_dir(
-                    self.debug_info.as_ptr(),
-                    self.debug_info.len(),
-                    self.debug_abbrev.as_ptr(),
-                    self.debug_abbrev.len(),
-                    self.debug_line_str.as_ptr(),
-                    self.debug_line_str.len(),
-                    self.debug_str.as_ptr(),
-                    self.debug_str.len(),
-                    self.debug_str_offsets.as_ptr(),
-                    self.debug_str_offsets.len(),
-                    self.big_endian,
-                    offset,
-                    directory.as_mut_ptr(),
-                    directory.len(),
-                    &mut size,
-                )
-            });
-            if answer == Err(Error::NO_COMP_DIR) {
-                return Ok(None);
-            }
-            answer?;
-            let fits = size <= directory.len();
-            directory.resize(size, 0);
-            if fits {
-                return Ok(Some(directory));
-            }
-        }
+        let directory = whole(256, |room, size| {
+            // The pointers are those of slices and of a local.
+            Error::of(unsafe {
+                call!(gimli_line_comp_dir(
+                    [self.debug_info], [self.debug_abbrev], [self.debug_line_str], [self.debug_str],
+                    [self.debug_str_offsets], self.big_endian, offset, [mut room], size
+                ))
+            })
+        });
+        unless(Error::NO_COMP_DIR, directory)
     }
 }

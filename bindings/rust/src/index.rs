@@ -1,13 +1,12 @@
 //! An index over all units of a section.
 
-use crate::calls;
+use crate::calls::{self, call, unless, whole};
 use crate::error::Error;
 use crate::file::{File, Text};
 use crate::row::LineRow;
 use crate::rows::Rows;
-use crate::Sections;
+use crate::{CompilationSections, Sections};
 use std::cell::RefCell;
-use std::mem::size_of;
 use std::ptr::null_mut;
 
 /// Where an address belongs.
@@ -68,25 +67,36 @@ impl Index {
     /// [`Error::OUT_OF_MEMORY`], and [`Error::UNSUPPORTED_ADDRESS_SIZE`] where that of the sections is none of 1, 2, 4 and 8. A unit
     /// that can't be read is no error: [`Index::unit`] tells its fault.
     pub fn open(sections: &Sections<'_>, lowest: u64) -> Result<Index, Error> {
-        let mut handle = calls::Index { at: null_mut() };
-        let options = calls::OpenOptions {
-            size: size_of::<calls::OpenOptions>(),
-            lowest,
-            address_size: sections.address_size,
-            big: sections.big_endian,
+        let compilations = CompilationSections {
+            debug_info: &[],
+            debug_abbrev: &[],
+            debug_line_str: &[],
+            debug_str: &[],
+            debug_str_offsets: &[],
+            big_endian: sections.big_endian,
         };
-        // The pointers are those of slices, and the handle is a closed one.
+        Index::open_with_info(sections, &compilations, lowest)
+    }
+
+    /// Does the same, and keeps the directory of each compilation, which whole paths go on from up to version 4: no other is needed
+    /// for [`Index::path`] then. The strings are those of `sections`.
+    ///
+    /// # Errors
+    ///
+    /// Those of [`Index::open`].
+    pub fn open_with_info(
+        sections: &Sections<'_>,
+        compilations: &CompilationSections<'_>,
+        lowest: u64,
+    ) -> Result<Index, Error> {
+        let mut handle = calls::Index { at: null_mut() };
+        let options = calls::OpenOptions::new(sections, lowest);
+        // The pointers are those of slices and of a local, and the handle is a closed one.
         Error::of(unsafe {
-            calls::gimli_line_index_open(
-                sections.debug_line.as_ptr(),
-                sections.debug_line.len(),
-                sections.debug_line_str.as_ptr(),
-                sections.debug_line_str.len(),
-                sections.debug_str.as_ptr(),
-                sections.debug_str.len(),
-                &options,
-                &mut handle,
-            )
+            call!(gimli_line_index_open_with_info(
+                [sections.debug_line], [sections.debug_line_str], [sections.debug_str], [compilations.debug_info],
+                [compilations.debug_abbrev], [compilations.debug_str_offsets], &options, &mut handle
+            ))
         })?;
         Ok(Index { handle: RefCell::new(handle) })
     }
@@ -95,7 +105,7 @@ impl Index {
     pub fn find(&self, address: u64) -> Option<Place> {
         let mut place = calls::Place::default();
         // The handle is an open one, which no other call uses.
-        let status = unsafe { calls::gimli_line_index_find(&mut *self.handle.borrow_mut(), address, &mut place) };
+        let status = unsafe { call!(gimli_line_index_find(&mut *self.handle.borrow_mut(), address, &mut place)) };
         (status == 0).then(|| Place::new(&place))
     }
 
@@ -104,13 +114,7 @@ impl Index {
         let asked = |address: &u64| calls::Place { address: *address, ..Default::default() };
         let mut places: Vec<_> = addresses.iter().map(asked).collect();
         // The pointers are those of slices.
-        let _ok = unsafe {
-            calls::gimli_line_index_find_all(
-                &mut *self.handle.borrow_mut(),
-                places.as_mut_ptr(),
-                places.len(),
-            )
-        };
+        let _ok = unsafe { call!(gimli_line_index_find_all(&mut *self.handle.borrow_mut(), [mut places])) };
         places.iter().map(|place| (place.end != 0).then(|| Place::new(place))).collect()
     }
 
@@ -127,47 +131,48 @@ impl Index {
     /// (`DW_AT_comp_dir`, as `CompilationSections::comp_dir` tells it), from which a relative path
     /// goes on up to version 4. In version 5 the unit has the directory too, and `comp_dir` counts
     /// where that one is relative: then each relative directory goes on from it. Where it has no
-    /// bytes, such a path stays relative.
+    /// bytes, the directory counts that the index has of the unit, and where it has none such a path
+    /// stays relative. The paths of files that rows have are kept.
     ///
     /// # Errors
     ///
     /// [`Error::NO_SUCH_UNIT`], [`Error::NO_SUCH_FILE`], [`Error::UNKNOWN_PATH`] where a string of the path can't be told,
     /// [`Error::OUT_OF_MEMORY`], or why the unit can't be read.
     pub fn path(&self, unit: u64, file: u64, comp_dir: &[u8]) -> Result<Vec<u8>, Error> {
-        let mut path = vec![0; 256];
-        loop {
-            let mut size = 0;
+        whole(256, |room, size| {
+            // The handle is an open one, and the pointers are those of slices and of a local.
             Error::of(unsafe {
-                calls::gimli_line_index_path(
-                    &mut *self.handle.borrow_mut(),
-                    unit,
-                    file,
-                    comp_dir.as_ptr(),
-                    comp_dir.len(),
-                    path.as_mut_ptr(),
-                    path.len(),
-                    &mut size,
-                )
-            })?;
-            let fits = size <= path.len();
-            path.resize(size, 0);
-            if fits {
-                return Ok(path);
-            }
-        }
+                call!(gimli_line_index_path(&mut *self.handle.borrow_mut(), unit, file, [comp_dir], [mut room], size))
+            })
+        })
+    }
+
+    /// The directory of the compilation that the index has of a unit. None where it has none, or one of no bytes.
+    ///
+    /// # Errors
+    ///
+    /// [`Error::NO_SUCH_UNIT`].
+    pub fn comp_dir(&self, unit: u64) -> Result<Option<Vec<u8>>, Error> {
+        let directory = whole(256, |room, size| {
+            // The handle is an open one, and the pointers are those of a slice and of a local.
+            Error::of(unsafe {
+                call!(gimli_line_index_comp_dir(&mut *self.handle.borrow_mut(), unit, [mut room], size))
+            })
+        });
+        unless(Error::NO_COMP_DIR, directory)
     }
 
     /// How many units there are.
     pub fn unit_count(&self) -> u64 {
         let mut count = 0;
-        let _ok = unsafe { calls::gimli_line_index_unit_count(&mut *self.handle.borrow_mut(), &mut count) };
+        let _ok = unsafe { call!(gimli_line_index_unit_count(&mut *self.handle.borrow_mut(), &mut count)) };
         count as u64
     }
 
     /// The offset of a unit, and why it can't be read, or the first fault of its program.
     pub fn unit(&self, unit: u64) -> Option<(u64, Option<Error>)> {
         let mut found = calls::IndexUnit::default();
-        let status = unsafe { calls::gimli_line_index_unit(&mut *self.handle.borrow_mut(), unit, &mut found) };
+        let status = unsafe { call!(gimli_line_index_unit(&mut *self.handle.borrow_mut(), unit, &mut found)) };
         (status == 0).then(|| (found.offset, Error::fault(found.fault)))
     }
 
@@ -177,29 +182,21 @@ impl Index {
     ///
     /// [`Error::NO_SUCH_UNIT`], [`Error::NO_SUCH_FILE`], [`Error::OUT_OF_MEMORY`], or why the unit can't be read.
     pub fn file(&self, unit: u64, number: u64) -> Result<File, Error> {
-        let (mut path, mut directory) = (vec![0; 256], vec![0; 256]);
-        loop {
-            let mut file = calls::File::default();
-            // The pointers are those of vectors and of a local.
+        let mut file = calls::File::default();
+        let mut directory = vec![0; 256];
+        let path = whole(256, |path, size| {
+            // The handle is an open one, and the pointers are those of vectors and of a local.
             Error::of(unsafe {
-                calls::gimli_line_index_file(
-                    &mut *self.handle.borrow_mut(),
-                    unit,
-                    number,
-                    &mut file,
-                    path.as_mut_ptr(),
-                    path.len(),
-                    directory.as_mut_ptr(),
-                    directory.len(),
-                )
+                call!(gimli_line_index_file(
+                    &mut *self.handle.borrow_mut(), unit, number, &mut file, [mut path], [mut directory]
+                ))
             })?;
-            let fits = file.path.size as usize <= path.len() && file.directory.size as usize <= directory.len();
-            path.resize(file.path.size as usize, 0);
+            *size = file.path.size as usize;
+            let is_whole = file.directory.size as usize <= directory.len();
             directory.resize(file.directory.size as usize, 0);
-            if fits {
-                return Ok(File::new(&file, path, directory));
-            }
-        }
+            if is_whole { Ok(()) } else { Err(Error::NO_ROOM) }
+        })?;
+        Ok(File::new(&file, path, directory))
     }
 
     /// The directory of a number of a unit, as files have it; none where its text is of no known kind.
@@ -208,26 +205,16 @@ impl Index {
     ///
     /// [`Error::NO_SUCH_UNIT`], [`Error::NO_SUCH_DIRECTORY`], [`Error::OUT_OF_MEMORY`], or why the unit can't be read.
     pub fn directory(&self, unit: u64, number: u64) -> Result<Option<Text>, Error> {
-        let mut bytes = vec![0; 256];
-        loop {
-            let mut text = calls::Text::default();
-            // The pointers are those of a vector and of a local.
+        let mut text = calls::Text::default();
+        let bytes = whole(256, |room, size| {
+            // The handle is an open one, and the pointers are those of a vector and of a local.
             Error::of(unsafe {
-                calls::gimli_line_index_directory(
-                    &mut *self.handle.borrow_mut(),
-                    unit,
-                    number,
-                    &mut text,
-                    bytes.as_mut_ptr(),
-                    bytes.len(),
-                )
+                call!(gimli_line_index_directory(&mut *self.handle.borrow_mut(), unit, number, &mut text, [mut room]))
             })?;
-            let fits = text.size as usize <= bytes.len();
-            bytes.resize(text.size as usize, 0);
-            if fits {
-                return Ok(Text::new(&text, bytes));
-            }
-        }
+            *size = text.size as usize;
+            Ok(())
+        })?;
+        Ok(Text::new(&text, bytes))
     }
 
     /// The addresses for a breakpoint at a line of a file of one unit, or at the next line that has any. None where no line from it
@@ -238,16 +225,9 @@ impl Index {
     /// [`Error::NO_SUCH_UNIT`] and [`Error::OUT_OF_MEMORY`].
     pub fn addresses(&self, unit: u64, file: u64, line: u64) -> Result<Option<Addresses>, Error> {
         all_addresses(|room, found_line, count| unsafe {
-            calls::gimli_line_index_addresses(
-                &mut *self.handle.borrow_mut(),
-                unit,
-                file,
-                line,
-                found_line,
-                room.as_mut_ptr(),
-                room.len(),
-                count,
-            )
+            call!(gimli_line_index_addresses(
+                &mut *self.handle.borrow_mut(), unit, file, line, found_line, [mut room], count
+            ))
         })
     }
 
@@ -259,42 +239,25 @@ impl Index {
     /// [`Error::OUT_OF_MEMORY`].
     pub fn addresses_of(&self, path: &[u8], line: u64) -> Result<Option<Addresses>, Error> {
         all_addresses(|room, found_line, count| unsafe {
-            calls::gimli_line_index_addresses_of(
-                &mut *self.handle.borrow_mut(),
-                path.as_ptr(),
-                path.len(),
-                line,
-                found_line,
-                room.as_mut_ptr(),
-                room.len(),
-                count,
-            )
+            call!(gimli_line_index_addresses_of(
+                &mut *self.handle.borrow_mut(), [path], line, found_line, [mut room], count
+            ))
         })
     }
 }
 
-/// What a call answers that writes addresses: it is made again where there are more than it had room for.
-fn all_addresses(
+/// What a call answers that writes addresses.
+pub(crate) fn all_addresses(
     mut call: impl FnMut(&mut [u64], &mut u64, &mut usize) -> u32,
 ) -> Result<Option<Addresses>, Error> {
-    let mut addresses = vec![0; 16];
-    loop {
-        let (mut line, mut count) = (0, 0);
-        let answer = Error::of(call(&mut addresses, &mut line, &mut count));
-        if answer == Err(Error::NO_CODE) {
-            return Ok(None);
-        }
-        answer?;
-        let fits = count <= addresses.len();
-        addresses.resize(count, 0);
-        if fits {
-            return Ok(Some(Addresses { line, addresses }));
-        }
-    }
+    let mut line = 0;
+    let addresses = whole(16, |room, count| Error::of(call(room, &mut line, count)));
+    let addresses = unless(Error::NO_CODE, addresses)?;
+    Ok(addresses.map(|addresses| Addresses { line, addresses }))
 }
 
 impl Drop for Index {
     fn drop(&mut self) {
-        let _ok = unsafe { calls::gimli_line_index_close(self.handle.get_mut()) };
+        let _ok = unsafe { call!(gimli_line_index_close(self.handle.get_mut())) };
     }
 }

@@ -1,9 +1,9 @@
 //! Maps: an index of lines that is bytes.
 
-use crate::calls;
+use crate::calls::{self, call, whole};
 use crate::error::Error;
+use crate::index::{all_addresses, Addresses};
 use crate::{CompilationSections, Sections};
-use std::mem::size_of;
 
 /// Why a place of a map has no path.
 #[derive(Clone, Copy, Debug, PartialEq, Eq, Hash)]
@@ -62,17 +62,19 @@ impl<'a> Map<'a> {
         lowest: u64,
         identity: &[u8],
     ) -> Result<Vec<u8>, Error> {
+        let options = calls::OpenOptions::new(sections, lowest);
         // All units are read for each call: so there is more room than most maps take, which costs no memory until it is written.
-        let mut map = vec![0; 1024 + 16 * sections.debug_line.len()];
-        loop {
-            let mut size = 0;
-            let answer = write_to(sections, compilations, lowest, identity, &mut map, &mut size);
-            map.resize(size, 0);
-            if answer != Err(Error::NO_ROOM) {
-                map.shrink_to_fit();
-                return answer.map(|()| map);
-            }
-        }
+        let mut map = whole(1024 + 16 * sections.debug_line.len(), |room, size| {
+            // The pointers are those of slices and of locals.
+            Error::of(unsafe {
+                call!(gimli_line_map_write(
+                    [sections.debug_line], [sections.debug_line_str], [sections.debug_str], [compilations.debug_info],
+                    [compilations.debug_abbrev], [compilations.debug_str_offsets], &options, [identity], [mut room], size
+                ))
+            })
+        })?;
+        map.shrink_to_fit();
+        Ok(map)
     }
 
     /// The map that bytes begin with. It looks at the header and the length alone.
@@ -84,7 +86,7 @@ impl<'a> Map<'a> {
     pub fn open(bytes: &'a [u8]) -> Result<Map<'a>, Error> {
         let mut found = calls::Map::default();
         // The pointers are those of a slice and of a local.
-        Error::of(unsafe { calls::gimli_line_map_open(bytes.as_ptr(), bytes.len(), &mut found) })?;
+        Error::of(unsafe { call!(gimli_line_map_open([bytes], &mut found)) })?;
         let identity = bytes.get(found.identity..found.identity + found.identity_size);
         Ok(Map {
             bytes,
@@ -101,7 +103,7 @@ impl<'a> Map<'a> {
     /// [`Error::MAP_DISORDERED`] where the ranges don't ascend, [`Error::MAP_PATH_OUTSIDE`] where a path isn't inside the map.
     pub fn check(&self) -> Result<(), Error> {
         // The pointer is that of a slice.
-        Error::of(unsafe { calls::gimli_line_map_check(self.bytes.as_ptr(), self.bytes.len()) })
+        Error::of(unsafe { call!(gimli_line_map_check([self.bytes])) })
     }
 
     /// How many ranges of addresses the map has.
@@ -128,8 +130,7 @@ impl<'a> Map<'a> {
     pub fn find(&self, address: u64) -> Option<MapPlace<'a>> {
         let mut place = calls::MapPlace::default();
         // The pointers are those of a slice and of a local.
-        let status =
-            unsafe { calls::gimli_line_map_find(self.bytes.as_ptr(), self.bytes.len(), address, &mut place) };
+        let status = unsafe { call!(gimli_line_map_find([self.bytes], address, &mut place)) };
         (status == 0).then(|| self.place(&place))
     }
 
@@ -138,10 +139,20 @@ impl<'a> Map<'a> {
         let asked = |address: &u64| calls::MapPlace { address: *address, ..Default::default() };
         let mut places: Vec<_> = addresses.iter().map(asked).collect();
         // The pointers are those of a slice and of a vector.
-        let _ok = unsafe {
-            calls::gimli_line_map_find_all(self.bytes.as_ptr(), self.bytes.len(), places.as_mut_ptr(), places.len())
-        };
+        let _ok = unsafe { call!(gimli_line_map_find_all([self.bytes], [mut places])) };
         places.iter().map(|place| (place.known != 0).then(|| self.place(place))).collect()
+    }
+
+    /// The addresses for a breakpoint at a line of the files that a path names, ascending, or at the next line that has any. None
+    /// where no line from it on has code. A path names a file by its last components (`stl_map.h`, `bits/stl_map.h`), and one from the
+    /// root is a whole one; `.` and `..` are resolved by text.
+    pub fn addresses_of(&self, path: &[u8], line: u64) -> Option<Addresses> {
+        let found = all_addresses(|room, found_line, count| {
+            // The pointers are those of slices and of locals.
+            unsafe { call!(gimli_line_map_addresses_of([self.bytes], [path], line, found_line, [mut room], count)) }
+        });
+        // The bytes are a map, and no memory is taken: so nothing is refused.
+        found.ok().flatten()
     }
 
     fn place(&self, place: &calls::MapPlace) -> MapPlace<'a> {
@@ -153,43 +164,4 @@ impl<'a> Map<'a> {
         };
         MapPlace { path, line: place.line, column: place.column, unit: place.unit }
     }
-}
-
-fn write_to(
-    sections: &Sections<'_>,
-    compilations: &CompilationSections<'_>,
-    lowest: u64,
-    identity: &[u8],
-    map: &mut [u8],
-    size: &mut usize,
-) -> Result<(), Error> {
-    let options = calls::OpenOptions {
-        size: size_of::<calls::OpenOptions>(),
-        lowest,
-        address_size: sections.address_size,
-        big: sections.big_endian,
-    };
-    // The pointers are those of slices and of a local.
-    Error::of(unsafe {
-        calls::gimli_line_map_write(
-            sections.debug_line.as_ptr(),
-            sections.debug_line.len(),
-            sections.debug_line_str.as_ptr(),
-            sections.debug_line_str.len(),
-            sections.debug_str.as_ptr(),
-            sections.debug_str.len(),
-            compilations.debug_info.as_ptr(),
-            compilations.debug_info.len(),
-            compilations.debug_abbrev.as_ptr(),
-            compilations.debug_abbrev.len(),
-            compilations.debug_str_offsets.as_ptr(),
-            compilations.debug_str_offsets.len(),
-            &options,
-            identity.as_ptr(),
-            identity.len(),
-            map.as_mut_ptr(),
-            map.len(),
-            size,
-        )
-    })
 }

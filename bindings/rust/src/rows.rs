@@ -1,6 +1,6 @@
 //! The rows of a unit as they come.
 
-use crate::calls;
+use crate::calls::{self, call};
 use crate::error::Error;
 use crate::row::LineRow;
 use crate::Sections;
@@ -33,20 +33,13 @@ impl Rows {
         let section = sections.debug_line;
         // The pointers are those of a slice and of a closed handle.
         Rows::new(|reader| unsafe {
-            calls::gimli_line_rows_open(
-                section.as_ptr(),
-                section.len(),
-                sections.big_endian,
-                sections.address_size,
-                offset,
-                reader,
-            )
+            call!(gimli_line_rows_open([section], sections.big_endian, sections.address_size, offset, reader))
         })
     }
 
     /// Those of a unit of an index.
     pub(crate) fn of_index(index: &mut calls::Index, unit: u64) -> Result<Rows, Error> {
-        Rows::new(|reader| unsafe { calls::gimli_line_index_rows_open(index, unit, reader) })
+        Rows::new(|reader| unsafe { call!(gimli_line_index_rows_open(index, unit, reader)) })
     }
 
     fn new(open: impl FnOnce(&mut calls::RowReader) -> u32) -> Result<Rows, Error> {
@@ -65,9 +58,7 @@ impl Rows {
     fn fill(&mut self) {
         let mut count = 0;
         // The handle is an open one, which no other call uses, and the pointers are those of its own fields.
-        let status = unsafe {
-            calls::gimli_line_rows_next(&mut self.reader, self.rows.as_mut_ptr(), CHUNK, &mut count)
-        };
+        let status = unsafe { call!(gimli_line_rows_next(&mut self.reader, [mut self.rows], &mut count)) };
         self.given = 0;
         self.count = count;
         self.end = (self.count < CHUNK).then(|| Error::of(status));
@@ -94,6 +85,6 @@ impl Iterator for Rows {
 
 impl Drop for Rows {
     fn drop(&mut self) {
-        let _ok = unsafe { calls::gimli_line_rows_close(&mut self.reader) };
+        let _ok = unsafe { call!(gimli_line_rows_close(&mut self.reader)) };
     }
 }

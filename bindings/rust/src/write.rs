@@ -1,10 +1,11 @@
 //! A unit that is written.
 
-use crate::calls;
+use crate::calls::{self, call, whole};
 use crate::error::Error;
 use crate::row::LineRow;
 
 /// What a unit is encoded by.
+#[repr(C)]
 #[derive(Clone, Copy, Debug, PartialEq, Eq, Hash)]
 pub struct Encoding {
     /// The version, from 2 to 5.
@@ -136,15 +137,14 @@ impl Contents {
     /// [`Error::NO_SOURCE_FILE`], [`Error::NO_SUCH_FILE`], [`Error::NO_SUCH_DIRECTORY`], [`Error::ROW_OUT_OF_ORDER`] and the like; or
     /// [`Error::OUT_OF_MEMORY`].
     pub fn write(&self) -> Result<Vec<u8>, Error> {
-        let mut unit = vec![0; 64 + self.texts.len() + 4 * self.rows.len()];
-        loop {
-            let mut size = 0;
-            let answer = self.write_to(&mut unit, &mut size);
-            unit.resize(size, 0);
-            if answer != Err(Error::NO_ROOM) {
-                return answer.map(|()| unit);
-            }
-        }
+        whole(self.size(), |unit, size| {
+            // The pointers are those of slices and of locals.
+            Error::of(unsafe {
+                call!(gimli_line_write(
+                    &self.encoding, self.big_endian, 0, [self.texts], [self.directories], [self.files], [self.rows], [mut unit], size
+                ))
+            })
+        })
     }
 
     /// The bytes of the unit where the first sequences begin at symbols: the first at `symbols[0]`, the next at `symbols[1]`, and so
@@ -157,91 +157,26 @@ impl Contents {
     pub fn write_relocatable(&self, symbols: &[Symbol], addends: Addends) -> Result<RelocatableUnit, Error> {
         let symbols: Vec<_> =
             symbols.iter().map(|it| calls::Symbol { symbol: it.symbol, addend: it.addend }).collect();
-        let mut unit = vec![0; 64 + self.texts.len() + 4 * self.rows.len()];
+        let in_place = addends == Addends::InPlace;
         let mut relocations = vec![calls::Relocation::default(); symbols.len()];
-        loop {
-            let (mut size, mut count) = (0, 0);
-            let answer = self.write_both(&symbols, addends, &mut unit, &mut size, &mut relocations, &mut count);
-            unit.resize(size, 0);
+        let unit = whole(self.size(), |unit, size| {
+            let mut count = 0;
+            // The pointers are those of slices and of locals.
+            let answer = Error::of(unsafe {
+                call!(gimli_line_write_relocatable(
+                    &self.encoding, self.big_endian, 0, in_place, [self.texts], [self.directories], [self.files], [self.rows], [symbols],
+                    [mut unit], size, [mut relocations], &mut count
+                ))
+            });
             relocations.resize(count, calls::Relocation::default());
-            if answer != Err(Error::NO_ROOM) {
-                let relocations = relocations.iter().map(Relocation::new).collect();
-                return answer.map(|()| RelocatableUnit { unit, relocations });
-            }
-        }
+            answer
+        })?;
+        Ok(RelocatableUnit { unit, relocations: relocations.iter().map(Relocation::new).collect() })
     }
 
-    fn encoding(&self) -> calls::Encoding {
-        calls::Encoding {
-            version: self.encoding.version,
-            address_size: self.encoding.address_size,
-            offset_size: self.encoding.offset_size,
-            minimum_instruction_length: self.encoding.minimum_instruction_length,
-            maximum_operations_per_instruction: self.encoding.maximum_operations_per_instruction,
-            default_is_stmt: u8::from(self.encoding.default_is_stmt),
-            line_base: self.encoding.line_base,
-            line_range: self.encoding.line_range,
-        }
-    }
-
-    fn write_to(&self, unit: &mut [u8], size: &mut usize) -> Result<(), Error> {
-        let encoding = self.encoding();
-        // The pointers are those of slices and of a local.
-        Error::of(unsafe {
-            calls::gimli_line_write(
-                &encoding,
-                self.big_endian,
-                0,
-                self.texts.as_ptr(),
-                self.texts.len(),
-                self.directories.as_ptr(),
-                self.directories.len(),
-                self.files.as_ptr(),
-                self.files.len(),
-                self.rows.as_ptr(),
-                self.rows.len(),
-                unit.as_mut_ptr(),
-                unit.len(),
-                size,
-            )
-        })
-    }
-
-    fn write_both(
-        &self,
-        symbols: &[calls::Symbol],
-        addends: Addends,
-        unit: &mut [u8],
-        size: &mut usize,
-        relocations: &mut [calls::Relocation],
-        count: &mut usize,
-    ) -> Result<(), Error> {
-        let encoding = self.encoding();
-        // The pointers are those of slices and of a local.
-        Error::of(unsafe {
-            calls::gimli_line_write_relocatable(
-                &encoding,
-                self.big_endian,
-                0,
-                addends == Addends::InPlace,
-                self.texts.as_ptr(),
-                self.texts.len(),
-                self.directories.as_ptr(),
-                self.directories.len(),
-                self.files.as_ptr(),
-                self.files.len(),
-                self.rows.as_ptr(),
-                self.rows.len(),
-                symbols.as_ptr(),
-                symbols.len(),
-                unit.as_mut_ptr(),
-                unit.len(),
-                size,
-                relocations.as_mut_ptr(),
-                relocations.len(),
-                count,
-            )
-        })
+    /// As many bytes as most units take.
+    fn size(&self) -> usize {
+        64 + self.texts.len() + 4 * self.rows.len()
     }
 }
 

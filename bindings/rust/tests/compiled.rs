@@ -132,6 +132,26 @@ fn places_are_those_of_addr2line() {
 }
 
 #[test]
+fn paths_that_are_kept_are_those_of_addr2line() {
+    for built in built() {
+        let compilations = built.compilations();
+        let index = Index::open_with_info(&built.sections(), &compilations, 0).expect("the index is made");
+        for address in built.addresses() {
+            let place = index.find(address).expect("a row covers it");
+            let path = index.path(place.unit, place.row.file_index(), &[]).expect("the path is told");
+            let path = String::from_utf8(path).expect("the path is text");
+            let line = place.row.line().map_or(0, |line| line.get());
+            assert_eq!(format!("{path}:{line}"), built.addr2line(address));
+            let (offset, _) = index.unit(place.unit).expect("there is such a unit");
+            assert_eq!(index.comp_dir(place.unit), compilations.comp_dir(offset));
+        }
+        assert_eq!(index.comp_dir(u64::MAX), Err(Error::NO_SUCH_UNIT));
+        let without = Index::open(&built.sections(), 0).expect("the index is made");
+        assert_eq!(without.comp_dir(0), Ok(None));
+    }
+}
+
+#[test]
 fn no_unit_has_another_line_program() {
     for built in built() {
         assert_eq!(built.compilations().comp_dir(u64::MAX), Ok(None));

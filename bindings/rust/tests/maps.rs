@@ -1,6 +1,6 @@
 //! Maps, which are written here by docs/INDEX.md alone.
 
-use gimli_line_proved::{Error, Map, NoPath};
+use gimli_line_proved::{Addresses, Error, Map, NoPath};
 
 /// Two ranges of a file each, from 0x1000 and from 0x1010 on, a gap from 0x1020 on; the second file has no path, for the reason 4.
 fn map() -> Vec<u8> {
@@ -20,7 +20,8 @@ fn map() -> Vec<u8> {
     for start in [0u32, 0x10, 0x20] {
         map.extend(start.to_le_bytes());
     }
-    for entry in [[0, 5, 2], [1, 6, 0], [u32::MAX, 0, 0]] {
+    // The first is a statement.
+    for entry in [[0, 5, 2 | 1 << 31], [1, 6, 0], [u32::MAX, 0, 0]] {
         entry.iter().for_each(|number| map.extend(number.to_le_bytes()));
     }
     map.extend(b"/a.cid");
@@ -41,6 +42,17 @@ fn places_are_those_of_the_map() {
     let addresses = [0xfff, 0x1000, 0x101f, 0x1020];
     assert_eq!(map.find_all(&addresses), addresses.map(|address| map.find(address)));
     assert_eq!(map.find_all(&[]), []);
+}
+
+#[test]
+fn addresses_of_a_line_are_those_of_the_map() {
+    let bytes = map();
+    let map = Map::open(&bytes).expect("it is a map");
+    let first = Some(Addresses { line: 5, addresses: vec![0x1000] });
+    assert_eq!(map.addresses_of(b"a.c", 0), first);
+    assert_eq!(map.addresses_of(b"/x/../a.c", 5), first);
+    // No line after it, no file of this name, and one from the root that has other components.
+    assert_eq!([&b"a.c"[..], b"b.c", b"/x/a.c"].map(|path| map.addresses_of(path, 5 + u64::from(path == b"a.c"))), [None, None, None]);
 }
 
 #[test]

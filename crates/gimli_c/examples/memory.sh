@@ -67,7 +67,7 @@ if build sanitised where_is -fsanitize=address,undefined 2>/dev/null; then
     "$work/sanitised_maps" >/dev/null
     build sanitised_map map -fsanitize=address,undefined
     "$work/maps" "$work/small.map"
-    "$work/sanitised_map" "$work/small.map" 400000 400015 400020 >/dev/null
+    "$work/sanitised_map" "$work/small.map" 400000 400015 400020 0.c:1 0.c:2 >/dev/null
     build sanitised_make_map make_map -fsanitize=address,undefined
     build sanitised_compiler compiler -fsanitize=address,undefined
     for version in 2 3 4 5; do
@@ -78,7 +78,7 @@ if build sanitised where_is -fsanitize=address,undefined 2>/dev/null; then
         "$work/sanitised_rows" "$work/line$version" >/dev/null
         "$work/sanitised_make_map" "$work/built$version" "$work/made.map" >/dev/null
         # shellcheck disable=SC2086
-        "$work/sanitised_map" "$work/made.map" $addresses >/dev/null
+        "$work/sanitised_map" "$work/made.map" $addresses main.c:1 sums.c:1 >/dev/null
         "$work/sanitised_compiler" "$version" >/dev/null
         "$work/sanitised_compiler" "$version" in-place >/dev/null
         # It gives no memory of its own back before it ends.

@@ -68,6 +68,7 @@ compared=0
 rewritten=0
 places=0
 mapped=0
+begins=0
 for version in 2 3 4 5; do
     (cd "$top/compare" && cc -g "-gdwarf-$version" -O1 sources/main.c sources/sums.c -o "$work/built")
     objcopy --dump-section ".debug_line=$work/line.bin" "$work/built" "$work/copy"
@@ -102,7 +103,7 @@ for version in 2 3 4 5; do
     # shellcheck disable=SC2086
     "$work/where_is" "$work/compressed" $covered | sed -E "s,:[0-9]+\$,," | cmp "$work/places" -
     # shellcheck disable=SC2086
-    "$work/opened" "$work/compressed" $covered | cmp <(sed -E 's,.*:,,' "$work/places") -
+    "$work/opened" "$work/compressed" $covered | cmp "$work/places" -
     # And of the maps of both, which are named by the build id, and say the same of every address.
     for name in built compressed; do
         "$work/make_map" "$work/$name" "$work/$name.map" >"$work/named"
@@ -113,6 +114,15 @@ for version in 2 3 4 5; do
 none" ]
         mapped=$((mapped + $(wc -l <"$work/places")))
     done
+    # Back again: of the line of each place, by the last component of its path, the addresses that are told have the line that is told.
+    while IFS=: read -r path line; do
+        "$work/map" "$work/built.map" "${path##*/}:$line" >"$work/begins"
+        [ "$(cut -d' ' -f1 "$work/begins" | sort -u | wc -l)" = 1 ]
+        while read -r told address; do
+            addr2line -e "$work/built" "$address" | sed -E 's/ \(discriminator [0-9]+\)//' | cmp <(echo "$path:$told") -
+            begins=$((begins + 1))
+        done <"$work/begins"
+    done < <(grep -v ':[0?]*$' "$work/places" | sort -u)
     cmp "$work/built.map" "$work/compressed.map"
     echo "$covered" | "$work/where_is" "$work/built" | sed -E "s,:[0-9]+\$,," | cmp "$work/places" -
     [ "$("$work/where_is" "$work/built" 0 ffffffffffffffff)" = "none
@@ -126,6 +136,11 @@ done
 "$work/maps" "$work/small.map"
 printf '%s\n' /source/0.c:1:0 '??:2:1' none /source/0.c:4:3 none >"$work/expected_map"
 "$work/map" "$work/small.map" 400000 40001f 400020 400037 3fffff | cmp "$work/expected_map" -
+# Lines 2 to 6 have no statement in that file, so the addresses of line 7 stand in for them.
+[ "$("$work/map" "$work/small.map" 0.c:1 source/./0.c:2 /0.c:1 0.c:8)" = "1 400000
+7 400060
+none
+none" ]
 ! "$work/map" "$crate/include/gimli_line.h" 400000 2>"$work/said"
 [ "$(cat "$work/said")" = "map: the bytes don't begin as a map does" ]
 ! "$work/make_map" "$crate/include/gimli_line.h" "$work/no.map" 2>"$work/said"
@@ -161,6 +176,7 @@ directories=$("$work/directories")
 echo "gimli_c: a map that was written by docs/INDEX.md alone is read as it was written"
 echo "gimli_c: $directories answers on directories of compilations are as made by hand"
 echo "gimli_c: $mapped places by maps that make_map made are addr2line's, and each map has its program's build id"
+echo "gimli_c: $begins addresses of lines by those maps have these lines by addr2line too"
 echo "gimli_c: $linked lines at symbols that a linker placed are addr2line's"
 echo "gimli_c: $rewritten rows were written as they were read"
 echo "gimli_c: $places paths and lines of the examples ($indexed) are addr2line's"

@@ -9,9 +9,9 @@
  * For the path, line and column of many addresses, from many threads or a signal handler: a map, which is an index as bytes, made
  * once and then mapped from a file: gimli_line_map_find, gimli_line_map_find_all. examples/c/map.c does this.
  *
- * For the same from the sections, on one thread: gimli_line_index_open once, gimli_line_index_find for each address or
- * gimli_line_index_find_all for an array of them, and gimli_line_index_path for the path of the row's file, by the directory
- * of gimli_line_comp_dir. examples/c/where_is.c does this.
+ * For the same from an ELF file or its sections, on one thread: gimli_line_index_open_elf or gimli_line_index_open_sections once,
+ * gimli_line_index_find for each address or gimli_line_index_find_all for an array of them, and gimli_line_index_path for the path of
+ * the row's file. A map is the faster way. examples/c/where_is.c does this.
  *
  * For all rows of a unit, some at a time: gimli_line_rows_open once, gimli_line_rows_next until there are no more, and
  * gimli_line_rows_close. examples/c/addr2line.c does this.
@@ -308,6 +308,16 @@ uint32_t gimli_line_map_find(const uint8_t *map, size_t length, uint64_t address
 uint32_t gimli_line_map_find_all(const uint8_t *map, size_t length, gimli_map_place *places, size_t count)
     GIMLI_CALL GIMLI_READS(1, 2) GIMLI_CHANGES(3, 4);
 
+/* Tells the addresses for a breakpoint at a line of the files that a path names: by its last components (stl_map.h, bits/stl_map.h), or
+ * whole where it begins with a separator; `.` and `..` are resolved by text. Of each run of ranges of that line that stand side by side
+ * the address of the first that is a statement. Where the line has none, those of the next line that has; *found_line is that line. They
+ * go into addresses[0] and so on, ascending, as far as there is room; *count is how many there are. GIMLI_NO_CODE where no line from it
+ * on has any; one of GIMLI_NO_MAP to GIMLI_MAP_HEADER where the bytes begin with no map. Where another number than 0 is answered, nothing
+ * is written. Looks at each range twice. */
+uint32_t gimli_line_map_addresses_of(const uint8_t *map, size_t length, const uint8_t *path, size_t path_length, uint64_t line,
+                                     uint64_t *found_line, uint64_t *addresses, size_t room, size_t *count)
+    GIMLI_CALL GIMLI_READS(1, 2) GIMLI_READS(3, 4) GIMLI_WRITES(7, 8);
+
 /* The bytes of the path of a place, of which there are place->path_size; null where it has none. */
 static inline const char *gimli_map_path(const uint8_t *map, const gimli_map_place *place) {
     return place->path != 0 ? (const char *)map + place->path : NULL;
@@ -371,6 +381,32 @@ uint32_t gimli_line_index_open(const uint8_t *section, size_t length, const uint
                                gimli_line_index *index)
     GIMLI_CALL GIMLI_READS(1, 2) GIMLI_READS(3, 4) GIMLI_READS(5, 6);
 
+/* Does the same, and keeps the directory of each compilation (DW_AT_comp_dir), from which whole paths go on up to version 4: `info`,
+ * `abbreviations` and `string_offsets` are the sections .debug_info, .debug_abbrev and .debug_str_offsets, or no bytes. The index has
+ * no copy of these three. A unit that can't be read has no directory: see gimli_line_comp_dir. */
+uint32_t gimli_line_index_open_with_info(const uint8_t *section, size_t length, const uint8_t *line_strings,
+                                         size_t line_strings_length, const uint8_t *strings, size_t strings_length, const uint8_t *info,
+                                         size_t info_length, const uint8_t *abbreviations, size_t abbreviations_length,
+                                         const uint8_t *string_offsets, size_t string_offsets_length,
+                                         const gimli_open_options *options, gimli_line_index *index)
+    GIMLI_CALL GIMLI_READS(1, 2) GIMLI_READS(3, 4) GIMLI_READS(5, 6) GIMLI_READS(7, 8) GIMLI_READS(9, 10) GIMLI_READS(11, 12);
+
+/* The sections of a program that an index is made of, as one value. Set all of it to 0 first; what a program lacks may stay null. */
+typedef struct gimli_sections {
+    const uint8_t *line, *line_strings, *strings, *info, *abbreviations, *string_offsets;
+    size_t line_size, line_strings_size, strings_size, info_size, abbreviations_size, string_offsets_size;
+} gimli_sections;
+
+/* Does what gimli_line_index_open_with_info does, for sections. */
+static inline uint32_t gimli_line_index_open_sections(const gimli_sections *sections, const gimli_open_options *options,
+                                                      gimli_line_index *index) {
+    return gimli_line_index_open_with_info(
+        gimli_bytes(sections->line), sections->line_size, gimli_bytes(sections->line_strings), sections->line_strings_size,
+        gimli_bytes(sections->strings), sections->strings_size, gimli_bytes(sections->info), sections->info_size,
+        gimli_bytes(sections->abbreviations), sections->abbreviations_size, gimli_bytes(sections->string_offsets),
+        sections->string_offsets_size, options, index);
+}
+
 /* A section of an ELF file in memory of its own, which free() gives back; null with a size of 0 where the file has no such section, and
  * *status is why it can't be read, else 0. */
 static inline uint8_t *gimli_elf_copy(const uint8_t *file, size_t length, const char *name, size_t *size, uint32_t *status) {
@@ -393,28 +429,30 @@ static inline uint8_t *gimli_elf_copy(const uint8_t *file, size_t length, const 
     }
 }
 
-/* Makes an index of an ELF file: of its .debug_line, .debug_line_str and .debug_str, each made whole, by its order of bytes, its size of
- * addresses and its lowest address of code (in an object file, none is left out). GIMLI_NO_ELF where it is none, GIMLI_NO_SECTION where it
- * has no .debug_line, GIMLI_BAD_SECTION where one of these can't be read; else it answers as gimli_line_index_open does. Where another
- * number than 0 is answered, the handle has what it had. For the directories of compilations hand the file's .debug_info and its like,
- * by gimli_elf_copy, to gimli_line_comp_dir. */
+/* Makes an index of an ELF file: of its .debug_line, .debug_line_str, .debug_str, .debug_info, .debug_abbrev and .debug_str_offsets, each
+ * made whole, by its order of bytes, its size of addresses and its lowest address of code (in an object file, none is left out).
+ * GIMLI_NO_ELF where it is none, GIMLI_NO_SECTION where it has no .debug_line, GIMLI_BAD_SECTION where one of these can't be read; else it
+ * answers as gimli_line_index_open_with_info does. A file may lack the others: gimli_line_index_comp_dir answers GIMLI_NO_COMP_DIR then.
+ * Where another number than 0 is answered, the handle has what it had. */
 static inline uint32_t gimli_line_index_open_elf(const uint8_t *file, size_t length, gimli_line_index *index) {
-    static const char *const names[3] = {".debug_line", ".debug_line_str", ".debug_str"};
-    uint8_t *sections[3] = {NULL, NULL, NULL};
-    size_t sizes[3] = {0, 0, 0};
+    static const char *const names[6] = {".debug_line", ".debug_line_str", ".debug_str", ".debug_info", ".debug_abbrev",
+                                         ".debug_str_offsets"};
+    uint8_t *sections[6] = {NULL, NULL, NULL, NULL, NULL, NULL};
+    size_t sizes[6] = {0, 0, 0, 0, 0, 0};
     gimli_elf elf;
     gimli_open_options options = GIMLI_OPEN_OPTIONS;
     uint32_t status = gimli_elf_open(file, length, &elf);
-    for (int i = 0; i < 3 && status == GIMLI_OK; i++) sections[i] = gimli_elf_copy(file, length, names[i], &sizes[i], &status);
+    for (int i = 0; i < 6 && status == GIMLI_OK; i++) sections[i] = gimli_elf_copy(file, length, names[i], &sizes[i], &status);
     if (status == GIMLI_OK && sections[0] == NULL) status = GIMLI_NO_SECTION;
     if (status == GIMLI_OK) {
+        gimli_sections all = {sections[0], sections[1], sections[2], sections[3], sections[4], sections[5],
+                              sizes[0],    sizes[1],    sizes[2],    sizes[3],    sizes[4],    sizes[5]};
         options.lowest = elf.relocatable ? 0 : elf.lowest;
         options.address_size = elf.address_size;
         options.big = elf.big;
-        status = gimli_line_index_open(sections[0], sizes[0], gimli_bytes(sections[1]), sizes[1], gimli_bytes(sections[2]), sizes[2],
-                                       &options, index);
+        status = gimli_line_index_open_sections(&all, &options, index);
     }
-    for (int i = 0; i < 3; i++) free(sections[i]);
+    for (int i = 0; i < 6; i++) free(sections[i]);
     return status;
 }
 
@@ -507,13 +545,14 @@ uint32_t gimli_line_index_find_all(gimli_line_index *index, gimli_place *places,
  * gimli_line_comp_dir tells it). Up to version 4 a relative path goes on from it. In version 5 the
  * unit has the directory too, as its directory 0: where that is absolute, `comp_dir` isn't looked
  * at; where it is relative, each relative directory goes on from `comp_dir`, directory 0 too. Where
- * `comp_dir` has no bytes, such a path stays relative. The bytes go into path[0] and so on, as far
+ * `comp_dir` has no bytes, that counts which the index has of the unit (gimli_line_index_comp_dir),
+ * and where it has none, such a path stays relative. The bytes go into path[0] and so on, as far
  * as there is room, without a zero byte; *size is how many there are. GIMLI_NO_SUCH_UNIT where there
  * is no such unit, GIMLI_NO_SUCH_FILE where the unit has no such file, GIMLI_UNKNOWN_PATH where a
  * string of the path can't be told, and GIMLI_CLOSED where the handle is; the number of the refusal
- * where the unit can't be read. Where another number than 0 is answered, nothing is written. The header of the
- * unit is read for each call, and the program is run where only that defines the file
- * (DW_LNE_define_file, up to version 4): keep the paths of files that come often. */
+ * where the unit can't be read. Where another number than 0 is answered, nothing is written. The
+ * index keeps the path of each file that a row has, by its own directory, of each unit without a fault; for any other file or directory
+ * the header of the unit is read, and its program is run where only that defines the file (DW_LNE_define_file, up to version 4). */
 uint32_t gimli_line_index_path(gimli_line_index *index, uint64_t unit, uint64_t file,
                                const uint8_t *comp_dir, size_t comp_dir_length, uint8_t *path,
                                size_t room, size_t *size) GIMLI_CALL GIMLI_READS(4, 5) GIMLI_WRITES(6, 7);
@@ -535,6 +574,13 @@ uint32_t gimli_line_comp_dir(const uint8_t *info, size_t info_length, const uint
                              size_t string_offsets_length, bool big, uint64_t offset,
                              uint8_t *directory, size_t room, size_t *size)
     GIMLI_CALL GIMLI_READS(1, 2) GIMLI_READS(3, 4) GIMLI_READS(5, 6) GIMLI_READS(7, 8) GIMLI_READS(9, 10) GIMLI_WRITES(13, 14);
+
+/* Tells the directory of the compilation that an index has of a unit: none where it was opened without .debug_info, and where that tells
+ * none. The bytes go into directory[0] and so on, as far as there is room, without a zero byte; *size is how many there are.
+ * GIMLI_NO_SUCH_UNIT where there is no such unit, GIMLI_NO_COMP_DIR where there is no directory, or one of no bytes, and GIMLI_CLOSED where
+ * the handle is; then nothing is written. Takes no memory. */
+uint32_t gimli_line_index_comp_dir(gimli_line_index *index, uint64_t unit, uint8_t *directory, size_t room, size_t *size)
+    GIMLI_CALL GIMLI_WRITES(3, 4);
 
 /* Tells how many units an index has. GIMLI_CLOSED where the handle is; then nothing is written. */
 uint32_t gimli_line_index_unit_count(gimli_line_index *index, size_t *count) GIMLI_CALL;

@@ -12,7 +12,8 @@ use Rattle.gimli_line.specs.run.RunState.{RunState}
 use Rattle.gimli_lookup.specs.Paths.{Paths, file_path}
 use Rattle.gimli_c.specs.declared.index.kept.SectionIndex.{SectionIndex}
 use Rattle.gimli_lookup.specs.Strings.{Strings}
-use Rattle.gimli_c.specs.Indexed.{section_read, entry_of, strings_in, unit_location, paths_in, AreUnitsIn, AreUnitsOf, HasNoPath, UnitRefused}
+use Rattle.gimli_c.specs.Indexed.{strings_in, unit_location, paths_in, AreUnitsIn, HasNoPath, UnitRefused}
+use Rattle.gimli_c.specs.KeptUnits.{section_read, entry_of, AreUnitsOf}
 use Rattle.gimli_c.specs.Status.{error_status}
 use Rattle.gimli_core.specs.declared.error.Error.{Error}
 use Rattle.gimli_core.specs.declared.error.Error.TheVariants.{UnexpectedEof, BadUnsignedLeb128, BadSignedLeb128, UnknownReservedLength, UnknownVersion}

@@ -12,6 +12,9 @@ pub mod IndexHandles
 pub mod ReaderHandles
 pub mod CompDirs
 pub mod Indexes
+pub mod KeptPaths
 pub mod Readers
 pub mod Maps
 pub mod MadeMaps
+pub mod LineCounts
+pub mod TakenOne

@@ -1,18 +1,22 @@
 -- What an index keeps, and what it answers.
-use Rattle.std.specs.Prelude.{◌≡◌, ◌^◌, ◌⊎◌, ℕ, Bool, true, List, length, map, All, Some, None, Ok}
-use Rattle.std.specs.Prelude.{Err, nat_eq, slice_get}
+use Rattle.std.specs.Prelude.{◌≡◌, ◌≢◌, ◌^◌, ◌⊎◌, ℕ, Bool, true, List, [], ◌∷◌, length, map, All}
+use Rattle.std.specs.Prelude.{Option}
+use Rattle.std.specs.Prelude.{Some, None, Ok, Err, nat_eq, slice_get}
+use Rattle.std.specs.Option.{option_map_or}
 use Rattle.std.specs.List.{AllZip}
+use Rattle.std.specs.declared.alloc.Global.{Global}
+use Rattle.std.specs.declared.vec.Vec.{Vec}
+use Rattle.gimli_compilation.specs.Directories.{TellsDirectories}
+use Rattle.gimli_compilation.specs.Sections.{Sections}
 use Rattle.gimli_core.specs.Notation.{notation_of}
 use Rattle.gimli_core.specs.Numbers.{is_address_size}
 use Rattle.gimli_line.specs.Units.{AreUnits}
 use Rattle.gimli_line.specs.declared.run.row.LineRow.{LineRow}
 use Rattle.gimli_line.specs.header.File.{File}
-use Rattle.gimli_line.specs.header.Header.{Header, UnitEntry, file_of}
-use Rattle.gimli_line.specs.run.Unread.{Unread}
+use Rattle.gimli_line.specs.header.Header.{Header, file_of}
 use Rattle.gimli_lookup.specs.FirstPair.{HasNoPair}
 use Rattle.gimli_lookup.specs.Paths.{Paths, file_path}
-use Rattle.gimli_lookup.specs.Section.{all_sequences, unit_without_header, IsFirstPairOfUnit}
-use Rattle.gimli_lookup.specs.Section.{KeptUnit}
+use Rattle.gimli_lookup.specs.Section.{all_sequences, IsFirstPairOfUnit, KeptUnit}
 use Rattle.gimli_lookup.specs.SectionAddresses.{addresses_of_path}
 use Rattle.gimli_lookup.specs.SectionUnits.{IsUnitOf}
 use Rattle.gimli_lookup.specs.Statements.{addresses_of, HasNoLine, IsFirstLine}
@@ -23,11 +27,14 @@ use Rattle.gimli_c.specs.declared.file.GimliText.{GimliText}
 use Rattle.gimli_c.specs.declared.index.find.GimliPlace.{GimliPlace}
 use Rattle.gimli_c.specs.declared.index.units.GimliIndexUnit.{GimliIndexUnit}
 use Rattle.gimli_c.specs.declared.index.kept.SectionIndex.{SectionIndex}
+use Rattle.gimli_c.specs.declared.index.unit_paths.UnitPaths.{UnitPaths}
 use Rattle.gimli_c.specs.declared.row.GimliRow.{GimliRow}
 use Rattle.gimli_c.specs.declared.status.TheConstants.{NO_SUCH_FILE, NO_SUCH_UNIT, UNKNOWN_PATH}
 use Rattle.gimli_c.specs.declared.unit.GimliUnit.{GimliUnit}
+use Rattle.gimli_c.specs.CompDir.{sections_handed}
 use Rattle.gimli_c.specs.FileSeen.{GivesDirectory, GivesFile, GivesNoDirectory, GivesNoFile}
 use Rattle.gimli_c.specs.FileSeen.{HasFiles}
+use Rattle.gimli_c.specs.KeptUnits.{section_read, entry_of, AreUnitsOf, HaveDirectories, KeepsPaths}
 use Rattle.gimli_c.specs.Location.{Location, location, HasNoUnit}
 use Rattle.gimli_c.specs.Seen.{row_seen}
 use Rattle.gimli_c.specs.Status.{fault_status}
@@ -45,7 +52,11 @@ pub record Program : Type 0 where
   pub lowest : ℕ
   pub line_strings : List ℕ
   pub strings : List ℕ
+  pub info : List ℕ
+  pub abbreviations : List ℕ
+  pub string_offsets : List ℕ
 
+-- one without debugging information (`.debug_info`)
 abbrev pub program : List ℕ → Bool → ℕ → ℕ → List ℕ → List ℕ → Program
 program section big address_size lowest line_strings strings = record {
   section = section;
@@ -54,23 +65,23 @@ program section big address_size lowest line_strings strings = record {
   lowest = lowest;
   line_strings = line_strings;
   strings = strings;
+  info = [];
+  abbreviations = [];
+  string_offsets = [];
 }
 
--- offsets have 64 bits, and no directory and no name is handed in with a unit
-abbrev pub section_read : List ℕ → Bool → Unread
-section_read section big = record { bytes = section; notation = notation_of big (2 ^ 64) }
+abbrev pub with_info : Program → List ℕ → List ℕ → List ℕ → Program
+with_info p info abbreviations string_offsets =
+    record p { info = info; abbreviations = abbreviations; string_offsets = string_offsets }
 
-abbrev pub entry_of : ℕ → UnitEntry
-entry_of address_size = record { address_size = address_size; directory = None; name = None }
+-- the sections that tell directories of compilations
+abbrev pub compilations_of : Program → Sections
+compilations_of p =
+    sections_handed p.info p.abbreviations p.line_strings p.strings p.string_offsets p.big
 
--- these are all units of a section, each with the sequences that are kept of it; their headers
--- aren't kept
-pub record AreUnitsOf (section : List ℕ) (big : Bool) (address_size lowest : ℕ)
-    (kept : List KeptUnit) : Type 0 where
-  pub units : List KeptUnit
-  pub offsets : AreUnits (notation_of big (2 ^ 64)) 0 section (map (λ u. u.unit.offset) units)
-  pub each : All (IsUnitOf (section_read section big) (entry_of address_size) lowest) units
-  pub kept_are : kept ≡ map unit_without_header units
+-- the sections of strings of an index
+abbrev pub strings_in : SectionIndex → Strings
+strings_in i = record { debug_line_str = i.line_strings.items; debug_str = i.strings.items }
 
 -- the index of a program
 pub record IsIndexOf (p : Program) (i : SectionIndex) : Type 0 where
@@ -82,6 +93,11 @@ pub record IsIndexOf (p : Program) (i : SectionIndex) : Type 0 where
   pub is_size : is_address_size p.address_size ≡ true
   pub lowest : i.lowest ≡ p.lowest
   pub units : AreUnitsOf p.section p.big p.address_size p.lowest i.units
+  pub keeps : KeepsPaths i.section.items i.big i.address_size i.lowest (strings_in i) i.units
+      i.paths.items
+  pub tell : ℕ → Option (List ℕ)
+  pub tells : TellsDirectories (compilations_of p) tell
+  pub directories : HaveDirectories tell i.units i.paths.items
 
 -- ---- what it answers
 
@@ -126,6 +142,22 @@ WritesAnswers i old new = AllZip (λ asked seen. IsAnswer i.units asked.address 
 abbrev pub unit_location : SectionIndex → KeptUnit → Location
 unit_location i u = location i.section.items i.big i.address_size u.unit.offset
 
+-- the directory of the compilation that an index has of a unit
+abbrev pub own_directory : SectionIndex → ℕ → List ℕ
+own_directory i unit = option_map_or (λ k. k.comp_dir.items) (slice_get i.paths.items unit) []
+
+-- the directory that the paths of a unit go on from: the caller's, and the index's own where that
+-- has no bytes
+abbrev pub directory_from : SectionIndex → ℕ → List ℕ → List ℕ
+directory_from i unit [] = own_directory i unit
+directory_from i unit (byte ∷ bytes) = byte ∷ bytes
+
+-- a directory that has bytes, in an array of the caller, and its length
+abbrev pub WritesOwnDirectory : SectionIndex → ℕ → List ℕ → List ℕ → ℕ → Type 0
+WritesOwnDirectory i unit old new size =
+    let own = own_directory i unit in
+    (own ≢ []) × (new ≡ slots_with own old) × (size ≡ length own)
+
 -- what the paths of a header are made of
 abbrev pub paths_in : SectionIndex → Header → List ℕ → Paths
 paths_in i h comp_dir = record {
@@ -148,10 +180,28 @@ pub record GivesPath (i : SectionIndex) (unit file : ℕ) (comp_dir whole : List
   pub is_file : IsFileOf i unit file header entry
   pub is_path : file_path (paths_in i header comp_dir) entry ≡ Ok whole
 
+-- the path that the index keeps of a file of a unit without a fault; it is the one that goes on
+-- from the index's own directory (law `kept_paths_are_whole`)
+pub record KeepsPath (i : SectionIndex) (unit file : ℕ) (whole : List ℕ) : Type 0 where
+  pub kept : KeptUnit
+  pub is_unit : slice_get i.units unit ≡ Some kept
+  pub no_fault : kept.unit.fault ≡ None
+  pub paths : UnitPaths
+  pub are_paths : slice_get i.paths.items unit ≡ Some paths
+  pub path : Vec ℕ Global
+  pub is_path : slice_get paths.files.items file ≡ Some (Some path)
+  pub whole_is : whole ≡ path.items
+
+-- the path that is told: in a directory of the caller, or else as it is kept
+abbrev pub TellsPath : SectionIndex → ℕ → ℕ → List ℕ → List ℕ → Type 0
+TellsPath i unit file comp_dir whole =
+    GivesPath i unit file (directory_from i unit comp_dir) whole
+    ⊎ ((comp_dir ≡ []) × KeepsPath i unit file whole)
+
 -- that path in an array of the caller, and its length
 abbrev pub WritesPath : SectionIndex → ℕ → ℕ → List ℕ → List ℕ → List ℕ → ℕ → Type 0
 WritesPath i unit file comp_dir old new size =
-    (whole : List ℕ) × GivesPath i unit file comp_dir whole × (new ≡ slots_with whole old)
+    (whole : List ℕ) × TellsPath i unit file comp_dir whole × (new ≡ slots_with whole old)
     × (size ≡ length whole)
 
 -- a string of the file's path can't be told
@@ -250,10 +300,6 @@ pub record AreUnitsIn (i : SectionIndex) (units : List KeptUnit) : Type 0 where
       (map (λ u. u.unit.offset) units)
   pub each : All (IsUnitOf (section_read i.section.items i.big) (entry_of i.address_size) i.lowest)
       units
-
--- the sections of strings of an index
-abbrev pub strings_in : SectionIndex → Strings
-strings_in i = record { debug_line_str = i.line_strings.items; debug_str = i.strings.items }
 
 -- the addresses of the first line of a path from the asked one on that has any, over all units
 pub record GivesAddressesOf (i : SectionIndex) (path : List ℕ) (asked line : ℕ) (addresses : List ℕ)

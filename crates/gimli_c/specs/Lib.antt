@@ -14,11 +14,13 @@ pub mod Relocated
 pub mod Refused
 pub mod Causes
 pub mod Owned
+pub mod KeptUnits
 pub mod Indexed
 pub mod Reader
 pub mod CompDir
 pub mod Mapped
 pub mod MadeMap
+pub mod MapLines
 pub mod ElfSeen
 pub mod BuildId
 pub mod inside

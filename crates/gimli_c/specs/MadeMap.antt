@@ -12,7 +12,8 @@ use Rattle.gimli_index.specs.declared.error.MakeError.TheVariants.{NotAscending,
 use Rattle.gimli_index.specs.declared.error.MakeError.TheVariants.{TooManySources, PathsTooLarge}
 use Rattle.gimli_index.specs.declared.error.MakeError.TheVariants.{IdentityTooLarge, LineTooLarge}
 use Rattle.gimli_index.specs.declared.error.MakeError.TheVariants.{ColumnTooLarge, OutOfMemory}
-use Rattle.gimli_c.specs.Indexed.{Program, entry_of, section_read}
+use Rattle.gimli_c.specs.Indexed.{Program}
+use Rattle.gimli_c.specs.KeptUnits.{entry_of, section_read}
 use Rattle.gimli_c.specs.Written.{slots_with}
 
 -- ---- what a map is made of

@@ -1,9 +1,14 @@
 -- A unit whose sequences begin at symbols, and the places of it that a linker fills in.
-use Rattle.std.specs.Prelude.{◌≡◌, ◌≤◌, ◌<◌, ◌⊎◌, ℕ, Bool, if◌then◌else◌, List, length, map}
+use Rattle.std.specs.Prelude.{◌≡◌, ◌≤◌, ◌<◌, ◌⊎◌, ℕ, Bool, if◌then◌else◌, List, [], length, map}
+use Rattle.std.specs.Prelude.{IsTrue}
 use Rattle.gimli_core.specs.declared.common.SectionId.{SectionId}
 use Rattle.gimli_core.specs.declared.common.SectionId.TheVariants.{DebugInfo, DebugLine, DebugStr}
 use Rattle.gimli_core.specs.declared.common.SectionId.TheVariants.{DebugLineStr}
+use Rattle.gimli_bytes.specs.Hand.{Placement}
 use Rattle.gimli_bytes.specs.Relocatable.{Relocatable}
+use Rattle.gimli_bytes.specs.Relocations.{applied, are_inside, placed}
+use Rattle.gimli_bytes.specs.Texts.{no_texts}
+use Rattle.gimli_bytes.specs.Written.{Appends}
 use Rattle.gimli_bytes.specs.declared.error.Error.{Error}
 use Rattle.gimli_bytes.specs.declared.relocation.Addends.{Addends}
 use Rattle.gimli_bytes.specs.declared.relocation.Addends.TheVariants.{InPlace, Listed}
@@ -11,6 +16,7 @@ use Rattle.gimli_bytes.specs.declared.relocation.Relocation.{Relocation}
 use Rattle.gimli_bytes.specs.declared.relocation.RelocationTarget.{RelocationTarget}
 use Rattle.gimli_bytes.specs.declared.relocation.RelocationTarget.TheVariants.{OfSection, OfSymbol}
 use Rattle.gimli_build.specs.Built.{Built}
+use Rattle.gimli_build.specs.Unit.{unit_bytes_by}
 use Rattle.gimli_c.specs.declared.relocatable.GimliRelocation.{GimliRelocation}
 use Rattle.gimli_c.specs.Handing.{Handed, IsBuiltOf, write_status}
 use Rattle.gimli_c.specs.Written.{slots_with}
@@ -47,6 +53,13 @@ addends_of in_place = if in_place then InPlace else Listed
 abbrev pub IsWriterRefusal : ℕ → Type 0
 IsWriterRefusal status = (error : Error) × (status ≡ write_status error)
 
+-- wherever a linker puts the symbols: once it has filled the places in, the bytes are the unit of
+-- the program, in which each symbol and its addend are the sum of both
+abbrev pub IsUnitOnceLinked : Bool → Built → Relocatable → Type 0
+IsUnitOnceLinked big program section =
+    (at : Placement) → Appends (unit_bytes_by (placed at) big program.encoding program no_texts) []
+    (applied at section)
+
 -- the unit and its relocations stand at the front of the two arrays
 pub record GivesRelocatable (h : Handed) (old new : List ℕ) (size : ℕ)
     (slots_old slots_new : List GimliRelocation) (count : ℕ) : Type 0 where
@@ -54,6 +67,8 @@ pub record GivesRelocatable (h : Handed) (old new : List ℕ) (size : ℕ)
   pub built : IsBuiltOf h program
   pub section : Relocatable
   pub order : section.big ≡ h.big
+  pub is_unit : IsUnitOnceLinked h.big program section
+  pub inside : IsTrue (are_inside section)
   pub fits : length section.bytes ≤ length old
   pub written_is : new ≡ slots_with section.bytes old
   pub size_is : size ≡ length section.bytes
@@ -68,6 +83,8 @@ pub record NeedsRelocatableRoom (h : Handed) (old : List ℕ) (size : ℕ)
   pub built : IsBuiltOf h program
   pub section : Relocatable
   pub order : section.big ≡ h.big
+  pub is_unit : IsUnitOnceLinked h.big program section
+  pub inside : IsTrue (are_inside section)
   pub passes : (length old < length section.bytes) ⊎ (length slots_old < length section.relocations)
   pub size_is : size ≡ length section.bytes
   pub count_is : count ≡ length section.relocations

@@ -42,15 +42,16 @@ pub use file::{
 pub use find::gimli_line_find;
 pub use index::{
     GimliIndexUnit, GimliLineIndex, GimliOpenOptions, GimliPlace, OPTIONS_SIZE, SectionIndex,
-    gimli_line_index_addresses, gimli_line_index_addresses_of, gimli_line_index_close,
-    gimli_line_index_directory, gimli_line_index_file, gimli_line_index_find,
-    gimli_line_index_find_all, gimli_line_index_open, gimli_line_index_path,
-    gimli_line_index_read_unit, gimli_line_index_unit, gimli_line_index_unit_count,
+    UnitPaths, gimli_line_index_addresses, gimli_line_index_addresses_of, gimli_line_index_close,
+    gimli_line_index_comp_dir, gimli_line_index_directory, gimli_line_index_file,
+    gimli_line_index_find, gimli_line_index_find_all, gimli_line_index_open,
+    gimli_line_index_open_with_info, gimli_line_index_path, gimli_line_index_read_unit,
+    gimli_line_index_unit, gimli_line_index_unit_count,
 };
 pub use items::GimliSymbol;
 pub use map::{
-    GimliMap, GimliMapPlace, NO_PATH_OUTSIDE, gimli_line_map_check, gimli_line_map_find,
-    gimli_line_map_find_all, gimli_line_map_open, gimli_line_map_write,
+    GimliMap, GimliMapPlace, NO_PATH_OUTSIDE, gimli_line_map_addresses_of, gimli_line_map_check,
+    gimli_line_map_find, gimli_line_map_find_all, gimli_line_map_open, gimli_line_map_write,
 };
 pub use relocatable::{GimliRelocation, gimli_line_write_relocatable};
 pub use row::{BASIC_BLOCK, END_SEQUENCE, EPILOGUE_BEGIN, GimliRow, IS_STMT, PROLOGUE_END};

@@ -1,6 +1,8 @@
 //! A unit whose sequences begin at symbols, and its relocations.
 
-ghost use Rattle.std.specs.Prelude.{◌≡◌, ◌≢◌, ◌⊎◌, ◌<◌, ◌≤◌, ℕ, true, false, IfOk, Some, map};
+ghost use Rattle.std.specs.Prelude.{◌≡◌, ◌≢◌, ◌⊎◌, ◌<◌, ◌≤◌, ℕ, true, false, IfOk, IsTrue, Some};
+ghost use Rattle.std.specs.Prelude.{map};
+ghost use Rattle.gimli_bytes.specs.Relocations.{are_inside};
 ghost use Rattle.gimli_bytes.specs.Texts.{no_texts};
 ghost use Rattle.gimli_build.specs.Conditions.{CanWrite};
 ghost use Rattle.gimli_c.specs.Causes.{HasHandedFault};
@@ -8,7 +10,8 @@ ghost use Rattle.gimli_c.specs.Handed.{IsRefusal};
 ghost use Rattle.gimli_c.specs.Handing.{handed_of};
 ghost use Rattle.gimli_c.specs.Refused.{encoding_fault, HasBadLines};
 ghost use Rattle.gimli_c.specs.Relocated.{addends_of, relocation_seen, section_seen, target_seen};
-ghost use Rattle.gimli_c.specs.Relocated.{GivesRelocatable, IsWriterRefusal, NeedsRelocatableRoom};
+ghost use Rattle.gimli_c.specs.Relocated.{GivesRelocatable, IsUnitOnceLinked, IsWriterRefusal};
+ghost use Rattle.gimli_c.specs.Relocated.{NeedsRelocatableRoom};
 ghost use Rattle.gimli_c.specs.Written.{slots_with};
 
 use crate::encoding::GimliEncoding;
@@ -112,6 +115,8 @@ fn relocatable_of(
 ) -> gimli_bytes::Result<RelocatableVec<RunTimeEndian>>
     requires { CanWrite program.now no_texts }
     ensures order { IfOk result (λ section. section.big ≡ big) }
+    ensures unit { IfOk result (IsUnitOnceLinked big program.now) }
+    ensures inside { IfOk result (λ section. IsTrue (are_inside section)) }
 {
     let section = RelocatableVec::new(alloc, order(big), addends);
     let mut section = DebugLine::from(section);

@@ -33,3 +33,4 @@ pub mod SectionAddressSteps
 pub mod StillFound
 pub mod NearerEnds
 pub mod ComponentLists
+pub mod FileMarks

@@ -17,4 +17,5 @@ pub mod SectionUnits
 pub mod SectionAddresses
 pub mod Ranges
 pub mod SectionSearch
+pub mod RowFiles
 pub mod inside

@@ -1,6 +1,7 @@
 //! From a line of a path to addresses, over the units of a section.
 
-ghost use Rattle.std.specs.Prelude.{◌≡◌, ◌<◌, ℕ, IfErr, IfOk, length, nat_eq, slice_index_or};
+ghost use Rattle.std.specs.Prelude.{◌≡◌, ◌<◌, ◌==◌, ℕ, IfErr, IfOk, length, nat_eq, slice_index_or};
+ghost use Rattle.std.specs.List.{list_any};
 ghost use Rattle.gimli_lookup.specs.Section.{KeptUnit};
 ghost use Rattle.gimli_lookup.specs.SectionAddresses.{
   unit_has_path,
@@ -14,7 +15,7 @@ ghost use Rattle.gimli_lookup.specs.Strings.{strings};
 use crate::path_files::files_with_path;
 use crate::section_lookup::SectionLookup;
 use crate::section_unit::UnitLookup;
-use crate::statements::{Addresses, addresses_from, join};
+use crate::statements::{Addresses, addresses_from, join_addresses};
 use crate::string_sections::StringSections;
 use gimli_core::{Error, Reader, Result};
 use std::alloc::Global;
@@ -51,6 +52,24 @@ impl<R: Reader> SectionLookup<R> {
         addresses_from(self.allocator(), self.sequences_of(unit), &[file], line)
     }
 
+    /// The addresses for a breakpoint at a line of several files of one unit, by their numbers: as
+    /// `addresses_of_file` gives them, where these count as one file. Fails only with
+    /// `OutOfMemory`. Requires an index of a unit.
+    pub fn addresses_of_files(
+        &self,
+        unit: usize,
+        files: &[u64],
+        line: u64,
+    ) -> Result<Option<Addresses>>
+        requires { unit < length self.now }
+        ensures ok { (d : KeptUnit) → IfOk result (AreAddressesFrom
+            (addresses_of (λ file. list_any (λ n. n == file) files.now)
+            (slice_index_or self.now unit d).sequences) line) }
+        ensures err { IfErr result (λ e. e ≡ Error.OutOfMemory) }
+    {
+        addresses_from(self.allocator(), self.sequences_of(unit), files, line)
+    }
+
     /// The addresses for a breakpoint at a line of the files that have a whole path, over all
     /// units: as `addresses_of_file` gives them, in the order of the units, their sequences and
     /// their rows. The line is the first from the asked one on that has an address in any unit. A
@@ -68,7 +87,7 @@ impl<R: Reader> SectionLookup<R> {
     {
         let mut found = None;
         for unit in 0..self.units().len() {
-            found = join(found, self.unit_addresses(unit, sections, path, line)?)?;
+            found = join_addresses(found, self.unit_addresses(unit, sections, path, line)?)?;
         }
         Ok(found)
     }

@@ -169,9 +169,12 @@ pub(crate) fn addresses_from(
     Ok(Some(Addresses { line, addresses }))
 }
 
-/// The addresses in two parts of a section, one after the other, by those in each. Fails only with
-/// `OutOfMemory`.
-pub(crate) fn join(first: Option<Addresses>, second: Option<Addresses>) -> Result<Option<Addresses>>
+/// The addresses in two parts of a section, one after the other, by those in each that are of the
+/// first line from one line on. Fails only with `OutOfMemory`.
+pub fn join_addresses(
+    first: Option<Addresses>,
+    second: Option<Addresses>,
+) -> Result<Option<Addresses>>
     ensures ok { (before after : ℕ → List ℕ) (asked : ℕ) → AreAddressesFrom before asked first
         → AreAddressesFrom after asked second
         → IfOk result (AreAddressesFrom (λ line. before line ++ after line) asked) }

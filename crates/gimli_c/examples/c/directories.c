@@ -89,6 +89,28 @@ static void expect_path(gimli_line_index *index, uint64_t file, const char *dire
     expect(status == GIMLI_OK && size == strlen(wanted) && memcmp(path, wanted, size) == 0, wanted);
 }
 
+/* An index that has the directories of the compilations knows that of each unit, and paths without another go on from it. */
+static void expect_known(section lines, section info, const char *directory, uint64_t file, const char *wanted) {
+    gimli_line_index index = GIMLI_LINE_INDEX_CLOSED;
+    gimli_open_options options = GIMLI_OPEN_OPTIONS;
+    gimli_sections sections = {lines.bytes, NULL, NULL, info.bytes, declaration, NULL, lines.length, 0, 0, info.length, sizeof declaration, 0};
+    uint8_t own[ROOM];
+    size_t size = 77;
+    expect(gimli_line_index_comp_dir(&index, 0, own, ROOM, &size) == GIMLI_CLOSED && size == 77, "a closed index");
+    options.lowest = 0;
+    expect(gimli_line_index_open_sections(&sections, &options, &index) == GIMLI_OK, "gimli_line_index_open_sections");
+    expect(gimli_line_index_comp_dir(&index, 0, own, ROOM, &size) == GIMLI_OK, "gimli_line_index_comp_dir");
+    expect(size == strlen(directory) && memcmp(own, directory, size) == 0, directory);
+    expect(gimli_line_index_comp_dir(&index, 1, own, ROOM, &size) == GIMLI_NO_SUCH_UNIT, "no such unit");
+    expect_path(&index, file, "", wanted);
+    expect_path(&index, file, "/other", info.bytes[4] < 5 ? "/other/inc/b.h" : "/other/../inc/b.h");
+    gimli_line_index_close(&index);
+    sections.info_size = 0;
+    expect(gimli_line_index_open_sections(&sections, &options, &index) == GIMLI_OK, "gimli_line_index_open_sections");
+    expect(gimli_line_index_comp_dir(&index, 0, own, ROOM, &size) == GIMLI_NO_COMP_DIR, "no .debug_info");
+    gimli_line_index_close(&index);
+}
+
 static gimli_line_index opened(section lines) {
     gimli_line_index index = GIMLI_LINE_INDEX_CLOSED;
     gimli_open_options options = GIMLI_OPEN_OPTIONS;
@@ -108,6 +130,7 @@ static void version_4(void) {
     expect_path(&index, 1, "", "a.c");
     expect_path(&index, 2, "", "inc/b.h");
     gimli_line_index_close(&index);
+    expect_known(lines, info, "/w", 2, "/w/inc/b.h");
 }
 
 /* In version 5 each relative directory goes on from it, where directory 0 is relative. */
@@ -123,6 +146,7 @@ static void version_5(void) {
     expect_path(&index, 0, "", "./w/a.c");
     expect_path(&index, 1, "", "./w/../inc/b.h");
     gimli_line_index_close(&index);
+    expect_known(lines, info, "./w", 1, "./w/../inc/b.h");
 }
 
 /* Sections that are cut, and units that can't be read. */

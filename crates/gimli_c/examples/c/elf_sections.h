@@ -21,7 +21,7 @@ typedef struct elf_sections {
     uint8_t *copies[ELF_SECTIONS];
 } elf_sections;
 
-static uint8_t *elf_file(const char *name, size_t *length) {
+static inline uint8_t *elf_file(const char *name, size_t *length) {
     FILE *file = fopen(name, "rb");
     if (file == NULL) return NULL;
     uint8_t *bytes = NULL;
@@ -38,12 +38,12 @@ static uint8_t *elf_file(const char *name, size_t *length) {
     return bytes;
 }
 
-static void elf_free(elf_sections *elf) {
+static inline void elf_free(elf_sections *elf) {
     for (int i = 0; i < ELF_SECTIONS; i++) free(elf->copies[i]);
 }
 
 /* Reads a file, and makes its sections whole. False where it can't be read, is no ELF file, or has a section that can't be made whole. */
-static bool elf_read(const char *name, elf_sections *elf) {
+static inline bool elf_read(const char *name, elf_sections *elf) {
     static const char *const names[ELF_SECTIONS] = {".debug_line", ".debug_line_str", ".debug_str",
                                                     ".debug_info", ".debug_abbrev", ".debug_str_offsets"};
     section *const sections[ELF_SECTIONS] = {&elf->line, &elf->line_str, &elf->str, &elf->info, &elf->abbrev, &elf->str_offsets};
@@ -60,8 +60,15 @@ static bool elf_read(const char *name, elf_sections *elf) {
     return status == GIMLI_OK;
 }
 
+/* The sections, as an index is made of them. */
+static inline gimli_sections elf_parts(const elf_sections *elf) {
+    gimli_sections parts = {elf->line.bytes,  elf->line_str.bytes,  elf->str.bytes,  elf->info.bytes,  elf->abbrev.bytes,  elf->str_offsets.bytes,
+                            elf->line.length, elf->line_str.length, elf->str.length, elf->info.length, elf->abbrev.length, elf->str_offsets.length};
+    return parts;
+}
+
 /* How an index of the file is made. */
-static gimli_open_options elf_options(const elf_sections *elf) {
+static inline gimli_open_options elf_options(const elf_sections *elf) {
     gimli_open_options options = GIMLI_OPEN_OPTIONS;
     options.lowest = elf->elf.relocatable ? 0 : elf->elf.lowest;
     options.address_size = elf->elf.address_size;

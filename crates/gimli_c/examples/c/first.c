@@ -19,23 +19,15 @@ int main(int argc, char **argv) {
     if (argc != 3 || !elf_read(argv[1], &program)) return 2;
     gimli_line_index index = GIMLI_LINE_INDEX_CLOSED;
     gimli_open_options options = elf_options(&program);
-    stop_if(gimli_line_index_open(program.line.bytes, program.line.length, program.line_str.bytes, program.line_str.length,
-                                  program.str.bytes, program.str.length, &options, &index));
+    gimli_sections sections = elf_parts(&program);
+    stop_if(gimli_line_index_open_sections(&sections, &options, &index));
+    elf_free(&program); /* the index has copies of what it needs */
 
     gimli_place place;
     stop_if(gimli_line_index_find(&index, strtoull(argv[2], NULL, 16), &place)); /* GIMLI_NO_ROW where no row covers it */
-    gimli_index_unit unit;
-    stop_if(gimli_line_index_unit(&index, place.unit, &unit));
-    uint8_t directory[4096], path[4096];
-    size_t known = 0, size; /* of the directory, 0 where none is known, and of the path; each may be more than there is room for */
-    uint32_t status = gimli_line_comp_dir(program.info.bytes, program.info.length, program.abbrev.bytes, program.abbrev.length,
-                                          program.line_str.bytes, program.line_str.length, program.str.bytes, program.str.length,
-                                          program.str_offsets.bytes, program.str_offsets.length, program.elf.big, unit.offset,
-                                          directory, sizeof directory, &known);
-    if (status != GIMLI_NO_COMP_DIR) stop_if(status);
-    elf_free(&program); /* the index has copies of what it needs */
-    if (known > sizeof directory) return 1;
-    stop_if(gimli_line_index_path(&index, place.unit, place.row.file, directory, known, path, sizeof path, &size));
+    uint8_t path[4096];
+    size_t size; /* of the path, which may be more than there is room for */
+    stop_if(gimli_line_index_path(&index, place.unit, place.row.file, gimli_bytes(NULL), 0, path, sizeof path, &size));
     printf("%.*s:%" PRIu64 "\n", (int)(size < sizeof path ? size : sizeof path), (const char *)path, place.row.line);
 
     gimli_row_reader reader = GIMLI_ROW_READER_CLOSED;

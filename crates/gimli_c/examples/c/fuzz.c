@@ -131,6 +131,10 @@ static void read_file(const uint8_t *data, size_t size) {
         same(opened == GIMLI_OK ? status == GIMLI_OK || status == GIMLI_NO_ROW : status == opened);
         if (status == GIMLI_OK) same(place.path <= size && place.path_size <= size - place.path);
     }
+    uint64_t line, addresses[4];
+    size_t begins = 0;
+    uint32_t told = answered(30, gimli_line_map_addresses_of(data, size, data, size < 8 ? size : 8, 1, &line, addresses, 4, &begins));
+    same(opened == GIMLI_OK ? told == GIMLI_NO_CODE || (told == GIMLI_OK && begins != 0 && begins <= map.ranges) : told == opened);
     gimli_elf elf;
     uint8_t bytes[64];
     size_t length = 0;

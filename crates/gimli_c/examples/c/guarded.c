@@ -299,6 +299,25 @@ static void write_symbols(bool in_place) {
     give_back(count, sizeof *count);
 }
 
+/* The directory that an index has of a unit, into each room: that which gimli_line_comp_dir tells. */
+static void read_own_directory(const section *sections, gimli_line_index *index, size_t offset, uint64_t unit) {
+    section line_strings = sections[1], info = sections[2], abbrev = sections[3], str = sections[4];
+    for (size_t room = 0; room <= ROOM; room++) {
+        uint8_t *own = guarded(room), *told = guarded(room);
+        size_t *size = guarded(sizeof *size), *same = guarded(sizeof *same);
+        memset(own, 0, room);
+        memset(told, 0, room);
+        expect(gimli_line_index_comp_dir(index, unit, own, room, size) == GIMLI_OK, "gimli_line_index_comp_dir");
+        expect(gimli_line_comp_dir(info.bytes, info.length, abbrev.bytes, abbrev.length, line_strings.bytes, line_strings.length, str.bytes,
+                                   str.length, str.bytes, 0, false, offset, told, room, same) == GIMLI_OK, "gimli_line_comp_dir");
+        expect(*size == *same && memcmp(own, told, room) == 0, "the directory of gimli_line_index_comp_dir");
+        give_back(own, room);
+        give_back(told, room);
+        give_back(size, sizeof *size);
+        give_back(same, sizeof *same);
+    }
+}
+
 int main(int argc, char **argv) {
     if (argc != 6) {
         fprintf(stderr, "usage: guarded LINES LINE_STRINGS INFO ABBREVIATIONS STRINGS\n");
@@ -310,8 +329,10 @@ int main(int argc, char **argv) {
     gimli_line_index index = GIMLI_LINE_INDEX_CLOSED;
     gimli_open_options options = GIMLI_OPEN_OPTIONS;
     options.lowest = 0;
-    expect(gimli_line_index_open(lines.bytes, lines.length, line_strings.bytes, line_strings.length, lines.bytes, 0, &options, &index) ==
-               GIMLI_OK, "gimli_line_index_open");
+    expect(gimli_line_index_open_with_info(lines.bytes, lines.length, line_strings.bytes, line_strings.length, sections[4].bytes,
+                                           sections[4].length, sections[2].bytes, sections[2].length, sections[3].bytes,
+                                           sections[3].length, lines.bytes, 0, &options, &index) == GIMLI_OK,
+           "gimli_line_index_open_with_info");
     options.size--;
     expect(gimli_line_index_open(lines.bytes, 0, lines.bytes, 0, lines.bytes, 0, &options, &index) == GIMLI_UNKNOWN_OPTIONS,
            "the size of options");
@@ -322,6 +343,7 @@ int main(int argc, char **argv) {
         read_rows(lines, offset, unit->rows);
         uint64_t first = unit->version <= 4;
         for (uint64_t file = first; file < first + unit->files; file++) read_tables(lines, &index, offset, number, file);
+        read_own_directory(sections, &index, offset, number);
         look_up(&index, number++);
         read_directory(sections, offset);
     }

@@ -54,7 +54,7 @@ static void put(bytes *map, uint64_t number, size_t size) {
 static const char magic[8] = "LINEIDX", identity[] = "build";
 
 /* `ranges` ranges of 16 bytes, each third one a gap: range i has the line i + 1, the column i % 7, and the source i % sources, whose
- * path is /source/K.c, but for that of source 1, which has the reason 4. Starts have `size` bytes. */
+ * path is /source/K.c, but for that of source 1, which has the reason 4. Where i is even, it is a statement. Starts have `size` bytes. */
 static bytes made(size_t ranges, size_t sources, size_t size) {
     bytes map = {malloc(64 + sources * 64 + ranges * 24), 0};
     expect(map.at != NULL, "no memory");
@@ -85,7 +85,7 @@ static bytes made(size_t ranges, size_t sources, size_t size) {
     for (size_t i = 0; i < ranges; i++) {
         put(&map, i % 3 == 2 ? UINT32_MAX : i % sources, 4);
         put(&map, i % 3 == 2 ? 0 : i + 1, 4);
-        put(&map, i % 3 == 2 ? 0 : i % 7, 4);
+        put(&map, i % 3 == 2 ? 0 : i % 7 + (i % 2 == 0 ? UINT32_C(1) << 31 : 0), 4);
     }
     memcpy(map.at + map.length, paths, paths_size);
     size_t end = map.length + paths_size;
@@ -131,6 +131,30 @@ static uint32_t ask(bytes map, uint64_t address, gimli_map_place *place) {
     uint32_t status = gimli_line_map_find(map.at, map.length, address, place);
     asking = 0;
     return status;
+}
+
+/* Asks where the code of a line begins. No memory may be asked for meanwhile. */
+static uint32_t ask_line(bytes map, const char *path, uint64_t line, uint64_t *found_line, uint64_t *addresses, size_t room, size_t *count) {
+    asking = 1;
+    uint32_t status = gimli_line_map_addresses_of(map.at, map.length, (const uint8_t *)path, strlen(path), line, found_line, addresses, room, count);
+    asking = 0;
+    return status;
+}
+
+/* The lines of the small map, by each room: lines 1 and 7 of /source/0.c have statements, and line 4 has none. */
+static void ask_lines(bytes map) {
+    static const struct { const char *path; uint64_t line, found, address; } wanted[] = {
+        {"0.c", 0, 1, 0}, {"/source/0.c", 1, 1, 0}, {"source/x/../0.c", 2, 7, 96}, {"./0.c", 7, 7, 96}, {"0.c", 8, 0, 0}, {"/0.c", 1, 0, 0}, {"1.c", 1, 0, 0}, {"c", 1, 0, 0}};
+    for (size_t i = 0; i < sizeof wanted / sizeof wanted[0]; i++)
+        for (size_t room = 0; room < 3; room++) {
+            uint64_t line = 77, addresses[2] = {77, 77};
+            size_t count = 77;
+            uint32_t status = ask_line(map, wanted[i].path, wanted[i].line, &line, addresses, room, &count);
+            bool has = wanted[i].found != 0;
+            expect(status == (has ? GIMLI_OK : GIMLI_NO_CODE), "the status of gimli_line_map_addresses_of");
+            expect(line == (has ? wanted[i].found : 77) && count == (has ? 1 : 77), "the line of gimli_line_map_addresses_of");
+            expect(addresses[0] == (has && room != 0 ? base + wanted[i].address : 77) && addresses[1] == 77, "the addresses of a line");
+        }
 }
 
 static bytes shared;
@@ -229,6 +253,10 @@ static void ask_damaged(bytes map) {
         expect(checked != GIMLI_OK || place.no_path != GIMLI_NO_PATH_OUTSIDE, "a path of a map that was checked");
     }
     expect(gimli_line_map_find_all(map.at, map.length, places, 4) == opened, "places");
+    uint64_t line, addresses[4];
+    size_t count;
+    uint32_t status = ask_line(map, "0.c", 1, &line, addresses, 4, &count);
+    expect(opened == GIMLI_OK ? status == GIMLI_NO_CODE || (status == GIMLI_OK && count <= found.ranges) : status == opened, "a line");
     damaged++;
 }
 
@@ -278,6 +306,7 @@ int main(int argc, char **argv) {
             uint32_t status = ask(small, address, &place);
             expect(is_right(small, 8, 3, &place) && (status == GIMLI_OK) == (place.known == 1), "the place of an address");
         }
+        ask_lines(small);
         ask_all_damaged(small);
         free(small.at);
     }

@@ -1,4 +1,5 @@
-/* The lines of addresses of an ELF file, by an index that is made of the file's bytes: opened FILE ADDRESS.., in hexadecimal. */
+/* The whole paths and lines of addresses of an ELF file, by an index that is made of the file's bytes: opened FILE ADDRESS.., in
+ * hexadecimal. */
 #define _DEFAULT_SOURCE
 #include <fcntl.h>
 #include <inttypes.h>
@@ -40,7 +41,10 @@ int main(int argc, char **argv) {
         stop_if(gimli_line_index_read_unit(&index, place.unit, &unit));
         uint64_t first = gimli_first_number(&unit);
         if (place.unit >= units || place.row.file < first || place.row.file - first >= unit.files) return 3;
-        printf("%" PRIu64 "\n", place.row.line);
+        uint8_t path[4096];
+        size_t size;
+        stop_if(gimli_line_index_path(&index, place.unit, place.row.file, gimli_bytes(NULL), 0, path, sizeof path, &size));
+        printf("%.*s:%" PRIu64 "\n", (int)(size < sizeof path ? size : sizeof path), (const char *)path, place.row.line);
     }
     stop_if(gimli_line_index_close(&index));
     return 0;

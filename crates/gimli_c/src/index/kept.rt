@@ -1,5 +1,6 @@
 //! What stands behind a handle.
 
+use crate::index::unit_paths::UnitPaths;
 use gimli_core::{EndianSlice, RunTimeEndian};
 use gimli_lookup::SectionLookup;
 
@@ -20,4 +21,6 @@ pub struct SectionIndex {
     pub(crate) lowest: u64,
     /// The units and their rows, without the headers.
     pub(crate) units: SectionLookup<EndianSlice<'static, RunTimeEndian>>,
+    /// What is kept for the paths of each unit.
+    pub(crate) paths: Vec<UnitPaths>,
 }

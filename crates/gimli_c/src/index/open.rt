@@ -2,49 +2,15 @@
 
 ghost use Rattle.std.specs.Prelude.{◌≡◌, ◌≢◌, ◌⊎◌, true, false, Err, IfErr, IfOk, IfSome, IsSome};
 ghost use Rattle.gimli_core.specs.Numbers.{is_address_size};
-ghost use Rattle.gimli_c.specs.Indexed.{program, AreUnitsOf, IsIndexOf};
+ghost use Rattle.gimli_c.specs.Indexed.{program, with_info, IsIndexOf};
 
 use crate::index::handle::GimliLineIndex;
 use crate::index::kept::SectionIndex;
-use crate::location::{is_address_size, order};
+use crate::index::unit_paths::copy;
+use crate::index::units_kept::{ProgramSections, keep_units};
+use crate::location::is_address_size;
 use crate::status::{OK, OUT_OF_MEMORY, UNKNOWN_OPTIONS, UNSUPPORTED_ADDRESS_SIZE};
-use gimli_core::{EndianSlice, RunTimeEndian};
-use gimli_line::DebugLine;
-use gimli_lookup::SectionLookup;
 use std::alloc::Global;
-
-/// A copy of bytes. Refused by `OUT_OF_MEMORY` alone.
-fn copy(alloc: Global, bytes: &[u8]) -> Result<Vec<u8>, u32>
-    ensures ok { IfOk result (λ copy. copy.items ≡ bytes.now) }
-    ensures err { IfErr result (λ s. s ≡ OUT_OF_MEMORY) }
-{
-    match bytes.to_vec(alloc) {
-        Ok(copy) => Ok(copy),
-        Err(_) => Err(OUT_OF_MEMORY),
-    }
-}
-
-/// The units of a section and their rows, without the headers. Refused by `OUT_OF_MEMORY` alone.
-fn units_of(
-    alloc: Global,
-    section: &[u8],
-    big: bool,
-    address_size: u8,
-    lowest: u64,
-) -> Result<SectionLookup<EndianSlice<'static, RunTimeEndian>>, u32>
-    requires { is_address_size address_size ≡ true }
-    ensures ok { IfOk result (AreUnitsOf section.now big address_size lowest) }
-    ensures err { IfErr result (λ s. s ≡ OUT_OF_MEMORY) }
-{
-    let section = DebugLine::new(section, order(big));
-    let Ok(units) = SectionLookup::new(&section, alloc, address_size, lowest) else {
-        return Err(OUT_OF_MEMORY);
-    };
-    match units.without_headers() {
-        Ok(units) => Ok(units),
-        Err(_) => Err(OUT_OF_MEMORY),
-    }
-}
 
 /// How an index is made.
 #[repr(C)]
@@ -66,30 +32,44 @@ pub const OPTIONS_SIZE: usize = 24;
 /// The index of a program.
 fn index_of(
     alloc: Global,
-    section: &[u8],
-    big: bool,
-    address_size: u8,
-    lowest: u64,
-    line_strings: &[u8],
-    strings: &[u8],
+    sections: &ProgramSections<'_>,
+    options: &GimliOpenOptions,
 ) -> Result<Box<SectionIndex>, u32>
-    ensures ok { IfOk result (λ index. IsIndexOf (program section.now big address_size lowest
-        line_strings.now strings.now) index.value) }
-    ensures size { is_address_size address_size ≡ false → result ≡ Err UNSUPPORTED_ADDRESS_SIZE }
-    ensures err { IfErr result (λ s. (s ≡ OUT_OF_MEMORY)
-        ⊎ ((s ≡ UNSUPPORTED_ADDRESS_SIZE) × (is_address_size address_size ≡ false))) }
+    ensures ok { IfOk result (λ index. IsIndexOf (with_info (program sections.now.line.now
+        options.now.big options.now.address_size options.now.lowest sections.now.line_strings.now
+        sections.now.strings.now) sections.now.info.now sections.now.abbreviations.now
+        sections.now.string_offsets.now) index.value) }
+    ensures size { is_address_size options.now.address_size ≡ false →
+        result ≡ Err UNSUPPORTED_ADDRESS_SIZE }
+    ensures err { IfErr result (λ s. (s ≡ OUT_OF_MEMORY) ⊎ ((s ≡ UNSUPPORTED_ADDRESS_SIZE)
+        × (is_address_size options.now.address_size ≡ false))) }
 {
-    if !is_address_size(address_size) {
+    if !is_address_size(options.address_size) {
         return Err(UNSUPPORTED_ADDRESS_SIZE);
     }
+    let section = copy(alloc, sections.line)?;
+    let line_strings = copy(alloc, sections.line_strings)?;
+    let strings = copy(alloc, sections.strings)?;
+    let own = ProgramSections {
+        line: &section,
+        line_strings: &line_strings,
+        strings: &strings,
+        info: sections.info,
+        abbreviations: sections.abbreviations,
+        string_offsets: sections.string_offsets,
+    };
+    let compilations = own.compilations(alloc, options.big)?;
+    let kept = keep_units(alloc, &own, &compilations, options)?;
+    drop(compilations);
     let index = SectionIndex {
-        section: copy(alloc, section)?,
-        line_strings: copy(alloc, line_strings)?,
-        strings: copy(alloc, strings)?,
-        big,
-        address_size,
-        lowest,
-        units: units_of(alloc, section, big, address_size, lowest)?,
+        section,
+        line_strings,
+        strings,
+        big: options.big,
+        address_size: options.address_size,
+        lowest: options.lowest,
+        units: kept.units,
+        paths: kept.paths,
     };
     match Box::new(alloc, index) {
         Ok(index) => Ok(index),
@@ -125,18 +105,58 @@ pub extern "C" fn gimli_line_index_open(
         ⊎ ((result ≡ UNKNOWN_OPTIONS) × (options.now.size ≢ OPTIONS_SIZE)) }
     ensures kept { result ≢ OK → index.new.index ≡ index.old.index }
 {
+    gimli_line_index_open_with_info(
+        alloc,
+        section,
+        line_strings,
+        strings,
+        &[],
+        &[],
+        &[],
+        options,
+        index,
+    )
+}
+
+/// Makes an index as `gimli_line_index_open` does, which knows the directory of each compilation:
+/// `info`, `abbreviations` and `string_offsets` are the sections `.debug_info`, `.debug_abbrev` and
+/// `.debug_str_offsets`, or no bytes. They aren't kept.
+#[unsafe(no_mangle)]
+pub extern "C" fn gimli_line_index_open_with_info(
+    alloc: Global,
+    section: &[u8],
+    line_strings: &[u8],
+    strings: &[u8],
+    info: &[u8],
+    abbreviations: &[u8],
+    string_offsets: &[u8],
+    options: &GimliOpenOptions,
+    index: &mut GimliLineIndex,
+) -> u32
+    ensures ok { result ≡ OK → IfSome index.new.index (IsIndexOf (with_info (program section.now
+        options.now.big options.now.address_size options.now.lowest line_strings.now strings.now)
+        info.now abbreviations.now string_offsets.now)) }
+    ensures open { result ≡ OK → IsSome index.new.index }
+    ensures options { options.now.size ≢ OPTIONS_SIZE → result ≡ UNKNOWN_OPTIONS }
+    ensures size { options.now.size ≡ OPTIONS_SIZE →
+        is_address_size options.now.address_size ≡ false → result ≡ UNSUPPORTED_ADDRESS_SIZE }
+    ensures refused { result ≢ OK → (result ≡ OUT_OF_MEMORY)
+        ⊎ ((result ≡ UNSUPPORTED_ADDRESS_SIZE) × (is_address_size options.now.address_size ≡ false))
+        ⊎ ((result ≡ UNKNOWN_OPTIONS) × (options.now.size ≢ OPTIONS_SIZE)) }
+    ensures kept { result ≢ OK → index.new.index ≡ index.old.index }
+{
     if options.size != OPTIONS_SIZE {
         return UNKNOWN_OPTIONS;
     }
-    match index_of(
-        alloc,
-        section,
-        options.big,
-        options.address_size,
-        options.lowest,
+    let sections = ProgramSections {
+        line: section,
         line_strings,
         strings,
-    ) {
+        info,
+        abbreviations,
+        string_offsets,
+    };
+    match index_of(alloc, &sections, options) {
         Ok(made) => {
             drop(index.swap(alloc, Some(made)));
             OK

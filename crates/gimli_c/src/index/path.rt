@@ -5,7 +5,8 @@ ghost use Rattle.gimli_line.specs.header.File.{file_seen};
 ghost use Rattle.gimli_lookup.specs.Paths.{file_path};
 ghost use Rattle.gimli_lookup.specs.declared.path_error.PathError.{PathError};
 ghost use Rattle.gimli_lookup.specs.declared.path_error.PathError.TheVariants.{OutOfMemory};
-ghost use Rattle.gimli_c.specs.Indexed.{paths_in, GivesPath, HasNoPath, WritesPath};
+ghost use Rattle.gimli_c.specs.Indexed.{directory_from, paths_in, GivesPath, HasNoPath, KeepsPath};
+ghost use Rattle.gimli_c.specs.Indexed.{WritesPath};
 
 use crate::file::copy_bytes;
 use crate::index::handle::GimliLineIndex;
@@ -86,6 +87,79 @@ fn path_of(
     path_in_header(alloc, index, header, entry, comp_dir)
 }
 
+impl SectionIndex {
+    /// The path that is kept of the file of a unit, if it is.
+    fn kept_path(&self, unit: u64, file: u64) -> Option<&[u8]>
+        ensures { IfSome result
+            (λ path. KeepsPath self.now unit file path.now) }
+    {
+        let Ok(listed) = self.listed_unit(unit) else {
+            return None;
+        };
+        if listed.fault().is_some() {
+            return None;
+        }
+        let paths = self.paths.get(unit as usize)?;
+        match paths.files.get(file as usize) {
+            Some(Some(path)) => Some(path),
+            _ => None,
+        }
+    }
+
+    /// The directory that the paths of a unit go on from: the caller's, and the unit's own where
+    /// that has no bytes.
+    pub(crate) fn directory_from<'d>(&'d self, unit: u64, comp_dir: &'d [u8]) -> &'d [u8]
+        ensures { result.now ≡ directory_from self.now unit comp_dir.now }
+    {
+        if !comp_dir.is_empty() {
+            return comp_dir;
+        }
+        match self.paths.get(unit as usize) {
+            Some(paths) => &paths.comp_dir,
+            None => &[],
+        }
+    }
+}
+
+/// Writes the whole path of the file of a unit.
+fn write_path(
+    alloc: Global,
+    index: &SectionIndex,
+    unit: u64,
+    file: u64,
+    comp_dir: &[u8],
+    path: &mut [u8],
+    size: &mut usize,
+) -> u32
+    ensures found { result ≡ OK → WritesPath index.now unit file comp_dir.now
+        path.old path.new size.new }
+    ensures refused { result ≢ OK → result ≢ OUT_OF_MEMORY → HasNoPath index.now unit file
+        (directory_from index.now unit comp_dir.now) result }
+    ensures kept { result ≢ OK → (path.new ≡ path.old) × (size.new ≡ size.old) }
+{
+    if comp_dir.is_empty() {
+        if let Some(whole) = index.kept_path(unit, file) {
+            *size = whole.len();
+            copy_bytes(whole, path);
+            return OK;
+        }
+    }
+    match path_of(
+        alloc,
+        index,
+        unit,
+        file,
+        index.directory_from(unit, comp_dir),
+    ) {
+        Ok(whole) => {
+            *size = whole.len();
+            copy_bytes(&whole, path);
+            OK
+        }
+        Err(status) => status,
+    }
+}
+
 /// Tells the whole path of the file of a unit: its path, with the directories that it goes on from,
 /// up to the directory of the compilation, `comp_dir` (`DW_AT_comp_dir`). In version 5 the unit has
 /// that one too, and `comp_dir` counts where it is relative; where `comp_dir` has no bytes, such a
@@ -109,21 +183,14 @@ pub extern "C" fn gimli_line_index_path(
     ensures closed { index.old.index ≡ None → result ≡ CLOSED }
     ensures refused { result ≢ OK → result ≢ CLOSED → result ≢ OUT_OF_MEMORY
         → IfSome index.old.index
-        (λ i. HasNoPath i unit file comp_dir.now result) }
+        (λ i. HasNoPath i unit file (directory_from i unit comp_dir.now) result) }
     ensures kept { result ≢ OK → (path.new ≡ path.old) × (size.new ≡ size.old) }
     ensures same { index.new.index ≡ index.old.index }
 {
     let Some(kept) = index.swap(alloc, None) else {
         return CLOSED;
     };
-    let found = path_of(alloc, &kept, unit, file, comp_dir);
+    let status = write_path(alloc, &kept, unit, file, comp_dir, path, size);
     drop(index.swap(alloc, Some(kept)));
-    match found {
-        Ok(whole) => {
-            *size = whole.len();
-            copy_bytes(&whole, path);
-            OK
-        }
-        Err(status) => status,
-    }
+    status
 }

@@ -31,7 +31,7 @@ impl SectionIndex {
     }
 
     /// A unit, or `NO_SUCH_UNIT` where there is none.
-    fn listed_unit(
+    pub(crate) fn listed_unit(
         &self,
         unit: u64,
     ) -> Result<&UnitLookup<EndianSlice<'static, RunTimeEndian>>, u32>

@@ -1,5 +1,5 @@
-use Rattle.std.proofs.Common.{◌≡◌, refl, sym, ap, ◌∙◌, inr}
-use Rattle.std.specs.Prelude.{List, Option, Some, Ok}
+use Rattle.std.proofs.Common.{refl, sym, ap, ◌∙◌, inr}
+use Rattle.std.specs.Prelude.{Some, Ok}
 use Rattle.elf_sections.specs.Elf.{file_of}
 use Rattle.gimli_c.proofs.elf.gimli_elf_section.Goals as goal
 

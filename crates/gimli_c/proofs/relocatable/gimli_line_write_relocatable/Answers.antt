@@ -1,4 +1,4 @@
-use Rattle.std.proofs.Common.{List, ℕ, length, map, subst, sym, ap, ◌<◌, ◌≤◌, ◌⊎◌, ◌∙◌, inl, inr}
+use Rattle.std.proofs.Common.{List, ℕ, length, map, subst, ap, ◌<◌, ◌≤◌, ◌⊎◌, ◌∙◌, inl, inr}
 use Rattle.gimli_bytes.specs.declared.relocation.Relocation.{Relocation}
 use Rattle.gimli_c.specs.Relocated.{relocation_seen}
 use Rattle.gimli_c.specs.Written.{slots_with}
@@ -17,6 +17,8 @@ returns-then-passes-clause-room c = λ _.
       built = c.in-Ok.ensures.ok c.args.big;
       section = c.in-Ok-relocatable_of.section;
       order = c.in-Ok-relocatable_of.ensures.order;
+      is_unit = c.in-Ok-relocatable_of.ensures.unit;
+      inside = c.in-Ok-relocatable_of.ensures.inside;
       passes =
           subst (λ (n : ℕ). (length c.args.unit.now < n) ⊎ (length c.args.relocations.now < length c.in-Ok-relocatable_of.section.relocations)) bytes
           (subst (λ (n : ℕ). (length c.args.unit.now < length c.slice-bytes.result.now) ⊎ (length c.args.relocations.now < n)) places more);
@@ -34,6 +36,8 @@ returns-clause-ok c = λ _.
       built = c.in-Ok.ensures.ok c.args.big;
       section = c.in-Ok-relocatable_of.section;
       order = c.in-Ok-relocatable_of.ensures.order;
+      is_unit = c.in-Ok-relocatable_of.ensures.unit;
+      inside = c.in-Ok-relocatable_of.ensures.inside;
       fits = subst (λ (n : ℕ). n ≤ length c.args.unit.now) bytes fits.0;
       written_is = c.copy_bytes.ensures ∙ ap (λ (xs : List ℕ). slots_with xs c.args.unit.now) c.slice-bytes.ensures;
       size_is = bytes;
