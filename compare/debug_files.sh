@@ -355,6 +355,17 @@ status=0
 ask where changed.program 0x1000 >found 2>told || status=$?
 if [ "$status" = 1 ] && [ "$(cat found)" = "??:0:0" ] && grep -q 'unit at 0x' told; then right; else wrong "overlapping sections: status $status"; fi
 
+# What a word, a line or a name is told that only the program itself sees: on standard input, and in a call.
+says() {
+    local name=$1 wanted=$2 phrase=$3 status=0
+    shift 3
+    ask "$@" >found 2>told || status=$?
+    if [ "$status" = 1 ] && [ "$(cat found)" = "$wanted" ] && grep -qF -- "$phrase" told; then right; else wrong "$name: status $status, $(head -3 found told)"; fi
+}
+says "a word that is no address" "??:0:0" "'zz' is no address" where whole <<<zz
+says "a line that names standard input" "??:0:0" "standard input has the lines; write ./- for a file of this name" where --files <<<"- 1000"
+says "a name that isn't UTF-8" "" "a name that isn't UTF-8 can't be opened; write - in its place" units $'no\xfftext'
+
 # `units` prints no paths, and doesn't ask for the sections that they need.
 cp whole changed.program
 put $((1 << 60)) changed.program $(($(header_of whole .debug_str) + 32))

@@ -72,6 +72,7 @@ FORMS = {
         [("address", or_null(is_address)), PATH, FUNCTION],
         [("address", is_address), PATH, FUNCTION, *FOUND],
     ],
+    "where by an index": [[("address", or_null(is_address)), PATH], [("address", is_address), PATH, *PLACE]],
     "at": [[("address", is_address), PATH, *PLACE, ("range", is_range), ("is_stmt", lambda value: type(value) is bool)]],
     "source": [
         [PATH, ("line", is_number), ("text", or_null(is_text)), ("rows", are_rows)],
@@ -120,12 +121,13 @@ def are_bytes_of(value):
     return value["path"] == "".join(chr(it) if it < 128 else "\ufffd" for it in found)
 
 
-def check(program, name, words):
-    ran = subprocess.run([LINES, *name.split(), "--json", *words], capture_output=True)
+def check(program, name, words, form=None, given=b""):
+    form = form or name
+    ran = subprocess.run([LINES, *name.split(), "--json", *words], input=given, capture_output=True)
     for line in ran.stdout.splitlines():
         try:
             value = json.loads(line.decode("utf-8"))
-            good = any(has_form(value, it) for it in FORMS[name]) and are_bytes_of(value)
+            good = any(has_form(value, it) for it in FORMS[form]) and are_bytes_of(value)
         except ValueError:
             good = False
         counts["good" if good else "bad"] += 1
@@ -143,9 +145,19 @@ def check_program(program):
     addresses = sorted({it["address"] for it in found})[:200]
     for name in ("where", "where -f"):
         check(program, name, [program, *addresses, "0"])
-    for it in [it for it in found if it["path"]][:: max(1, len(found) // 20)]:
+    with tempfile.TemporaryDirectory() as maps:
+        os.mkdir(f"{maps}/ab")
+        subprocess.run([LINES, "index", program, "-o", f"{maps}/ab/cd.lines"], check=True)
+        form = "where by an index"
+        check(program, "where", ["--index", f"{maps}/ab/cd.lines", program, *addresses, "0"], form)
+        lines = "".join(f"{program} {it}\n" for it in [*addresses, "0"])
+        check(program, "where --files", [], form, f"{lines}\n{program}".encode())
+        lines = lines.replace(f"{program} ", "abcd ")
+        check(program, "where", ["--maps", maps], form, lines.encode())
+    for it in [it for it in found if it["path"] and it["line"]][:: max(1, len(found) // 20)]:
+        path = bytes.fromhex(it["path_bytes"]) if "path_bytes" in it else it["path"].encode()
         for name in ("at", "source"):
-            check(program, name, [program, f"{it['path']}:{it['line']}"])
+            check(program, name, [program, path + b":%d" % it["line"]])
     for name in ("units", "files", "stat"):
         check(program, name, [program])
     check(program, "check", ["--all", program])
