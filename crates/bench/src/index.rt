@@ -6,7 +6,7 @@
 //! | `section` | makes a lookup of the section | units | |
 //! | `make` | makes the index of one lookup | starts | bytes |
 //! | `open` | opens one index, whose last byte is followed by others | starts | |
-//! | `find` | finds 10,000 addresses at random in one index | those found | lines, lengths of paths |
+//! | `find` | finds 10,000 addresses at random in one index | those found | lines, path lengths |
 
 use crate::order::{INDEX, OrderOf};
 use crate::words::parse_count;

@@ -42,7 +42,8 @@ find_from-requires-clause-order c =
     let said = sym c.in-Some.is ∙ c.requires.sequence in
     let rows = c.index-sequences-sequence.result in
     let covering : covers c.args.a rows ≡ true =
-    ap (covers c.args.a) c.index-sequences-sequence.is ∙ covering_is c.args.self.now c.args.sequences.now c.requires.index c.args.a c.in-Some.sequence said rows in
+    ap (covers c.args.a) c.index-sequences-sequence.is
+    ∙ covering_is c.args.self.now c.args.sequences.now c.requires.index c.args.a c.in-Some.sequence said rows in
     covering_is_ordered c.args.a rows covering
 
 pub find_from-requires-clause-count : goal.find_from-requires-clause-count
@@ -66,7 +67,8 @@ returns-in_default-find_from c =
     let said = sym c.in-Some.is ∙ c.requires.sequence in
     let rows = c.index-sequences-sequence.result in
     let covering : covers c.args.a rows ≡ true =
-    ap (covers c.args.a) c.index-sequences-sequence.is ∙ covering_is c.args.self.now c.args.sequences.now c.requires.index c.args.a c.in-Some.sequence said rows in
+    ap (covers c.args.a) c.index-sequences-sequence.is
+    ∙ covering_is c.args.self.now c.args.sequences.now c.requires.index c.args.a c.in-Some.sequence said rows in
     absurd (covering_has_pair c.args.a rows covering c.in_default-find_from.ensures)
 
 pub returns : goal.returns

@@ -35,7 +35,8 @@ returns-in-Some-clause-found g c = λ b le before.
     let first =
     MatchOption-at_some (All (HasNoPair b) sequences) (λ (f : Found). IsFirstPairIn b sequences f.sequence f.row f.next) found c.in-Some.is
     (c.find_with_end-found.ensures.found b le before) in
-    unit_found b c.self.inside.sequences.items sequences c.self.inside.units.items c.as_slice-in-Some.result.now c.args.self.now c.unit_near-unit.result found.sequence
+    unit_found b c.self.inside.sequences.items sequences c.self.inside.units.items c.as_slice-in-Some.result.now c.args.self.now c.unit_near-unit.result
+    found.sequence
     found.row found.next
     c.self.invariant.0 c.self.view_is c.as_slice.ensures.value c.as_slice-in-Some.ensures.value c.unit_near-unit.ensures.unit c.unit_near-unit.ensures.first
     c.unit_near-unit.ensures.end first
