@@ -26,18 +26,21 @@ int main(int argc, char **argv) {
         while (gimli_line_index_find(&index, next_address(lowest, highest), &places[i]) != GIMLI_OK) continue;
         stop_if(gimli_line_index_path(&index, places[i].unit, places[i].row.file, gimli_bytes(NULL), 0, paths[i], sizeof paths[i], &sizes[i]));
     }
+    static const char *const names[] = {"find", "path", "addresses_of", "map_addresses_of"};
+    int call = 0;
+    while (call < 4 && strcmp(argv[3], names[call]) != 0) call++;
     for (long i = atol(argv[4]); i > 0; i--) {
         const gimli_place *place = &places[i % PLACES];
         gimli_place found;
         uint8_t path[256];
         uint64_t line, addresses[16];
         size_t size = 0;
-        if (strcmp(argv[3], "find") == 0) stop_if(gimli_line_index_find(&index, place->address, &found));
-        if (strcmp(argv[3], "path") == 0)
+        if (call == 0) stop_if(gimli_line_index_find(&index, place->address, &found));
+        if (call == 1)
             stop_if(gimli_line_index_path(&index, place->unit, place->row.file, gimli_bytes(NULL), 0, path, sizeof path, &size));
-        if (strcmp(argv[3], "addresses_of") == 0)
+        if (call == 2)
             stop_if(gimli_line_index_addresses_of(&index, paths[i % PLACES], sizes[i % PLACES], place->row.line, &line, addresses, 16, &size));
-        if (strcmp(argv[3], "map_addresses_of") == 0)
+        if (call == 3)
             stop_if(gimli_line_map_addresses_of(map, map_length, paths[i % PLACES], sizes[i % PLACES], place->row.line, &line, addresses, 16, &size));
         told(place->row.line, size);
     }

@@ -20,7 +20,7 @@ fn archive(folder: &Path) -> PathBuf {
 }
 
 fn main() {
-    for name in ["GIMLI_LINE_DIR", "PKG_CONFIG", "PKG_CONFIG_PATH"] {
+    for name in ["DOCS_RS", "GIMLI_LINE_DIR", "PKG_CONFIG", "PKG_CONFIG_PATH"] {
         println!("cargo:rerun-if-env-changed={name}");
     }
     if env::var_os("DOCS_RS").is_some() {

@@ -69,7 +69,7 @@ impl Built {
         Sections {
             debug_line: &self.line,
             debug_line_str: &self.line_str,
-            debug_str: &[],
+            debug_str: &self.str,
             big_endian: false,
             address_size: 8,
         }

@@ -114,16 +114,27 @@ for version in 2 3 4 5; do
 none" ]
         mapped=$((mapped + $(wc -l <"$work/places")))
     done
-    # Back again: of the line of each place, by the last component of its path, the addresses that are told have the line that is told.
-    while IFS=: read -r path line; do
-        "$work/map" "$work/built.map" "${path##*/}:$line" >"$work/begins"
-        [ "$(cut -d' ' -f1 "$work/begins" | sort -u | wc -l)" = 1 ]
-        while read -r told address; do
-            addr2line -e "$work/built" "$address" | sed -E 's/ \(discriminator [0-9]+\)//' | cmp <(echo "$path:$told") -
-            begins=$((begins + 1))
-        done <"$work/begins"
-    done < <(grep -v ':[0?]*$' "$work/places" | sort -u)
     cmp "$work/built.map" "$work/compressed.map"
+    # Back again, of a program without two rows at one address: the addresses that are told of a line have the line that is told,
+    # up to the last line of each file that has code.
+    (cd "$top/compare" && cc -g "-gdwarf-$version" -O0 sources/main.c sources/sums.c -o "$work/plain")
+    "$work/make_map" "$work/plain" "$work/plain.map" >/dev/null
+    for source in main.c sums.c; do
+        last=0
+        for line in $(seq "$(wc -l <"$top/compare/sources/$source")"); do
+            "$work/map" "$work/plain.map" "sources/$source:$line" >"$work/begins"
+            [ "$(cut -d' ' -f1 "$work/begins" | sort -u | wc -l)" = 1 ]
+            last=$line
+            [ "$(cat "$work/begins")" != none ] || break
+            while read -r told address; do
+                [ "$told" -ge "$line" ]
+                addr2line -e "$work/plain" "$address" | sed -E 's/ \(discriminator [0-9]+\)//' >"$work/place"
+                [ "$(cat "$work/place")" = "$top/compare/sources/$source:$told" ]
+                begins=$((begins + 1))
+            done <"$work/begins"
+        done
+        [ "$last" -gt 10 ]
+    done
     echo "$covered" | "$work/where_is" "$work/built" | sed -E "s,:[0-9]+\$,," | cmp "$work/places" -
     [ "$("$work/where_is" "$work/built" 0 ffffffffffffffff)" = "none
 none" ]
