@@ -32,4 +32,5 @@ pub mod OneSectionAnswer
 pub mod SectionAddressSteps
 pub mod StillFound
 pub mod NearerEnds
+pub mod Asides
 pub mod ComponentLists
