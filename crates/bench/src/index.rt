@@ -5,8 +5,8 @@
 //! |---|---|---|---|
 //! | `section` | makes a lookup of the section | units | |
 //! | `make` | makes the index of one lookup | starts | bytes |
-//! | `open` | opens one index, whose last byte is followed by others | starts | |
-//! | `find` | finds 10,000 addresses at random in one index | those found | lines, path lengths |
+//! | `open` | opens one index, with bytes after it | starts | |
+//! | `find` | finds 10,000 addresses at random | those found | lines and sizes of paths |
 
 use crate::order::{INDEX, OrderOf};
 use crate::words::parse_count;

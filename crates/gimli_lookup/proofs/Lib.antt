@@ -32,5 +32,6 @@ pub mod OneSectionAnswer
 pub mod SectionAddressSteps
 pub mod StillFound
 pub mod NearerEnds
+pub mod Asides
 pub mod ComponentLists
 pub mod FileMarks

@@ -42,7 +42,7 @@ same_fold a b (s ∷ steps) current le apart =
 
 -- ---- the pairs of rows
 
-pair_before : (a b : ℕ) (rows : List LineRow) (k : ℕ) (x y : LineRow) → a ≤ b → ((k : ℕ) (r : LineRow) → slice_get rows k ≡ Some r → IsApart a b r.address)
+pub pair_before : (a b : ℕ) (rows : List LineRow) (k : ℕ) (x y : LineRow) → a ≤ b → ((k : ℕ) (r : LineRow) → slice_get rows k ≡ Some r → IsApart a b r.address)
     → IsPairAt b rows k x y → IsPairAt a rows k x y
 pair_before a b rows k x y le apart p = record {
   first = p.first;
@@ -56,7 +56,7 @@ pair_before a b rows k x y le apart p = record {
     low (inr above) = absurd (omega (arith, p.from))
 
 -- the first pair at a is the first one at b, which isn't past it
-still_first : (a b : ℕ) (rows : List LineRow) (x y : LineRow) → a ≤ b → b < y.address → IsUnorderedApart a b rows → IsFirstPairOf a rows x y
+pub still_first : (a b : ℕ) (rows : List LineRow) (x y : LineRow) → a ≤ b → b < y.address → IsUnorderedApart a b rows → IsFirstPairOf a rows x y
     → IsFirstPairOf b rows x y
 still_first a b rows x y le before apart f = record {
   index = f.index;

@@ -8,7 +8,8 @@ ghost use Rattle.gimli_line.specs.declared.run.row.LineRow.{LineRow};
 ghost use Rattle.gimli_lookup.specs.declared.steps.Step.{Step};
 ghost use Rattle.gimli_lookup.specs.FirstPair.{HasNoPair};
 ghost use Rattle.gimli_lookup.specs.Ranges.{IsBefore};
-ghost use Rattle.gimli_lookup.specs.inside.Ends.{IsFoundIn};
+ghost use Rattle.gimli_lookup.specs.inside.Ends.{IsAside, IsFoundIn, IsUnorderedAt};
+ghost use Rattle.gimli_lookup.specs.inside.Ends.{IsUnorderedClear};
 ghost use Rattle.gimli_lookup.specs.inside.FirstPair.{IsFirstPairIn};
 ghost use Rattle.gimli_lookup.specs.Covering.{covering_probes, scan_probes, IsLookedInto};
 ghost use Rattle.gimli_lookup.specs.Probes.{binary_digits};
@@ -30,6 +31,14 @@ pub(crate) struct Found {
     pub(crate) sequence: usize,
     pub(crate) row: LineRow,
     pub(crate) next: LineRow,
+}
+
+/// What is found among the sequences whose addresses go down, from an address on, and up to where
+/// nothing changes among them; None where nothing does.
+#[derive(Clone, Copy, Debug)]
+pub(crate) struct Aside {
+    pub(crate) found: Option<Found>,
+    pub(crate) end: Option<u64>,
 }
 
 /// Which of some sequences is the first that covers an address. Sequences whose addresses go down
@@ -169,6 +178,44 @@ fn find_unordered(
     None
 }
 
+/// What is found at `a` among the sequences whose addresses go down. Each is read row by row.
+fn aside_at(indexes: &[usize], sequences: &[KeptRows], a: u64) -> Aside
+    requires indexes { indexes.now ≡ indexes_out_of_order 0 sequences.now }
+    requires count { sum_by length sequences.now < 2 ^ 64 }
+    ensures is { IsAside a sequences.now result }
+    ensures above { IfSome result.end (λ end. a < end) }
+{
+    let mut probes = 0;
+    let found = find_unordered(indexes, sequences, sequences.len(), a, &mut probes);
+    let end = next_unordered(indexes, sequences, a);
+    match found {
+        Some(pair) => Aside {
+            found: Some(pair),
+            end: nearer(end, Some(pair.next.address())),
+        },
+        None => Aside { found: None, end },
+    }
+}
+
+/// What is found at `a` among the sequences whose addresses go down and that stand before `end`, of
+/// what is found among all of them.
+fn found_before(sequences: &[KeptRows], a: u64, found: Option<Found>, end: usize) -> Option<Found>
+    requires found { IsUnorderedAt a (length sequences.now) sequences.now found }
+    requires end { end ≤ length sequences.now }
+    ensures { IsUnorderedAt a end sequences.now result }
+{
+    match found {
+        Some(pair) => {
+            if pair.sequence < end {
+                Some(pair)
+            } else {
+                None
+            }
+        }
+        None => None,
+    }
+}
+
 impl Index {
     /// An index of these sequences. Fails only with `OutOfMemory`.
     pub(crate) fn new(alloc: Global, sequences: &[KeptRows]) -> Result<Index>
@@ -214,25 +261,45 @@ impl Index {
         (Some(found), probes)
     }
 
+    /// What is found at `a` among the sequences whose addresses go down: what was found before,
+    /// where nothing changes up to `a`.
+    fn aside_from(&self, sequences: &[KeptRows], a: u64, aside: Aside) -> Aside
+        requires index { IsIndexOf self.now sequences.now }
+        requires aside { IsAside a sequences.now aside }
+        ensures is { IsAside a sequences.now result }
+        ensures above { IfSome result.end (λ end. a < end) }
+    {
+        match aside.end {
+            Some(end) => {
+                if a < end {
+                    aside
+                } else {
+                    aside_at(self.unordered.as_slice(), sequences, a)
+                }
+            }
+            None => aside,
+        }
+    }
+
     /// What `find` returns, without its probes. Requires the sequences that the index was made of,
-    /// and what the steps say at `a`.
+    /// what the steps say at `a`, and what is found among the sequences whose addresses go down.
     fn find_from(
         &self,
         sequences: &[KeptRows],
         a: u64,
         sequence: Option<usize>,
+        aside: Option<Found>,
         stand: &mut Stand,
     ) -> Option<Found>
         requires index { IsIndexOf self.now sequences.now }
         requires sequence { sequence ≡ step_at a self.now.steps.items }
+        requires aside { IsUnorderedAt a (length sequences.now) sequences.now aside }
         ensures { IsFoundIn a sequences.now result }
     {
-        let unordered = self.unordered.as_slice();
-        let mut probes = 0;
         let Some(sequence) = sequence else {
-            return find_unordered(unordered, sequences, sequences.len(), a, &mut probes);
+            return found_before(sequences, a, aside, sequences.len());
         };
-        if let Some(found) = find_unordered(unordered, sequences, sequence, a, &mut probes) {
+        if let Some(found) = found_before(sequences, a, aside, sequence) {
             return Some(found);
         }
         let Some((row, next)) = walk::find_from(&sequences[sequence], a, stand, sequence) else {
@@ -253,27 +320,34 @@ impl Index {
         sequences: &[KeptRows],
         a: u64,
         stand: &mut Stand,
+        aside: &mut Aside,
     ) -> (Option<Found>, Option<u64>)
-        requires { IsIndexOf self.now sequences.now }
+        requires index { IsIndexOf self.now sequences.now }
+        requires aside { IsAside a sequences.now aside.old }
         ensures above { IfSome result.1 (λ end. a < end) }
         ensures found { (b : ℕ) → a ≤ b → IsBefore b result.1 → IsFoundIn b sequences.now result.0 }
+        ensures aside { IsAside a sequences.now aside.new }
     {
         let steps = self.steps.as_slice();
         let count = steps_from(steps, a, stand.steps);
         stand.steps = count;
         let sequence = last_of_steps(steps, a, count);
-        let found = self.find_from(sequences, a, sequence, stand);
-        let end = self.end_after(sequences, a, count, &found);
+        let now = self.aside_from(sequences, a, *aside);
+        *aside = now;
+        let found = self.find_from(sequences, a, sequence, now.found, stand);
+        let end = self.end_after(sequences, a, count, now.end, &found);
         (found, end)
     }
 
     /// The address up to which what is found at `a` is found. Requires the sequences that the index
-    /// was made of, and the number of steps whose address is at most `a`.
+    /// was made of, the number of steps whose address is at most `a`, and up to where nothing
+    /// changes among the sequences whose addresses go down.
     fn end_after(
         &self,
         sequences: &[KeptRows],
         a: u64,
         count: usize,
+        unordered: Option<u64>,
         found: &Option<Found>,
     ) -> Option<u64>
         requires index { IsIndexOf self.now sequences.now }
@@ -281,13 +355,13 @@ impl Index {
             → (slice_index_or self.now.steps.items k d).from ≤ a }
         requires after { (k : ℕ) (d : Step) → count ≤ k → k < length self.now.steps.items
             → a < (slice_index_or self.now.steps.items k d).from }
+        requires above { IfSome unordered (λ end. a < end) }
+        requires clear { All (IsUnorderedClear a unordered) sequences.now }
         requires found { IsFoundIn a sequences.now found.now }
         ensures above { IfSome result (λ end. a < end) }
         ensures found { (b : ℕ) → a ≤ b → IsBefore b result → IsFoundIn b sequences.now found.now }
     {
-        let steps = self.steps.as_slice();
-        let unordered = next_unordered(self.unordered.as_slice(), sequences, a);
-        let end = nearer(next_step(steps, a, count), unordered);
+        let end = nearer(next_step(self.steps.as_slice(), a, count), unordered);
         match found {
             Some(found) => nearer(end, Some(found.next.address())),
             None => end,

@@ -3,6 +3,7 @@
 ghost use Rattle.std.specs.Prelude.{◌≡◌, ◌<◌, Some, None, IfSome, MatchOption};
 ghost use Rattle.gimli_lookup.specs.Ranges.{AreFoundIn};
 
+use crate::index::Aside;
 use crate::section_lookup::{CoveringRows, SectionLookup};
 use crate::walk::Stand;
 use gimli_core::{Reader, ReaderOffset};
@@ -44,10 +45,15 @@ pub struct Ranges<'a, R: Reader> {
     lookup: &'a SectionLookup<R>,
     from: Option<u64>,
     stand: Stand,
+    /// What was found last in the sequences whose addresses go down.
+    aside: Aside,
 }
 
 impl<'a, R: Reader> Model for Ranges<'a, R> {
+    ghost use Rattle.std.specs.Prelude.{IfSome};
     ghost use Rattle.gimli_lookup.specs.Ranges.{RangesLeft};
+    ghost use Rattle.gimli_lookup.specs.Section.{all_sequences};
+    ghost use Rattle.gimli_lookup.specs.inside.Ends.{IsAside};
 
     ghost Value = { RangesLeft };
 
@@ -55,11 +61,15 @@ impl<'a, R: Reader> Model for Ranges<'a, R> {
       units = a.lookup.now;
       from = a.from;
     } };
+
+    ghost invariant = { λ a. IfSome a.from
+        (λ from. IsAside from (all_sequences a.lookup.now) a.aside) };
 }
 
 impl<'a, R: Reader> Ranges<'a, R> {
-    /// The next range. None once all have been given. Where addresses go up in each sequence, all
-    /// ranges together look at each row and at each sequence a few times.
+    /// The next range. None once all have been given. All ranges together look at each row of the
+    /// sequences whose addresses never go down a few times, and search a sequence by halves where
+    /// another comes before. The others are read row by row, anew past each address of theirs.
     pub fn next_range(&mut self) -> Option<CoveredRange>
         ensures start { MatchOption result (self.old.from ≡ None)
             (λ range. self.old.from ≡ Some range.start) }
@@ -69,7 +79,9 @@ impl<'a, R: Reader> Ranges<'a, R> {
         ensures units { self.new.units ≡ self.old.units }
     {
         let start = self.from?;
-        let range = self.lookup.range_from(start, &mut self.stand);
+        let range = self
+            .lookup
+            .range_from(start, &mut self.stand, &mut self.aside);
         self.from = range.end;
         Some(range)
     }
@@ -88,6 +100,10 @@ impl<R: Reader> SectionLookup<R> {
             lookup: self,
             from: Some(0),
             stand: Stand::default(),
+            aside: Aside {
+                found: None,
+                end: Some(0),
+            },
         }
     }
 }

@@ -15,8 +15,9 @@ ghost use Rattle.gimli_lookup.specs.Ranges.{AreFoundIn};
 ghost use Rattle.gimli_lookup.specs.Section.{all_sequences, without_header, unit_without_header};
 ghost use Rattle.gimli_lookup.specs.Section.{AreAdjacent, IsFirstPairOfUnit, KeptUnit, ListedUnit};
 ghost use Rattle.gimli_lookup.specs.SectionUnits.{IsUnitOf};
+ghost use Rattle.gimli_lookup.specs.inside.Ends.{IsAside};
 
-use crate::index::Index;
+use crate::index::{Aside, Index};
 use crate::kept_rows::KeptRows;
 use crate::ranges::CoveredRange;
 use crate::section_unit::UnitLookup;
@@ -254,14 +255,16 @@ impl<R: Reader> SectionLookup<R> {
 
     /// What `find` returns at the address `a`, and up to where it returns the same. The search
     /// begins where a walk stands, which goes on to `a`.
-    pub(crate) fn range_from(&self, a: u64, stand: &mut Stand) -> CoveredRange
+    pub(crate) fn range_from(&self, a: u64, stand: &mut Stand, aside: &mut Aside) -> CoveredRange
+        requires { IsAside a (all_sequences self.now) aside.old }
+        ensures aside { IsAside a (all_sequences self.now) aside.new }
         ensures start { result.start ≡ a }
         ensures end { IfSome result.end (λ end. a < end) }
         ensures found { AreFoundIn self.now result }
     {
         let (found, end) = self
             .index
-            .find_with_end(self.sequences.as_slice(), a, stand);
+            .find_with_end(self.sequences.as_slice(), a, stand, aside);
         let rows = match found {
             None => None,
             Some(found) => {

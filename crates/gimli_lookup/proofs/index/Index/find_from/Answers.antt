@@ -9,21 +9,21 @@ use Rattle.gimli_lookup.proofs.index.Index.find_from.Goals as goal
 pub returns-in_default : goal.returns-in_default
 returns-in_default c =
     let said = sym c.in_default.is ∙ c.requires.sequence in
-    found_uncovered c.args.self.now c.args.sequences.now c.requires.index c.args.a said c.find_unordered.result c.find_unordered.ensures.found
+    found_uncovered c.args.self.now c.args.sequences.now c.requires.index c.args.a said c.found_before.result c.found_before.ensures
 
-pub find_unordered-requires-2-clause-end : goal.find_unordered-requires-2-clause-end
-find_unordered-requires-2-clause-end c =
+pub found_before-requires-2-clause-end : goal.found_before-requires-2-clause-end
+found_before-requires-2-clause-end c =
     let said = sym c.in-Some.is ∙ c.requires.sequence in
     omega (arith, covering_within c.args.self.now c.args.sequences.now c.requires.index c.args.a c.in-Some.sequence said)
 
-pub returns-in-Some-find_unordered : goal.returns-in-Some-find_unordered
-returns-in-Some-find_unordered c =
+pub returns-in-Some-found_before : goal.returns-in-Some-found_before
+returns-in-Some-found_before c =
     let index = c.args.self.now in
     let sequences = c.args.sequences.now in
     let said = sym c.in-Some.is ∙ c.requires.sequence in
-    let found = c.in-Some-find_unordered.found in
+    let found = c.in-Some-found_before.found in
     first_of_unordered c.args.a c.in-Some.sequence sequences found.sequence found.row found.next
-    (none_covers_before index sequences c.requires.index c.args.a c.in-Some.sequence said) c.in-Some-find_unordered.ensures.found
+    (none_covers_before index sequences c.requires.index c.args.a c.in-Some.sequence said) c.in-Some-found_before.ensures
 
 pub offset_bounds-sequences-sequence : goal.offset_bounds-sequences-sequence
 offset_bounds-sequences-sequence c =
@@ -80,4 +80,4 @@ returns c =
     let sequence = c.in-Some.sequence in
     first_of_covering c.args.a sequences sequence rows c.in-Some-find_from.row c.in-Some-find_from.next
     (covering_within index sequences c.requires.index c.args.a sequence said) c.index-sequences-sequence.is
-    (none_covers_before index sequences c.requires.index c.args.a sequence said) c.in_default-find_unordered.ensures.found c.in-Some-find_from.ensures
+    (none_covers_before index sequences c.requires.index c.args.a sequence said) c.in_default-found_before.ensures c.in-Some-find_from.ensures
