@@ -39,8 +39,8 @@ pub trait Sink {
     /// `write_at` under it.
     ghost fails_for_memory_alone: { Bool };
 
-    /// What a `write` or `write_at` of this type may refuse with, but for the bounds of a
-    /// `write_at`. Any other call hands such a refusal on as it is.
+    /// What calls of this type may refuse with, beside what is wanted and the bounds of a
+    /// `write_at`. A call with a body in `Writer` hands such a refusal on as it is.
     ghost refuses: { Error → Type 0 };
 
     /// Whether a writer of this type appends either all bytes of a `write` or none. Then each call
