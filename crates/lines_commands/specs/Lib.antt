@@ -4,5 +4,6 @@ pub mod Indexes
 pub mod KeptComponents
 pub mod LineQuestions
 pub mod Lines
+pub mod MadeIndexes
 pub mod WholePaths
 pub mod Words

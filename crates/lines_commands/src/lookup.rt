@@ -1,5 +1,8 @@
 //! The rows of all units of a section, for the commands that look among them.
 
+ghost use Rattle.std.specs.Prelude.{ℕ, All, IfSome};
+ghost use Rattle.lines_commands.specs.MadeIndexes.{AreUnitsIn, IsReadFrom, Knows};
+
 use crate::input::Input;
 use crate::output::Output;
 use crate::progress::{Printing, Progress};
@@ -34,7 +37,8 @@ impl<R: Reader> Covering<R> {
         }
     }
 
-    /// The rows that cover an address.
+    /// The rows that cover an address. Where a few addresses alone were looked for, None at any
+    /// other.
     pub(crate) fn find(&self, address: u64) -> Option<CoveringRows> {
         match self {
             Covering::Kept(lookup) => lookup.find(address),
@@ -51,7 +55,10 @@ pub(crate) fn look_up_any<R: Reader, O: Write, E: Write>(
     alloc: Global,
     input: &Input<R>,
     output: &mut Output<'_, O, E>,
-) -> Option<Covering<R>> {
+) -> Option<Covering<R>>
+    ensures read { IfSome result (IsReadFrom R.bytes R.big R.Offset.limit input.now) }
+    ensures any { IfSome result (λ covering. (a : ℕ) → Knows covering a) }
+{
     let lookup = look_up(alloc, input, output)?;
     Some(Covering::Kept(lookup))
 }
@@ -63,7 +70,10 @@ pub(crate) fn look_up_each<R: Reader, O: Write, E: Write>(
     input: &Input<R>,
     addresses: Vec<u64>,
     output: &mut Output<'_, O, E>,
-) -> Option<Covering<R>> {
+) -> Option<Covering<R>>
+    ensures read { IfSome result (IsReadFrom R.bytes R.big R.Offset.limit input.now) }
+    ensures each { IfSome result (λ covering. All (Knows covering) addresses.items) }
+{
     if addresses.len() > FEW {
         return look_up_any(alloc, input, output);
     }
@@ -89,7 +99,9 @@ pub(crate) fn look_up<R: Reader, O: Write, E: Write>(
     alloc: Global,
     input: &Input<R>,
     output: &mut Output<'_, O, E>,
-) -> Option<SectionLookup<R>> {
+) -> Option<SectionLookup<R>>
+    ensures { IfSome result (AreUnitsIn R.bytes R.big R.Offset.limit input.now) }
+{
     let mut progress = Progress::new(input.length(), output.screen(), Printing::Rare);
     progress.show_whole(output);
     let size = input.address_size.bytes();

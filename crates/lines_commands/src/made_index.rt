@@ -1,6 +1,7 @@
 //! The command `index`: the index of a program's lines, as bytes.
 
 ghost use Rattle.std.specs.Prelude.{◌≡◌, ◌≤◌, IfOk, IfSome};
+ghost use Rattle.lines_commands.specs.MadeIndexes.{IsMade};
 
 use crate::input::{Files, Input, Kind, NOT_LINKED};
 use crate::input_error::InputError;
@@ -127,7 +128,10 @@ fn index_of_input<R: Reader, O: Write, E: Write>(
     input: &Input<R>,
     identity: &[u8],
     output: &mut Output<'_, O, E>,
-) -> Option<Vec<u8>> {
+) -> Option<Vec<u8>>
+    ensures { IfSome result (λ made.
+        IsMade R.bytes R.big R.Offset.limit input.now identity.now made.items) }
+{
     let lookup = look_up(alloc, input, output)?;
     let sources = path_sources(alloc, input, output)?;
     let mut bytes = Vec::new(alloc);

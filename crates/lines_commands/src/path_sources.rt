@@ -4,7 +4,7 @@
 //! 3.1.1 and 6.2.4). In version 5 a header has it too, and where it is relative there, the paths go
 //! on from that of `.debug_info` (DWARF 5, the same sections).
 
-ghost use Rattle.std.specs.Prelude.{◌≡◌, ◌≢◌, Err, IfErr, IfOk, Ok, option_map};
+ghost use Rattle.std.specs.Prelude.{◌≡◌, ◌≢◌, Err, IfErr, IfOk, IfSome, Ok, option_map};
 ghost use Rattle.gimli_compilation.specs.Directories.{TellsDirectories, directory_for};
 ghost use Rattle.gimli_compilation.specs.Sections.{sections_of};
 ghost use Rattle.gimli_core.specs.declared.error.Error.{Error};
@@ -39,7 +39,12 @@ pub(crate) fn path_sources<R: Reader, O: Write, E: Write>(
     alloc: Global,
     input: &Input<R>,
     output: &mut Output<'_, O, E>,
-) -> Option<PathSources<R>> {
+) -> Option<PathSources<R>>
+    ensures directories { IfSome result (λ sources.
+        TellsDirectories (sections_of R.bytes R.big R.Offset.limit input.now.compilations)
+        (λ line. option_map R.bytes (directory_for sources.compilations line))) }
+    ensures strings { IfSome result (λ sources. sources.strings ≡ input.now.strings) }
+{
     match PathSources::new(alloc, input) {
         Ok(sources) => Some(sources),
         Err(_) => {
@@ -74,12 +79,16 @@ impl<R: Reader> PathSources<R> {
     }
 
     /// The sections of texts.
-    pub(crate) fn strings(&self) -> &StringSections<R> {
+    pub(crate) fn strings(&self) -> &StringSections<R>
+        ensures { result.now ≡ self.now.strings }
+    {
         &self.strings
     }
 
     /// The directories of compilations.
-    pub(crate) fn compilations(&self) -> &Compilations<R> {
+    pub(crate) fn compilations(&self) -> &Compilations<R>
+        ensures { result.now ≡ self.now.compilations }
+    {
         &self.compilations
     }
 

@@ -1,16 +1,33 @@
 //! The program `lines`, as a command of a row.
 
+use crate::indexes::{RowFiles, run_with_index, words_of_program};
 use crate::run::print_errors;
 use clap::Error;
-use lines_commands::{Files, Request, Screen, SymbolFiles, UnitFiles, run, run_diff};
+use lines_commands::{
+    Files, Request, Screen, SourceFiles, SymbolFiles, UnitFiles, run_diff, run_on,
+};
 use rows_reading::Stop;
-use std::alloc::Global;
+use std::alloc::{AllocError, Global};
 use std::io;
 use std::io::Write;
 
+/// The source file of a row, whatever its path; None where none is named.
+#[derive(Clone, Copy)]
+struct RowSource<'n>(Option<&'n [u8]>);
+
+impl SourceFiles for RowSource<'_> {
+    fn source(&self, alloc: Global, _path: &[u8]) -> Result<Option<Vec<u8>>, AllocError> {
+        match self.0 {
+            Some(bytes) => Ok(Some(Vec::from_slice(alloc, bytes)?)),
+            None => Ok(None),
+        }
+    }
+}
+
 /// Runs the program `lines`, by its words, of which the first is its name. Its file is the input of
-/// the row, and a file of texts is a part that a word names by `@`. Standard input is empty.
-/// Returns the status of the program.
+/// the row, and a file of texts or of source is a part that a word names by `@`. Standard input is
+/// empty; where its lines name what they ask, it is the input of the row. Returns the status of the
+/// program.
 pub fn run_lines<'r>(
     alloc: Global,
     words: &[&str],
@@ -19,7 +36,8 @@ pub fn run_lines<'r>(
     out: &mut Vec<u8>,
 ) -> Result<u8, Stop> {
     let mut err = Vec::new(alloc);
-    let status = match lines_commands::parse(alloc, &*words) {
+    let own = words_of_program(alloc, words)?;
+    let status = match lines_commands::parse(alloc, &own) {
         Ok(request) => {
             let files = Files {
                 file: section,
@@ -32,7 +50,17 @@ pub fn run_lines<'r>(
                 Some(new) => Some(part_of(words, named, Some(new))),
                 None => None,
             };
-            match perform(alloc, &request, files, new, out, &mut err) {
+            let source = match request.source {
+                Some(name) => Some(part_of(words, named, Some(name))),
+                None => None,
+            };
+            let row = RowFiles {
+                alloc,
+                words,
+                input: files,
+                named,
+            };
+            match perform(row, &request, RowSource(source), new, out, &mut err) {
                 Ok(status) => status,
                 Err(_) => return Err(Stop::Memory),
             }
@@ -52,16 +80,25 @@ pub fn run_lines<'r>(
 
 /// Does what a request asks for; a command over two files takes the bytes of the new one.
 fn perform(
-    alloc: Global,
+    row: RowFiles<'_>,
     request: &Request<'_>,
-    files: Files<'_>,
+    source: RowSource<'_>,
     new: Option<&[u8]>,
     out: &mut Vec<u8>,
     err: &mut Vec<u8>,
 ) -> io::Result<u8> {
+    let RowFiles {
+        alloc,
+        input: files,
+        ..
+    } = row;
+    if let Some(status) = run_with_index(row, request, out, err)? {
+        return Ok(status);
+    }
     let Some(file) = new else {
         let mut input: &[u8] = &[];
-        return run(alloc, request, files, &mut input, out, err);
+        let screen = Screen::none();
+        return run_on(alloc, screen, request, files, &source, &mut input, out, err);
     };
     let new = Files { file, ..files };
     run_diff(
@@ -86,7 +123,7 @@ fn print(alloc: Global, error: &Error, out: &mut Vec<u8>) -> Result<(), Stop> {
 }
 
 /// The part that a word names: parts stand in the order of the words that name them.
-fn part_of<'n>(words: &[&str], named: &'n [Vec<u8>], name: Option<&str>) -> &'n [u8] {
+pub(crate) fn part_of<'n>(words: &[&str], named: &'n [Vec<u8>], name: Option<&str>) -> &'n [u8] {
     let Some(name) = name else {
         return &[];
     };

@@ -28,6 +28,7 @@ mod again;
 mod check;
 mod comparison;
 mod files;
+mod indexes;
 mod lines;
 mod parts;
 mod rows;

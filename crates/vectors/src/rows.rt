@@ -195,7 +195,11 @@ fn input_of(alloc: Global, parts: &Parts<'_>, words: &str, text: &str) -> Result
         return Ok(Input::Script(String::from_str(alloc, text)?));
     }
     let order = order_of(words);
-    let section = parts.expand(alloc, text, order)?;
+    let section = if reads_lines(words) {
+        Vec::from_slice(alloc, text.as_bytes())?
+    } else {
+        parts.expand(alloc, text, order)?
+    };
     Ok(Input::Section(section, named_parts(alloc, parts, words, order)?))
 }
 
@@ -243,6 +247,12 @@ fn takes_script(words: &str) -> bool {
         Some(word) => matches!(word, "write" | "read" | "bytes" | "pieces"),
         None => false,
     }
+}
+
+/// Whether the input of the command with these words is the text of standard input.
+fn reads_lines(words: &str) -> bool {
+    let mut words = words.split_whitespace();
+    words.next() == Some("lines") && words.any(|word| word == "--maps" || word == "--files")
 }
 
 /// The order of bytes that the word after a command names, or any word of `lines`; little if none.
