@@ -7,6 +7,7 @@
 #![tactic(auto)]
 
 mod debug_paths;
+mod directories;
 mod find;
 mod missing;
 mod outline;

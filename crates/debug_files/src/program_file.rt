@@ -3,6 +3,7 @@
 ghost use Rattle.std.specs.Prelude.{◌≡◌, IfOk, MatchOption, Ok, None, codes};
 ghost use Rattle.debug_files.specs.Outlines.{section_in, Holds};
 
+use crate::directories::need_units;
 use crate::missing::Missing;
 use crate::outline::{Outline, checksum, whole};
 use crate::source::{PathSections, Source, Wanted};
@@ -61,7 +62,7 @@ impl<F: Read + Seek> ProgramFile<F> {
         };
         let paths = match wanted {
             Wanted::Lines => PathSections::none(alloc),
-            _ => self.path_sections(alloc)?,
+            _ => self.path_sections(alloc, &lines)?,
         };
         let (symbols, symbol_names) = match wanted {
             Wanted::Symbols => self.symbol_sections(alloc)?,
@@ -80,11 +81,19 @@ impl<F: Read + Seek> ProgramFile<F> {
         }))
     }
 
-    /// The sections that whole paths need.
-    fn path_sections(&mut self, alloc: Global) -> Result<PathSections, Missing> {
+    /// The sections that whole paths need, beside the line programs.
+    fn path_sections(&mut self, alloc: Global, lines: &[u8]) -> Result<PathSections, Missing> {
+        let line_str = self.texts(alloc, b".debug_line_str")?;
+        let strings = self.texts(alloc, b".debug_str")?;
+        let sections = self.outline.sections()?;
+        let is_big_endian = sections.is_big_endian();
+        let is_64_bit = sections.address_size() == 8;
+        if !need_units(alloc, lines, &line_str, is_big_endian, is_64_bit) {
+            return Ok(PathSections::of_texts(alloc, line_str, strings));
+        }
         Ok(PathSections {
-            line_str: self.texts(alloc, b".debug_line_str")?,
-            strings: self.texts(alloc, b".debug_str")?,
+            line_str,
+            strings,
             info: self.readable(alloc, b".debug_info")?,
             abbreviations: self.readable(alloc, b".debug_abbrev")?,
             string_offsets: self.readable(alloc, b".debug_str_offsets")?,

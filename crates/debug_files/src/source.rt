@@ -67,7 +67,9 @@ pub struct Source {
     pub symbol_names: Vec<u8>,
 }
 
-/// The sections that whole paths need; no bytes where there is none.
+/// The sections that whole paths need; no bytes where there is none. Those of units aren't read
+/// where each line program is of version 5 or later and has the directory of its compilation itself
+/// (directory 0, from the root): whole paths don't go on from theirs then.
 ///
 /// <!-- part of crates/lines/src/inputs.rt -->
 /// ```rust
@@ -94,9 +96,14 @@ pub struct PathSections {
 impl PathSections {
     /// No bytes.
     pub(crate) fn none(alloc: Global) -> PathSections {
+        PathSections::of_texts(alloc, Vec::new(alloc), Vec::new(alloc))
+    }
+
+    /// Texts alone.
+    pub(crate) fn of_texts(alloc: Global, line_str: Vec<u8>, strings: Vec<u8>) -> PathSections {
         PathSections {
-            line_str: Vec::new(alloc),
-            strings: Vec::new(alloc),
+            line_str,
+            strings,
             info: Vec::new(alloc),
             abbreviations: Vec::new(alloc),
             string_offsets: Vec::new(alloc),

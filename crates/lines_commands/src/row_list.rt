@@ -144,6 +144,12 @@ fn print_text<O: Write, E: Write>(row: &LineRow, path: &str, output: &mut Output
     let discriminator = row.discriminator();
     let isa = row.isa();
     let flags = FlagLetters(*row);
+    if discriminator == 0 && isa == 0 {
+        // As most rows have them: two numbers less to be written.
+        return output.print(format_args!(
+            "0x{address:016x}  {line:>7}  {column:>6}      0    0  {flags}  {path}"
+        ));
+    }
     output.print(format_args!(
         "0x{address:016x}  {line:>7}  {column:>6}  {discriminator:>5}  {isa:>3}  {flags}  {path}"
     ));
