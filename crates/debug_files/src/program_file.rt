@@ -62,7 +62,7 @@ impl<F: Read + Seek> ProgramFile<F> {
         };
         let paths = match wanted {
             Wanted::Lines => PathSections::none(alloc),
-            _ => self.path_sections(alloc, &lines)?,
+            _ => self.path_sections(alloc, &lines, wanted)?,
         };
         let (symbols, symbol_names) = match wanted {
             Wanted::Symbols => self.symbol_sections(alloc)?,
@@ -81,14 +81,21 @@ impl<F: Read + Seek> ProgramFile<F> {
         }))
     }
 
-    /// The sections that whole paths need, beside the line programs.
-    fn path_sections(&mut self, alloc: Global, lines: &[u8]) -> Result<PathSections, Missing> {
+    /// The texts of line programs, and where whole paths are wanted and need them, the sections of
+    /// units.
+    fn path_sections(
+        &mut self,
+        alloc: Global,
+        lines: &[u8],
+        wanted: Wanted,
+    ) -> Result<PathSections, Missing> {
         let line_str = self.texts(alloc, b".debug_line_str")?;
         let strings = self.texts(alloc, b".debug_str")?;
         let sections = self.outline.sections()?;
         let is_big_endian = sections.is_big_endian();
         let is_64_bit = sections.address_size() == 8;
-        if !need_units(alloc, lines, &line_str, is_big_endian, is_64_bit) {
+        let are_named = wanted == Wanted::Names;
+        if are_named || !need_units(alloc, lines, &line_str, is_big_endian, is_64_bit) {
             return Ok(PathSections::of_texts(alloc, line_str, strings));
         }
         Ok(PathSections {

@@ -8,8 +8,10 @@ use std::alloc::Global;
 /// ```rust
 /// let wanted = if request.command.prints_functions() {
 ///     Wanted::Symbols
-/// } else if request.command.prints_paths() {
+/// } else if request.command.prints_whole_paths() {
 ///     Wanted::Paths
+/// } else if request.command.prints_paths() {
+///     Wanted::Names
 /// } else {
 ///     Wanted::Lines
 /// };
@@ -18,6 +20,8 @@ use std::alloc::Global;
 pub enum Wanted {
     /// The line programs alone.
     Lines,
+    /// The texts of directories and files, too.
+    Names,
     /// Those that whole paths need, too.
     Paths,
     /// Those that whole paths and the names of code need, too.

@@ -71,8 +71,10 @@ impl Inputs {
 fn sections_of(rt: &HostRuntime, request: &Request<'_>, name: &str) -> io::Result<Option<Found>> {
     let wanted = if request.command.prints_functions() {
         Wanted::Symbols
-    } else if request.command.prints_paths() {
+    } else if request.command.prints_whole_paths() {
         Wanted::Paths
+    } else if request.command.prints_paths() {
+        Wanted::Names
     } else {
         Wanted::Lines
     };

@@ -15,7 +15,7 @@ use crate::locate::{print_places, print_places_in_sections};
 use crate::output::Output;
 use crate::program::Program;
 use crate::report::Verdict;
-use crate::request::{Command, Request};
+use crate::request::{Command, Form, Request};
 use crate::screen::Screen;
 use crate::source::print_source;
 use crate::source_file::{NoSources, SourceFiles};
@@ -150,9 +150,18 @@ fn program_of<'i, O: Write, E: Write>(
 }
 
 impl<'w> Command<'w> {
-    /// Whether paths are printed: the texts and the sections of units are read for these alone.
+    /// Whether paths are printed: the texts are read for these alone.
     pub fn prints_paths(&self) -> bool {
         !matches!(self, Command::Units { .. } | Command::Ask { .. })
+    }
+
+    /// Whether whole paths are printed: the sections of units are read for these alone. The command
+    /// `rows` prints the last part of each for people.
+    pub fn prints_whole_paths(&self) -> bool {
+        match self {
+            Command::Rows { form, .. } => *form != Form::Text,
+            _ => self.prints_paths(),
+        }
     }
 
     /// The new file of the command `diff`.
