@@ -96,6 +96,7 @@ impl StartSize {
 
 impl Header {
     /// The header that bytes begin with.
+    #[inline(always)]
     pub(crate) fn parse(bytes: &[u8]) -> Result<Header, IndexError>
         ensures header { result ≡ header_at bytes.now }
         ensures low { IfOk result (λ header. header.base ≤ highest_base header.start_size) }
@@ -113,6 +114,7 @@ impl Header {
     }
 
     /// The fields after the version.
+    #[inline(always)]
     fn fields(bytes: &[u8]) -> Result<Header, IndexError>
         requires { 40 ≤ length bytes.now }
         ensures fields { result ≡ fields_at bytes.now }

@@ -106,6 +106,7 @@ impl<'a> LineIndex<'a> {
     /// (`Version`), a size of addresses or starts that can't be (`AddressSize`, `StartSize`), a
     /// base that is too high for addresses of 64 bits (`Base`), and an index that ends before its
     /// header or its parts do (`HeaderCut`, `Cut`). Bytes after the index aren't looked at.
+    #[inline(always)]
     pub fn open(bytes: &'a [u8]) -> Result<LineIndex<'a>, IndexError>
         ensures index { result_map index_of result ≡ index_at bytes.now }
         ensures stands { IfOk result (λ index. StandsIn bytes.now (index_of index)) }
@@ -115,6 +116,7 @@ impl<'a> LineIndex<'a> {
     }
 
     /// The index of a header.
+    #[inline(always)]
     fn parts(bytes: &'a [u8], header: Header) -> Result<LineIndex<'a>, IndexError>
         requires { header.base ≤ highest_base header.start_size }
         ensures index { result_map index_of result ≡ parts_at bytes.now header }

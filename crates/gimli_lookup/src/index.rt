@@ -233,6 +233,7 @@ impl Index {
     /// The first rows that cover `a` of the first of these sequences that has some, with its index;
     /// None where no sequence has any. And the number of probes: of stored addresses that were
     /// looked at, of steps and of rows. Requires the sequences that the index was made of.
+    #[inline(always)]
     pub(crate) fn find(&self, sequences: &[KeptRows], a: u64) -> (Option<Found>, u64)
         requires { IsIndexOf self.now sequences.now }
         ensures found { MatchOption result.0 (All (HasNoPair a) sequences.now)

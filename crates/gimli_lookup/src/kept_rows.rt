@@ -88,6 +88,7 @@ impl KeptRows {
     }
 
     /// The row before an index, and the one at it. Requires an index of a row that isn't the first.
+    #[inline(always)]
     pub(crate) fn pair(&self, index: usize) -> (LineRow, LineRow)
         requires first { 0 < index }
         requires index { index < length self.now }

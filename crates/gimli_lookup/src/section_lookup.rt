@@ -216,6 +216,7 @@ impl<R: Reader> SectionLookup<R> {
     /// The rows that cover the address `a`, with their unit: the first adjacent rows of one part of
     /// a sequence of which the first has an address at most `a`, and the second one above it, in
     /// the order of units and of their sequences. None where there are none. Takes no memory.
+    #[inline(always)]
     pub fn find(&self, a: u64) -> Option<CoveringRows>
         ensures pair { MatchOption result (All (HasNoPair a) (all_sequences self.now))
             (λ found. IsFirstPair a (all_sequences self.now) found.row found.next) }
@@ -229,6 +230,7 @@ impl<R: Reader> SectionLookup<R> {
     /// looked at. Of the sequences whose addresses never go down, the one that covers the address
     /// is found by halves, however many there are, and then its rows by halves; the others are
     /// searched row by row.
+    #[inline(always)]
     pub fn find_counted(&self, a: u64) -> (Option<CoveringRows>, u64)
         ensures pair { MatchOption result.0 (All (HasNoPair a) (all_sequences self.now))
             (λ found. IsFirstPair a (all_sequences self.now) found.row found.next) }

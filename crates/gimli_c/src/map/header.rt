@@ -45,6 +45,7 @@ fn map_status(error: IndexError) -> u32
 }
 
 /// The map that bytes begin with, or the number of a refusal.
+#[inline(always)]
 pub(crate) fn map_in(map: &[u8]) -> Result<LineIndex<'_>, u32>
     ensures map { IfOk result (λ i. IsMap map.now (index_of i)) }
     ensures stands { IfOk result (λ i. StandsIn map.now (index_of i)) }
