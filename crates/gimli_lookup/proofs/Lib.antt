@@ -35,3 +35,4 @@ pub mod NearerEnds
 pub mod Asides
 pub mod ComponentLists
 pub mod FileMarks
+pub mod RowCounts

@@ -71,7 +71,7 @@ past_handed : (handed : Option File) (files : List File) (i : ℕ) → length fi
 past_handed handed files zero past = absurd (omega arith)
 past_handed handed files (suc i) past = slice_get_past files i (omega arith)
 
-past_entries : (up_to_4 : Bool) (handed : Option File) (files : List File) (i : ℕ) → length files < i
+pub past_entries : (up_to_4 : Bool) (handed : Option File) (files : List File) (i : ℕ) → length files < i
     → (if up_to_4 then from_one handed files i else slice_get files i) ≡ None
 past_entries true handed files i past = past_handed handed files i past
 past_entries false handed files i past = slice_get_past files i (omega arith)

@@ -1,12 +1,13 @@
 -- The addresses of a line, row by row.
-use Rattle.std.proofs.Common.{◌≡◌, ◌≢◌, ℕ, Bool, true, false, nat_eq, not, ◌&&◌, ◌||◌, if◌then◌else◌, List, [], ◌∷◌, ◌++◌, drop, Option, Some, None, refl, sym}
-use Rattle.std.proofs.Common.{ap, ◌∙◌, append_assoc}
+use Rattle.std.proofs.Common.{◌≡◌, ◌≢◌, ℕ, Bool, true, false, cond, nat_eq, nat_lt, not, ◌&&◌, ◌||◌, if◌then◌else◌, List, [], ◌∷◌, ◌++◌, drop, Option, Some, None, refl, sym}
+use Rattle.std.proofs.Common.{ap, subst, ◌∙◌, append_assoc}
 use Rattle.std.specs.Prelude.{flat_map}
 use Rattle.std.proofs.Math.Path.{fun_ext}
 use Rattle.std.specs.List.{onto_first}
-use Rattle.std.proofs.lemmas.Bool.{false≢true}
+use Rattle.std.proofs.lemmas.Bool.{false≢true, eq-eqb}
 use Rattle.std.proofs.lemmas.List.Splits.{slice_split-cons_yes, slice_split-cons_no}
 use Rattle.gimli_line.specs.declared.run.row.LineRow.{LineRow}
+use Rattle.gimli_lookup.specs.RowFiles.{has_file, have_file}
 use Rattle.gimli_lookup.specs.Statements.{is_of_line, runs, first_statement, addresses_in, addresses_of, IsFirstLine, AreAddressesFrom}
 use Rattle.gimli_lookup.specs.inside.Statements.{is_among}
 use Rattle.gimli_lookup.specs.inside.StatementLines.{has_statement, have_statement, IsFirstWith}
@@ -152,3 +153,55 @@ or_nothing false = refl
 -- among one number is that number alone
 pub among_one : (n : ℕ) → is_among (n ∷ []) ≡ nat_eq n
 among_one n = fun_ext (λ k. or_nothing (nat_eq n k))
+
+-- ---- no file
+
+fails_last : (a b c : Bool) → (a && b && c && false) ≡ false
+fails_last true true true = refl
+fails_last true true false = refl
+fails_last true false c = refl
+fails_last false b c = refl
+
+-- no row is of a line of no file
+no_statement : (line : ℕ) (rows : List LineRow) → has_statement (λ n. false) line rows ≡ false
+no_statement line [] = refl
+no_statement line (r ∷ rows) =
+    ap (λ b. (b && r.is_stmt) || has_statement (λ n. false) line rows) (fails_last (not r.end_sequence) (nat_lt 0 r.line) (nat_eq r.line line))
+    ∙ no_statement line rows
+
+no_statements : (line : ℕ) (sequences : List (List LineRow)) → have_statement (λ n. false) line sequences ≡ false
+no_statements line [] = refl
+no_statements line (rows ∷ sequences) =
+    ap (λ b. b || have_statement (λ n. false) line sequences) (no_statement line rows) ∙ no_statements line sequences
+
+-- no file has an address
+pub no_files : (files : List ℕ) (sequences : List (List LineRow)) (asked : ℕ) → files ≡ []
+    → AreAddressesFrom (addresses_of (is_among files) sequences) asked None
+no_files files sequences asked none =
+    subst (λ (fs : List ℕ). AreAddressesFrom (addresses_of (is_among fs) sequences) asked None) (sym none)
+    (λ l from. none_in (λ n. false) l sequences (no_statements l sequences))
+
+-- ---- files without rows
+
+or_true : (b : Bool) → (b || true) ≡ true
+or_true true = refl
+or_true false = refl
+
+-- two tests that agree on the files of rows give the same runs
+same_runs : (f g : ℕ → Bool) (line : ℕ) (rows : List LineRow) → ((n : ℕ) → has_file rows n ≡ true → f n ≡ g n) → runs f line rows ≡ runs g line rows
+same_runs f g line [] same = refl
+same_runs f g line (r ∷ rows) same =
+    ap (λ b. cond (not (not r.end_sequence && nat_lt 0 r.line && nat_eq r.line line && b)) ([] ∷ runs f line rows) (onto_first r (runs f line rows)))
+    (same r.file (ap (λ b. b || has_file rows r.file) (eq-eqb r.file r.file refl)))
+    ∙ ap (λ parts. cond (not (is_of_line g line r)) ([] ∷ parts) (onto_first r parts))
+    (same_runs f g line rows (λ n there. same n (ap (λ b. nat_eq r.file n || b) there ∙ or_true (nat_eq r.file n))))
+
+-- two tests that agree on the files that rows have give the same addresses
+pub same_addresses : (f g : ℕ → Bool) (sequences : List (List LineRow)) (line : ℕ) → ((n : ℕ) → have_file sequences n ≡ true → f n ≡ g n)
+    → addresses_of f sequences line ≡ addresses_of g sequences line
+same_addresses f g [] line same = refl
+same_addresses f g (rows ∷ sequences) line same =
+    ap (λ parts. flat_map first_statement parts ++ addresses_of f sequences line)
+    (same_runs f g line rows (λ n there. same n (ap (λ b. b || have_file sequences n) there)))
+    ∙ ap (λ xs. addresses_in g line rows ++ xs)
+    (same_addresses f g sequences line (λ n there. same n (ap (λ b. has_file rows n || b) there ∙ or_true (has_file rows n))))

@@ -17,6 +17,7 @@ mod path_error;
 mod path_files;
 mod paths;
 mod ranges;
+mod row_counts;
 mod row_files;
 mod run;
 mod search;

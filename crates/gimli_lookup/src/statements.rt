@@ -150,7 +150,7 @@ pub(crate) fn first_line_of(sequences: &[KeptRows], files: &[u64], asked: u64) -
 }
 
 /// The addresses of the first line from the asked one on that has any in sequences. None where no
-/// line has any. Fails only with `OutOfMemory`.
+/// line has any; where there are no files, no row is looked at. Fails only with `OutOfMemory`.
 pub(crate) fn addresses_from(
     alloc: Global,
     sequences: &[KeptRows],
@@ -161,6 +161,9 @@ pub(crate) fn addresses_from(
         (AreAddressesFrom (addresses_of (is_among files.now) sequences.now) asked) }
     ensures err { IfErr result (λ e. e ≡ Error.OutOfMemory) }
 {
+    if files.is_empty() {
+        return Ok(None);
+    }
     let Some(line) = first_line_of(sequences, files, asked) else {
         return Ok(None);
     };
