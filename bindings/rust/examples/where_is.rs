@@ -39,7 +39,7 @@ fn main() -> Result<(), Box<dyn Error>> {
             continue;
         };
         let directory = match index.unit(place.unit) {
-            Some((offset, _)) => compilations.comp_dir(offset)?.unwrap_or_default(),
+            Some(unit) => compilations.comp_dir(unit.offset)?.unwrap_or_default(),
             None => Vec::new(),
         };
         let path = index.path(place.unit, place.row.file_index(), &directory)?;

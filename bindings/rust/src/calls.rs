@@ -92,6 +92,11 @@ pub struct Place {
 #[derive(Clone, Copy, Debug, Default)]
 pub struct IndexUnit {
     pub offset: u64,
+    pub rows: u64,
+    pub directories: u64,
+    pub files: u64,
+    pub version: u32,
+    pub first_file: u32,
     pub fault: u32,
 }
 

@@ -30,6 +30,39 @@ impl Place {
     }
 }
 
+/// A unit of an index. What its header says is 0 where it was refused.
+#[derive(Clone, Copy, Debug, PartialEq, Eq)]
+pub struct IndexUnit {
+    /// Its offset in the section.
+    pub offset: u64,
+    /// How many rows the index keeps of it: those of sequences that end before its first fault, but for those that are left out.
+    pub rows: u64,
+    /// How many directories its table has.
+    pub directories: u64,
+    /// How many files its table has, those that its program defines before its first fault included.
+    pub files: u64,
+    /// Its version, from 2 to 5.
+    pub version: u32,
+    /// The number of its first file, and of its first directory: 1 up to version 4, 0 in version 5.
+    pub first_file: u32,
+    /// Why it can't be read, or the first fault of its program.
+    pub fault: Option<Error>,
+}
+
+impl IndexUnit {
+    fn new(unit: &calls::IndexUnit) -> IndexUnit {
+        IndexUnit {
+            offset: unit.offset,
+            rows: unit.rows,
+            directories: unit.directories,
+            files: unit.files,
+            version: unit.version,
+            first_file: unit.first_file,
+            fault: Error::fault(unit.fault),
+        }
+    }
+}
+
 /// The addresses for a breakpoint.
 #[derive(Clone, Debug, PartialEq, Eq)]
 pub struct Addresses {
@@ -169,11 +202,11 @@ impl Index {
         count as u64
     }
 
-    /// The offset of a unit, and why it can't be read, or the first fault of its program.
-    pub fn unit(&self, unit: u64) -> Option<(u64, Option<Error>)> {
+    /// What the index has of a unit; None where there is no such unit. Nothing is read anew.
+    pub fn unit(&self, unit: u64) -> Option<IndexUnit> {
         let mut found = calls::IndexUnit::default();
         let status = unsafe { call!(gimli_line_index_unit(&mut *self.handle.borrow_mut(), unit, &mut found)) };
-        (status == 0).then(|| (found.offset, Error::fault(found.fault)))
+        (status == 0).then(|| IndexUnit::new(&found))
     }
 
     /// The file of a number of a unit, as rows have it. The header is read for each call.
@@ -231,8 +264,9 @@ impl Index {
         })
     }
 
-    /// The same at a line of a path, over all units: of the files that have this whole path, without the directory of the
-    /// compilation up to version 4. The programs of all units are run for each call. None where no line from it on has code.
+    /// The same over all units, at a line of the files that a path names: by the last components of their whole paths
+    /// (`stl_map.h`, `bits/stl_map.h`), as the index keeps them; one from the root is a whole one. `.` and `..` are resolved by
+    /// text. No program is run. None where no line from it on has code.
     ///
     /// # Errors
     ///

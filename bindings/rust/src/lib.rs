@@ -24,7 +24,7 @@ mod write;
 pub use compilation::CompilationSections;
 pub use error::Error;
 pub use file::{File, Text};
-pub use index::{Addresses, Index, Place};
+pub use index::{Addresses, Index, IndexUnit, Place};
 pub use map::{Map, MapPlace, NoPath};
 pub use row::{ColumnType, LineRow, Unit, Units};
 pub use rows::Rows;

@@ -118,7 +118,7 @@ fn places_are_those_of_addr2line() {
         for address in addresses {
             let place = index.find(address).expect("a row covers it");
             assert!(place.row.address() <= address && address < place.end);
-            let (offset, _) = index.unit(place.unit).expect("there is such a unit");
+            let offset = index.unit(place.unit).expect("there is such a unit").offset;
             let comp_dir = built.compilations().comp_dir(offset).expect("there is memory");
             let comp_dir = comp_dir.expect("the unit has one");
             let path = index
@@ -142,7 +142,7 @@ fn paths_that_are_kept_are_those_of_addr2line() {
             let path = String::from_utf8(path).expect("the path is text");
             let line = place.row.line().map_or(0, |line| line.get());
             assert_eq!(format!("{path}:{line}"), built.addr2line(address));
-            let (offset, _) = index.unit(place.unit).expect("there is such a unit");
+            let offset = index.unit(place.unit).expect("there is such a unit").offset;
             assert_eq!(index.comp_dir(place.unit), compilations.comp_dir(offset));
         }
         assert_eq!(index.comp_dir(u64::MAX), Err(Error::NO_SUCH_UNIT));
@@ -162,10 +162,11 @@ fn no_unit_has_another_line_program() {
 fn a_unit_that_is_cut_has_no_directory() {
     for built in built() {
         let first = u32::from_le_bytes(built.info[..4].try_into().expect("it has four bytes"));
-        let (line, _) = Index::open(&built.sections(), 0)
+        let line = Index::open(&built.sections(), 0)
             .expect("the index is made")
             .unit(0)
-            .expect("there is a unit");
+            .expect("there is a unit")
+            .offset;
         let whole = built.compilations();
         assert!(whole.comp_dir(line).expect("there is memory").is_some());
         for length in 0..4 + first as usize {
@@ -311,7 +312,13 @@ fn units_are_those_of_the_section() {
         let units: Vec<_> = built.sections().units().map(|unit| unit.expect("the unit is read")).collect();
         assert_eq!(index.unit_count(), units.len() as u64);
         for (place, unit) in units.iter().enumerate() {
-            assert_eq!(index.unit(place as u64), Some((unit.offset as u64, None)));
+            let (place, found) = (place as u64, index.unit(place as u64).expect("there is such a unit"));
+            assert_eq!((found.offset, found.version, found.fault), (unit.offset as u64, unit.version, None));
+            assert_eq!((found.rows, found.first_file), (unit.rows().count() as u64, u32::from(unit.version <= 4)));
+            let first = u64::from(found.first_file);
+            assert!(index.file(place, first + found.files - 1).is_ok() && index.directory(place, first + found.directories - 1).is_ok());
+            assert_eq!(index.file(place, first + found.files), Err(Error::NO_SUCH_FILE));
+            assert_eq!(index.directory(place, first + found.directories), Err(Error::NO_SUCH_DIRECTORY));
         }
         assert_eq!(index.unit(units.len() as u64), None);
     }
@@ -341,6 +348,11 @@ fn addresses_of_a_line_have_that_line() {
         let all = index.addresses_of(&path, line).expect("memory is there").expect("it has code");
         assert_eq!(all.line, one.line);
         assert!(one.addresses.iter().all(|address| all.addresses.contains(address)));
+        let name = path.rsplit(|byte| *byte == b'/').next().expect("there is a last component");
+        let named = index.addresses_of(name, line).expect("memory is there").expect("it has code");
+        assert_eq!(named, all);
+        assert_eq!(index.addresses_of(&[b"./x/../", name].concat(), line), Ok(Some(named)));
+        assert_eq!(index.addresses_of(&[b"x/", name].concat(), line), Ok(None));
         assert_eq!(index.addresses_of(b"no such file", 1), Ok(None));
     }
 }

@@ -586,15 +586,21 @@ uint32_t gimli_line_index_comp_dir(gimli_line_index *index, uint64_t unit, uint8
 /* Tells how many units an index has. GIMLI_CLOSED where the handle is; then nothing is written. */
 uint32_t gimli_line_index_unit_count(gimli_line_index *index, size_t *count) GIMLI_CALL;
 
-/* A unit of an index. */
+/* A unit of an index. What its header says is 0 where it was refused. */
 typedef struct gimli_index_unit {
-    uint64_t offset; /* in the section: DW_AT_stmt_list of its compilation unit, which has its DW_AT_comp_dir too */
-    uint32_t fault;  /* why it can't be read, or the number of its program's first fault; 0 where it has none. Only a unit that
-                      * can be read is opened by gimli_line_index_rows_open */
+    uint64_t offset;      /* in the section: DW_AT_stmt_list of its compilation unit, which has its DW_AT_comp_dir too */
+    uint64_t rows;        /* how many rows the index keeps of it: those of sequences that end before its first fault, but for those
+                           * that are left out */
+    uint64_t directories; /* how many directories its table has */
+    uint64_t files;       /* how many files its table has, those that its program defines before its first fault included */
+    uint32_t version;     /* from 2 to 5 */
+    uint32_t first_file;  /* the number of its first file, and of its first directory: 1 up to version 4, 0 in version 5 */
+    uint32_t fault;       /* why it can't be read, or the number of its program's first fault; 0 where it has none. Only a unit that
+                           * can be read is opened by gimli_line_index_rows_open */
 } gimli_index_unit;
 
-/* Tells where a unit stands, and what is wrong with it. GIMLI_NO_SUCH_UNIT where there is no such unit, and GIMLI_CLOSED where the
- * handle is; then nothing is written. */
+/* Tells where a unit stands, what its header says, how many rows the index keeps of it, and what is wrong with it. Nothing is read
+ * anew. GIMLI_NO_SUCH_UNIT where there is no such unit, and GIMLI_CLOSED where the handle is; then nothing is written. */
 uint32_t gimli_line_index_unit(gimli_line_index *index, uint64_t unit, gimli_index_unit *found) GIMLI_CALL;
 
 /* Tells the addresses for a breakpoint at a line of a file of one unit: of each run of rows of that line that stand side by side
@@ -607,10 +613,12 @@ uint32_t gimli_line_index_addresses(gimli_line_index *index, uint64_t unit, uint
                                     uint64_t *found_line, uint64_t *addresses, size_t room, size_t *count)
     GIMLI_CALL GIMLI_WRITES(6, 7);
 
-/* The same at a line of a path, over all units: of the files that have this whole path, byte by byte as gimli_line_index_path
- * tells it without a comp_dir. Up to version 4 a unit doesn't have the directory of the compilation, so a path that goes on from
- * there is given without it. The headers of all units are read and their programs are run for each call. GIMLI_NO_CODE where no
- * line from it on has any; GIMLI_CLOSED where the handle is. Where another number than 0 is answered, nothing is written. */
+/* The same over all units, in their order, at a line of the files that a path names: by the last components of their whole paths
+ * (stl_map.h, bits/stl_map.h), as the index keeps them; one from the root is a whole one. '/' and backslashes part components; '.',
+ * '..' and doubled separators are resolved by text. The index has whole paths where it was opened with .debug_info, or the unit
+ * itself has the directory of the compilation, as in version 5. A file without a row that the index keeps has no address. No
+ * program is run. GIMLI_NO_CODE where no line from it on has any; GIMLI_CLOSED where the handle is. Where another number than 0 is
+ * answered, nothing is written. */
 uint32_t gimli_line_index_addresses_of(gimli_line_index *index, const uint8_t *path, size_t path_length, uint64_t line,
                                        uint64_t *found_line, uint64_t *addresses, size_t room, size_t *count)
     GIMLI_CALL GIMLI_READS(2, 3) GIMLI_WRITES(6, 7);

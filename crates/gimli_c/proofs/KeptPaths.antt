@@ -1,29 +1,35 @@
 -- The paths that an index keeps.
 use Rattle.std.proofs.Common.{◌≡◌, ◌^◌, ℕ, zero, suc, Bool, List, [], ◌∷◌, ◌++◌, length, map, refl, ap, sym, subst, ◌∙◌, inl, inr}
 use Rattle.std.specs.Prelude.{◌⊎◌, ⊤, true, false, Option, Some, None, All, IfSome, MatchOption, IsSomeAnd, slice_get, option_map, unwrap_or}
+use Rattle.std.specs.Prelude.{◌+◌, ◌<◌, ◌||◌, nat_le, replicate}
 use Rattle.std.specs.List.{AllZip}
 use Rattle.std.specs.declared.alloc.Global.{Global}
 use Rattle.std.specs.declared.vec.Vec.{Vec}
 use Rattle.std.proofs.lemmas.List.Elements.{All-get_or}
-use Rattle.std.proofs.lemmas.Option.{get_or_from_slice_get, none-some, slice_get-map, slice_get_within}
+use Rattle.std.proofs.lemmas.Option.{get_or_from_slice_get, none-some, slice_get-get_or, slice_get-map, slice_get_within}
 use Rattle.std.proofs.lemmas.Slice.Zip.{AllZip-right}
 use Rattle.std.specs.Option.{is_some, option_map_or}
-use Rattle.std.proofs.lemmas.Bool.{true≢false}
+use Rattle.std.proofs.Common.{arith, take, get_or}
+use Rattle.std.proofs.lemmas.Bool.{true≢false, cases_lt}
+use Rattle.std.proofs.lemmas.List.{length-replicate, length-take-le, get_or-replicate, take_more}
 use Rattle.gimli_core.specs.Notation.{Notation, notation_of}
 use Rattle.gimli_core.specs.declared.error.Error.{Error}
 use Rattle.gimli_lookup.specs.Paths.{Paths}
+use Rattle.gimli_lookup.specs.RowFiles.{have_file, AreMarked}
+use Rattle.gimli_lookup.proofs.PathFileNumbers.{past_entries}
 use Rattle.gimli_lookup.specs.Section.{KeptHeader, KeptUnit, ListedUnit, unit_without_header}
 use Rattle.gimli_lookup.specs.SectionUnits.{IsRun, IsUnitOf}
 use Rattle.gimli_lookup.specs.Strings.{Strings}
 use Rattle.gimli_lookup.specs.UnitRun.{AreBeforeFault, HasNoFault}
 use Rattle.gimli_c.specs.FileSeen.{HasFiles}
-use Rattle.gimli_c.specs.Indexed.{unit_location, own_directory, strings_in, compilations_of, GivesPath, IsIndexOf, KeepsPath, Program}
-use Rattle.gimli_c.specs.KeptUnits.{section_read, entry_of, paths_with, AreUnitsOf, ArePathsOf, HaveDirectories, IsPathIn, KeepsPaths, KeepsUnit}
-use Rattle.gimli_c.specs.inside.KeptUnits.{IsMadeOf}
+use Rattle.gimli_c.specs.Indexed.{kept_header, unit_location, own_directory, strings_in, compilations_of, GivesPath, IsIndexOf, KeepsPath, Program}
+use Rattle.gimli_c.specs.KeptUnits.{section_read, entry_of, paths_with, summary_of, AreUnitsOf, ArePathsOf, HaveDirectories, HaveFilesOfRows, IsPathIn, IsTold, KeepsPaths, KeepsUnit}
+use Rattle.gimli_c.specs.inside.KeptUnits.{IsMadeOf, TellsMarked}
 use Rattle.gimli_core.specs.Numbers.{is_address_size}
 use Rattle.gimli_compilation.specs.Directories.{TellsDirectories}
 use Rattle.gimli_line.specs.Units.{AreUnits}
-use Rattle.gimli_line.specs.header.Header.{Header}
+use Rattle.gimli_line.specs.header.File.{File}
+use Rattle.gimli_line.specs.header.Header.{Header, file_of}
 use Rattle.gimli_c.specs.declared.index.kept.SectionIndex.{SectionIndex}
 use Rattle.gimli_c.specs.declared.index.unit_paths.UnitPaths.{UnitPaths}
 
@@ -68,6 +74,85 @@ one_more_path p files told before here number path is = by_place (get_pushed fil
     by_place (inl there) = before number path there
     by_place (inr both) = subst (λ (n : ℕ). IsPathIn p n path.items) (sym both.0)
         (some_same (λ (o : Option (Vec ℕ Global)). IfSome o (λ path. IsPathIn p (length files) path.items)) told (Some path) both.1 here)
+
+-- ---- the paths of the files that are marked
+
+some_before : {A : Type 0} (P : A → Type 0) (xs : List A) (y : A) (n : ℕ) → IsSomeAnd (slice_get xs n) P → IsSomeAnd (slice_get (xs ++ y ∷ []) n) P
+some_before P [] y zero is = absurd is
+some_before P [] y (suc n) is = absurd is
+some_before P (x ∷ xs) y zero is = is
+some_before P (x ∷ xs) y (suc n) is = some_before P xs y n is
+
+some_pushed : {A : Type 0} (P : A → Type 0) (xs : List A) (y : A) → P y → IsSomeAnd (slice_get (xs ++ y ∷ []) (length xs)) P
+some_pushed P [] y holds = holds
+some_pushed P (x ∷ xs) y holds = some_pushed P xs y holds
+
+take_none : {A : Type 0} (xs : List A) → take 0 xs ≡ []
+take_none [] = refl
+take_none (x ∷ xs) = refl
+
+pub none_marked : (p : Paths) (marks : List Bool) → TellsMarked p (take 0 marks) []
+none_marked p marks number whole is path =
+    absurd (none-some true (ap (λ (ms : List Bool). slice_get ms number) (sym (take_none marks)) ∙ is))
+
+marked_pushed : (p : Paths) (marks : List Bool) (files : List (Option (Vec ℕ Global))) (mark : Bool) (told : Option (Vec ℕ Global))
+    → length files ≡ length marks → TellsMarked p marks files
+    → (mark ≡ true → (whole : List ℕ) → IsPathIn p (length files) whole → IsTold whole told)
+    → TellsMarked p (marks ++ mark ∷ []) (files ++ told ∷ [])
+marked_pushed p marks files mark told same before here number whole is path = by_place (get_pushed marks mark true number is)
+  where
+    by_place : (slice_get marks number ≡ Some true) ⊎ ((number ≡ length marks) × (Some mark ≡ Some true))
+        → IsSomeAnd (slice_get (files ++ told ∷ []) number) (IsTold whole)
+    by_place (inl there) = some_before (IsTold whole) files told number (before number whole there path)
+    by_place (inr both) =
+        let at : number ≡ length files = both.0 ∙ sym same in
+        let its : IsPathIn p (length files) whole = subst (λ (n : ℕ). IsPathIn p n whole) at path in
+        subst (λ (n : ℕ). IsSomeAnd (slice_get (files ++ told ∷ []) n) (IsTold whole)) (sym at)
+        (some_pushed (IsTold whole) files told (here (some_eq mark true both.1) whole its))
+
+-- one more number, and its path where it is marked
+pub one_more_marked : (p : Paths) (marks : List Bool) (number : ℕ) (files : List (Option (Vec ℕ Global))) (told : Option (Vec ℕ Global)) (d : Bool)
+    → number < length marks → length files ≡ number → TellsMarked p (take number marks) files
+    → (get_or marks number d ≡ true → (whole : List ℕ) → IsPathIn p number whole → IsTold whole told)
+    → TellsMarked p (take (number + 1) marks) (files ++ told ∷ [])
+one_more_marked p marks number files told d inside same before here =
+    let taken : length (take number marks) ≡ number = length-take-le number marks (omega arith) in
+    subst (λ (ms : List Bool). TellsMarked p ms (files ++ told ∷ [])) (sym (take_more marks number d inside))
+    (marked_pushed p (take number marks) files (get_or marks number d) told (same ∙ sym taken) before
+    (λ set whole path. here set whole (subst (λ (n : ℕ). IsPathIn p n whole) same path)))
+
+get_replicate : {A : Type 0} (n i : ℕ) (x : A) → i < n → slice_get (replicate n x) i ≡ Some x
+get_replicate n i x inside =
+    let within : i < length (replicate n x) = omega (arith, length-replicate n x) in
+    slice_get-get_or (replicate n x) i x within ∙ ap Some (get_or-replicate n i x x inside)
+
+-- no file has a number past the table
+number_within : (h : Header) (number : ℕ) (f : File) → file_of h number ≡ Some f → number < length h.files + 1
+number_within h number f is = elim (cases_lt (length h.files) number) [
+  | inl past ↦ absurd (none-some f (sym (past_entries (nat_le h.parameters.encoding.version 4) h.comp_file h.files number past) ∙ is))
+  | inr within ↦ omega arith
+]
+
+-- the paths of the marked files are those of the files that rows have
+pub of_rows : (sections : Strings) (u : KeptUnit) (m : Header) (notation : Notation) (comp_dir : List ℕ) (p : Paths) (old new : List Bool)
+    (files : List (Option (Vec ℕ Global))) → u.unit.header ≡ Some (record { meaning = m; notation = notation })
+    → p ≡ paths_with sections m comp_dir → old ≡ replicate (length m.files + 1) false → AreMarked (have_file u.sequences) old new
+    → TellsMarked p new files → HaveFilesOfRows sections u comp_dir files
+of_rows sections u m notation comp_dir p old new files header right none marked told h number whole is has path =
+    let own : KeptHeader = record { meaning = m; notation = notation } in
+    let same : h ≡ own = some_eq h own (sym is ∙ header) in
+    let here : IsPathIn (paths_with sections m comp_dir) number whole =
+    subst (λ (x : KeptHeader). IsPathIn (paths_with sections x.meaning comp_dir) number whole) same path in
+    let unmarked : slice_get old number ≡ Some false =
+    ap (λ (xs : List Bool). slice_get xs number) none
+    ∙ get_replicate (length m.files + 1) number false (number_within m number here.entry here.is_file) in
+    let set : slice_get new number ≡ Some true =
+    marked number ∙ ap (option_map (λ mark. mark || have_file u.sequences number)) unmarked ∙ ap Some has in
+    told number whole set (subst (λ (q : Paths). IsPathIn q number whole) (sym right) here)
+
+pub no_files_of_rows : (sections : Strings) (u : KeptUnit) (comp_dir : List ℕ) (files : List (Option (Vec ℕ Global))) → u.unit.header ≡ None
+    → HaveFilesOfRows sections u comp_dir files
+no_files_of_rows sections u comp_dir files none h number whole is has path = absurd (none-some h (sym none ∙ is))
 
 -- the paths of the files of a header are those of the unit that has it
 pub of_listed : (sections : Strings) (l : ListedUnit) (m : Header) (notation : Notation) (comp_dir : List ℕ) (p : Paths)
@@ -157,7 +242,7 @@ path_by_case i all unit file k path kept h header is none (inr run) =
 path_of_kept : (i : SectionIndex) (all : Keeps i) (unit file : ℕ) (k : UnitPaths) (path : Vec ℕ Global) (kept : Kept i unit k)
     → slice_get k.files.items file ≡ Some (Some path) → kept.u.unit.fault ≡ None → GivesPath i unit file k.comp_dir.items path.items
 path_of_kept i all unit file k path kept is none =
-    let told = kept.keeps file path is in
+    let told = kept.keeps.are_paths file path is in
     path_by_case i all unit file k path kept told.0 told.1 told.2 none kept.of
 
 -- a path that is kept of a unit without a fault
@@ -235,3 +320,21 @@ pub same_texts : (line_strings strings l s : List ℕ) → line_strings ≡ l �
 same_texts line_strings strings l s l_is s_is =
     ap (λ (xs : List ℕ). let t : Strings = record { debug_line_str = xs; debug_str = strings } in t) l_is
     ∙ ap (λ (xs : List ℕ). let t : Strings = record { debug_line_str = l; debug_str = xs } in t) s_is
+
+-- ---- the header of a unit
+
+-- what is kept of a unit
+zip_left : {A B : Type 0} (R : A → B → Type 0) (xs : List A) (ys : List B) (n : ℕ) (x : A) → AllZip R xs ys → slice_get xs n ≡ Some x
+    → IsSomeAnd (slice_get ys n) (λ y. R x y)
+zip_left R [] ys zero x zipped is = absurd (none-some x is)
+zip_left R [] ys (suc n) x zipped is = absurd (none-some x is)
+zip_left R (z ∷ xs) [] n x zipped is = absurd zipped
+zip_left R (z ∷ xs) (y ∷ ys) zero x zipped is = subst (λ (w : _). R w y) (some_eq z x is) zipped.0
+zip_left R (z ∷ xs) (y ∷ ys) (suc n) x zipped is = zip_left R xs ys n x zipped.1 is
+
+pub header_kept : (i : SectionIndex) (all : Keeps i) (unit : ℕ) (u : KeptUnit) → slice_get all.are.units unit ≡ Some u
+    → kept_header i unit ≡ summary_of u.unit.header
+header_kept i all unit u is =
+    let at = some_and (λ (k : UnitPaths). KeepsUnit (strings_in i) u k) (slice_get i.paths.items unit)
+    (zip_left (KeepsUnit (strings_in i)) all.are.units i.paths.items unit u all.each is) in
+    ap (λ (o : Option UnitPaths). option_map_or (λ (k : UnitPaths). k.header) o (summary_of None)) at.there ∙ at.holds.summary_is

@@ -13,6 +13,7 @@ pub mod ReaderHandles
 pub mod CompDirs
 pub mod Indexes
 pub mod KeptPaths
+pub mod NamedFiles
 pub mod Readers
 pub mod Maps
 pub mod MadeMaps

@@ -1,7 +1,8 @@
 -- What an index keeps, and what it answers.
 use Rattle.std.specs.Prelude.{◌≡◌, ◌≢◌, ◌^◌, ◌⊎◌, ℕ, Bool, true, List, [], ◌∷◌, length, map, All}
 use Rattle.std.specs.Prelude.{Option}
-use Rattle.std.specs.Prelude.{Some, None, Ok, Err, nat_eq, slice_get}
+use Rattle.std.specs.Prelude.{Some, None, Ok, Err, nat_eq, nat_le, nat_lt, slice_get, sum_by, min}
+use Rattle.std.specs.Prelude.{◌-◌, ◌&&◌, if◌then◌else◌}
 use Rattle.std.specs.Option.{option_map_or}
 use Rattle.std.specs.List.{AllZip}
 use Rattle.std.specs.declared.alloc.Global.{Global}
@@ -17,7 +18,6 @@ use Rattle.gimli_line.specs.header.Header.{Header, file_of}
 use Rattle.gimli_lookup.specs.FirstPair.{HasNoPair}
 use Rattle.gimli_lookup.specs.Paths.{Paths, file_path}
 use Rattle.gimli_lookup.specs.Section.{all_sequences, IsFirstPairOfUnit, KeptUnit}
-use Rattle.gimli_lookup.specs.SectionAddresses.{addresses_of_path}
 use Rattle.gimli_lookup.specs.SectionUnits.{IsUnitOf}
 use Rattle.gimli_lookup.specs.Statements.{addresses_of, HasNoLine, IsFirstLine}
 use Rattle.gimli_lookup.specs.Strings.{Strings}
@@ -27,6 +27,7 @@ use Rattle.gimli_c.specs.declared.file.GimliText.{GimliText}
 use Rattle.gimli_c.specs.declared.index.find.GimliPlace.{GimliPlace}
 use Rattle.gimli_c.specs.declared.index.units.GimliIndexUnit.{GimliIndexUnit}
 use Rattle.gimli_c.specs.declared.index.kept.SectionIndex.{SectionIndex}
+use Rattle.gimli_c.specs.declared.index.summary.HeaderSummary.{HeaderSummary}
 use Rattle.gimli_c.specs.declared.index.unit_paths.UnitPaths.{UnitPaths}
 use Rattle.gimli_c.specs.declared.row.GimliRow.{GimliRow}
 use Rattle.gimli_c.specs.declared.status.TheConstants.{NO_SUCH_FILE, NO_SUCH_UNIT, UNKNOWN_PATH}
@@ -34,7 +35,8 @@ use Rattle.gimli_c.specs.declared.unit.GimliUnit.{GimliUnit}
 use Rattle.gimli_c.specs.CompDir.{sections_handed}
 use Rattle.gimli_c.specs.FileSeen.{GivesDirectory, GivesFile, GivesNoDirectory, GivesNoFile}
 use Rattle.gimli_c.specs.FileSeen.{HasFiles}
-use Rattle.gimli_c.specs.KeptUnits.{section_read, entry_of, AreUnitsOf, HaveDirectories, KeepsPaths}
+use Rattle.gimli_c.specs.KeptUnits.{section_read, entry_of, summary_of, AreUnitsOf}
+use Rattle.gimli_c.specs.KeptUnits.{HaveDirectories, KeepsPaths}
 use Rattle.gimli_c.specs.Location.{Location, location, HasNoUnit}
 use Rattle.gimli_c.specs.Seen.{row_seen}
 use Rattle.gimli_c.specs.Status.{fault_status}
@@ -145,6 +147,10 @@ unit_location i u = location i.section.items i.big i.address_size u.unit.offset
 -- the directory of the compilation that an index has of a unit
 abbrev pub own_directory : SectionIndex → ℕ → List ℕ
 own_directory i unit = option_map_or (λ k. k.comp_dir.items) (slice_get i.paths.items unit) []
+
+-- what an index keeps of the header of a unit
+abbrev pub kept_header : SectionIndex → ℕ → HeaderSummary
+kept_header i unit = option_map_or (λ k. k.header) (slice_get i.paths.items unit) (summary_of None)
 
 -- the directory that the paths of a unit go on from: the caller's, and the index's own where that
 -- has no bytes
@@ -262,11 +268,27 @@ pub record GivesUnitIn (i : SectionIndex) (unit : ℕ) (seen : GimliUnit) : Type
   pub is_unit : IsUnit i unit kept
   pub gives : GivesUnit (unit_location i kept) seen
 
--- where a unit stands, and the number of what is wrong with it
+-- how many rows an index keeps of a unit, as far as 64 bits say
+abbrev pub kept_rows : KeptUnit → ℕ
+kept_rows kept = min (sum_by length kept.sequences) (2 ^ 64 - 1)
+
+-- the number of the first file of a version's table; 0 of a unit that was refused
+abbrev pub first_number : ℕ → ℕ
+first_number version = if nat_lt 0 version && nat_le version 4 then 1 else 0
+
+-- where a unit stands, what its header says, how many rows are kept of it, and the number of what
+-- is wrong with it
 pub record GivesIndexUnit (i : SectionIndex) (unit : ℕ) (seen : GimliIndexUnit) : Type 0 where
   pub kept : KeptUnit
   pub is_unit : IsUnit i unit kept
+  pub header : HeaderSummary
+  pub header_is : header ≡ kept_header i unit
   pub offset_is : seen.offset ≡ kept.unit.offset
+  pub rows_are : seen.rows ≡ kept_rows kept
+  pub directories_are : seen.directories ≡ header.directories
+  pub files_are : seen.files ≡ header.files
+  pub version_is : seen.version ≡ header.version
+  pub first_file_is : seen.first_file ≡ first_number header.version
   pub fault_is : seen.fault ≡ fault_status kept.unit.fault
 
 -- the addresses of a line in the sequences of a unit, by the index of a file
@@ -292,7 +314,7 @@ abbrev pub HasNoAddress : SectionIndex → ℕ → ℕ → ℕ → Type 0
 HasNoAddress i unit file asked =
     (kept : KeptUnit) × IsUnit i unit kept × HasNoLine (addresses_in kept file) asked
 
--- ---- by a path
+-- ---- with their headers
 
 -- all units of the section of an index, with their headers
 pub record AreUnitsIn (i : SectionIndex) (units : List KeptUnit) : Type 0 where
@@ -300,23 +322,3 @@ pub record AreUnitsIn (i : SectionIndex) (units : List KeptUnit) : Type 0 where
       (map (λ u. u.unit.offset) units)
   pub each : All (IsUnitOf (section_read i.section.items i.big) (entry_of i.address_size) i.lowest)
       units
-
--- the addresses of the first line of a path from the asked one on that has any, over all units
-pub record GivesAddressesOf (i : SectionIndex) (path : List ℕ) (asked line : ℕ) (addresses : List ℕ)
-    : Type 0 where
-  pub units : List KeptUnit
-  pub are_units : AreUnitsIn i units
-  pub is_first : IsFirstLine (addresses_of_path (strings_in i) path units) asked line
-  pub addresses_are : addresses ≡ addresses_of_path (strings_in i) path units line
-
--- those addresses in an array of the caller, and how many there are
-abbrev pub WritesAddressesOf : SectionIndex → List ℕ → ℕ → ℕ → List ℕ → List ℕ → ℕ → Type 0
-WritesAddressesOf i path asked line old new count =
-    (addresses : List ℕ) × GivesAddressesOf i path asked line addresses
-    × (new ≡ slots_with addresses old) × (count ≡ length addresses)
-
--- no line of the path from the asked one on has an address
-pub record HasNoAddressOf (i : SectionIndex) (path : List ℕ) (asked : ℕ) : Type 0 where
-  pub units : List KeptUnit
-  pub are_units : AreUnitsIn i units
-  pub none : HasNoLine (addresses_of_path (strings_in i) path units) asked

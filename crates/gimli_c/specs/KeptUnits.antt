@@ -1,6 +1,6 @@
 -- What an index keeps of the units of a section, and of the paths of their files.
 use Rattle.std.specs.Prelude.{◌≡◌, ◌^◌, ℕ, Bool, true, List, [], map, All, Option, Some, None, Ok}
-use Rattle.std.specs.Prelude.{slice_get, unwrap_or}
+use Rattle.std.specs.Prelude.{length, slice_get, unwrap_or, IsSomeAnd}
 use Rattle.std.specs.List.{AllZip}
 use Rattle.std.specs.declared.alloc.Global.{Global}
 use Rattle.std.specs.declared.vec.Vec.{Vec}
@@ -11,9 +11,11 @@ use Rattle.gimli_line.specs.header.File.{File}
 use Rattle.gimli_line.specs.header.Header.{Header, UnitEntry, file_of}
 use Rattle.gimli_line.specs.run.Unread.{Unread}
 use Rattle.gimli_lookup.specs.Paths.{Paths, file_path}
+use Rattle.gimli_lookup.specs.RowFiles.{have_file}
 use Rattle.gimli_lookup.specs.Section.{KeptHeader, KeptUnit, ListedUnit, unit_without_header}
 use Rattle.gimli_lookup.specs.SectionUnits.{IsUnitOf}
 use Rattle.gimli_lookup.specs.Strings.{Strings}
+use Rattle.gimli_c.specs.declared.index.summary.HeaderSummary.{HeaderSummary}
 use Rattle.gimli_c.specs.declared.index.unit_paths.UnitPaths.{UnitPaths}
 
 -- offsets have 64 bits, and no directory and no name is handed in with a unit
@@ -53,9 +55,34 @@ ArePathsOf sections u comp_dir files =
     → (h : KeptHeader) × (u.header ≡ Some h)
     × IsPathIn (paths_with sections h.meaning comp_dir) number path.items
 
--- what is kept of a unit are paths of its files
-abbrev pub KeepsUnit : Strings → KeptUnit → UnitPaths → Type 0
-KeepsUnit sections u kept = ArePathsOf sections u.unit kept.comp_dir.items kept.files.items
+-- a path is told, and it is this one
+abbrev pub IsTold : List ℕ → Option (Vec ℕ Global) → Type 0
+IsTold whole told = IsSomeAnd told (λ path. path.items ≡ whole)
+
+-- the whole path of each file that a row of a unit has is among these, at the file's number, where
+-- it can be told
+abbrev pub HaveFilesOfRows : Strings → KeptUnit → List ℕ → List (Option (Vec ℕ Global)) → Type 0
+HaveFilesOfRows sections u comp_dir files =
+    (h : KeptHeader) (number : ℕ) (whole : List ℕ) → u.unit.header ≡ Some h
+    → have_file u.sequences number ≡ true
+    → IsPathIn (paths_with sections h.meaning comp_dir) number whole
+    → IsSomeAnd (slice_get files number) (IsTold whole)
+
+-- what is kept of a header; zeros where the unit was refused
+abbrev pub summary_of : Option KeptHeader → HeaderSummary
+summary_of None = record { version = 0; directories = 0; files = 0 }
+summary_of (Some h) = record {
+  version = h.meaning.parameters.encoding.version;
+  directories = length h.meaning.directories;
+  files = length h.meaning.files;
+}
+
+-- what is kept of a unit: of the paths of its files those that rows have, and of its header what a
+-- summary says
+pub record KeepsUnit (sections : Strings) (u : KeptUnit) (kept : UnitPaths) : Type 0 where
+  pub are_paths : ArePathsOf sections u.unit kept.comp_dir.items kept.files.items
+  pub of_rows : HaveFilesOfRows sections u kept.comp_dir.items kept.files.items
+  pub summary_is : kept.header ≡ summary_of u.unit.header
 
 -- the same of all units of a section, in their order
 pub record KeepsPaths (section : List ℕ) (big : Bool) (address_size lowest : ℕ)

@@ -16,6 +16,7 @@ pub mod Causes
 pub mod Owned
 pub mod KeptUnits
 pub mod Indexed
+pub mod Named
 pub mod Reader
 pub mod CompDir
 pub mod Mapped

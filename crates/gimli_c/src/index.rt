@@ -9,6 +9,7 @@ mod lines;
 mod open;
 mod path;
 mod read_unit;
+mod summary;
 mod tables;
 mod unit_paths;
 mod units;
@@ -25,6 +26,7 @@ pub use open::{
 };
 pub use path::gimli_line_index_path;
 pub use read_unit::gimli_line_index_read_unit;
+pub use summary::HeaderSummary;
 pub use tables::{gimli_line_index_directory, gimli_line_index_file};
 pub use unit_paths::UnitPaths;
 pub use units::{

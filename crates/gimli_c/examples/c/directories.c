@@ -1,6 +1,7 @@
-/* Asks for directories of compilations and for whole paths, over sections that are made by hand,
- * whole and cut. Prints how many answers were as the standard has them (DWARF 4 and 5, sections
- * 3.1.1 and 6.2.4); the first other one ends it. See run.sh and memory.sh. */
+/* Asks for directories of compilations, for whole paths, for units, and for the addresses of lines,
+ * over sections that are made by hand, whole and cut. Prints how many answers were as the standard
+ * has them (DWARF 4 and 5, sections 3.1.1, 6.2.2 and 6.2.4); the first other one ends it. See
+ * run.sh and memory.sh. */
 #include <stdio.h>
 #include <stdlib.h>
 #include <string.h>
@@ -35,6 +36,15 @@ static const uint8_t info_4[] = {15, 0, 0, 0, 4, 0, 0, 0, 0, 0, 8, 1, 0, 0, 0, 0
 static const uint8_t lines_4[] = {
     0x2e, 0, 0, 0, 4, 0, 0x28, 0, 0, 0, 1, 1, 1, 0xfb, 14, 13, 0, 1, 1, 1, 1, 0, 0, 0, 1, 0, 0, 1,
     'i', 'n', 'c', 0, 0, 'a', '.', 'c', 0, 0, 0, 0, 'b', '.', 'h', 0, 1, 0, 0, 0, 0, 0};
+
+/* The same with rows: line 3 of a.c at 0x1000 and 0x1008, line 5 of b.h at 0x1004, and at 0x100c line 9 of a.c, which is no
+ * statement; the sequence ends at 0x1010. */
+static const uint8_t rows_4[] = {
+    0x55, 0, 0, 0, 4, 0, 0x28, 0, 0, 0, 1, 1, 1, 0xfb, 14, 13, 0, 1, 1, 1, 1, 0, 0, 0, 1, 0, 0, 1,
+    'i', 'n', 'c', 0, 0, 'a', '.', 'c', 0, 0, 0, 0, 'b', '.', 'h', 0, 1, 0, 0, 0, 0, 0,
+    0, 9, 2, 0, 0x10, 0, 0, 0, 0, 0, 0, 3, 2, 1,
+    4, 2, 2, 4, 3, 2, 1, 4, 1, 2, 4, 3, 0x7e, 1,
+    6, 2, 4, 3, 6, 1, 2, 4, 0, 1, 1};
 
 /* Version 5: the line program at 0, and the directory ./w. */
 static const uint8_t info_5[] = {
@@ -120,6 +130,72 @@ static gimli_line_index opened(section lines) {
     return index;
 }
 
+/* The addresses of a line of a path, or of the next line that has any, by each room; no line where there are none. */
+static void expect_lines(gimli_line_index *index, const char *path, uint64_t line, uint64_t wanted, size_t count, uint64_t first, uint64_t second) {
+    for (size_t room = 0; room <= 3; room++) {
+        uint64_t found = 77, addresses[3] = {77, 77, 77};
+        size_t size = 77;
+        uint32_t status = gimli_line_index_addresses_of(index, (const uint8_t *)path, strlen(path), line, &found, addresses, room, &size);
+        expect(status == (count == 0 ? GIMLI_NO_CODE : GIMLI_OK), path);
+        expect(found == (count == 0 ? 77 : wanted) && size == (count == 0 ? 77 : count), path);
+        expect(addresses[0] == (count > 0 && room > 0 ? first : 77) && addresses[1] == (count > 1 && room > 1 ? second : 77), path);
+        expect(addresses[2] == 77, "an address after the last one");
+    }
+}
+
+/* What an index has of its first unit, of no fault. */
+static void expect_unit(gimli_line_index *index, uint32_t version, uint64_t directories, uint64_t files, uint64_t rows) {
+    gimli_index_unit unit;
+    memset(&unit, 0xaa, sizeof unit);
+    expect(gimli_line_index_unit(index, 1, &unit) == GIMLI_NO_SUCH_UNIT && unit.version == 0xaaaaaaaa, "no such unit");
+    expect(gimli_line_index_unit(index, 0, &unit) == GIMLI_OK && unit.offset == 0 && unit.fault == 0, "gimli_line_index_unit");
+    expect(unit.version == version && unit.first_file == (version < 5), "the version of a unit");
+    expect(unit.directories == directories && unit.files == files && unit.rows == rows, "the counts of a unit");
+}
+
+/* A path names files by its last components. Of a file without statements from the line on there is no address, nor of one that no
+ * row has. Without .debug_info nobody knows what a path goes on from. */
+static void lines_of_paths(void) {
+    section info = {info_4, sizeof info_4};
+    gimli_line_index index = GIMLI_LINE_INDEX_CLOSED;
+    gimli_open_options options = GIMLI_OPEN_OPTIONS;
+    gimli_sections sections = {rows_4, NULL, NULL, info.bytes, declaration, NULL, sizeof rows_4, 0, 0, info.length, sizeof declaration, 0};
+    expect(gimli_line_index_open_sections(&sections, &options, &index) == GIMLI_OK, "gimli_line_index_open_sections");
+    expect_unit(&index, 4, 1, 2, 5);
+    expect_lines(&index, "a.c", 3, 3, 2, 0x1000, 0x1008);
+    expect_lines(&index, "/w/a.c", 1, 3, 2, 0x1000, 0x1008);
+    expect_lines(&index, "w\\a.c", 0, 3, 2, 0x1000, 0x1008);
+    expect_lines(&index, "x/../b.h", 4, 5, 1, 0x1004, 0);
+    expect_lines(&index, "/w/./inc//b.h/", 5, 5, 1, 0x1004, 0);
+    expect_lines(&index, "", 4, 5, 1, 0x1004, 0);
+    static const char *const others[] = {"/a.c", "/inc/b.h", "c", ".c", "b.h/../c.h", "v/a.c", "aa.c", "a.cc", "x/w/a.c", "../a.c"};
+    for (size_t i = 0; i < sizeof others / sizeof others[0]; i++) expect_lines(&index, others[i], 1, 0, 0, 0, 0);
+    expect_lines(&index, "a.c", 4, 0, 0, 0, 0);
+    expect_lines(&index, "b.h", 6, 0, 0, 0, 0);
+    gimli_line_index_close(&index);
+    uint64_t line = 77, address = 77;
+    size_t count = 77;
+    expect(gimli_line_index_addresses_of(&index, none, 0, 1, &line, &address, 1, &count) == GIMLI_CLOSED, "a closed index");
+    expect(line == 77 && address == 77 && count == 77, "a closed index");
+    section lines = {rows_4, sizeof rows_4};
+    index = opened(lines);
+    expect_lines(&index, "a.c", 3, 3, 2, 0x1000, 0x1008);
+    expect_lines(&index, "inc/b.h", 3, 5, 1, 0x1004, 0);
+    expect_lines(&index, "/w/a.c", 1, 0, 0, 0, 0);
+    gimli_line_index_close(&index);
+}
+
+/* A unit whose header is cut has zeros, and its fault. */
+static void cut_unit(void) {
+    section cut = {lines_4, sizeof lines_4 - 1};
+    gimli_line_index index = opened(cut);
+    gimli_index_unit unit;
+    expect(gimli_line_index_unit(&index, 0, &unit) == GIMLI_OK && unit.fault == GIMLI_UNEXPECTED_EOF, "a unit that is cut");
+    expect(unit.offset == 0 && unit.rows == 0 && unit.directories == 0 && unit.files == 0, "a unit that is cut");
+    expect(unit.version == 0 && unit.first_file == 0, "a unit that is cut");
+    gimli_line_index_close(&index);
+}
+
 /* Up to version 4 a path goes on from the directory of the compilation, which .debug_info has. */
 static void version_4(void) {
     section lines = {lines_4, sizeof lines_4}, info = {info_4, sizeof info_4};
@@ -129,6 +205,7 @@ static void version_4(void) {
     expect_path(&index, 2, "/w", "/w/inc/b.h");
     expect_path(&index, 1, "", "a.c");
     expect_path(&index, 2, "", "inc/b.h");
+    expect_unit(&index, 4, 1, 2, 0);
     gimli_line_index_close(&index);
     expect_known(lines, info, "/w", 2, "/w/inc/b.h");
 }
@@ -145,6 +222,7 @@ static void version_5(void) {
     expect_path(&index, 1, "/src", "/src/../inc/b.h");
     expect_path(&index, 0, "", "./w/a.c");
     expect_path(&index, 1, "", "./w/../inc/b.h");
+    expect_unit(&index, 5, 3, 3, 0);
     gimli_line_index_close(&index);
     expect_known(lines, info, "./w", 1, "./w/../inc/b.h");
 }
@@ -175,6 +253,8 @@ static void hostile(section info) {
 int main(void) {
     version_4();
     version_5();
+    lines_of_paths();
+    cut_unit();
     section of_4 = {info_4, sizeof info_4}, of_5 = {info_5, sizeof info_5};
     hostile(of_4);
     hostile(of_5);

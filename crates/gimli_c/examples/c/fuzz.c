@@ -176,6 +176,8 @@ int LLVMFuzzerTestOneInput(const uint8_t *data, size_t size) {
             count(22, unit.files);
         }
         same(listed.fault == (status == GIMLI_OK ? unit.fault : status));
+        same(listed.version == unit.version && listed.directories == unit.directories && listed.files == unit.files);
+        same(listed.first_file == (status == GIMLI_OK ? gimli_first_number(&unit) : 0) && listed.rows <= unit.rows);
         read_rows(data, size, big, address_size, listed.offset, &index, number);
         read_tables(data, size, big, address_size, listed.offset, &index, number, unit.files);
     }

@@ -1,6 +1,7 @@
 //! The paths that an index keeps: of the files that rows have.
 
-ghost use Rattle.std.specs.Prelude.{◌≡◌, ◌<◌, ◌++◌, ◌∷◌, ℕ, IfErr, IfOk, IfSome, OnOk, Some, []};
+ghost use Rattle.std.specs.Prelude.{◌≡◌, ◌<◌, ◌+◌, ◌++◌, ◌∷◌, ℕ, List, replicate, true, false};
+ghost use Rattle.std.specs.Prelude.{IfErr, IfOk, IfSome, OnOk, Some, []};
 ghost use Rattle.std.specs.Prelude.{length};
 ghost use Rattle.std.specs.Prelude.{option_map, slice_get, slice_index_or, unwrap_or};
 ghost use Rattle.std.specs.List.{AllZip};
@@ -9,9 +10,10 @@ ghost use Rattle.std.specs.declared.vec.Vec.{Vec};
 ghost use Rattle.gimli_compilation.specs.Directories.{directory_for};
 ghost use Rattle.gimli_lookup.specs.Section.{KeptUnit};
 ghost use Rattle.gimli_lookup.specs.Strings.{strings};
-ghost use Rattle.gimli_c.specs.KeptUnits.{ArePathsOf, IsPathIn};
-ghost use Rattle.gimli_c.specs.inside.KeptUnits.{IsMadeOf};
+ghost use Rattle.gimli_c.specs.KeptUnits.{ArePathsOf, HaveFilesOfRows, IsPathIn, IsTold};
+ghost use Rattle.gimli_c.specs.inside.KeptUnits.{IsMadeOf, TellsMarked};
 
+use crate::index::summary::{HeaderSummary, summary_of};
 use crate::status::OUT_OF_MEMORY;
 use gimli_compilation::Compilations;
 use gimli_core::{EndianSlice, RunTimeEndian};
@@ -29,6 +31,8 @@ pub struct UnitPaths {
     pub(crate) comp_dir: Vec<u8>,
     /// The whole paths of the files that rows have, each at the number of its file.
     pub(crate) files: Vec<Option<Vec<u8>>>,
+    /// What is kept of the header.
+    pub(crate) header: HeaderSummary,
 }
 
 /// Appends an item. Refused by `OUT_OF_MEMORY` alone.
@@ -53,6 +57,8 @@ fn path_of_file(
 ) -> Result<Option<Vec<u8>>, u32>
     requires { paths.now.header ≡ header.now.meaning }
     ensures ok { IfOk result (λ told. IfSome told (λ path. IsPathIn paths.now number path.items)) }
+    ensures wanted { IfOk result (λ told. is_wanted ≡ true → (whole : List ℕ)
+        → IsPathIn paths.now number whole → IsTold whole told) }
     ensures err { IfErr result (λ s. s ≡ OUT_OF_MEMORY) }
 {
     if !is_wanted {
@@ -80,6 +86,7 @@ fn marked_paths(
     requires { paths.now.header ≡ header.now.meaning }
     ensures ok { IfOk result (λ files. (number : ℕ) (path : Vec ℕ Global)
         → slice_get files.items number ≡ Some (Some path) → IsPathIn paths.now number path.items) }
+    ensures all { IfOk result (λ files. TellsMarked paths.now marks.now files.items) }
     ensures err { IfErr result (λ s. s ≡ OUT_OF_MEMORY) }
 {
     let mut files = Vec::new(alloc);
@@ -133,9 +140,14 @@ fn directory_of(
 /// No marks, one for each number that a file of a header may have. Refused by `OUT_OF_MEMORY`
 /// alone.
 fn no_marks(alloc: Global, header: &LineProgramHeader<Slice<'_>>) -> Result<Vec<bool>, u32>
+    ensures ok { IfOk result (λ marks.
+        marks.items ≡ replicate (length header.now.meaning.files + 1) false) }
     ensures err { IfErr result (λ s. s ≡ OUT_OF_MEMORY) }
 {
-    match vec![in alloc; false; header.file_names().len().saturating_add(1)] {
+    let Some(count) = header.file_names().len().checked_add(1) else {
+        return Err(OUT_OF_MEMORY);
+    };
+    match vec![in alloc; false; count] {
         Ok(marks) => Ok(marks),
         Err(_) => Err(OUT_OF_MEMORY),
     }
@@ -158,6 +170,9 @@ impl<'s> PathMaker<'_, 's> {
         ensures ok { (d : KeptUnit) → IfOk result (λ files. ArePathsOf
             (strings (λ s. s.slice.now) self.now.strings)
             (slice_index_or self.now.lookup.now unit d).unit comp_dir.now files.items) }
+        ensures rows { (d : KeptUnit) → IfOk result (λ files. HaveFilesOfRows
+            (strings (λ s. s.slice.now) self.now.strings)
+            (slice_index_or self.now.lookup.now unit d) comp_dir.now files.items) }
         ensures err { IfErr result (λ s. s ≡ OUT_OF_MEMORY) }
     {
         let Some(header) = self.listed(unit).header() else {
@@ -182,7 +197,12 @@ impl<'s> PathMaker<'_, 's> {
         let offset = self.listed(unit).offset().0;
         let comp_dir = directory_of(self.alloc, self.compilations, offset)?;
         let files = self.files_of(unit, &comp_dir)?;
-        Ok(UnitPaths { comp_dir, files })
+        let header = summary_of(self.listed(unit).header());
+        Ok(UnitPaths {
+            comp_dir,
+            files,
+            header,
+        })
     }
 
     /// What is kept of all units. Refused by `OUT_OF_MEMORY` alone.

@@ -2,12 +2,13 @@
 
 ghost use Rattle.std.specs.Prelude.{◌≡◌, ◌≢◌, ◌⊎◌, ◌<◌, IfErr, IfOk, IfSome, None, length};
 ghost use Rattle.std.specs.Prelude.{slice_get};
-ghost use Rattle.gimli_c.specs.Indexed.{GivesAddresses, GivesIndexUnit, HasNoAddress, IsUnit};
-ghost use Rattle.gimli_c.specs.Indexed.{WritesAddresses};
+ghost use Rattle.gimli_c.specs.Indexed.{first_number, kept_header, GivesAddresses, GivesIndexUnit};
+ghost use Rattle.gimli_c.specs.Indexed.{HasNoAddress, IsUnit, WritesAddresses};
 ghost use Rattle.gimli_c.specs.Written.{slots_with};
 
 use crate::index::handle::GimliLineIndex;
 use crate::index::kept::SectionIndex;
+use crate::index::summary::{HeaderSummary, summary_of};
 use crate::run::fault_status;
 use crate::status::{CLOSED, NO_CODE, NO_SUCH_UNIT, OK, OUT_OF_MEMORY};
 use gimli_core::{EndianSlice, RunTimeEndian};
@@ -54,14 +55,36 @@ impl SectionIndex {
         let found = self.listed_unit(unit)?;
         Ok(found.offset().0)
     }
+
+    /// What is kept of the header of a unit.
+    fn kept_header(&self, unit: u64) -> HeaderSummary
+        ensures { result ≡ kept_header self.now unit }
+    {
+        match self.paths.get(unit as usize) {
+            Some(paths) => paths.header,
+            None => summary_of(None),
+        }
+    }
 }
 
-/// A unit of an index.
+/// A unit of an index. What its header says is 0 where it was refused.
 #[repr(C)]
 #[derive(Clone, Copy)]
 pub struct GimliIndexUnit {
     /// Its offset in the section.
     pub offset: u64,
+    /// How many rows the index keeps of it: those of the sequences that end before its first fault,
+    /// but for those that are left out.
+    pub rows: u64,
+    /// How many directories its table has.
+    pub directories: u64,
+    /// How many files its table has, those that its program defines before its first fault
+    /// included.
+    pub files: u64,
+    /// Its version, from 2 to 5.
+    pub version: u32,
+    /// The number of its first file and of its first directory: 1 up to version 4, 0 in version 5.
+    pub first_file: u32,
     /// Why it can't be read, or the number of its program's first fault; 0 where it has none.
     pub fault: u32,
 }
@@ -85,19 +108,33 @@ pub extern "C" fn gimli_line_index_unit_count(
     OK
 }
 
+/// The number of the first file of a version's table; 0 of a unit that was refused.
+fn first_number(version: u16) -> u32
+    ensures { result ≡ first_number version }
+{
+    if 0 < version && version <= 4 { 1 } else { 0 }
+}
+
 /// A unit of an index, or `NO_SUCH_UNIT` where there is none.
 fn unit_in(index: &SectionIndex, unit: u64) -> Result<GimliIndexUnit, u32>
     ensures ok { IfOk result (GivesIndexUnit index.now unit) }
     ensures err { IfErr result (λ s. (s ≡ NO_SUCH_UNIT) × (slice_get index.now.units unit ≡ None)) }
 {
     let found = index.listed_unit(unit)?;
+    let header = index.kept_header(unit);
     Ok(GimliIndexUnit {
         offset: found.offset().0 as u64,
+        rows: index.units.row_count(unit as usize),
+        directories: header.directories as u64,
+        files: header.files as u64,
+        version: u32::from(header.version),
+        first_file: first_number(header.version),
         fault: fault_status(found.fault()),
     })
 }
 
-/// Tells where a unit stands, and what is wrong with it. `NO_SUCH_UNIT` where there is no such
+/// Tells where a unit stands, what its header says, how many rows the index keeps of it, and what
+/// is wrong with it. `NO_SUCH_UNIT` where there is no such
 /// unit, and `CLOSED` where the handle is; then nothing is written.
 #[unsafe(no_mangle)]
 pub extern "C" fn gimli_line_index_unit(
