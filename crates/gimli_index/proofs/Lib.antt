@@ -13,6 +13,7 @@ mod LastComponents
 mod Starts
 mod NamedRows
 mod PathStarts
+mod WrittenEnds
 mod Entered
 mod WrittenIndex
 mod Lists

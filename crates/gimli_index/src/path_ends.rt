@@ -13,7 +13,7 @@ ghost use Rattle.gimli_index.specs.inside.Components.{components_left};
 use crate::components::Components;
 
 /// Whether a byte parts components.
-fn is_separator(byte: u8) -> bool
+pub(crate) fn is_separator(byte: u8) -> bool
     ensures { result ≡ is_separator byte }
 {
     byte == b'/' || byte == b'\\'
