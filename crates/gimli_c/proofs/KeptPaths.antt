@@ -9,9 +9,10 @@ use Rattle.std.proofs.lemmas.List.Elements.{All-get_or}
 use Rattle.std.proofs.lemmas.Option.{get_or_from_slice_get, none-some, slice_get-get_or, slice_get-map, slice_get_within}
 use Rattle.std.proofs.lemmas.Slice.Zip.{AllZip-right}
 use Rattle.std.specs.Option.{is_some, option_map_or}
-use Rattle.std.proofs.Common.{arith, take, get_or}
+use Rattle.std.proofs.Common.{arith, ◌≤◌, take, drop, get_or, append-nil}
+use Rattle.std.proofs.Math.ListN.{drop_of_length-le}
 use Rattle.std.proofs.lemmas.Bool.{true≢false, cases_lt}
-use Rattle.std.proofs.lemmas.List.{length-replicate, length-take-le, get_or-replicate, take_more}
+use Rattle.std.proofs.lemmas.List.{length-replicate, length-take-le, get_or-replicate, take_all, take_more}
 use Rattle.gimli_core.specs.Notation.{Notation, notation_of}
 use Rattle.gimli_core.specs.declared.error.Error.{Error}
 use Rattle.gimli_lookup.specs.Paths.{Paths}
@@ -23,7 +24,8 @@ use Rattle.gimli_lookup.specs.Strings.{Strings}
 use Rattle.gimli_lookup.specs.UnitRun.{AreBeforeFault, HasNoFault}
 use Rattle.gimli_c.specs.FileSeen.{HasFiles}
 use Rattle.gimli_c.specs.Indexed.{kept_header, unit_location, own_directory, strings_in, compilations_of, GivesPath, IsIndexOf, KeepsPath, Program}
-use Rattle.gimli_c.specs.KeptUnits.{section_read, entry_of, paths_with, summary_of, AreUnitsOf, ArePathsOf, HaveDirectories, HaveFilesOfRows, IsPathIn, IsTold, KeepsPaths, KeepsUnit}
+use Rattle.gimli_c.specs.KeptUnits.{section_read, entry_of, paths_with, summary_of, AreUnitsOf, ArePathsOf, HaveDirectories, HaveFilesOfRows, IsPathIn, IsTold}
+use Rattle.gimli_c.specs.KeptUnits.{KeepsPaths, KeepsUnit}
 use Rattle.gimli_c.specs.inside.KeptUnits.{IsMadeOf, TellsMarked}
 use Rattle.gimli_core.specs.Numbers.{is_address_size}
 use Rattle.gimli_compilation.specs.Directories.{TellsDirectories}
@@ -31,6 +33,7 @@ use Rattle.gimli_line.specs.Units.{AreUnits}
 use Rattle.gimli_line.specs.header.File.{File}
 use Rattle.gimli_line.specs.header.Header.{Header, file_of}
 use Rattle.gimli_c.specs.declared.index.kept.SectionIndex.{SectionIndex}
+use Rattle.gimli_c.specs.declared.index.summary.HeaderSummary.{HeaderSummary}
 use Rattle.gimli_c.specs.declared.index.unit_paths.UnitPaths.{UnitPaths}
 
 -- ---- what is some is the same
@@ -125,6 +128,13 @@ get_replicate : {A : Type 0} (n i : ℕ) (x : A) → i < n → slice_get (replic
 get_replicate n i x inside =
     let within : i < length (replicate n x) = omega (arith, length-replicate n x) in
     slice_get-get_or (replicate n x) i x within ∙ ap Some (get_or-replicate n i x x inside)
+
+-- a list that was written whole
+pub written_whole : {A : Type 0} (len : ℕ) (new items : List A) → length new ≡ length items → length new ≤ len
+    → take len (new ++ drop (length new) items) ≡ new
+written_whole len new items same within =
+    ap (λ (xs : List _). take len (new ++ xs)) (drop_of_length-le items (omega (arith, same))) ∙ ap (λ (xs : List _). take len xs) (append-nil new)
+    ∙ take_all len new within
 
 -- no file has a number past the table
 number_within : (h : Header) (number : ℕ) (f : File) → file_of h number ≡ Some f → number < length h.files + 1
@@ -338,3 +348,10 @@ header_kept i all unit u is =
     let at = some_and (λ (k : UnitPaths). KeepsUnit (strings_in i) u k) (slice_get i.paths.items unit)
     (zip_left (KeepsUnit (strings_in i)) all.are.units i.paths.items unit u all.each is) in
     ap (λ (o : Option UnitPaths). option_map_or (λ (k : UnitPaths). k.header) o (summary_of None)) at.there ∙ at.holds.summary_is
+
+-- a summary of a header that may be there
+pub summary_by : {A : Type 0} (f : A → KeptHeader) (o : Option A) (header : Option KeptHeader) (s : HeaderSummary)
+    → MatchOption o (s ≡ summary_of None) (λ h. s ≡ summary_of (Some (f h))) → MatchOption o (header ≡ None) (λ h. header ≡ Some (f h))
+    → s ≡ summary_of header
+summary_by f None header s is same = is ∙ ap summary_of (sym same)
+summary_by f (Some h) header s is same = is ∙ ap summary_of (sym same)

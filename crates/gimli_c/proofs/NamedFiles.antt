@@ -1,12 +1,11 @@
 -- The addresses of the files that a path names.
-use Rattle.std.proofs.Common.{◌≡◌, ◌+◌, ◌<◌, ◌≤◌, ℕ, zero, suc, Bool, true, false, List, [], ◌∷◌, ◌++◌, length, map, take, get_or, refl, ap, sym, subst, ◌∙◌}
+use Rattle.std.proofs.Common.{◌≡◌, ◌+◌, ◌<◌, ◌≤◌, ℕ, zero, suc, Bool, true, false, List, [], ◌∷◌, ◌++◌, length, map, take, refl, ap, sym, subst, ◌∙◌}
 use Rattle.std.proofs.Common.{arith, append_assoc, append-nil}
 use Rattle.std.specs.Prelude.{Option, Some, None, Result, Ok, Err, slice_get, IsSomeAnd}
 use Rattle.std.specs.Option.{option_map_or}
 use Rattle.std.specs.List.{AllZip}
 use Rattle.std.specs.declared.alloc.Global.{Global}
 use Rattle.std.specs.declared.vec.Vec.{Vec}
-use Rattle.std.proofs.Math.Path.{fun_ext}
 use Rattle.std.proofs.lemmas.List.{length-take-le, take_more, take_all}
 use Rattle.std.proofs.lemmas.Option.{get_or_from_slice_get, slice_get_within}
 use Rattle.gimli_line.specs.header.File.{File}
@@ -28,7 +27,7 @@ use Rattle.gimli_c.specs.Named.{addresses_by, is_named, is_path_named, names_fil
 -- ---- unit by unit
 
 module _ (is_file : KeptUnit → UnitPaths → ℕ → Bool) (line : ℕ) where
-  here : KeptUnit → UnitPaths → List ℕ
+  abbrev here : KeptUnit → UnitPaths → List ℕ
   here u k = addresses_of (is_file u k) u.sequences line
 
   one_appended : (us : List KeptUnit) (ks : List UnitPaths) (u : KeptUnit) (k : UnitPaths) → length us ≡ length ks
@@ -47,8 +46,10 @@ module _ (is_file : KeptUnit → UnitPaths → ℕ → Bool) (line : ℕ) where
       let in_us : i < length us = slice_get_within us i u u_is in
       let in_ks : i < length ks = slice_get_within ks i k k_is in
       let same : length (take i us) ≡ length (take i ks) = length-take-le i us (omega arith) ∙ sym (length-take-le i ks (omega arith)) in
-      sym (ap (λ xs. addresses_by is_file xs (take (i + 1) ks) line) (take_more us i u in_us ∙ ap (λ v. take i us ++ v ∷ []) (get_or_from_slice_get us i u u u_is))
-      ∙ ap (λ xs. addresses_by is_file (take i us ++ u ∷ []) xs line) (take_more ks i k in_ks ∙ ap (λ v. take i ks ++ v ∷ []) (get_or_from_slice_get ks i k k k_is))
+      sym
+      (ap (λ xs. addresses_by is_file xs (take (i + 1) ks) line) (take_more us i u in_us ∙ ap (λ v. take i us ++ v ∷ []) (get_or_from_slice_get us i u u u_is))
+      ∙ ap (λ xs. addresses_by is_file (take i us ++ u ∷ []) xs line)
+      (take_more ks i k in_ks ∙ ap (λ v. take i ks ++ v ∷ []) (get_or_from_slice_get ks i k k k_is))
       ∙ one_appended (take i us) (take i ks) u k same)
 
   -- past the units nothing more of the paths counts, and past the paths nothing more of the units
@@ -100,7 +101,7 @@ not_named path p number none = by_file (file_of p.header number) refl
         by_result (Err e) same = refl
 
 module _ (sections : Strings) (path : List ℕ) (u : KeptUnit) (k : UnitPaths) where
-  its_paths : KeptHeader → Paths
+  abbrev its_paths : KeptHeader → Paths
   its_paths h = paths_with sections h.meaning k.comp_dir.items
 
   none_in_header : (number : ℕ) → ((h : KeptHeader) → u.unit.header ≡ Some h → (whole : List ℕ) → IsPathIn (its_paths h) number whole → ⊥)

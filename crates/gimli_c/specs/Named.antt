@@ -1,14 +1,14 @@
 -- The files that a path names, and the addresses of a line of them: the rule for breakpoints of
 -- DWARF 5, section 6.2.2.
 use Rattle.std.specs.Prelude.{◌≡◌, ℕ, Bool, false, List, [], ◌∷◌, ◌++◌, map, length, slice_get}
-use Rattle.std.specs.Prelude.{Option, Some, None, Result, Ok, Err}
+use Rattle.std.specs.Prelude.{Option, Some, Result, Ok, Err}
 use Rattle.std.specs.Option.{option_map_or}
 use Rattle.std.specs.declared.alloc.Global.{Global}
 use Rattle.std.specs.declared.vec.Vec.{Vec}
 use Rattle.gimli_line.specs.header.Header.{file_of}
 use Rattle.gimli_lookup.specs.Components.{ends_with}
 use Rattle.gimli_lookup.specs.Paths.{Paths, file_path}
-use Rattle.gimli_lookup.specs.Section.{KeptUnit, ListedUnit, unit_without_header}
+use Rattle.gimli_lookup.specs.Section.{KeptUnit, unit_without_header}
 use Rattle.gimli_lookup.specs.Statements.{addresses_of, HasNoLine, IsFirstLine}
 use Rattle.gimli_lookup.specs.Strings.{Strings}
 use Rattle.gimli_lookup.specs.declared.path_error.PathError.{PathError}

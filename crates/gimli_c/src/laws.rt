@@ -30,5 +30,6 @@ pub fn addresses_are_of_named_files()
 /// What an index keeps of the header of a unit is what that header says.
 pub fn kept_headers_are_read()
     ensures { (p : Program) (i : SectionIndex) (is : IsIndexOf p i) (unit : ℕ) (u : KeptUnit)
-        → slice_get is.keeps.are.units unit ≡ Some u → kept_header i unit ≡ summary_of u.unit.header }
+        → slice_get is.keeps.are.units unit ≡ Some u
+        → kept_header i unit ≡ summary_of u.unit.header }
 {}

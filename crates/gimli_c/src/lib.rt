@@ -41,10 +41,10 @@ pub use file::{
 };
 pub use find::gimli_line_find;
 pub use index::{
-    GimliIndexUnit, GimliLineIndex, GimliOpenOptions, GimliPlace, HeaderSummary, OPTIONS_SIZE, SectionIndex,
-    UnitPaths, gimli_line_index_addresses, gimli_line_index_addresses_of, gimli_line_index_close,
-    gimli_line_index_comp_dir, gimli_line_index_directory, gimli_line_index_file,
-    gimli_line_index_find, gimli_line_index_find_all, gimli_line_index_open,
+    GimliIndexUnit, GimliLineIndex, GimliOpenOptions, GimliPlace, HeaderSummary, OPTIONS_SIZE,
+    SectionIndex, UnitPaths, gimli_line_index_addresses, gimli_line_index_addresses_of,
+    gimli_line_index_close, gimli_line_index_comp_dir, gimli_line_index_directory,
+    gimli_line_index_file, gimli_line_index_find, gimli_line_index_find_all, gimli_line_index_open,
     gimli_line_index_open_with_info, gimli_line_index_path, gimli_line_index_read_unit,
     gimli_line_index_unit, gimli_line_index_unit_count,
 };

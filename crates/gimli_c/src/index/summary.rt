@@ -20,7 +20,7 @@ pub struct HeaderSummary {
 
 /// What is kept of a header.
 pub(crate) fn summary_of(header: Option<&LineProgramHeader<Slice<'_>>>) -> HeaderSummary
-    ensures { MatchOption header (result ≡ summary_of None) (λ header. result ≡ summary_of
+    ensures { MatchOption header.entry (result ≡ summary_of None) (λ header. result ≡ summary_of
         (Some (record { meaning = header.now.meaning; notation = header.now.notation }))) }
 {
     match header {

@@ -1,4 +1,4 @@
-use Rattle.std.proofs.Common.{◌≤◌, ◌+◌, ℕ, Bool, List, [], ◌∷◌, length, take, sym, ap, subst, ◌∙◌, arith}
+use Rattle.std.proofs.Common.{◌≤◌, ◌+◌, ℕ, Bool, List, [], ◌∷◌, length, take, sym, ap, subst, ◌∙◌, arith, false}
 use Rattle.std.specs.Prelude.{Option, IfSome}
 use Rattle.std.specs.declared.alloc.Global.{Global}
 use Rattle.std.specs.declared.vec.Vec.{Vec}
@@ -27,7 +27,8 @@ loop-number-preserved c =
       ap length c.in_ok-push.ensures.ok ∙ length-append files (told ∷ []) ∙ ap (λ (n : ℕ). n + 1) c.loop-number.invariant.0,
       subst (λ (xs : List (Option (Vec ℕ Global))). ArePathsIn p xs) (sym c.in_ok-push.ensures.ok) more,
       subst (λ (xs : List (Option (Vec ℕ Global))). TellsMarked p (take (c.loop-number.number + 1) c.args.marks.now) xs) (sym c.in_ok-push.ensures.ok)
-          (one_more_marked p c.args.marks.now c.loop-number.number files told ? (omega arith) c.loop-number.invariant.0 c.loop-number.invariant.2 ?),
+          (one_more_marked p c.args.marks.now c.loop-number.number files told false (omega arith) c.loop-number.invariant.0 c.loop-number.invariant.2
+          c.in_ok-path.ensures.wanted),
     )
 
 pub returns-clause-ok : goal.returns-clause-ok
