@@ -1,7 +1,6 @@
 -- What is found among the sequences whose addresses go down, up to their next address.
 use Rattle.std.proofs.Common.{◌≡◌, ℕ, ◌<◌, ◌≤◌, List, length, take, Option, None, Some, sym, ap, subst, ◌∙◌, inl, inr, arith}
 use Rattle.std.specs.Prelude.{All, IfSome, slice_index_or}
-use Rattle.std.proofs.lemmas.Bool.{cases_lt}
 use Rattle.std.proofs.lemmas.List.{get_or-take, length-take-le}
 use Rattle.std.proofs.lemmas.Option.{get_or_from_slice_get, slice_get_within}
 use Rattle.gimli_line.specs.declared.run.row.LineRow.{LineRow}
@@ -12,7 +11,7 @@ use Rattle.gimli_lookup.specs.Probes.{never_go_down}
 use Rattle.gimli_lookup.specs.Ranges.{IsBefore}
 use Rattle.gimli_lookup.specs.inside.Ends.{IsAside, IsClear, IsUnorderedAt, IsUnorderedClear}
 use Rattle.gimli_lookup.specs.inside.Steps.{HaveNoUnorderedPair, IsFirstUnorderedPair}
-use Rattle.gimli_lookup.proofs.NearerEnds.{apart_of, rows_nearer}
+use Rattle.gimli_lookup.proofs.NearerEnds.{apart_of}
 use Rattle.gimli_lookup.proofs.StillFound.{IsUnorderedApart, pair_before, still_first}
 
 -- fewer sequences have no pair either

@@ -146,6 +146,7 @@ fn last_of_steps(steps: &[Step], a: u64, count: usize) -> Option<usize>
 
 /// The first rows that cover `a`, of the sequences whose addresses go down and that stand before
 /// `end`; None where there are none. Each is searched row by row.
+#[inline(always)]
 fn find_unordered(
     indexes: &[usize],
     sequences: &[KeptRows],

@@ -245,8 +245,10 @@ impl<R: Reader> SectionLookup<R> {
         match found {
             None => (None, probes),
             Some(found) => {
+                // Where each unit has one sequence, its own is at the same index.
+                let near = found.sequence;
                 let rows = CoveringRows {
-                    unit: unit_of(self.units.as_slice(), found.sequence),
+                    unit: unit_near(self.units.as_slice(), found.sequence, near),
                     row: found.row,
                     next: found.next,
                 };

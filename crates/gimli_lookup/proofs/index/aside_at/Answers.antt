@@ -1,6 +1,5 @@
-use Rattle.std.proofs.Common.{◌<◌, ℕ, List, None, Some, arith}
+use Rattle.std.proofs.Common.{None, Some, arith}
 use Rattle.std.specs.Prelude.{slice_index_or}
-use Rattle.gimli_line.specs.declared.run.row.LineRow.{LineRow}
 use Rattle.gimli_lookup.proofs.Asides.{aside_found}
 use Rattle.gimli_lookup.proofs.NearerEnds.{rows_nearer}
 use Rattle.gimli_lookup.proofs.index.aside_at.Goals as goal

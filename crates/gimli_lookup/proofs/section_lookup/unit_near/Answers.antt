@@ -1,4 +1,4 @@
-use Rattle.std.proofs.Common.{◌≤◌, ◌<◌, arith}
+use Rattle.std.proofs.Common.{◌≤◌, ◌<◌}
 use Rattle.std.proofs.lemmas.List.Elements.{at_read}
 use Rattle.gimli_lookup.specs.Section.{ListedUnit}
 use Rattle.gimli_lookup.proofs.section_lookup.unit_near.Goals as goal

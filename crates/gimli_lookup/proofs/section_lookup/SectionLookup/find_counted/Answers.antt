@@ -8,8 +8,8 @@ use Rattle.gimli_lookup.proofs.Sections.{all_are}
 use Rattle.gimli_lookup.proofs.SectionPairs.{index_within, unit_found}
 use Rattle.gimli_lookup.proofs.section_lookup.SectionLookup.find_counted.Goals as goal
 
-pub unit_of-requires : goal.unit_of-requires
-unit_of-requires g c =
+pub unit_near-requires : goal.unit_near-requires
+unit_near-requires g c =
     let sequences = c.as_slice.result.now in
     let found = c.in-Some.found in
     let first =
@@ -35,10 +35,10 @@ returns-in-Some-clause-unit g c =
     let first =
     MatchOption-at_some (All (HasNoPair c.args.a) sequences) (λ (f : Found). IsFirstPairIn c.args.a sequences f.sequence f.row f.next) found c.in-Some.is
     c.find-found.ensures.found in
-    unit_found c.args.a c.self.inside.sequences.items sequences c.self.inside.units.items c.as_slice-in-Some.result.now c.args.self.now c.unit_of.result
+    unit_found c.args.a c.self.inside.sequences.items sequences c.self.inside.units.items c.as_slice-in-Some.result.now c.args.self.now c.unit_near.result
     found.sequence found.row found.next
-    c.self.invariant.0 c.self.view_is c.as_slice.ensures.value c.as_slice-in-Some.ensures.value c.unit_of.ensures.unit c.unit_of.ensures.first
-    c.unit_of.ensures.end first
+    c.self.invariant.0 c.self.view_is c.as_slice.ensures.value c.as_slice-in-Some.ensures.value c.unit_near.ensures.unit c.unit_near.ensures.first
+    c.unit_near.ensures.end first
 
 pub returns-in-Some-clause-at_least : goal.returns-in-Some-clause-at_least
 returns-in-Some-clause-at_least g c =
