@@ -13,6 +13,9 @@ pub mod ReaderHandles
 pub mod CompDirs
 pub mod Indexes
 pub mod KeptPaths
+pub mod AnyOf
+pub mod DefinedFiles
+pub mod Unreferenced
 pub mod Readers
 pub mod Maps
 pub mod MadeMaps
