@@ -15,6 +15,7 @@ pub mod Indexes
 pub mod KeptPaths
 pub mod AnyOf
 pub mod DefinedFiles
+pub mod OpenedIndexes
 pub mod Unreferenced
 pub mod Readers
 pub mod Maps
