@@ -193,8 +193,7 @@ KeepsWith section big size lowest sections strings kept_strings kept paths =
     (keeps : KeepsPaths section big size lowest sections kept paths) × (kept_strings ≡ strings_for keeps.are.units strings)
 
 pub keeps_paths : (section other : List ℕ) (big other_big : Bool) (size lowest : ℕ) (sections own : Strings) (strings kept_strings : List ℕ)
-    (tell : ℕ → Option (List ℕ))
-    (units kept : List KeptUnit) (paths : List UnitPaths) → other ≡ section → other_big ≡ big → own ≡ sections → is_address_size size ≡ true
+    (tell : ℕ → Option (List ℕ)) (units kept : List KeptUnit) (paths : List UnitPaths) → other ≡ section → other_big ≡ big → own ≡ sections → is_address_size size ≡ true
     → AreUnits (notation_of other_big (2 ^ 64)) 0 other (map (λ (u : KeptUnit). u.unit.offset) units)
     → All (IsUnitOf (section_read other other_big) (entry_of size) lowest) units → kept ≡ map unit_without_header units
     → AllZip (IsMadeOf own tell) units paths → kept_strings ≡ strings_for units strings
@@ -220,7 +219,8 @@ have_directories own tell units kept paths are made =
 
 pub made_index : (p : Program) (i : SectionIndex) (tell : ℕ → Option (List ℕ)) → i.section.items ≡ p.section → i.line_strings.items ≡ p.line_strings
     → i.big ≡ p.big → i.address_size ≡ p.address_size → i.lowest ≡ p.lowest → (keeps : Keeps i)
-    → i.strings.items ≡ strings_for keeps.are.units p.strings → TellsDirectories (compilations_of p) tell → HaveDirectories tell i.units i.paths.items → IsIndexOf p i
+    → i.strings.items ≡ strings_for keeps.are.units p.strings → TellsDirectories (compilations_of p) tell → HaveDirectories tell i.units i.paths.items
+    → IsIndexOf p i
 made_index p i tell section line_strings big size lowest keeps strings tells directories = record {
   section = section;
   line_strings = line_strings;

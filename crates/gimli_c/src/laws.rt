@@ -26,9 +26,9 @@ pub fn kept_paths_are_whole()
         → KeepsPath i unit file whole → GivesPath i unit file (own_directory i unit) whole }
 {}
 
-/// No path is lost where an index doesn't keep the section `.debug_str`: of each file of a unit, and
-/// in each directory of the compilation, the index has the path, or the refusal, that the program's
-/// own sections of strings give.
+/// No path is lost where an index doesn't keep the section `.debug_str`: of each file of a unit,
+/// and in each directory of the compilation, the index has the path, or the refusal, that the
+/// program's own sections of strings give.
 pub fn paths_are_those_of_program()
     ensures { (p : Program) (i : SectionIndex) → IsIndexOf p i → (unit file : ℕ)
         (comp_dir : List ℕ) (h : Header) (entry : File) → IsFileOf i unit file h entry

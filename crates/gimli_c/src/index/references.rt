@@ -69,8 +69,8 @@ fn any_refers_to_strings(units: &[UnitLookup<Slice<'_>>]) -> bool
     units.iter().any(|unit| unit_refers_to_strings(unit))
 }
 
-/// What an index keeps of the section `.debug_str`: all of it where a unit refers to it, and else no
-/// bytes.
+/// What an index keeps of the section `.debug_str`: all of it where a unit refers to it, and else
+/// no bytes.
 pub(crate) fn strings_for<'s>(lookup: &SectionLookup<Slice<'_>>, strings: &'s [u8]) -> &'s [u8]
     ensures { result.now ≡ strings_for lookup.now strings.now }
 {
