@@ -192,22 +192,22 @@ abbrev pub KeepsWith : List ℕ → Bool → ℕ → ℕ → Strings → List �
 KeepsWith section big size lowest sections strings kept_strings kept paths =
     (keeps : KeepsPaths section big size lowest sections kept paths) × (kept_strings ≡ strings_for keeps.are.units strings)
 
-pub keeps_paths : (section other : List ℕ) (big other_big : Bool) (size lowest : ℕ) (sections own : Strings) (strings kept_strings : List ℕ)
+pub keeps_paths : (section other : List ℕ) (big other_big : Bool) (size lowest : ℕ) (sections own : Strings) (strings left : List ℕ)
     (tell : ℕ → Option (List ℕ)) (units kept : List KeptUnit) (paths : List UnitPaths) → other ≡ section → other_big ≡ big → own ≡ sections → is_address_size size ≡ true
     → AreUnits (notation_of other_big (2 ^ 64)) 0 other (map (λ (u : KeptUnit). u.unit.offset) units)
     → All (IsUnitOf (section_read other other_big) (entry_of size) lowest) units → kept ≡ map unit_without_header units
-    → AllZip (IsMadeOf own tell) units paths → kept_strings ≡ strings_for units strings
-    → KeepsWith section big size lowest sections strings kept_strings kept paths
-keeps_paths section other big other_big size lowest sections own strings kept_strings tell units kept paths s b t is_size offsets each are made strings_are =
-    subst (λ (x : List ℕ). KeepsWith x big size lowest sections strings kept_strings kept paths) s
-    (subst (λ (y : Bool). KeepsWith other y size lowest sections strings kept_strings kept paths) b
-    (subst (λ (z : Strings). KeepsWith other other_big size lowest z strings kept_strings kept paths) t (
+    → AllZip (IsMadeOf own tell) units paths → left ≡ strings_for units strings
+    → KeepsWith section big size lowest sections strings left kept paths
+keeps_paths section other big other_big size lowest sections own strings left tell units kept paths s b t is_size offsets each are made same =
+    subst (λ (x : List ℕ). KeepsWith x big size lowest sections strings left kept paths) s
+    (subst (λ (y : Bool). KeepsWith other y size lowest sections strings left kept paths) b
+    (subst (λ (z : Strings). KeepsWith other other_big size lowest z strings left kept paths) t (
       record {
         is_size = is_size;
         are = record { units = units; offsets = offsets; each = each; kept_are = are };
         each = zip_more units paths (λ u k both. both.0) made;
       },
-      strings_are,
+      same,
     )))
 
 pub have_directories : (own : Strings) (tell : ℕ → Option (List ℕ)) (units kept : List KeptUnit) (paths : List UnitPaths)
