@@ -193,8 +193,8 @@ KeepsWith section big size lowest sections strings kept_strings kept paths =
     (keeps : KeepsPaths section big size lowest sections kept paths) × (kept_strings ≡ strings_for keeps.are.units strings)
 
 pub keeps_paths : (section other : List ℕ) (big other_big : Bool) (size lowest : ℕ) (sections own : Strings) (strings left : List ℕ)
-    (tell : ℕ → Option (List ℕ)) (units kept : List KeptUnit) (paths : List UnitPaths) → other ≡ section → other_big ≡ big → own ≡ sections → is_address_size size ≡ true
-    → AreUnits (notation_of other_big (2 ^ 64)) 0 other (map (λ (u : KeptUnit). u.unit.offset) units)
+    (tell : ℕ → Option (List ℕ)) (units kept : List KeptUnit) (paths : List UnitPaths) → other ≡ section → other_big ≡ big → own ≡ sections
+    → is_address_size size ≡ true → AreUnits (notation_of other_big (2 ^ 64)) 0 other (map (λ (u : KeptUnit). u.unit.offset) units)
     → All (IsUnitOf (section_read other other_big) (entry_of size) lowest) units → kept ≡ map unit_without_header units
     → AllZip (IsMadeOf own tell) units paths → left ≡ strings_for units strings
     → KeepsWith section big size lowest sections strings left kept paths
