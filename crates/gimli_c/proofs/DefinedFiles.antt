@@ -8,10 +8,9 @@ use Rattle.std.proofs.lemmas.Option.{none-some, same_Some}
 use Rattle.gimli_core.specs.Notation.{Notation}
 use Rattle.gimli_core.specs.Production.{Production, ◌>>=◌, done, choose, within, byte, some_bytes, unsigned, below_limit, Each}
 use Rattle.gimli_core.specs.declared.error.Error.{Error}
-use Rattle.gimli_line.specs.declared.run.instruction.LineInstruction.TheVariants.{Special, Copy, AdvancePc, AdvanceLine, SetFile, SetColumn, NegateStatement}
-use Rattle.gimli_line.specs.declared.run.instruction.LineInstruction.TheVariants.{SetBasicBlock, ConstAddPc, FixedAddPc, SetPrologueEnd, SetEpilogueBegin}
-use Rattle.gimli_line.specs.declared.run.instruction.LineInstruction.TheVariants.{SetIsa, UnknownStandard0, UnknownStandard1, UnknownStandardN, EndSequence}
-use Rattle.gimli_line.specs.declared.run.instruction.LineInstruction.TheVariants.{SetAddress, DefineFile, SetDiscriminator, UnknownExtended}
+use Rattle.gimli_line.specs.declared.run.instruction.LineInstruction.TheVariants.{Special}
+use Rattle.gimli_line.specs.declared.run.instruction.LineInstruction.TheVariants.{UnknownStandard0, UnknownStandard1}
+use Rattle.gimli_line.specs.declared.run.instruction.LineInstruction.TheVariants.{DefineFile, UnknownExtended}
 use Rattle.gimli_line.specs.header.File.{File}
 use Rattle.gimli_line.specs.header.Header.{Header}
 use Rattle.gimli_line.specs.header.Productions.{among}

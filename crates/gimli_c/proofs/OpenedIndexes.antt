@@ -2,9 +2,7 @@
 use Rattle.std.proofs.Common.{◌≡◌, ℕ, List, sym, subst}
 use Rattle.std.specs.Prelude.{Option}
 use Rattle.gimli_compilation.specs.Directories.{TellsDirectories}
-use Rattle.gimli_compilation.specs.Sections.{Sections}
 use Rattle.gimli_lookup.specs.Strings.{Strings}
-use Rattle.gimli_c.specs.CompDir.{sections_handed}
 use Rattle.gimli_c.specs.Indexed.{compilations_of, IsIndexOf, Program}
 use Rattle.gimli_c.specs.KeptUnits.{HaveDirectories}
 use Rattle.gimli_c.specs.declared.index.kept.SectionIndex.{SectionIndex}

@@ -20,12 +20,11 @@ use Rattle.gimli_lookup.specs.Paths.{Paths, ◌>>=◌, is_absolute, path_from, h
 use Rattle.gimli_lookup.specs.Paths.{directory_path, file_path}
 use Rattle.gimli_lookup.specs.Section.{KeptHeader, KeptUnit, unit_without_header}
 use Rattle.gimli_lookup.specs.SectionAddresses.{unit_has_path, unit_addresses, addresses_of_path}
-use Rattle.gimli_lookup.specs.SectionUnits.{IsRefused, IsRun, IsUnitOf}
+use Rattle.gimli_lookup.specs.SectionUnits.{IsRun, IsUnitOf}
 use Rattle.gimli_lookup.specs.Statements.{addresses_of}
 use Rattle.gimli_lookup.specs.Strings.{Strings, string_of}
 use Rattle.gimli_lookup.specs.declared.path_error.PathError.{PathError}
-use Rattle.gimli_c.specs.FileSeen.{HasFiles}
-use Rattle.gimli_c.specs.Indexed.{unit_location, strings_in, strings_of, paths_in, paths_by_program, AreUnitsIn, IsFileOf, IsIndexOf, Program}
+use Rattle.gimli_c.specs.Indexed.{strings_in, strings_of, paths_in, paths_by_program, AreUnitsIn, IsFileOf, IsIndexOf, Program}
 use Rattle.gimli_c.specs.KeptUnits.{section_read, entry_of}
 use Rattle.gimli_c.specs.References.{is_in_strings, has_path_in_strings, refers_to_strings, unit_refers_to_strings}
 use Rattle.gimli_c.specs.declared.index.kept.SectionIndex.{SectionIndex}

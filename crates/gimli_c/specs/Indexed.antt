@@ -88,7 +88,8 @@ strings_of p = record { debug_line_str = p.line_strings; debug_str = p.strings }
 abbrev pub strings_in : SectionIndex → Strings
 strings_in i = record { debug_line_str = i.line_strings.items; debug_str = i.strings.items }
 
--- the index of a program
+-- the index of a program: copies of its sections, but of `.debug_str` what its units need, with
+-- their headers; and what is kept of its units
 pub record IsIndexOf (p : Program) (i : SectionIndex) : Type 0 where
   pub section : i.section.items ≡ p.section
   pub line_strings : i.line_strings.items ≡ p.line_strings
