@@ -1,8 +1,8 @@
 #!/usr/bin/env bash
 # Looks for misused memory: the example where_is under valgrind; all examples built with the address sanitiser; each call over buffers
 # that end at a page that can't be read (guarded.c); many threads, each with an index of its own (threads.c), also under helgrind
-# of valgrind; and maps (maps.c): many threads and a signal handler over one, with a malloc that ends the program where a question
-# asks for memory, and maps with bytes that were changed or cut. Over compiled programs of versions 2 to 5. What a machine lacks is said, and passed over. The library is that of
+# of valgrind; what an index takes of memory for .debug_str (kept.c); and maps (maps.c): many threads and a signal handler over one,
+# with a malloc that ends the program where a question asks for memory, and maps with bytes that were changed or cut. Over compiled programs of versions 2 to 5. What a machine lacks is said, and passed over. The library is that of
 # `make`, or of .ci/library.
 set -eu
 here=$(cd "$(dirname "$0")" && pwd)
@@ -46,6 +46,10 @@ echo "gimli_c: $calls answers over buffers that end at a page that can't be read
 build threads threads
 for version in 2 3 4 5; do "$work/threads" "$work/line$version" 16 >/dev/null; done
 echo "gimli_c: 16 threads, each with an index of its own, find what one finds"
+
+build kept kept
+for version in 2 3 4 5; do "$work/kept" "$work/line$version" "$work/line_str$version"; done
+echo "gimli_c: an index keeps no .debug_str that no unit refers to, and one that a unit does"
 
 build maps maps
 echo "gimli_c: maps: $("$work/maps"), without memory"

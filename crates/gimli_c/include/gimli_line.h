@@ -372,11 +372,13 @@ typedef struct gimli_open_options {
 #define GIMLI_OPEN_OPTIONS {sizeof(gimli_open_options), 1, 8, false}
 
 /* Makes an index over all units of the section .debug_line, and puts it behind the handle; an index that stood there is closed.
- * `line_strings` and `strings` are the sections .debug_line_str and .debug_str, or no bytes. The index has copies of all three:
- * the caller's may go. A unit that can't be read has no rows; of one whose run has a fault it has the sequences that end before
- * that. Rows that no end row follows are in no sequence, and that is no fault. Bytes behind the last unit count as one that can't
- * be read. It is GIMLI_OK for any bytes: gimli_line_index_unit tells what is wrong with a unit. Where another number than 0 is
- * answered, GIMLI_OUT_OF_MEMORY, GIMLI_UNSUPPORTED_ADDRESS_SIZE or GIMLI_UNKNOWN_OPTIONS, the handle has what it had. */
+ * `line_strings` and `strings` are the sections .debug_line_str and .debug_str, or no bytes. The index has copies of what it needs:
+ * the caller's may go. It has no copy of `strings` where no directory and no path of a file refers to it, which holds for all
+ * programs up to version 4: no path needs it then. A unit that can't be read has no rows; of one whose run has a fault it has the
+ * sequences that end before that. Rows that no end row follows are in no sequence, and that is no fault. Bytes behind the last unit
+ * count as one that can't be read. It is GIMLI_OK for any bytes: gimli_line_index_unit tells what is wrong with a unit. Where another
+ * number than 0 is answered, GIMLI_OUT_OF_MEMORY, GIMLI_UNSUPPORTED_ADDRESS_SIZE or GIMLI_UNKNOWN_OPTIONS, the handle has what it
+ * had. */
 uint32_t gimli_line_index_open(const uint8_t *section, size_t length, const uint8_t *line_strings, size_t line_strings_length,
                                const uint8_t *strings, size_t strings_length, const gimli_open_options *options,
                                gimli_line_index *index)

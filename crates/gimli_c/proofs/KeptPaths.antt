@@ -26,6 +26,7 @@ use Rattle.gimli_c.specs.FileSeen.{HasFiles}
 use Rattle.gimli_c.specs.Indexed.{kept_header, unit_location, own_directory, strings_in, compilations_of, GivesPath, IsIndexOf, KeepsPath, Program}
 use Rattle.gimli_c.specs.KeptUnits.{section_read, entry_of, paths_with, summary_of, AreUnitsOf, ArePathsOf, HaveDirectories, HaveFilesOfRows, IsPathIn, IsTold}
 use Rattle.gimli_c.specs.KeptUnits.{KeepsPaths, KeepsUnit}
+use Rattle.gimli_c.specs.References.{strings_for}
 use Rattle.gimli_c.specs.inside.KeptUnits.{IsMadeOf, TellsMarked}
 use Rattle.gimli_core.specs.Numbers.{is_address_size}
 use Rattle.gimli_compilation.specs.Directories.{TellsDirectories}
@@ -281,19 +282,28 @@ zip_mapped g Q [] (y ∷ ys) zipped = absurd zipped
 zip_mapped g Q (x ∷ xs) [] zipped = absurd zipped
 zip_mapped g Q (x ∷ xs) (y ∷ ys) zipped = (zipped.0, zip_mapped g Q xs ys zipped.1)
 
-pub keeps_paths : (section other : List ℕ) (big other_big : Bool) (size lowest : ℕ) (sections own : Strings) (tell : ℕ → Option (List ℕ))
-    (units kept : List KeptUnit) (paths : List UnitPaths) → other ≡ section → other_big ≡ big → own ≡ sections → is_address_size size ≡ true
-    → AreUnits (notation_of other_big (2 ^ 64)) 0 other (map (λ (u : KeptUnit). u.unit.offset) units)
+-- the paths that are kept, and what is kept of `.debug_str` for their units
+abbrev pub KeepsWith : List ℕ → Bool → ℕ → ℕ → Strings → List ℕ → List ℕ → List KeptUnit → List UnitPaths → Type 0
+KeepsWith section big size lowest sections strings kept_strings kept paths =
+    (keeps : KeepsPaths section big size lowest sections kept paths) × (kept_strings ≡ strings_for keeps.are.units strings)
+
+pub keeps_paths : (section other : List ℕ) (big other_big : Bool) (size lowest : ℕ) (sections own : Strings) (strings left : List ℕ)
+    (tell : ℕ → Option (List ℕ)) (units kept : List KeptUnit) (paths : List UnitPaths) → other ≡ section → other_big ≡ big → own ≡ sections
+    → is_address_size size ≡ true → AreUnits (notation_of other_big (2 ^ 64)) 0 other (map (λ (u : KeptUnit). u.unit.offset) units)
     → All (IsUnitOf (section_read other other_big) (entry_of size) lowest) units → kept ≡ map unit_without_header units
-    → AllZip (IsMadeOf own tell) units paths → KeepsPaths section big size lowest sections kept paths
-keeps_paths section other big other_big size lowest sections own tell units kept paths s b t is_size offsets each are made =
-    subst (λ (x : List ℕ). KeepsPaths x big size lowest sections kept paths) s
-    (subst (λ (y : Bool). KeepsPaths other y size lowest sections kept paths) b
-    (subst (λ (z : Strings). KeepsPaths other other_big size lowest z kept paths) t (record {
-      is_size = is_size;
-      are = record { units = units; offsets = offsets; each = each; kept_are = are };
-      each = zip_more units paths (λ u k both. both.0) made;
-    })))
+    → AllZip (IsMadeOf own tell) units paths → left ≡ strings_for units strings
+    → KeepsWith section big size lowest sections strings left kept paths
+keeps_paths section other big other_big size lowest sections own strings left tell units kept paths s b t is_size offsets each are made same =
+    subst (λ (x : List ℕ). KeepsWith x big size lowest sections strings left kept paths) s
+    (subst (λ (y : Bool). KeepsWith other y size lowest sections strings left kept paths) b
+    (subst (λ (z : Strings). KeepsWith other other_big size lowest z strings left kept paths) t (
+      record {
+        is_size = is_size;
+        are = record { units = units; offsets = offsets; each = each; kept_are = are };
+        each = zip_more units paths (λ u k both. both.0) made;
+      },
+      same,
+    )))
 
 pub have_directories : (own : Strings) (tell : ℕ → Option (List ℕ)) (units kept : List KeptUnit) (paths : List UnitPaths)
     → kept ≡ map unit_without_header units → AllZip (IsMadeOf own tell) units paths → HaveDirectories tell kept paths
@@ -303,12 +313,12 @@ have_directories own tell units kept paths are made =
     (zip_more units paths (λ u k both. both.1) made))
 
 pub made_index : (p : Program) (i : SectionIndex) (tell : ℕ → Option (List ℕ)) → i.section.items ≡ p.section → i.line_strings.items ≡ p.line_strings
-    → i.strings.items ≡ p.strings → i.big ≡ p.big → i.address_size ≡ p.address_size → i.lowest ≡ p.lowest → Keeps i
-    → TellsDirectories (compilations_of p) tell → HaveDirectories tell i.units i.paths.items → IsIndexOf p i
-made_index p i tell section line_strings strings big size lowest keeps tells directories = record {
+    → i.big ≡ p.big → i.address_size ≡ p.address_size → i.lowest ≡ p.lowest → (keeps : Keeps i)
+    → i.strings.items ≡ strings_for keeps.are.units p.strings → TellsDirectories (compilations_of p) tell → HaveDirectories tell i.units i.paths.items
+    → IsIndexOf p i
+made_index p i tell section line_strings big size lowest keeps strings tells directories = record {
   section = section;
   line_strings = line_strings;
-  strings = strings;
   big = big;
   address_size = size;
   is_size = ap is_address_size (sym size) ∙ keeps.is_size;
@@ -319,6 +329,7 @@ made_index p i tell section line_strings strings big size lowest keeps tells dir
       (subst (λ (n : ℕ). AreUnitsOf i.section.items i.big n p.lowest i.units) size
       (subst (λ (n : ℕ). AreUnitsOf i.section.items i.big i.address_size n i.units) lowest keeps.are)));
   keeps = keeps;
+  strings = strings;
   tell = tell;
   tells = tells;
   directories = directories;

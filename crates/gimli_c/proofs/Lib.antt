@@ -13,6 +13,10 @@ pub mod ReaderHandles
 pub mod CompDirs
 pub mod Indexes
 pub mod KeptPaths
+pub mod AnyOf
+pub mod DefinedFiles
+pub mod OpenedIndexes
+pub mod Unreferenced
 pub mod NamedFiles
 pub mod Readers
 pub mod Maps

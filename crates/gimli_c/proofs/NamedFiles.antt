@@ -21,6 +21,7 @@ use Rattle.gimli_lookup.proofs.StatementRuns.{same_addresses}
 use Rattle.gimli_c.specs.declared.index.kept.SectionIndex.{SectionIndex}
 use Rattle.gimli_c.specs.declared.index.unit_paths.UnitPaths.{UnitPaths}
 use Rattle.gimli_c.specs.Indexed.{strings_in, IsIndexOf, Program}
+use Rattle.gimli_c.proofs.Unreferenced.{AreNeverBoth, IsOneHeader, named_as_program}
 use Rattle.gimli_c.specs.KeptUnits.{paths_with, IsPathIn, IsTold, KeepsUnit}
 use Rattle.gimli_c.specs.Named.{addresses_by, is_named, is_path_named, names_file, names_in_header, names_kept, NamedByTables}
 
@@ -139,8 +140,8 @@ by_tables sections path line (u ∷ us) (k ∷ ks) each =
     (same_addresses (names_kept path k) (names_in_header sections path u k) u.sequences line (same_test sections path u k each.0))
     ∙ ap (λ xs. addresses_of (names_in_header sections path u k) u.sequences line ++ xs) (by_tables sections path line us ks each.1)
 
-pub named_by_tables : (p : Program) (i : SectionIndex) → IsIndexOf p i → NamedByTables i
-named_by_tables p i is =
+pub named_by_tables : AreNeverBoth → IsOneHeader → (p : Program) (i : SectionIndex) → IsIndexOf p i → NamedByTables p i
+named_by_tables never one p i is =
     let are = is.keeps.are in
     record {
       units = are.units;
@@ -148,5 +149,6 @@ named_by_tables p i is =
       kept_are = are.kept_are;
       same = λ path line.
           ap (λ (us : List KeptUnit). addresses_by (λ u k. names_kept path k) us i.paths.items line) are.kept_are
-          ∙ by_tables (strings_in i) path line are.units i.paths.items is.keeps.each;
+          ∙ by_tables (strings_in i) path line are.units i.paths.items is.keeps.each
+          ∙ named_as_program never one p i is path line;
     }

@@ -38,6 +38,7 @@ use Rattle.gimli_c.specs.FileSeen.{HasFiles}
 use Rattle.gimli_c.specs.KeptUnits.{section_read, entry_of, summary_of, AreUnitsOf}
 use Rattle.gimli_c.specs.KeptUnits.{HaveDirectories, KeepsPaths}
 use Rattle.gimli_c.specs.Location.{Location, location, HasNoUnit}
+use Rattle.gimli_c.specs.References.{strings_for}
 use Rattle.gimli_c.specs.Seen.{row_seen}
 use Rattle.gimli_c.specs.Status.{fault_status}
 use Rattle.gimli_c.specs.Unit.{GivesUnit}
@@ -81,15 +82,19 @@ abbrev pub compilations_of : Program → Sections
 compilations_of p =
     sections_handed p.info p.abbreviations p.line_strings p.strings p.string_offsets p.big
 
+-- the sections of strings of a program
+abbrev pub strings_of : Program → Strings
+strings_of p = record { debug_line_str = p.line_strings; debug_str = p.strings }
+
 -- the sections of strings of an index
 abbrev pub strings_in : SectionIndex → Strings
 strings_in i = record { debug_line_str = i.line_strings.items; debug_str = i.strings.items }
 
--- the index of a program
+-- the index of a program: copies of its sections, but of `.debug_str` what its units need, with
+-- their headers; and what is kept of its units
 pub record IsIndexOf (p : Program) (i : SectionIndex) : Type 0 where
   pub section : i.section.items ≡ p.section
   pub line_strings : i.line_strings.items ≡ p.line_strings
-  pub strings : i.strings.items ≡ p.strings
   pub big : i.big ≡ p.big
   pub address_size : i.address_size ≡ p.address_size
   pub is_size : is_address_size p.address_size ≡ true
@@ -97,6 +102,7 @@ pub record IsIndexOf (p : Program) (i : SectionIndex) : Type 0 where
   pub units : AreUnitsOf p.section p.big p.address_size p.lowest i.units
   pub keeps : KeepsPaths i.section.items i.big i.address_size i.lowest (strings_in i) i.units
       i.paths.items
+  pub strings : i.strings.items ≡ strings_for keeps.are.units p.strings
   pub tell : ℕ → Option (List ℕ)
   pub tells : TellsDirectories (compilations_of p) tell
   pub directories : HaveDirectories tell i.units i.paths.items
@@ -171,6 +177,11 @@ paths_in i h comp_dir = record {
   header = h;
   comp_dir = Some comp_dir;
 }
+
+-- what they are made of with the sections of the program itself, all of which are there
+abbrev pub paths_by_program : Program → Header → List ℕ → Paths
+paths_by_program p h comp_dir =
+    record { sections = strings_of p; header = h; comp_dir = Some comp_dir }
 
 -- the file of an index of a unit, whose header has the files that its program defines too
 pub record IsFileOf (i : SectionIndex) (unit file : ℕ) (h : Header) (entry : File) : Type 0 where

@@ -14,6 +14,7 @@ pub mod Relocated
 pub mod Refused
 pub mod Causes
 pub mod Owned
+pub mod References
 pub mod KeptUnits
 pub mod Indexed
 pub mod Named

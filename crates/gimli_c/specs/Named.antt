@@ -14,7 +14,7 @@ use Rattle.gimli_lookup.specs.Strings.{Strings}
 use Rattle.gimli_lookup.specs.declared.path_error.PathError.{PathError}
 use Rattle.gimli_c.specs.declared.index.kept.SectionIndex.{SectionIndex}
 use Rattle.gimli_c.specs.declared.index.unit_paths.UnitPaths.{UnitPaths}
-use Rattle.gimli_c.specs.Indexed.{strings_in, AreUnitsIn}
+use Rattle.gimli_c.specs.Indexed.{strings_of, AreUnitsIn, Program}
 use Rattle.gimli_c.specs.KeptUnits.{paths_with}
 use Rattle.gimli_c.specs.Written.{slots_with}
 
@@ -77,10 +77,10 @@ names_in_header sections path u kept number = option_map_or
     false
 
 -- the addresses that an index tells of a path are those of the files whose whole paths, by the
--- tables of the headers, it names
-pub record NamedByTables (i : SectionIndex) : Type 0 where
+-- tables of the headers and the sections of strings of the program, it names
+pub record NamedByTables (p : Program) (i : SectionIndex) : Type 0 where
   pub units : List KeptUnit
   pub are_units : AreUnitsIn i units
   pub kept_are : i.units ≡ map unit_without_header units
   pub same : (path : List ℕ) (line : ℕ) → named_addresses i path line
-      ≡ addresses_by (names_in_header (strings_in i) path) units i.paths.items line
+      ≡ addresses_by (names_in_header (strings_of p) path) units i.paths.items line

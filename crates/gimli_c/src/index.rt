@@ -9,6 +9,7 @@ mod lines;
 mod open;
 mod path;
 mod read_unit;
+mod references;
 mod summary;
 mod tables;
 mod unit_paths;

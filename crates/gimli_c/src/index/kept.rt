@@ -11,7 +11,7 @@ pub struct SectionIndex {
     pub(crate) section: Vec<u8>,
     /// The section `.debug_line_str`.
     pub(crate) line_strings: Vec<u8>,
-    /// The section `.debug_str`.
+    /// The section `.debug_str`; no bytes where no unit refers to it.
     pub(crate) strings: Vec<u8>,
     /// Whether the most significant byte of a number comes first.
     pub(crate) big: bool,

@@ -49,11 +49,10 @@ fn index_of(
     }
     let section = copy(alloc, sections.line)?;
     let line_strings = copy(alloc, sections.line_strings)?;
-    let strings = copy(alloc, sections.strings)?;
     let own = ProgramSections {
         line: &section,
         line_strings: &line_strings,
-        strings: &strings,
+        strings: sections.strings,
         info: sections.info,
         abbreviations: sections.abbreviations,
         string_offsets: sections.string_offsets,
@@ -64,7 +63,7 @@ fn index_of(
     let index = SectionIndex {
         section,
         line_strings,
-        strings,
+        strings: kept.strings,
         big: options.big,
         address_size: options.address_size,
         lowest: options.lowest,
@@ -79,10 +78,11 @@ fn index_of(
 
 /// Makes an index over all units of the section `.debug_line`, and puts it behind the handle; an
 /// index that stood there is closed. `line_strings` and `strings` are the sections
-/// `.debug_line_str` and `.debug_str`, or no bytes. The index has copies of all three. A unit that
-/// can't be read has no rows; of one whose run has a fault it has the sequences before that. Rows
-/// below the address `lowest` are left out; 0 leaves none out. `UNKNOWN_OPTIONS` where the options
-/// have another size. Where another number than 0 is returned, that, `OUT_OF_MEMORY` or
+/// `.debug_line_str` and `.debug_str`, or no bytes. The index has copies of all three, but none of
+/// `strings` where no directory and no path of a file refers to it: no path needs it then. A unit
+/// that can't be read has no rows; of one whose run has a fault it has the sequences before that.
+/// Rows below the address `lowest` are left out; 0 leaves none out. `UNKNOWN_OPTIONS` where the
+/// options have another size. Where another number than 0 is returned, that, `OUT_OF_MEMORY` or
 /// `UNSUPPORTED_ADDRESS_SIZE`, the handle has the index that it had. For `address_size` and the
 /// order see `gimli_line_unit`.
 #[unsafe(no_mangle)]

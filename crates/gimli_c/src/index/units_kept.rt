@@ -6,10 +6,12 @@ ghost use Rattle.gimli_core.specs.Numbers.{is_address_size};
 ghost use Rattle.gimli_lookup.specs.Strings.{Strings};
 ghost use Rattle.gimli_c.specs.CompDir.{sections_handed};
 ghost use Rattle.gimli_c.specs.KeptUnits.{HaveDirectories, KeepsPaths};
+ghost use Rattle.gimli_c.specs.References.{strings_for};
 
 use crate::comp_dir::sections_in;
 use crate::index::open::GimliOpenOptions;
-use crate::index::unit_paths::{PathMaker, Slice, UnitPaths};
+use crate::index::references::strings_for;
+use crate::index::unit_paths::{PathMaker, Slice, UnitPaths, copy};
 use crate::location::order;
 use crate::status::OUT_OF_MEMORY;
 use gimli_compilation::Compilations;
@@ -64,6 +66,8 @@ pub(crate) struct UnitsKept {
     pub(crate) units: SectionLookup<Slice<'static>>,
     /// What is kept for the paths of each unit.
     pub(crate) paths: Vec<UnitPaths>,
+    /// What is kept of the section `.debug_str`.
+    pub(crate) strings: Vec<u8>,
 }
 
 /// What an index keeps of the units of a program. Refused by `OUT_OF_MEMORY` alone.
@@ -74,11 +78,12 @@ pub(crate) fn keep_units<'s>(
     options: &GimliOpenOptions,
 ) -> Result<UnitsKept, u32>
     requires { is_address_size options.now.address_size ≡ true }
-    ensures paths { IfOk result (λ kept. KeepsPaths sections.now.line.now options.now.big
+    ensures paths { IfOk result (λ kept. (keeps : KeepsPaths sections.now.line.now options.now.big
         options.now.address_size options.now.lowest (record {
           debug_line_str = sections.now.line_strings.now;
-          debug_str = sections.now.strings.now;
-        }) kept.units kept.paths.items) }
+          debug_str = kept.strings.items;
+        }) kept.units kept.paths.items)
+        × (kept.strings.items ≡ strings_for keeps.are.units sections.now.strings.now)) }
     ensures directories { IfOk result (λ kept. HaveDirectories
         (λ line. option_map (λ s. s.slice.now) (directory_for compilations.now line))
         kept.units kept.paths.items) }
@@ -90,21 +95,26 @@ pub(crate) fn keep_units<'s>(
     else {
         return Err(OUT_OF_MEMORY);
     };
+    let referred = strings_for(&lookup, sections.strings);
     let line_strings = EndianSlice::new(sections.line_strings, order);
-    let texts = EndianSlice::new(sections.strings, order);
-    let strings = StringSections {
-        debug_line_str: line_strings,
-        debug_str: texts,
-    };
+    let texts = EndianSlice::new(referred, order);
     let maker = PathMaker {
         alloc,
         lookup: &lookup,
-        strings,
+        strings: StringSections {
+            debug_line_str: line_strings,
+            debug_str: texts,
+        },
         compilations,
     };
     let paths = maker.all_paths()?;
+    let strings = copy(alloc, referred)?;
     match lookup.without_headers() {
-        Ok(units) => Ok(UnitsKept { units, paths }),
+        Ok(units) => Ok(UnitsKept {
+            units,
+            paths,
+            strings,
+        }),
         Err(_) => Err(OUT_OF_MEMORY),
     }
 }
