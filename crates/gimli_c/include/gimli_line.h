@@ -619,8 +619,9 @@ uint32_t gimli_line_index_addresses(gimli_line_index *index, uint64_t unit, uint
  * (stl_map.h, bits/stl_map.h), as the index keeps them; one from the root is a whole one. '/' and backslashes part components; '.',
  * '..' and doubled separators are resolved by text. The index has whole paths where it was opened with .debug_info, or the unit
  * itself has the directory of the compilation, as in version 5. A file without a row that the index keeps has no address. No
- * program is run. GIMLI_NO_CODE where no line from it on has any; GIMLI_CLOSED where the handle is. Where another number than 0 is
- * answered, nothing is written. */
+ * program is run: the kept paths are looked at, and each row of a unit is compared with the numbers of its files that are named.
+ * GIMLI_NO_CODE where no line from it on has any; GIMLI_CLOSED where the handle is. Where another number than 0 is answered, nothing
+ * is written. */
 uint32_t gimli_line_index_addresses_of(gimli_line_index *index, const uint8_t *path, size_t path_length, uint64_t line,
                                        uint64_t *found_line, uint64_t *addresses, size_t room, size_t *count)
     GIMLI_CALL GIMLI_READS(2, 3) GIMLI_WRITES(6, 7);
