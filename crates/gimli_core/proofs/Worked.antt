@@ -1,6 +1,6 @@
 -- Worked calls of readers: what each takes from the front of bytes and what it leaves, by hand, computed from the definitions.
-use Rattle.std.proofs.Common.{◌≡◌, ℕ, ◌^◌, true, false, List, [], ◌∷◌, ◌++◌, Option, Some, None, Ok, Err, refl}
-use Rattle.std.specs.Prelude.{ℤ, pos, negsuc, map, replicate, codes, not, nat_eq}
+use Rattle.std.proofs.Common.{◌≡◌, ℕ, true, false, List, [], ◌∷◌, ◌++◌, Option, Some, None, Ok, Err, refl}
+use Rattle.std.specs.Prelude.{pos, negsuc, map, replicate, codes, not, nat_eq}
 use Rattle.gimli_core.specs.Numbers.{value_of, number_bytes, word_size, initial_length_size}
 use Rattle.gimli_core.specs.Reading.{split_at, skip_at, truncate_at, find_at, text_at, byte_at, signed_byte_at, number_at, uleb_at, unsigned_at, unsigned_16_at}
 use Rattle.gimli_core.specs.Reading.{sleb_at, signed_at, word_at, initial_length_at, address_size_at, sized_sum}
@@ -9,7 +9,7 @@ use Rattle.gimli_core.specs.Values.{Value, udata_value}
 use Rattle.gimli_core.specs.Form.{Shape, fixed, three_bytes, word_offset, leb, signed_leb, leb_offset, block, counted, leb_counted, string, index, shapes}
 use Rattle.gimli_core.specs.Form.{shape_among}
 use Rattle.gimli_core.specs.declared.attribute_value.AttributeValue.TheVariants.{Block, Data1, Data2, Data4, Data8, Udata, Sdata, Flag, SecOffset, String}
-use Rattle.gimli_core.specs.declared.attribute_value.AttributeValue.TheVariants.{DebugStrRef, DebugStrRefSup, DebugLineStrRef, DebugStrOffsetsIndex}
+use Rattle.gimli_core.specs.declared.attribute_value.AttributeValue.TheVariants.{DebugStrRef, DebugStrRefSup, DebugLineStrRef}
 use Rattle.gimli_core.specs.declared.common.Format.TheVariants.{Dwarf32, Dwarf64}
 use Rattle.gimli_core.specs.declared.endianity.RunTimeEndian.TheVariants.{Little, Big}
 use Rattle.gimli_core.specs.declared.error.Error.{Error}
@@ -159,7 +159,8 @@ unfolding sleb_at
 signed_of_ten_bytes = refl
 
 -- the tenth byte is 00 or 7f
-pub signed_too_large : map (λ byte. signed_at (run 9 0xff (byte ∷ 5 ∷ []))) (1 ∷ 0x3f ∷ 0x40 ∷ 0x7e ∷ 0x80 ∷ 0xff ∷ []) ≡ replicate 6 (Err BadSignedLeb128, 5 ∷ [])
+pub signed_too_large : map (λ byte. signed_at (run 9 0xff (byte ∷ 5 ∷ []))) (1 ∷ 0x3f ∷ 0x40 ∷ 0x7e ∷ 0x80 ∷ 0xff ∷ [])
+    ≡ replicate 6 (Err BadSignedLeb128, 5 ∷ [])
 unfolding sleb_at
 signed_too_large = refl
 
@@ -176,7 +177,8 @@ sizes_of_words = refl
 pub sizes_of_lengths : map initial_length_size (Dwarf32 ∷ Dwarf64 ∷ []) ≡ 4 ∷ 12 ∷ []
 sizes_of_lengths = refl
 
-pub words : word_at false wide Dwarf32 (1 ∷ 2 ∷ 3 ∷ 4 ∷ 5 ∷ []) ∷ word_at true wide Dwarf32 (replicate 4 0xff) ∷ word_at true wide Dwarf64 (run 4 0 (1 ∷ 2 ∷ 3 ∷ 4 ∷ [])) ∷ []
+pub words : word_at false wide Dwarf32 (1 ∷ 2 ∷ 3 ∷ 4 ∷ 5 ∷ []) ∷ word_at true wide Dwarf32 (replicate 4 0xff)
+    ∷ word_at true wide Dwarf64 (run 4 0 (1 ∷ 2 ∷ 3 ∷ 4 ∷ [])) ∷ []
     ≡ (Ok 0x0403_0201, 5 ∷ []) ∷ (Ok 0xffff_ffff, []) ∷ (Ok 0x0102_0304, []) ∷ []
 unfolding word_at
 words = refl
@@ -187,22 +189,26 @@ unfolding word_at
 words_cut = refl
 
 -- an offset of 32 bits holds no more; the bytes are taken
-pub words_of_32_bits : map (λ limit. word_at true limit Dwarf64 (0 ∷ 0 ∷ 0 ∷ 1 ∷ run 4 0 (9 ∷ []))) (wide ∷ narrow ∷ []) ≡ (Ok 0x1_0000_0000, 9 ∷ []) ∷ (Err UnsupportedOffset, 9 ∷ []) ∷ []
+pub words_of_32_bits : map (λ limit. word_at true limit Dwarf64 (0 ∷ 0 ∷ 0 ∷ 1 ∷ run 4 0 (9 ∷ []))) (wide ∷ narrow ∷ [])
+    ≡ (Ok 0x1_0000_0000, 9 ∷ []) ∷ (Err UnsupportedOffset, 9 ∷ []) ∷ []
 unfolding word_at
 words_of_32_bits = refl
 
-pub lengths : initial_length_at false wide (0x2f ∷ 0 ∷ 0 ∷ 0 ∷ 9 ∷ []) ∷ initial_length_at true wide (0 ∷ 0 ∷ 0 ∷ 0x2f ∷ []) ∷ initial_length_at false wide (0xef ∷ replicate 3 0xff) ∷ []
+pub lengths : initial_length_at false wide (0x2f ∷ 0 ∷ 0 ∷ 0 ∷ 9 ∷ []) ∷ initial_length_at true wide (0 ∷ 0 ∷ 0 ∷ 0x2f ∷ [])
+    ∷ initial_length_at false wide (0xef ∷ replicate 3 0xff) ∷ []
     ≡ (Ok (0x2f, Dwarf32), 9 ∷ []) ∷ (Ok (0x2f, Dwarf32), []) ∷ (Ok (0xffff_ffef, Dwarf32), []) ∷ []
 unfolding initial_length_at
 lengths = refl
 
-pub lengths_of_64_bits : initial_length_at false wide (run 4 0xff (0x1d ∷ run 7 0 (7 ∷ []))) ∷ initial_length_at true wide (run 4 0xff (run 3 0 (1 ∷ replicate 4 0))) ∷ []
+pub lengths_of_64_bits : initial_length_at false wide (run 4 0xff (0x1d ∷ run 7 0 (7 ∷ [])))
+    ∷ initial_length_at true wide (run 4 0xff (run 3 0 (1 ∷ replicate 4 0))) ∷ []
     ≡ (Ok (0x1d, Dwarf64), 7 ∷ []) ∷ (Ok (0x1_0000_0000, Dwarf64), []) ∷ []
 unfolding initial_length_at
 lengths_of_64_bits = refl
 
 -- the words from 0xffff_fff0 to 0xffff_fffe are reserved
-pub reserved_lengths : map (λ low. initial_length_at true wide (run 3 0xff (low ∷ 1 ∷ []))) (0xf0 ∷ 0xf1 ∷ 0xf7 ∷ 0xf8 ∷ 0xfd ∷ 0xfe ∷ []) ≡ replicate 6 (Err UnknownReservedLength, 1 ∷ [])
+pub reserved_lengths : map (λ low. initial_length_at true wide (run 3 0xff (low ∷ 1 ∷ []))) (0xf0 ∷ 0xf1 ∷ 0xf7 ∷ 0xf8 ∷ 0xfd ∷ 0xfe ∷ [])
+    ≡ replicate 6 (Err UnknownReservedLength, 1 ∷ [])
 unfolding initial_length_at
 reserved_lengths = refl
 
@@ -235,7 +241,8 @@ pub greatest_addresses : sized_sum 0xfe 1 1 ∷ sized_sum 0xfffe 1 2 ∷ sized_s
 greatest_addresses = refl
 
 -- one past it is refused, and doesn't begin anew at 0; so is an address that is none of its size
-pub addresses_that_overflow : sized_sum 0xff 1 1 ∷ sized_sum 0xffff 1 2 ∷ sized_sum 0xffff_ffff 1 4 ∷ sized_sum 0xffff_ffff_ffff_ffff 1 8 ∷ sized_sum 0x100 0 1 ∷ []
+pub addresses_that_overflow : sized_sum 0xff 1 1 ∷ sized_sum 0xffff 1 2 ∷ sized_sum 0xffff_ffff 1 4 ∷ sized_sum 0xffff_ffff_ffff_ffff 1 8 ∷ sized_sum 0x100 0 1
+    ∷ []
     ≡ replicate 5 (Err AddressOverflow)
 addresses_that_overflow = refl
 
@@ -244,7 +251,8 @@ addresses_that_overflow = refl
 abbrev unsigned_of : Value → Option ℕ
 unsigned_of v = udata_value v
 
-pub unsigned_values : map unsigned_of (Data1 0xff ∷ Data2 0xffff ∷ Data4 0xffff_ffff ∷ Data8 0xffff_ffff_ffff_ffff ∷ Udata 0 ∷ Sdata (pos 7) ∷ Sdata (pos 0) ∷ [])
+pub unsigned_values : map unsigned_of
+    (Data1 0xff ∷ Data2 0xffff ∷ Data4 0xffff_ffff ∷ Data8 0xffff_ffff_ffff_ffff ∷ Udata 0 ∷ Sdata (pos 7) ∷ Sdata (pos 0) ∷ [])
     ≡ map Some (0xff ∷ 0xffff ∷ 0xffff_ffff ∷ 0xffff_ffff_ffff_ffff ∷ 0 ∷ 7 ∷ 0 ∷ [])
 unsigned_values = refl
 
@@ -263,13 +271,14 @@ pub forms_of_numbers : map shape_of (0x0b ∷ 0x05 ∷ 0x06 ∷ 0x07 ∷ 0x0f �
 forms_of_numbers = refl
 
 -- block1, block2, block4, block, data16
-pub forms_of_blocks : map shape_of (0x0a ∷ 0x03 ∷ 0x04 ∷ 0x09 ∷ 0x1e ∷ []) ≡ Some (counted 1) ∷ Some (counted 2) ∷ Some (counted 4) ∷ Some leb_counted ∷ Some (block 16) ∷ []
+pub forms_of_blocks : map shape_of (0x0a ∷ 0x03 ∷ 0x04 ∷ 0x09 ∷ 0x1e ∷ [])
+    ≡ Some (counted 1) ∷ Some (counted 2) ∷ Some (counted 4) ∷ Some leb_counted ∷ Some (block 16) ∷ []
 forms_of_blocks = refl
 
 -- strp, strp_sup and GNU's, line_strp, sec_offset
 pub forms_of_offsets : map shape_of (0x0e ∷ 0x1d ∷ 0x1f21 ∷ 0x1f ∷ 0x17 ∷ [])
     ≡ map Some (word_offset (λ n. DebugStrRef (record { 0 = n })) ∷ word_offset (λ n. DebugStrRefSup (record { 0 = n }))
-        ∷ word_offset (λ n. DebugStrRefSup (record { 0 = n })) ∷ word_offset (λ n. DebugLineStrRef (record { 0 = n })) ∷ word_offset SecOffset ∷ [])
+    ∷ word_offset (λ n. DebugStrRefSup (record { 0 = n })) ∷ word_offset (λ n. DebugLineStrRef (record { 0 = n })) ∷ word_offset SecOffset ∷ [])
 forms_of_offsets = refl
 
 -- strx1 to strx4, strx and GNU's
