@@ -31,10 +31,3 @@ notes_more layout bytes note is =
     enough (length bytes) (suc (length bytes)) layout bytes (omega arith) (omega arith)
     ∙ ap (λ o. option_map_or (λ one. one ∷ notes_up_to (length bytes) layout rest) o []) is
     ∙ ap (λ later. note ∷ later) (enough (length bytes) (length rest) layout rest (omega arith) (omega arith))
-
--- no further note
-pub notes_none : (layout : Layout) (bytes : List ℕ) → note_at layout bytes ≡ None → notes layout bytes ≡ []
-notes_none layout bytes is =
-    let rest : List ℕ = drop (note_size layout bytes) bytes in
-    enough (length bytes) (suc (length bytes)) layout bytes (omega arith) (omega arith)
-    ∙ ap (λ o. option_map_or (λ one. one ∷ notes_up_to (length bytes) layout rest) o []) is

@@ -1,5 +1,5 @@
 -- Steps for the values of a function from an index on, and the first index of a value that passes a test.
-use Rattle.std.proofs.Common.{◌≡◌, sym, ◌∙◌, ap, ℕ, ◌+◌, ◌<◌, ◌≤◌, ◌∷◌, Bool, true, false, cond, Option, Some, None, Result, Ok, map, slice_get, arith}
+use Rattle.std.proofs.Common.{◌≡◌, sym, ◌∙◌, ap, ℕ, ◌+◌, ◌<◌, ◌≤◌, ◌∷◌, Bool, true, false, cond, Option, Some, None, Result, map, slice_get, arith}
 use Rattle.std.specs.List.{filter, position_from, range_with_len}
 use Rattle.elf_sections.specs.Steps.{◌>>=◌, steps}
 use Rattle.elf_sections.proofs.Headers.{values, values_step, values_end, get_from, get_past}
@@ -12,10 +12,6 @@ pub steps_next : {S X E : Type 0} (step : S → X → Result S E) (f : ℕ → X
     → steps_from step f n index s ≡ (step s x >>= λ s. steps_from step f n (index + 1) s)
 steps_next step f n index s x h is =
     ap (steps step s) (values_step f n index h) ∙ ap (λ y. steps step s (y ∷ values f n (index + 1))) (sym is)
-
-pub steps_end : {S X E : Type 0} (step : S → X → Result S E) (f : ℕ → X) (n index : ℕ) (s : S) → n ≤ index
-    → steps_from step f n index s ≡ Ok s
-steps_end step f n index s h = ap (steps step s) (values_end f n index h)
 
 -- a step for each value from an index on that passes a test
 abbrev pub kept_from : {S X E : Type 0} → (S → X → Result S E) → (X → Bool) → (ℕ → X) → ℕ → ℕ → S → Result S E
@@ -37,10 +33,6 @@ pub kept_fails : {S X E : Type 0} (step : S → X → Result S E) (q : X → Boo
 kept_fails step q f n index s x h is fails =
     kept_next step q f n index s x h is
     ∙ ap (λ b. steps step s (cond b (x ∷ filter q (values f n (index + 1))) (filter q (values f n (index + 1))))) fails
-
-pub kept_end : {S X E : Type 0} (step : S → X → Result S E) (q : X → Bool) (f : ℕ → X) (n index : ℕ) (s : S) → n ≤ index
-    → kept_from step q f n index s ≡ Ok s
-kept_end step q f n index s h = ap (λ xs. steps step s (filter q xs)) (values_end f n index h)
 
 -- the first index from one on whose value passes a test
 abbrev pub first_index : {X : Type 0} → (X → Bool) → (ℕ → X) → ℕ → ℕ → Option ℕ

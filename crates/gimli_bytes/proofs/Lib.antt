@@ -15,3 +15,4 @@ pub mod CallsRelocated
 pub mod PlacedNumbers
 pub mod Completing
 pub mod RelocatableRefusals
+pub mod Worked

@@ -32,9 +32,6 @@ length-concat n (p ∷ ps) s =
 pub length-put_over : (old : List ℕ) (at : ℕ) (bytes : List ℕ) → at + length bytes ≤ length old → length (put_over old at bytes) ≡ length old
 length-put_over old at bytes h = grind (arith, common_steps)
 
-pub put_over-nothing : (old : List ℕ) (at : ℕ) → put_over old at [] ≡ old
-put_over-nothing old at = grind (arith, common_steps)
-
 -- in front of other bytes
 pub put_over-front : (p c : List ℕ) (at : ℕ) (bytes : List ℕ) → at + length bytes ≤ length p → put_over p at bytes ++ c ≡ put_over (p ++ c) at bytes
 put_over-front p c at bytes h = grind (arith, common_steps)

@@ -1,19 +1,14 @@
 -- The units of an index.
-use Rattle.std.proofs.Common.{◌≡◌, ◌<◌, ◌^◌, ℕ, zero, suc, Bool, List, [], ◌∷◌, length, map, get_or, refl, ap, subst, ◌∙◌, inl, inr, arith}
-use Rattle.std.specs.Prelude.{All, Some, slice_get, Result, Ok, Err, IfOk, IfErr}
-use Rattle.gimli_core.specs.Notation.{notation_of}
-use Rattle.gimli_line.specs.Units.{AreUnits}
-use Rattle.gimli_lookup.specs.Section.{ListedUnit, KeptUnit, unit_without_header}
-use Rattle.gimli_lookup.specs.SectionUnits.{IsUnitOf}
+use Rattle.std.proofs.Common.{◌≡◌, ◌<◌, ℕ, zero, suc, List, [], ◌∷◌, length, map, get_or, refl, ap, subst, ◌∙◌, inl, inr, arith}
+use Rattle.std.specs.Prelude.{Some, slice_get, Result, Ok, Err, IfOk, IfErr}
+use Rattle.gimli_lookup.specs.Section.{ListedUnit, KeptUnit}
 use Rattle.gimli_line.specs.header.File.{File}
 use Rattle.gimli_line.specs.header.Header.{Header}
 use Rattle.gimli_line.specs.run.Rows.{files_at_end}
 use Rattle.gimli_line.specs.run.RunState.{RunState}
 use Rattle.gimli_lookup.specs.Paths.{Paths, file_path}
 use Rattle.gimli_c.specs.declared.index.kept.SectionIndex.{SectionIndex}
-use Rattle.gimli_lookup.specs.Strings.{Strings}
-use Rattle.gimli_c.specs.Indexed.{strings_in, unit_location, paths_in, AreUnitsIn, HasNoPath, UnitRefused}
-use Rattle.gimli_c.specs.KeptUnits.{section_read, entry_of, AreUnitsOf}
+use Rattle.gimli_c.specs.Indexed.{unit_location, paths_in, HasNoPath, UnitRefused}
 use Rattle.gimli_c.specs.Status.{error_status}
 use Rattle.gimli_core.specs.declared.error.Error.{Error}
 use Rattle.gimli_core.specs.declared.error.Error.TheVariants.{UnexpectedEof, BadUnsignedLeb128, BadSignedLeb128, UnknownReservedLength, UnknownVersion}
@@ -37,15 +32,6 @@ unit_there (u ∷ units) zero lt = record { kept = u; there = refl; listed = λ 
 unit_there (u ∷ units) (suc k) lt =
     let rest = unit_there units k (omega (arith, lt)) in
     record { kept = rest.kept; there = rest.there; listed = rest.listed; at = rest.at }
-
--- units of a section, by other names of its bytes and its order
-pub same_units : (section other : List ℕ) (big other_big : Bool) (size lowest : ℕ) (units kept : List KeptUnit) → other ≡ section → other_big ≡ big
-    → AreUnits (notation_of other_big (2 ^ 64)) 0 other (map (λ (u : KeptUnit). u.unit.offset) units)
-    → All (IsUnitOf (section_read other other_big) (entry_of size) lowest) units
-    → kept ≡ map unit_without_header units → AreUnitsOf section big size lowest kept
-same_units section other big other_big size lowest units kept s b offsets each are =
-    subst (λ (x : List ℕ). AreUnitsOf x big size lowest kept) s
-    (subst (λ (y : Bool). AreUnitsOf other y size lowest kept) b (record { units = units; offsets = offsets; each = each; kept_are = are }))
 
 -- a refusal, as a fact of its own
 record RefusedAt (p : Location) (status : ℕ) : Type 0 where
@@ -159,24 +145,3 @@ pub location_here : (P : Location → Type 0) (i : SectionIndex) (kept : KeptUni
     → P (location section i.big i.address_size offset) → P (unit_location i kept)
 location_here P i kept section offset s o p =
     subst (λ (n : ℕ). P (location i.section.items i.big i.address_size n)) o (subst (λ (x : List ℕ). P (location x i.big i.address_size offset)) s p)
-
--- the units of an index, by other names of its bytes and its order
-record UnitsOf (section : List ℕ) (big : Bool) (size lowest : ℕ) (units : List KeptUnit) : Type 0 where
-  offsets : AreUnits (notation_of big (2 ^ 64)) 0 section (map (λ (u : KeptUnit). u.unit.offset) units)
-  each : All (IsUnitOf (section_read section big) (entry_of size) lowest) units
-
-pub same_units_in : (i : SectionIndex) (section : List ℕ) (big : Bool) (units : List KeptUnit) → section ≡ i.section.items → big ≡ i.big
-    → AreUnits (notation_of big (2 ^ 64)) 0 section (map (λ (u : KeptUnit). u.unit.offset) units)
-    → All (IsUnitOf (section_read section big) (entry_of i.address_size) i.lowest) units → AreUnitsIn i units
-same_units_in i section big units s b offsets each =
-    let here : UnitsOf i.section.items i.big i.address_size i.lowest units =
-    subst (λ (x : List ℕ). UnitsOf x i.big i.address_size i.lowest units) s
-    (subst (λ (y : Bool). UnitsOf section y i.address_size i.lowest units) b (record { offsets = offsets; each = each })) in
-    record { offsets = here.offsets; each = here.each }
-
--- the sections of strings of an index, by other names of their bytes
-pub same_strings : (i : SectionIndex) (line_strings strings : List ℕ) → line_strings ≡ i.line_strings.items → strings ≡ i.strings.items
-    → (let s : Strings = record { debug_line_str = line_strings; debug_str = strings } in s) ≡ strings_in i
-same_strings i line_strings strings l s =
-    ap (λ (xs : List ℕ). let q : Strings = record { debug_line_str = xs; debug_str = strings } in q) l
-    ∙ ap (λ (xs : List ℕ). let q : Strings = record { debug_line_str = i.line_strings.items; debug_str = xs } in q) s

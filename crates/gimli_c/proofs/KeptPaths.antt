@@ -161,10 +161,6 @@ of_rows sections u m notation comp_dir p old new files header right none marked 
     marked number ∙ ap (option_map (λ mark. mark || have_file u.sequences number)) unmarked ∙ ap Some has in
     told number whole set (subst (λ (q : Paths). IsPathIn q number whole) (sym right) here)
 
-pub no_files_of_rows : (sections : Strings) (u : KeptUnit) (comp_dir : List ℕ) (files : List (Option (Vec ℕ Global))) → u.unit.header ≡ None
-    → HaveFilesOfRows sections u comp_dir files
-no_files_of_rows sections u comp_dir files none h number whole is has path = absurd (none-some h (sym none ∙ is))
-
 -- the paths of the files of a header are those of the unit that has it
 pub of_listed : (sections : Strings) (l : ListedUnit) (m : Header) (notation : Notation) (comp_dir : List ℕ) (p : Paths)
     (files : List (Option (Vec ℕ Global))) → l.header ≡ Some (record { meaning = m; notation = notation })

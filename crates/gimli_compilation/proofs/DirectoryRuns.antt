@@ -1,11 +1,7 @@
 -- Keeping the directories of units, one after the other.
-use Rattle.std.proofs.Common.{◌≡◌, ◌≢◌, ℕ, ◌<◌, ◌≤◌, Bool, true, false, cond, if◌then◌else◌, List, [], ◌∷◌, ◌++◌, length, drop, Option, Some, None, Result, Ok}
+use Rattle.std.proofs.Common.{◌≡◌, ◌≢◌, ℕ, ◌<◌, ◌≤◌, Bool, true, false, if◌then◌else◌, List, [], ◌∷◌, ◌++◌, length, drop, Option, Some, None, Result, Ok}
 use Rattle.std.proofs.Common.{Err, refl, sym, ap, subst, ◌∙◌, inl, inr, arith, append_assoc}
-use Rattle.std.specs.Prelude.{IfOk, IfErr, is_some, nat_eq, option_map}
-use Rattle.std.specs.BTreeMap.{is_at}
-use Rattle.std.specs.Cmp.{unsigned_tied}
-use Rattle.std.specs.Ordering.{nat_cmp}
-use Rattle.std.proofs.lemmas.Bool.{eqb-true}
+use Rattle.std.specs.Prelude.{IfOk, IfErr, nat_eq, option_map}
 use Rattle.std.proofs.lemmas.List.{append-nil, length-drop}
 use Rattle.gimli_compilation.specs.declared.refusal.Refusal.{Refusal}
 use Rattle.gimli_compilation.specs.declared.sections.Compilation.{Compilation}
@@ -19,34 +15,6 @@ use Rattle.gimli_compilation.specs.Unit.{HasCompilationAt, HasRefusalAt, IsNextO
 pub first_none : {D : Type 0} (o : Option D) → first_of o None ≡ o
 first_none (Some d) = refl
 first_none None = refl
-
-first_some : {D : Type 0} (o other : Option D) → is_some o ≡ true → first_of o other ≡ o
-first_some (Some d) other is = refl
-first_some None other is = absurd cc
-
-none_is : {D : Type 0} (o : Option D) → is_some o ≡ false → o ≡ None
-none_is (Some d) is = absurd cc
-none_is None is = refl
-
-module _ {D : Type 0} (old : ℕ → Option D) (key : ℕ) (directory : D) (line : ℕ) where
-  -- a line program that has one keeps it
-  pub kept_there : is_some (old key) ≡ true → old line ≡ first_of (old line) (directory_in line (Some (key, directory)))
-  kept_there there = at_test (nat_eq key line) refl
-    where
-      at_test : (test : Bool) → nat_eq key line ≡ test → old line ≡ first_of (old line) (if test then Some directory else None)
-      at_test true is =
-          let same = eqb-true key line is in
-          sym (first_some (old line) (Some directory) (ap (λ (n : ℕ). is_some (old n)) (sym same) ∙ there))
-      at_test false is = sym (first_none (old line))
-
-  -- one that has none gets it
-  pub kept_new : (new : Option D) → is_some (old key) ≡ false → new ≡ cond (is_at (nat_cmp key) line) (Some directory) (old line)
-      → new ≡ first_of (old line) (directory_in line (Some (key, directory)))
-  kept_new new fresh is = is ∙ ap (λ (test : Bool). cond test (Some directory) (old line)) (unsigned_tied key line) ∙ at_test (nat_eq key line) refl
-    where
-      at_test : (test : Bool) → nat_eq key line ≡ test → cond test (Some directory) (old line) ≡ first_of (old line) (if test then Some directory else None)
-      at_test true same = rw (none_is (old line) (ap (λ (n : ℕ). is_some (old n)) (sym (eqb-true key line same)) ∙ fresh)) refl
-      at_test false same = sym (first_none (old line))
 
 -- ---- seen by bytes
 

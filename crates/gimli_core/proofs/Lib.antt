@@ -9,3 +9,4 @@ pub mod ProductionLaws
 pub mod Written
 pub mod OffsetClones
 pub mod Variants
+pub mod Worked

@@ -144,10 +144,3 @@ reads_same {A} l read other same r = record {
   fault = λ bytes e is. r.fault bytes e (ap (λ (y : Read A). y.0) (same bytes) ∙ is);
   refused = λ bytes e f. ap (λ (y : Read A). y.0) (sym (same bytes)) ∙ r.refused bytes e f;
 }
-
--- ---- no spelling begins another
-
-pub no_other : {A : Type 0} (l : Production A) (read : List ℕ → Read A) → Reads l read → (a b s t : List ℕ) (x y : A) → l.Spells a x → l.Spells b y
-    → a ++ s ≡ b ++ t → (x ≡ y) × (s ≡ t)
-no_other l read r a b s t x y first second e =
-    ok_parts x y s t (sym (r.only a x s first) ∙ ap read e ∙ r.only b y t second)

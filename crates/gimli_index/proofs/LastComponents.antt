@@ -39,10 +39,6 @@ module _ {X : Type 0} (p : X → Bool) where
   split_last (x ∷ xs) s last parts_it clean =
       ap (λ parts. cond (p x) ([] ∷ parts) (onto_first x parts)) (split_last xs s last parts_it clean) ∙ one_more x xs last (p x)
 
-take_nothing : (xs : List ℕ) → take 0 xs ≡ []
-take_nothing [] = refl
-take_nothing (x ∷ xs) = refl
-
 -- the text is parted at the separator before an index
 pub parted : (text : List ℕ) (first : ℕ) → 0 < first → first ≤ length text → is_separator (get_or text (first - 1) 0) ≡ true
     → HaveNoSeparator (drop first text) → (before : List (List ℕ))

@@ -6,7 +6,6 @@ pub mod Worked
 mod Numerals
 mod Slices
 mod ReadBack
-mod Near
 mod Puts
 mod OneFound
 mod LastComponents

@@ -11,7 +11,7 @@ use Rattle.std.proofs.lemmas.Option.{slice_get_within, get_or_from_slice_get}
 use Rattle.gimli_index.specs.Meaning.{path_in}
 use Rattle.gimli_index.specs.Short.{joined, IsSpanOf}
 use Rattle.gimli_index.specs.inside.Paths.{ArePaths, IsPlaced, PathList, no_paths}
-use Rattle.gimli_index.proofs.Lists.{append_none, get_before, get_last, get_pushed, path_appended, path_goes_on_at}
+use Rattle.gimli_index.proofs.Lists.{get_before, get_last, get_pushed, path_appended, path_goes_on_at}
 
 pub none_are : ArePaths no_paths
 none_are = record {
@@ -62,17 +62,6 @@ span_stays known more first path span = (
   get_before known more span.0 path span.1,
   span.2 ∙ ap (λ xs. length (joined xs)) (sym (take-append-le span.0 known more (omega (arith, slice_get_within known span.0 path span.1)))),
 )
-
--- ---- a path that is there
-
-pub placed_there : (p : PathList) (path : List ℕ) (k first : ℕ) → ArePaths p → slice_get p.known k ≡ Some path → slice_get p.firsts k ≡ Some first
-    → IsPlaced p p path first
-placed_there p path k first are there begins = record {
-  are = are;
-  bytes = ([], sym (append_none p.bytes));
-  known = inl refl;
-  span = (k, there, are.firsts k first begins);
-}
 
 -- ---- a path that comes last
 

@@ -246,9 +246,6 @@ none_are_sources t units = record {
   found = λ k d within. absurd (omega (arith, within));
 }
 
-pub keeps_same : (table : Table) → Keeps table table
-keeps_same table = record { sources = ([], sym (append_none table.sources)); paths = ([], sym (append_none table.paths.bytes)) }
-
 -- ---- places
 
 -- the place of a line of a known source
@@ -428,9 +425,6 @@ module _ (t : Texts) (units : List KeptUnit) (old inside : Table) (f : CoveringR
   -- why it isn't taken in
   pub not_added : (e : MakeError) → IsSourceFault inside.paths path e → IsTableFault t units e
   not_added e fault = path_fault t units inside f is_found inside_are known.0 known.1 path e path_of_unit fault
-
-  pub too_many : 0xffff_ffff ≤ length inside.sources → HasManyFiles units
-  too_many many = many_files t units inside f is_found inside_are inside_absent many
 
   module _ (offset : s.unit ≡ listed.offset) (kept : IsKept inside.paths new path s) (few : length inside.sources < 0xffff_ffff)
       (keys_are : new_keys ≡ inside.keys ++ key_of f ∷ []) (sources_are : new_sources ≡ inside.sources ++ s ∷ []) where

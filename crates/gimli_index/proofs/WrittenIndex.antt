@@ -16,7 +16,7 @@ use Rattle.gimli_index.specs.declared.contents.SourceLine.{SourceLine}
 use Rattle.gimli_index.specs.declared.error.MakeError.{MakeError}
 use Rattle.gimli_index.specs.declared.error.MakeError.TheVariants.{NotAscending, TooManyEntries, TooManySources, PathsTooLarge, IdentityTooLarge, LineTooLarge}
 use Rattle.gimli_index.specs.declared.error.MakeError.TheVariants.{ColumnTooLarge, OutOfMemory}
-use Rattle.gimli_index.specs.inside.Table.{Entered, IsTableFault, Table, starts_in}
+use Rattle.gimli_index.specs.inside.Table.{Entered, Table, starts_in}
 use Rattle.gimli_index.proofs.Lists.{get_inside}
 use Rattle.gimli_index.proofs.ReadBack.{read_back, starts_ascend}
 
@@ -112,17 +112,6 @@ module _ (given : Given) (table : Table) (entries : List Entry) (c : Contents) (
   contents_fault LineTooLarge name fault = absurd fault
   contents_fault ColumnTooLarge name fault = absurd (fault (subst (λ (es : List Entry). All (λ (e : Entry). HasColumn e.place) es) (sym entries_are) h.columns))
   contents_fault OutOfMemory name fault = tt
-
--- why what is found isn't taken in
-pub table_fault : (given : Given) (e : MakeError) → IsTableFault given.texts given.units e → IsIndexFault given e
-table_fault given LineTooLarge fault = fault
-table_fault given ColumnTooLarge fault = fault
-table_fault given TooManySources fault = fault
-table_fault given PathsTooLarge fault = fault
-table_fault given OutOfMemory fault = tt
-table_fault given TooManyEntries fault = absurd fault
-table_fault given IdentityTooLarge fault = absurd fault
-table_fault given NotAscending fault = absurd fault
 
 pub on_fault : {T : Type 0} (r : Result T MakeError) (P Q : MakeError → Type 0) → ((e : MakeError) → P e → Q e) → IfErr r P → IfErr r Q
 on_fault (Ok x) P Q f fault = tt

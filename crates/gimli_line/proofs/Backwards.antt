@@ -1,5 +1,5 @@
 -- The machine's registers are those that are found by looking back.
-use Rattle.std.proofs.Common.{◌≡◌, Bool, true, false, not, if◌then◌else◌, List, [], ◌∷◌, ◌++◌, refl, sym, ap, ◌∙◌}
+use Rattle.std.proofs.Common.{◌≡◌, Bool, true, false, not, if◌then◌else◌, List, [], ◌∷◌, ◌++◌, refl, ap}
 use Rattle.std.specs.List.{list_any}
 use Rattle.gimli_line.specs.declared.run.row.LineRow.{LineRow}
 use Rattle.gimli_line.specs.declared.run.instruction.LineInstruction.TheVariants.{Special, Copy, AdvancePc, AdvanceLine, SetFile, SetColumn, NegateStatement}
@@ -109,7 +109,3 @@ run_is h past (i ∷ list) = run_at h past i list (run_is h (i ∷ past) list) (
 -- a run from the start gives the events of the program
 pub starts : (h : Parameters) (list : List Ins) → run h (reset_row h (initial h)) list ≡ events_after h [] list
 starts h list = run_is h [] list
-
--- after an end everything starts anew, whatever came before it
-pub anew : (h : Parameters) (past list : List Ins) → events_after h (EndSequence ∷ past) list ≡ events_after h [] list
-anew h past list = sym (run_is h (EndSequence ∷ past) list) ∙ run_is h [] list

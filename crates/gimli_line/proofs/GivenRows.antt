@@ -20,10 +20,6 @@ use Rattle.gimli_line.specs.run.AnyRows.{live_made, made_left, AnyRowIs, AnyFaul
 use Rattle.gimli_line.proofs.Runs.{keeps_tombstone}
 use Rattle.gimli_line.proofs.RowsAlone.{rest_alone}
 
--- an event is given
-is_given_here : EventWithFiles → Bool
-is_given_here t = is_given t.event
-
 given_at : (h : Parameters) (files : List File) (i : Ins) (r : LineRow) (o m : Bool) → is_refused h i r ≡ o → makes_row i ≡ m
     → with_files files (step_events h i r) ≡ filter (λ (t : EventWithFiles). is_given t.event) (with_files files (made_step h i r))
 given_at h files i r true m large loud = rw large refl

@@ -1,15 +1,14 @@
 -- What is found among the sequences whose addresses go down, up to their next address.
-use Rattle.std.proofs.Common.{◌≡◌, ℕ, ◌<◌, ◌≤◌, List, length, take, Option, None, Some, sym, ap, subst, ◌∙◌, inl, inr, arith}
+use Rattle.std.proofs.Common.{◌≡◌, ℕ, ◌<◌, ◌≤◌, List, length, take, Option, None, Some, sym, ap, subst, ◌∙◌, arith}
 use Rattle.std.specs.Prelude.{All, IfSome, slice_index_or}
 use Rattle.std.proofs.lemmas.List.{get_or-take, length-take-le}
 use Rattle.std.proofs.lemmas.Option.{get_or_from_slice_get, slice_get_within}
 use Rattle.gimli_line.specs.declared.run.row.LineRow.{LineRow}
-use Rattle.gimli_lookup.specs.declared.index.Aside.{Aside}
 use Rattle.gimli_lookup.specs.declared.index.Found.{Found}
 use Rattle.gimli_lookup.specs.FirstPair.{HasNoPair}
 use Rattle.gimli_lookup.specs.Probes.{never_go_down}
 use Rattle.gimli_lookup.specs.Ranges.{IsBefore}
-use Rattle.gimli_lookup.specs.inside.Ends.{IsAside, IsClear, IsUnorderedAt, IsUnorderedClear}
+use Rattle.gimli_lookup.specs.inside.Ends.{IsAside, IsUnorderedAt, IsUnorderedClear}
 use Rattle.gimli_lookup.specs.inside.Steps.{HaveNoUnorderedPair, IsFirstUnorderedPair}
 use Rattle.gimli_lookup.proofs.NearerEnds.{apart_of}
 use Rattle.gimli_lookup.proofs.StillFound.{IsUnorderedApart, pair_before, still_first}
@@ -67,22 +66,4 @@ aside_found a sequences found end clear next is = record {
   found = λ b le before. still_aside a b sequences le
       (λ i d lt down k r there. apart_of a b r.address end before (clear i d lt down k r there)) found (next b before) is;
   clear = clear;
-}
-
-clear_later : (a b at : ℕ) (end : Option ℕ) → a ≤ b → IsClear a end at → IsClear b end at
-clear_later a b at end le (inl low) = inl (omega arith)
-clear_later a b at end le (inr high) = inr high
-
--- it holds from a later address on
-pub later : (a b : ℕ) (sequences : List (List LineRow)) (aside : Aside) → a ≤ b → IsAside a sequences aside → IsAside b sequences aside
-later a b sequences aside le is = record {
-  found = λ c after before. is.found c (omega arith) before;
-  clear = λ i d lt down k r there. clear_later a b r.address aside.end le (is.clear i d lt down k r there);
-}
-
--- nothing is known before the first address
-pub nothing_known : (sequences : List (List LineRow)) → IsAside 0 sequences (record { found = None; end = Some 0 })
-nothing_known sequences = record {
-  found = λ b le before. absurd (omega (arith, before));
-  clear = λ i d lt down k r there. inr (λ b before. absurd (omega (arith, before)));
 }

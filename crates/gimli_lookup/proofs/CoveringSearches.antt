@@ -1,29 +1,17 @@
 -- The first of some pairs that an address stands between.
-use Rattle.std.proofs.Common.{◌≡◌, ℕ, ◌+◌, ◌<◌, ◌≤◌, Bool, true, false, ◌&&◌, ◌||◌, cond, List, [], ◌∷◌, ◌++◌, length, take, drop, refl, sym, ap, subst, ◌∙◌}
+use Rattle.std.proofs.Common.{◌≡◌, ℕ, ◌+◌, ◌<◌, ◌≤◌, Bool, true, false, ◌&&◌, ◌||◌, cond, List, [], ◌∷◌, ◌++◌, length, take, refl, sym, ap, subst, ◌∙◌}
 use Rattle.std.proofs.Common.{append_assoc}
 use Rattle.std.proofs.Common.{arith}
 use Rattle.std.specs.Prelude.{Option, Some, None, All, is_none, slice_index_or}
 use Rattle.std.specs.Option.{option_or}
 use Rattle.std.specs.List.{list_any}
-use Rattle.std.proofs.lemmas.Bool.{cond-true, cond-false, true≢false}
-use Rattle.std.proofs.lemmas.List.{drop_more, append-nil, take_more}
+use Rattle.std.proofs.lemmas.Bool.{true≢false}
+use Rattle.std.proofs.lemmas.List.{append-nil, take_more}
 use Rattle.std.proofs.lemmas.List.Elements.{All-cons, All-more, All-weaker}
 use Rattle.gimli_lookup.specs.declared.section_lookup.CoveringRows.{CoveringRows}
 use Rattle.gimli_lookup.specs.inside.UnitSearch.{is_covered, first_covering, AreClear, AreKeptBehind}
 
 -- ---- pairs one after the other
-
-pub covering_there : (a : ℕ) (pairs : List CoveringRows) (i : ℕ) (p : CoveringRows) → i < length pairs → p ≡ slice_index_or pairs i p → is_covered a p ≡ true
-    → first_covering a (drop i pairs) ≡ Some p
-covering_there a pairs i p lt is covers =
-    ap (first_covering a) (drop_more pairs i p lt ∙ ap (λ (q : CoveringRows). q ∷ drop (i + 1) pairs) (sym is))
-    ∙ cond-true (is_covered a p) (Some p) (first_covering a (drop (i + 1) pairs)) covers
-
-pub covering_later : (a : ℕ) (pairs : List CoveringRows) (i : ℕ) (p : CoveringRows) → i < length pairs → p ≡ slice_index_or pairs i p → is_covered a p ≡ false
-    → first_covering a (drop i pairs) ≡ first_covering a (drop (i + 1) pairs)
-covering_later a pairs i p lt is covers =
-    ap (first_covering a) (drop_more pairs i p lt ∙ ap (λ (q : CoveringRows). q ∷ drop (i + 1) pairs) (sym is))
-    ∙ cond-false (is_covered a p) (Some p) (first_covering a (drop (i + 1) pairs)) covers
 
 -- pairs behind others
 by_cover : (b : Bool) (p : CoveringRows) (o q r : Option CoveringRows) → o ≡ option_or q r → cond b (Some p) o ≡ option_or (cond b (Some p) q) r

@@ -13,7 +13,7 @@ use Rattle.gimli_lookup.specs.Steps.{step_at, IsIndexOf}
 use Rattle.gimli_lookup.specs.inside.Steps.{HaveNoUnorderedPair, IsFirstUnorderedPair}
 use Rattle.gimli_lookup.proofs.CoveringPairs.{IsFirstCovering, cases_covering}
 use Rattle.gimli_lookup.proofs.Digits.{digits_grow}
-use Rattle.gimli_lookup.proofs.Unordered.{NoneCovers, none_before_covering, first_of_unordered, looked_into, some_steps}
+use Rattle.gimli_lookup.proofs.Unordered.{NoneCovers, none_before_covering, first_of_unordered, looked_into}
 
 module _ (index : Index) (sequences : List (List LineRow)) (is : IsIndexOf index sequences) (a : ℕ) where
   said : (o : Option ℕ) → o ≡ step_at a index.steps.items
@@ -43,9 +43,6 @@ module _ (index : Index) (sequences : List (List LineRow)) (is : IsIndexOf index
 
     pub probes_of_covering : (d : List LineRow) → covering_probes a sequences ≡ binary_digits (length (slice_index_or sequences sequence d))
     probes_of_covering d = first.probes d ∙ ap (λ (k : ℕ). binary_digits (length (slice_index_or sequences k d))) same
-
-    pub covering_steps : 0 < length index.steps.items
-    covering_steps = some_steps a index.steps.items sequence (sym e)
 
   pub step_probes : binary_digits (length index.steps.items) ≤ binary_digits (2 * length sequences)
   step_probes = digits_grow (length index.steps.items) (2 * length sequences) is.steps.few

@@ -1,14 +1,13 @@
 -- Two lists of steps, walked together by their addresses.
-use Rattle.std.proofs.Common.{◌≡◌, ℕ, ◌+◌, ◌<◌, ◌≤◌, List, [], ◌∷◌, ◌++◌, length, take, Option, None, refl, sym, ap, ◌∙◌, inl, inr, arith}
+use Rattle.std.proofs.Common.{◌≡◌, ℕ, ◌+◌, ◌<◌, ◌≤◌, List, [], ◌∷◌, ◌++◌, length, take, Option, None, sym, ap, ◌∙◌, inl, inr, arith}
 use Rattle.std.specs.Prelude.{All, slice_index_or}
 use Rattle.std.specs.Option.{option_or}
 use Rattle.std.proofs.lemmas.Bool.{cases_lt}
-use Rattle.std.proofs.lemmas.List.{take_all, length_push, get_or_default}
+use Rattle.std.proofs.lemmas.List.{length_push, get_or_default}
 use Rattle.std.proofs.lemmas.List.Elements.{All-push, All-weaker}
 use Rattle.std.proofs.lemmas.List.Sums.{fold_push, fold_more}
 use Rattle.gimli_lookup.specs.declared.steps.Step.{Step}
 use Rattle.gimli_lookup.specs.Steps.{step_at, last_step, AreInOrder}
-use Rattle.gimli_lookup.specs.inside.Steps.{AreJoined}
 use Rattle.gimli_lookup.proofs.StepLists.{push_from, push_before, more_from, more_before, in_order_push}
 
 -- so many steps of both lists are merged, of which the last has the address `from`
@@ -26,23 +25,6 @@ pub record Walked (left right : List Step) (next_left next_right : ℕ) (by_left
   pub below : All (λ (s : Step). s.from ≤ from) merged
   pub left_ahead : (k : ℕ) (d : Step) → next_left ≤ k → k < length left → from ≤ (slice_index_or left k d).from
   pub right_ahead : (k : ℕ) (d : Step) → next_right ≤ k → k < length right → from ≤ (slice_index_or right k d).from
-
-pub walk_start : (left right : List Step) → Walked left right 0 0 None None 0 []
-walk_start left right = record {
-  left_within = omega arith;
-  right_within = omega arith;
-  size = refl;
-  value = λ a. refl;
-  left_value = λ a le. refl;
-  right_value = λ a le. refl;
-  left_last = refl;
-  right_last = refl;
-  last = refl;
-  in_order = λ i j d le lt. absurd (omega arith);
-  below = λ k d lt. absurd (omega arith);
-  left_ahead = λ k d le lt. omega arith;
-  right_ahead = λ k d le lt. omega arith;
-}
 
 module _ (left right merged : List Step) (next_left next_right : ℕ) (by_left by_right : Option ℕ) (from : ℕ)
     (walked : Walked left right next_left next_right by_left by_right from merged) where
@@ -115,17 +97,4 @@ module _ (left right merged : List Step) (next_left next_right : ℕ) (by_left b
         right_ahead =
             λ k d le within.
             omega (arith, ap (λ (t : Step). t.from) (get_or_default right next_right d s lt ∙ item), right_order next_right k d (omega arith) within);
-      }
-
-  pub walk_end : length left + length right ≤ next_left + next_right → last_step left ≡ None → last_step right ≡ None → AreJoined left right merged
-  walk_end all left_end right_end =
-      let left_all : take next_left left ≡ left = take_all next_left left (omega (arith, walked.left_within, walked.right_within)) in
-      let right_all : take next_right right ≡ right = take_all next_right right (omega (arith, walked.left_within, walked.right_within)) in
-      record {
-        in_order = walked.in_order;
-        value = λ a. walked.value a ∙ ap (λ (xs : List Step). option_or (step_at a xs) (step_at a (take next_right right))) left_all
-            ∙ ap (λ (xs : List Step). option_or (step_at a left) (step_at a xs)) right_all;
-        ended = walked.last ∙ ap (λ (o : Option ℕ). option_or o by_right) (sym walked.left_last ∙ ap last_step left_all ∙ left_end)
-            ∙ sym walked.right_last ∙ ap last_step right_all ∙ right_end;
-        size = omega (arith, walked.size, walked.left_within, walked.right_within);
       }

@@ -44,45 +44,6 @@ never_below_next lowest address (r ∷ rows) i lt is =
     ap (never_go_below lowest) (drop_more (r ∷ rows) i r lt)
     ∙ ap (λ (n : ℕ). not (nat_lt n lowest) && never_go_below n (drop (i + 1) (r ∷ rows))) (sym (is r))
 
--- ---- round the first address that is above
-
-module _ (a : ℕ) (rows : List LineRow) (index : ℕ) (before : (k : ℕ) (d : LineRow) → k < index → (slice_index_or rows k d).address ≤ a)
-    (after : (k : ℕ) (d : LineRow) → index ≤ k → k < length rows → a < (slice_index_or rows k d).address) where
-  only_there : (k : ℕ) (x y : LineRow) → IsPairAt a rows k x y → k + 1 ≡ index
-  only_there k x y p =
-      let there = slice_get_within rows k x p.first in
-      let first : (slice_index_or rows k x).address ≡ x.address = ap (λ (r : LineRow). r.address) (get_or_from_slice_get rows k x x p.first) in
-      let second : (slice_index_or rows (k + 1) x).address ≡ y.address = ap (λ (r : LineRow). r.address) (get_or_from_slice_get rows (k + 1) y x p.second) in
-      let low : k + 1 < index → ⊥ = λ lt. absurd (omega (arith, before (k + 1) x lt, second, p.before)) in
-      let high : index ≤ k → ⊥ = λ le. absurd (omega (arith, after k x le there, first, p.from)) in
-      by_order low high
-    where
-      by_order : (k + 1 < index → ⊥) → (index ≤ k → ⊥) → k + 1 ≡ index
-      by_order low high = elim (cases_order (k + 1) index) [
-        | inl same ↦ same
-        | inr (inl lt) ↦ absurd (low lt)
-        | inr (inr gt) ↦ absurd (high (omega arith))
-      ]
-
-  pub none_at_edge : (index ≡ 0) ⊎ (index ≡ length rows) → HasNoPair a rows
-  none_at_edge (inl zero_is) k x y p = absurd (omega (arith, only_there k x y p))
-  none_at_edge (inr all) k x y p = absurd (omega (arith, only_there k x y p, slice_get_within rows (k + 1) y p.second))
-
-  pub first_there : (x y : LineRow) → 0 < index → index < length rows → slice_get rows (index - 1) ≡ Some x → slice_get rows index ≡ Some y
-      → IsFirstPairOf a rows x y
-  first_there x y some within first second =
-      let same : index - 1 + 1 ≡ index = omega arith in
-      record {
-        index = index - 1;
-        is_pair = record {
-          first = first;
-          second = ap (slice_get rows) same ∙ second;
-          from = subst (λ (r : LineRow). r.address ≤ a) (get_or_from_slice_get rows (index - 1) x x first) (before (index - 1) x (omega arith));
-          before = subst (λ (r : LineRow). a < r.address) (get_or_from_slice_get rows index y x second) (after index x (omega arith) within);
-        };
-        none_before = λ k z w lt p. absurd (omega (arith, only_there k z w p));
-      }
-
 -- ---- row by row
 
 pub first_scanned : (a : ℕ) (rows : List LineRow) (index : ℕ) (x y : LineRow) → 0 < index
@@ -134,10 +95,6 @@ first_found a sequences i rows x y lt item none first = record {
   none_earlier = none;
   is_first = first;
 }
-
--- a sequence with a pair has rows
-pub has_rows : (a : ℕ) (rows : List LineRow) (x y : LineRow) → IsFirstPairOf a rows x y → 0 < length rows
-has_rows a rows x y first = omega (arith, slice_get_within rows first.index x first.is_pair.first)
 
 -- the sequence of a first pair is one of those
 pub first_pair_of_index : (a : ℕ) (sequences : List (List LineRow)) (index : ℕ) (x y : LineRow) → IsFirstPairIn a sequences index x y

@@ -1,5 +1,5 @@
 -- The rows of a run, taken in one after the other.
-use Rattle.std.proofs.Common.{◌≡◌, ◌<◌, List, [], ◌∷◌, ◌++◌, map, length, refl, sym, ap, subst, ◌∙◌, inl, inr, append_assoc, arith}
+use Rattle.std.proofs.Common.{◌≡◌, List, [], ◌∷◌, ◌++◌, map, refl, sym, ap, subst, ◌∙◌, inl, inr, append_assoc}
 use Rattle.std.specs.Prelude.{◌≢◌, Option, Some, None, Result, Ok, Err, IfOk}
 use Rattle.std.proofs.lemmas.List.{map-append, append-nil}
 use Rattle.gimli_core.specs.declared.error.Error.{Error}
@@ -89,9 +89,6 @@ to_fault first old new from to e t keeps other (inr comes) = record {
   taken = t.taken;
   keeps = keeps_both first old new t.keeps keeps;
 }
-
-pub fewer : (old new : RunState) (r : LineRow) (files : List File) → AnyRowIs old new r files → length (made_left new) < length (made_left old)
-fewer old new r files next = omega (arith, ap length next.0)
 
 -- a refusal that isn't for memory is the first fault
 pub fault_taken : (first old new : RunState) (from to : SequenceCut) (e : Error) (answer : Result (Option Error) Error) → TakesIn first old from to

@@ -1,5 +1,5 @@
 -- The steps of sequences of which each begins where those before it have ended.
-use Rattle.std.proofs.Common.{◌≡◌, ℕ, ◌+◌, ◌<◌, ◌≤◌, List, [], ◌∷◌, ◌++◌, length, take, refl, sym, ap, subst, ◌∙◌, arith}
+use Rattle.std.proofs.Common.{◌≡◌, ℕ, ◌+◌, ◌<◌, ◌≤◌, List, [], ◌∷◌, ◌++◌, length, take, sym, ap, subst, ◌∙◌, arith}
 use Rattle.std.specs.Prelude.{All, slice_index_or}
 use Rattle.std.proofs.lemmas.List.{append-nil, append_assoc, take_more, length-take-le}
 use Rattle.std.proofs.lemmas.List.Elements.{All-push, All-weaker}
@@ -13,17 +13,6 @@ use Rattle.gimli_lookup.proofs.CoveringPairs.{joined_steps}
 pub record AreInTurn (first : ℕ) (sequences : List (List LineRow)) (steps : List Step) (end : ℕ) : Type 0 where
   pub of : AreStepsOf first sequences steps
   pub below : All (λ (s : Step). s.from ≤ end) steps
-
-pub in_turn_start : (first : ℕ) → AreInTurn first [] [] 0
-in_turn_start first = record {
-  of = record {
-    in_order = λ i j d le lt. absurd (omega arith);
-    value = λ a. refl;
-    ended = refl;
-    few = omega arith;
-  };
-  below = λ k d lt. absurd (omega arith);
-}
 
 module _ (first i : ℕ) (sequences : List (List LineRow)) (rows : List LineRow) (steps : List Step) (end : ℕ) (lt : i < length sequences)
     (there : rows ≡ slice_index_or sequences i rows) (so_far : AreInTurn first (take i sequences) steps end) where

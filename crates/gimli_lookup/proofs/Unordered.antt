@@ -118,18 +118,6 @@ pub record Scanned (a : ℕ) (sequences : List (List LineRow)) (left : List ℕ)
   pub at_least : 0 < sum_by scan_probes (take from sequences) → at_start < now
   pub at_most : now ≤ at_start + sum_by scan_probes (take from sequences)
 
-pub scan_start : (a : ℕ) (sequences : List (List LineRow)) (indexes : List ℕ) (n : ℕ) → indexes ≡ indexes_out_of_order 0 sequences
-    → Scanned a sequences indexes n n
-scan_start a sequences indexes n is = record {
-  from = 0;
-  within = omega arith;
-  indexes = is;
-  none = λ k d lt. absurd (omega arith);
-  grows = omega arith;
-  at_least = λ some. absurd (omega arith);
-  at_most = omega arith;
-}
-
 module _ (a : ℕ) (sequences : List (List LineRow)) (index : ℕ) (others : List ℕ) (at_start now : ℕ)
     (scanned : Scanned a sequences (index ∷ others) at_start now) where
   next : IsNextUnordered scanned.from (drop scanned.from sequences) index others
@@ -279,9 +267,6 @@ module _ (a : ℕ) (sequences : List (List LineRow)) (at_start now : ℕ) (scann
   pub end_at_least : 0 < sum_by scan_probes sequences → at_start < now
   end_at_least some = scanned.at_least (omega (arith, all_counted))
 
-  pub end_at_most : now ≤ at_start + sum_by scan_probes sequences
-  end_at_most = omega (arith, scanned.at_most, all_counted)
-
 -- ---- the first pair of all
 
 uncovered_none : (a : ℕ) (rows : List LineRow) → covers a rows ≡ false → (never_go_down rows ≡ false → HasNoPair a rows) → HasNoPair a rows
@@ -342,11 +327,6 @@ looked_into sequences [] value some = inr (by_kind some.4)
     by_kind (inr goes_down) =
         let there : scan_probes (slice_index_or sequences some.0 some.1) ≡ length some.1 = ap scan_probes some.3 ∙ scan_down some.1 goes_down in
         omega (arith, get_or-le-sum_by scan_probes sequences some.0 some.1 some.2, there, down_some some.1 goes_down)
-
--- a step says something, so there is one
-pub some_steps : (a : ℕ) (steps : List Step) (index : ℕ) → step_at a steps ≡ Some index → 0 < length steps
-some_steps a [] index is = cc
-some_steps a (s ∷ steps) index is = omega arith
 
 -- the rows of an ordered sequence and all that are scanned are rows of different sequences
 pub scan_and_rows : (sequences : List (List LineRow)) (index : ℕ) (rows : List LineRow) → index < length sequences → rows ≡ slice_index_or sequences index rows

@@ -8,7 +8,7 @@ use Rattle.std.specs.Ordering.{is_eq, nat_cmp, eq_by_cmp, ordering_then}
 use Rattle.std.specs.declared.cmp.Ordering.{Ordering}
 use Rattle.std.specs.declared.cmp.Ordering.TheVariants.{Less, Equal, Greater}
 use Rattle.std.proofs.lemmas.Bool.{eqb-true, eq-eqb}
-use Rattle.lines_reports.specs.Coverage.{bytes_at, change_at, changed, place_order}
+use Rattle.lines_reports.specs.Coverage.{bytes_at, change_at, place_order}
 use Rattle.lines_reports.specs.declared.coverage.Change.{Change}
 use Rattle.lines_reports.specs.declared.coverage.Place.{Place}
 use Rattle.lines_reports.specs.inside.Changes.{IsPart, Keeps, with_change}
@@ -109,32 +109,3 @@ module _ (old new : List (Place × ℕ)) where
       at_test true is =
           has_own place other before after kept part (ap (λ (p : Place). is_at (place_order p) other) (sym (one_place other place is)) ∙ place_self other)
       at_test false is = keeps_on place before after kept other (done other there (rw is gone))
-
-  -- at first no place of the program is missing among those that are left
-  pub done_first : (source : List (Place × ℕ)) (left : List Place) (changes : BTreeMap Place Change)
-      → ((other : Place) → is_some (bytes_at source other) ≡ list_any (eq_by_cmp place_order other) left) → IsDone source left changes
-  done_first source left changes has other there gone = let no = sym there ∙ has other ∙ gone in absurd cc
-
-  -- at the end each place of the program has its change
-  pub done_last : (source : List (Place × ℕ)) (changes : BTreeMap Place Change) → IsDone source [] changes
-      → (place : Place) → (bytes_at source place ≡ None → ⊥) → get place_order changes place ≡ change place
-  done_last source changes done place some = done place (there (bytes_at source place) some) refl
-    where
-      there : (o : Option ℕ) → (o ≡ None → ⊥) → is_some o ≡ true
-      there (Some n) some = refl
-      there None some = absurd (some refl)
-
-  -- each place has its change once those of both programs were collected
-  pub all_done : (changes : BTreeMap Place Change) → IsPart old new changes
-      → ((place : Place) → (bytes_at old place ≡ None → ⊥) → get place_order changes place ≡ change place)
-      → ((place : Place) → (bytes_at new place ≡ None → ⊥) → get place_order changes place ≡ change place)
-      → (place : Place) → get place_order changes place ≡ change place
-  all_done changes part of_old of_new place = at_bytes (bytes_at old place) (bytes_at new place) refl refl
-    where
-      at_bytes : (o n : Option ℕ) → bytes_at old place ≡ o → bytes_at new place ≡ n → get place_order changes place ≡ change place
-      at_bytes (Some o) n is same = of_old place (λ none. let no = sym is ∙ none in absurd cc)
-      at_bytes None (Some n) is same = of_new place (λ none. let no = sym same ∙ none in absurd cc)
-      at_bytes None None is same = elim (part place) [
-        | inl none ↦ none ∙ sym (ap (λ (a : Option ℕ). changed a (bytes_at new place)) is ∙ ap (λ (b : Option ℕ). changed None b) same)
-        | inr whole ↦ whole
-      ]

@@ -1,6 +1,6 @@
 -- A length that is written once what it counts is there.
 use Rattle.std.proofs.Common.{◌≡◌, ℕ, ◌+◌, ◌-◌, ◌<◌, ◌^◌, Bool, true, false, List, [], ◌++◌, length, take, drop, refl, sym, ap, ◌∙◌, arith, append_assoc}
-use Rattle.std.proofs.Common.{length-append, nat_lt, if◌then◌else◌, Ok, Err, inl, inr}
+use Rattle.std.proofs.Common.{length-append, nat_lt, if◌then◌else◌, Ok, Err}
 use Rattle.std.proofs.lemmas.Bool.{le-ltb, lt-ltb}
 use Rattle.std.proofs.lemmas.List.{take_at, drop_at}
 use Rattle.std.specs.Prelude.{Result}
@@ -13,7 +13,6 @@ use Rattle.gimli_bytes.specs.declared.error.Error.{Error}
 use Rattle.gimli_bytes.specs.declared.error.Error.TheVariants.{ValueTooLarge, InitialLengthOverflow}
 use Rattle.gimli_build.specs.FormatWord.{format_word}
 use Rattle.gimli_build.specs.Joined.{result_append, after_length}
-use Rattle.gimli_build.specs.inside.Joined.{RefusesFor}
 use Rattle.gimli_build.specs.Unit.{escape_bytes}
 
 -- other bytes in the middle, as long as those that stand there
@@ -76,11 +75,6 @@ module _ (full length_of : ℕ → Result (List ℕ) Error) (escape blank old c1
       by (Err d) is w so h = absurd (rw is at written)
       by (Ok bytes) is (Err d) so h = known bytes is ∙ ap (λ (r : Result (List ℕ) Error). result_append (result_append (Ok escape) r) (Ok bytes)) so ∙ h
       by (Ok bytes) is (Ok word) so h = absurd (let never = sym (put bytes word is so) ∙ h in cc)
-
--- a refused body refuses the whole
-pub body_refused : (full : ℕ → Result (List ℕ) Error) (body : Result (List ℕ) Error) (e : Error) → RefusesFor body e → RefusesFor (after_length full body) e
-body_refused full body e (inl memory) = inl memory
-body_refused full body e (inr is) = inr (ap (after_length full) is)
 
 -- ---- words
 

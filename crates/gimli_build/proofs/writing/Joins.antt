@@ -1,5 +1,5 @@
 -- Instructions written one after the other.
-use Rattle.std.proofs.Common.{◌≡◌, ℕ, ◌+◌, ◌-◌, ◌*◌, Bool, true, false, if◌then◌else◌, List, [], ◌∷◌, ◌++◌, Some, None, nat_le, append_assoc, sym, ap, ◌∙◌}
+use Rattle.std.proofs.Common.{◌≡◌, ℕ, ◌+◌, ◌-◌, ◌*◌, Bool, true, false, if◌then◌else◌, List, [], ◌∷◌, ◌++◌, Some, None, nat_le, append_assoc, sym}
 use Rattle.std.proofs.Common.{refl}
 use Rattle.std.proofs.lemmas.Option.{none-some}
 use Rattle.std.proofs.lemmas.List.Concat.{flat_map-append}
@@ -11,9 +11,6 @@ use Rattle.gimli_build.specs.InstructionBytes.{instruction_bytes, instructions_b
 
 pub bytes_append : (is js : List Ins) → instructions_bytes (is ++ js) ≡ instructions_bytes is ++ instructions_bytes js
 bytes_append is js = flat_map-append instruction_bytes is js
-
-pub then_bytes : (old : List ℕ) (is js : List Ins) → (old ++ instructions_bytes is) ++ instructions_bytes js ≡ old ++ instructions_bytes (is ++ js)
-then_bytes old is js = append_assoc old (instructions_bytes is) (instructions_bytes js) ∙ ap (λ (t : List ℕ). old ++ t) (sym (bytes_append is js))
 
 pub ruleset joins = (then_bytes, bytes_append, append_assoc)
 
