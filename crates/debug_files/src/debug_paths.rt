@@ -1,8 +1,9 @@
 //! Where the file with a program's debug information may be.
 
-ghost use Rattle.std.specs.Prelude.{◌≡◌, ◌++◌, ◌∷◌, map, string_bytes, IfOk, OnOk};
-ghost use Rattle.std.specs.Option.{option_copied};
-ghost use Rattle.debug_files.specs.DebugPaths.{folder, build_id_path, link_paths, debug_file_paths};
+ghost use Rattle.std.specs.Prelude.{◌≡◌, [], ◌++◌, ◌∷◌, map, string_bytes, IfOk, OnOk};
+ghost use Rattle.std.specs.Option.{option_copied, option_map_or};
+ghost use Rattle.debug_files.specs.DebugPaths.{folder, build_id_path, build_id_paths, link_paths};
+ghost use Rattle.debug_files.specs.DebugPaths.{debug_file_paths};
 
 use std::alloc::{AllocError, Global};
 
@@ -37,6 +38,22 @@ fn build_id_path(alloc: Global, first: u8, rest: &[u8]) -> Result<String, AllocE
     joined(alloc, &path, &name, ".debug")
 }
 
+/// Adds a path that is three texts, one after the other.
+fn add_joined(
+    alloc: Global,
+    paths: &mut Vec<String>,
+    first: &str,
+    second: &str,
+    third: &str,
+) -> Result<(), AllocError>
+    ensures { OnOk result (map string_bytes paths.new.items
+        ≡ map string_bytes paths.old.items ++ (first.now ++ second.now ++ third.now) ∷ []) }
+{
+    let path = joined(alloc, first, second, third)?;
+    paths.push(path)?;
+    Ok(())
+}
+
 /// Adds the paths where a file of this name may be, for a program in a folder.
 fn add_links(
     alloc: Global,
@@ -47,12 +64,24 @@ fn add_links(
     ensures { OnOk result (map string_bytes paths.new.items
         ≡ map string_bytes paths.old.items ++ link_paths folder.now name.now) }
 {
-    paths.push(joined(alloc, folder, name, "")?)?;
-    paths.push(joined(alloc, folder, ".debug/", name)?)?;
+    add_joined(alloc, paths, folder, name, "")?;
+    add_joined(alloc, paths, folder, ".debug/", name)?;
     if folder.starts_with('/') {
-        paths.push(joined(alloc, "/usr/lib/debug", folder, name)?)?;
+        add_joined(alloc, paths, "/usr/lib/debug", folder, name)?;
     }
     Ok(())
+}
+
+/// The path where the debug file of a build id is, where the id is known.
+fn build_id_paths(alloc: Global, build_id: Option<&[u8]>) -> Result<Vec<String>, AllocError>
+    ensures { IfOk result (λ paths. map string_bytes paths.items
+        ≡ option_map_or build_id_paths (option_copied build_id.entry) []) }
+{
+    let mut paths = Vec::new(alloc);
+    if let Some([first, rest @ ..]) = build_id {
+        paths.push(build_id_path(alloc, *first, rest)?)?;
+    }
+    Ok(paths)
 }
 
 /// The paths at which the debug file of a program may be, in the order in which they are tried: by
@@ -68,10 +97,7 @@ pub fn debug_file_paths(
     ensures { IfOk result (λ paths. map string_bytes paths.items
         ≡ debug_file_paths path.now (option_copied build_id.entry) (option_copied link.entry)) }
 {
-    let mut paths = Vec::new(alloc);
-    if let Some([first, rest @ ..]) = build_id {
-        paths.push(build_id_path(alloc, *first, rest)?)?;
-    }
+    let mut paths = build_id_paths(alloc, build_id)?;
     if let Some(name) = link {
         let folder = folder(alloc, path)?;
         add_links(alloc, &mut paths, &folder, name)?;

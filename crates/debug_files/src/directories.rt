@@ -1,12 +1,9 @@
 //! Whether whole paths need the units of `.debug_info`, which are most of a file's debug
 //! information.
 
-use gimli_core::{AttributeValue, EndianSlice, RunTimeEndian};
-use gimli_line::{DebugLine, LineProgramHeader};
+use gimli_core::{AttributeValue, Reader, ReaderOffset, RunTimeEndian};
+use gimli_line::{DebugLine, LineProgramHeader, LineUnit, LineUnits};
 use std::alloc::Global;
-
-/// A reader of a section.
-type Slice<'s> = EndianSlice<'s, RunTimeEndian>;
 
 /// The order of bytes, by whether the most significant one comes first.
 fn order(is_big_endian: bool) -> RunTimeEndian {
@@ -17,30 +14,61 @@ fn order(is_big_endian: bool) -> RunTimeEndian {
     }
 }
 
-/// Whether a path in these bytes begins at the root.
-fn is_from_root(path: &[u8]) -> bool {
-    path.starts_with(b"/")
+/// Whether a path begins at the root.
+fn is_from_root<R: Reader>(path: R) -> bool {
+    let mut path = path;
+    match path.read_u8() {
+        Ok(first) => first == b'/',
+        Err(_) => false,
+    }
 }
 
 /// Whether paths of a header may go on from the directory that its unit of `.debug_info` has: up to
 /// version 4 (DWARF 4, section 6.2.4), and where directory 0 isn't seen to begin at the root (DWARF
 /// 5, section 6.2.4).
-fn needs_unit(header: &LineProgramHeader<Slice<'_>>, line_str: &[u8]) -> bool {
+fn needs_unit<R: Reader>(header: &LineProgramHeader<R>, line_str: &[u8]) -> bool {
     if header.version() < 5 {
         return true;
     }
     match header.directory(0) {
-        Some(AttributeValue::String(path)) => !is_from_root(path.slice()),
-        Some(AttributeValue::DebugLineStrRef(offset)) => match line_str.get(offset.0..) {
-            Some(path) => !is_from_root(path),
-            None => true,
-        },
+        Some(AttributeValue::String(path)) => !is_from_root(path),
+        Some(AttributeValue::DebugLineStrRef(offset)) => {
+            match line_str.get(offset.0.into_u64() as usize..) {
+                Some(path) => !path.starts_with(b"/"),
+                None => true,
+            }
+        }
         _ => true,
     }
 }
 
+/// Whether paths of a unit's line program, if it has one that can be read, may go on from there.
+fn is_needed<R: Reader>(unit: &LineUnit<R>, line_str: &[u8]) -> bool {
+    match &unit.program {
+        Ok(program) => needs_unit(program.header(), line_str),
+        Err(_) => false,
+    }
+}
+
+/// Whether paths of some of these line programs may go on from there. Stops at the first that does;
+/// also where memory is missing.
+fn some_is_needed<R: Reader>(mut units: LineUnits<R>, line_str: &[u8]) -> bool {
+    for _ in 0..u64::MAX {
+        match units.next() {
+            Ok(Some(unit)) => {
+                if is_needed(&unit, line_str) {
+                    return true;
+                }
+            }
+            Ok(None) => return false,
+            Err(_) => return true,
+        }
+    }
+    true
+}
+
 /// Whether paths of some line program may go on from the directory that its unit of `.debug_info`
-/// has. Stops at the first that does; also where memory is missing.
+/// has, or memory is missing.
 pub(crate) fn need_units(
     alloc: Global,
     lines: &[u8],
@@ -49,16 +77,6 @@ pub(crate) fn need_units(
     is_64_bit: bool,
 ) -> bool {
     let address_size = if is_64_bit { 8 } else { 4 };
-    let mut units = DebugLine::new(lines, order(is_big_endian)).units(alloc, address_size);
-    for _ in 0..u64::MAX {
-        match units.next() {
-            Ok(Some(unit)) => match unit.program {
-                Ok(program) if needs_unit(program.header(), line_str) => return true,
-                _ => {}
-            },
-            Ok(None) => return false,
-            Err(_) => return true,
-        }
-    }
-    true
+    let section = DebugLine::new(lines, order(is_big_endian));
+    some_is_needed(section.units(alloc, address_size), line_str)
 }

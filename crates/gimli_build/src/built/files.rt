@@ -198,35 +198,8 @@ impl FileTable {
         }
     }
 
-    /// The tables of a new program. Fails only with `OutOfMemory`.
-    pub(crate) fn start(
-        alloc: Global,
-        version: u16,
-        working_dir: LineString,
-        source_dir: Option<LineString>,
-        source_file: LineString,
-        source_file_info: Option<FileInfo>,
-    ) -> Result<FileTable>
-        requires working_dir_ends { HasNoZero (line_text working_dir) }
-        requires source_dir_ends { IfSome source_dir (λ dir. HasNoZero (line_text dir)) }
-        requires source_file_ends { HasNoZero (line_text source_file) }
-        ensures ok { IfOk result (λ tables.
-            tables ≡ first_tables version working_dir source_dir source_file source_file_info) }
-        ensures memory { IfErr result (λ e. e ≡ Error.OutOfMemory) }
-    {
-        let mut tables = FileTable::new(alloc);
-        tables.add_first(
-            version,
-            working_dir,
-            source_dir,
-            source_file,
-            source_file_info,
-        )?;
-        Ok(tables)
-    }
-
     /// Adds what a new program is handed to empty tables. Fails only with `OutOfMemory`.
-    fn add_first(
+    pub(crate) fn add_first(
         &mut self,
         version: u16,
         working_dir: LineString,

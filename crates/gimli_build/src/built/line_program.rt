@@ -95,10 +95,9 @@ impl LineProgram {
             (first_tables encoding.version working_dir source_dir source_file source_file_info)) }
         ensures memory { IfErr result (λ e. e ≡ Error.OutOfMemory) }
     {
-        let version = encoding.version;
-        let tables = FileTable::start(
-            alloc,
-            version,
+        let mut tables = FileTable::new(alloc);
+        tables.add_first(
+            encoding.version,
             working_dir,
             source_dir,
             source_file,

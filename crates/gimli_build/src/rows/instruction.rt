@@ -20,7 +20,7 @@ use gimli_bytes::{Address, Leb128, Result, Writer};
 use gimli_core::{DwLns, constants};
 
 /// An instruction of a row or an end.
-#[derive(Clone, Copy, Debug, PartialEq, Eq)]
+#[derive(Clone, Copy)]
 pub(crate) enum LineInstruction {
     Special(u8),
     Copy,

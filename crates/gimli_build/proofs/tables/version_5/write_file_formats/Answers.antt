@@ -3,7 +3,9 @@ use Rattle.gimli_bytes.specs.Number.{uleb}
 use Rattle.gimli_build.specs.Built.{Built}
 use Rattle.gimli_build.specs.Version5Tables.{first_form, path_texts, sources}
 use Rattle.gimli_build.proofs.building.FormatLemmas.{formats-grouped}
-use Rattle.gimli_build.proofs.writing.Writes.{joins, writes}
+use Rattle.gimli_build.proofs.writing.Writes.{joins, unwritten, writes}
+use Rattle.std.proofs.lemmas.Result.{err_from_is_err_and}
+use Rattle.gimli_build.proofs.writing.OneCall.{refused_alike}
 use Rattle.gimli_build.proofs.tables.version_5.write_file_formats.Goals as goal
 
 pub returns : goal.returns
@@ -19,3 +21,18 @@ returns g c =
     rw (← formats-grouped (0x0001, path) (0x0002, 0x0f) (0x0003, 0x0f) (0x0004, 0x0f) (0x0005, 0x1e) (0x2001, source) p.file_has_timestamp p.file_has_size
     p.file_has_md5 p.file_has_source count)
     (joins c.in_ok-write_key_formats.ensures (joins c.in_ok-write_detail_formats.ensures (joins third fourth)))
+
+pub returns-in_err-write_key_formats : goal.returns-in_err-write_key_formats
+returns-in_err-write_key_formats g c =
+    let p = err_from_is_err_and c.from_residual.result c.from_residual.ensures.1 in
+    rw (p.1, p.2) (refused_alike _ c.in_err-write_key_formats.ensures)
+
+pub returns-in_err-write_detail_formats : goal.returns-in_err-write_detail_formats
+returns-in_err-write_detail_formats g c =
+    let p = err_from_is_err_and c.from_residual-in_err-write_detail_formats.result c.from_residual-in_err-write_detail_formats.ensures.1 in
+    rw (p.1, p.2) (unwritten _ c.in_ok-write_key_formats.ensures c.in_err-write_detail_formats.ensures)
+
+pub returns-in_err-write_format_if : goal.returns-in_err-write_format_if
+returns-in_err-write_format_if g c =
+    let p = err_from_is_err_and c.from_residual-in_err-write_format_if.result c.from_residual-in_err-write_format_if.ensures.1 in
+    rw (p.1, p.2) (unwritten _ (joins c.in_ok-write_key_formats.ensures c.in_ok-write_detail_formats.ensures) c.in_err-write_format_if.ensures)

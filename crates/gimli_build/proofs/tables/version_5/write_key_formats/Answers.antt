@@ -2,7 +2,9 @@ use Rattle.std.proofs.Common.{◌∷◌, ◌++◌, List, length, sym, ap, ◌∙
 use Rattle.gimli_bytes.specs.Number.{uleb}
 use Rattle.gimli_build.specs.Tables.{File}
 use Rattle.gimli_build.specs.Version5Tables.{first_form, path_texts, file_formats}
-use Rattle.gimli_build.proofs.writing.Writes.{joins, same_bytes}
+use Rattle.gimli_build.proofs.writing.Writes.{joins, same_bytes, unwritten}
+use Rattle.std.proofs.lemmas.Result.{err_from_is_err_and}
+use Rattle.gimli_build.proofs.writing.OneCall.{refused_alike}
 use Rattle.gimli_build.proofs.tables.version_5.write_key_formats.Goals as goal
 
 pub returns : goal.returns
@@ -14,3 +16,13 @@ returns g c =
     let second = rw form at c.in_ok-write_format.ensures in
     same_bytes (sym (append_assoc (length (file_formats p) ∷ (uleb 0x0001 ++ uleb path)) (uleb 0x0002) (uleb 0x0f)))
     (joins (joins first second) c.write_format-2.ensures)
+
+pub returns-in_err-write_byte : goal.returns-in_err-write_byte
+returns-in_err-write_byte g c =
+    let p = err_from_is_err_and c.from_residual.result c.from_residual.ensures.1 in
+    rw (p.1, p.2) (refused_alike _ c.in_err-write_byte.ensures)
+
+pub returns-in_err-write_format : goal.returns-in_err-write_format
+returns-in_err-write_format g c =
+    let p = err_from_is_err_and c.from_residual-in_err-write_format.result c.from_residual-in_err-write_format.ensures.1 in
+    rw (p.1, p.2) (unwritten _ c.in_ok-write_byte.ensures c.in_err-write_format.ensures)
