@@ -9,7 +9,7 @@ The line before a block of code names the source, as a comment that a reader of 
 
 Before ` -->` may stand ` with NEW for OLD`: the page has NEW where the source has OLD. Code in Rattle, in antt and in C has to
 name its source; a script, a picture and an output needn't. An example in a comment (`///`) begins at the left edge, wherever its
-source stands; each public type of a library has one.
+source stands.
 """
 import glob
 import os
@@ -29,7 +29,6 @@ LIBRARIES = (
     "inflate",
     "debug_files",
 )
-# Public types that no proved code outside their crates uses yet.
 PAGES = ("*.md", "docs/*.md", "crates/*/CALLING.md", "crates/*/data/*.md", "tried/*/README.md")
 CODE = ("rust", "antt", "c", "cpp")
 MARK = re.compile(r"<!-- (part of |lines of |items [\w, ]+ of |)(\S+)(?: with (\S+) for (\S+))? -->")
@@ -134,22 +133,14 @@ def comments(lines):
 
 
 def wrong_examples(top, path):
-    """A sentence for each example of a source that isn't quoted, and for each public type that has none."""
+    """A sentence for each example of a source that isn't quoted."""
     lines = open(path).read().split("\n")
-    name, has_example = os.path.relpath(path, top), set()
-    for start, indent, comment in comments(lines):
+    name = os.path.relpath(path, top)
+    for start, _, comment in comments(lines):
         for a, b, language, mark in blocks(comment):
             wrong = difference(top, comment, a, b, language, mark)
             if wrong:
                 yield f"{name}:{start + a}: the block {wrong[0]}"
-            has_example.add(start + len(comment))
-    for i, line in enumerate(lines):
-        declared = re.match(r"pub (?:struct|enum|trait) (\w+)", line)
-        first = i
-        while declared and re.match(r"#\[|\s+.*\]$|\)\]", lines[first - 1]):
-            first -= 1
-        if declared and first not in has_example:
-            yield f"{name}:{i + 1}: {declared[1]} has no example"
 
 
 def stale(top, write):

@@ -12,14 +12,6 @@ use std::marker::Model;
 
 /// A section in one vector, and the order of its numbers. It keeps exactly its bytes and fails for
 /// memory alone, and a refused `write` changes nothing.
-///
-/// <!-- part of crates/uses/src/make_unit.rt -->
-/// ```rust
-/// let mut section = DebugLine::from(EndianVec::new(alloc, LittleEndian));
-/// let mut strings = StringTable::default(alloc);
-/// program.write(&mut section, program.encoding(), line_strings, &mut strings)?;
-/// Ok(section.0)
-/// ```
 #[derive(Debug, Drop)]
 pub struct EndianVec<E: Endianity> {
     vec: Vec<u8>,

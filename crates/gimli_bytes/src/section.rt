@@ -6,14 +6,6 @@ use crate::writer::Writer;
 use gimli_core::{DebugLineOffset, DebugLineStrOffset, DebugStrOffset};
 
 /// A section `.debug_line` that is written.
-///
-/// <!-- part of crates/uses/src/make_unit.rt -->
-/// ```rust
-/// let mut section = DebugLine::from(EndianVec::new(alloc, LittleEndian));
-/// let mut strings = StringTable::default(alloc);
-/// program.write(&mut section, program.encoding(), line_strings, &mut strings)?;
-/// Ok(section.0)
-/// ```
 #[derive(Debug, Drop)]
 pub struct DebugLine<W: Writer>(pub W);
 
@@ -64,13 +56,6 @@ impl<W: Writer> From<W> for DebugStr<W> {
 }
 
 /// A section `.debug_line_str` that is written.
-///
-/// <!-- part of crates/uses/src/make_unit.rt -->
-/// ```rust
-/// let mut section = DebugLineStr::from(EndianVec::new(alloc, LittleEndian));
-/// line_strings.write(&mut section)?;
-/// print_bytes(".debug_line_str", section.0.slice(), text)
-/// ```
 #[derive(Debug, Drop)]
 pub struct DebugLineStr<W: Writer>(pub W);
 

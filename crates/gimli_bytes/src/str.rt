@@ -221,14 +221,6 @@ impl StringTable {
 pub struct LineStringId(pub usize);
 
 /// A table of distinct texts that is written to a section `.debug_line_str`.
-///
-/// <!-- part of crates/uses/src/make_unit.rt -->
-/// ```rust
-/// let mut line_strings = LineStringTable::default(alloc);
-/// let program = build(alloc, &mut line_strings)?;
-/// print_unit(alloc, &program, &mut line_strings, text)?;
-/// print_texts(alloc, &line_strings, text)
-/// ```
 #[derive(Debug, Drop)]
 pub struct LineStringTable {
     texts: Texts,

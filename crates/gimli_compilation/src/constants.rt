@@ -4,15 +4,6 @@
 use gimli_core::DwForm;
 
 /// The type of a unit of version 5. DWARF 5, 7.5.1 gives the numbers.
-///
-/// <!-- part of crates/uses/src/constants.rt -->
-/// ```rust
-/// pub fn is_whole_compilation(unit_type: DwUt) -> bool
-///     ensures { IsTrue result ↔ (unit_type.0 ≡ 0x01) }
-/// {
-///     unit_type.0 == gimli_compilation::constants::DW_UT_compile.0
-/// }
-/// ```
 #[derive(Clone, Copy, Debug, PartialEq, Eq)]
 pub struct DwUt(pub u8);
 
@@ -35,15 +26,6 @@ pub const DW_UT_split_compile: DwUt = DwUt(0x05);
 pub const DW_UT_split_type: DwUt = DwUt(0x06);
 
 /// The name of an attribute. DWARF 5, 7.5.4 gives the numbers.
-///
-/// <!-- part of crates/uses/src/constants.rt -->
-/// ```rust
-/// pub fn is_directory(attribute: DwAt) -> bool
-///     ensures { IsTrue result ↔ (attribute.0 ≡ 0x1b) }
-/// {
-///     attribute.0 == gimli_compilation::constants::DW_AT_comp_dir.0
-/// }
-/// ```
 #[derive(Clone, Copy, Debug, PartialEq, Eq)]
 pub struct DwAt(pub u16);
 

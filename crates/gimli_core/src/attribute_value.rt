@@ -8,16 +8,6 @@ use crate::reader::Reader;
 use std::alloc::AllocError;
 
 /// The value of a form. Texts and blocks are readers over the section that they stand in.
-///
-/// <!-- part of crates/uses/src/reading.rt -->
-/// ```rust
-/// match value {
-///     AttributeValue::String(text) => Ok(text),
-///     AttributeValue::DebugStrRef(offset) => text_from(sections.strings, offset.0),
-///     AttributeValue::DebugLineStrRef(offset) => text_from(sections.line_strings, offset.0),
-///     _ => Err(Error::ExpectedStringAttributeValue),
-/// }
-/// ```
 #[derive(Copy, Debug, PartialEq, Eq)]
 pub enum AttributeValue<R, Offset = <R as Reader>::Offset>
 where

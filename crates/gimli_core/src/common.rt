@@ -65,13 +65,6 @@ pub struct Encoding {
 }
 
 /// What the rows of a line program are encoded by.
-///
-/// <!-- part of crates/uses/src/make_unit.rt -->
-/// ```rust
-/// let lines = LineEncoding::default();
-/// let program = LineProgram::new(alloc, encoding, lines, directory, None, path, None)?;
-/// Ok(program)
-/// ```
 #[derive(Clone, Copy, Debug, PartialEq, Eq)]
 pub struct LineEncoding {
     /// The number of bytes of the shortest instruction of the machine.
@@ -141,13 +134,6 @@ pub enum SectionId {
 pub struct DebugLineOffset<T = usize>(pub T);
 
 /// An offset into the section `.debug_str`, in bytes.
-///
-/// <!-- part of crates/uses/src/reading.rt -->
-/// ```rust
-/// AttributeValue::String(text) => Ok(text),
-/// AttributeValue::DebugStrRef(offset) => text_from(sections.strings, offset.0),
-/// AttributeValue::DebugLineStrRef(offset) => text_from(sections.line_strings, offset.0),
-/// ```
 #[derive(Clone, Copy, Debug, PartialEq, Eq)]
 pub struct DebugStrOffset<T = usize>(pub T);
 

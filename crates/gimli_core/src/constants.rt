@@ -7,15 +7,6 @@ use std::fmt;
 
 /// A standard opcode of a line program. DWARF 5, 6.2.5.2 says what each does, 7.22 gives their
 /// numbers.
-///
-/// <!-- part of crates/uses/src/constants.rt -->
-/// ```rust
-/// pub fn makes_row(opcode: DwLns) -> bool
-///     ensures { IsTrue result ↔ (opcode.0 ≡ 0x01) }
-/// {
-///     opcode.0 == gimli_core::DW_LNS_copy.0
-/// }
-/// ```
 #[derive(Clone, Copy, Debug, PartialEq, Eq)]
 pub struct DwLns(pub u8);
 
@@ -57,15 +48,6 @@ pub const DW_LNS_set_isa: DwLns = DwLns(0x0c);
 
 /// An extended opcode of a line program. DWARF 5, 6.2.5.3 says what each does, 7.22 gives their
 /// numbers.
-///
-/// <!-- part of crates/uses/src/constants.rt -->
-/// ```rust
-/// pub fn ends_sequence(opcode: DwLne) -> bool
-///     ensures { IsTrue result ↔ (opcode.0 ≡ 0x01) }
-/// {
-///     opcode.0 == gimli_core::DW_LNE_end_sequence.0
-/// }
-/// ```
 #[derive(Clone, Copy, Debug, PartialEq, Eq)]
 pub struct DwLne(pub u8);
 
@@ -83,15 +65,6 @@ pub const DW_LNE_set_discriminator: DwLne = DwLne(0x04);
 
 /// A content type of the tables of version 5: what a part of an entry means. DWARF 5, 6.2.4.1 and
 /// 7.22.
-///
-/// <!-- part of crates/uses/src/constants.rt -->
-/// ```rust
-/// pub fn is_source(content: DwLnct) -> bool
-///     ensures { IsTrue result ↔ (content.0 ≡ 0x2001) }
-/// {
-///     content.0 == gimli_core::DW_LNCT_LLVM_source.0
-/// }
-/// ```
 #[derive(Clone, Copy, Debug, PartialEq, Eq)]
 pub struct DwLnct(pub u16);
 
@@ -115,15 +88,6 @@ pub const DW_LNCT_LLVM_source: DwLnct = DwLnct(0x2001);
 
 /// The form of a value: how it is spelled. DWARF 5, 7.5.5 says what each is, 7.5.6 gives their
 /// numbers.
-///
-/// <!-- part of crates/uses/src/constants.rt -->
-/// ```rust
-/// pub fn is_line_string(form: DwForm) -> bool
-///     ensures { IsTrue result ↔ (form.0 ≡ 0x1f) }
-/// {
-///     form.0 == gimli_core::DW_FORM_line_strp.0
-/// }
-/// ```
 #[derive(Clone, Copy, Debug, PartialEq, Eq)]
 pub struct DwForm(pub u16);
 
@@ -202,15 +166,6 @@ pub const DW_FORM_GNU_strp_alt: DwForm = DwForm(0x1f21);
 /// How a pointer is encoded (Linux Standard Base, DWARF Extensions): a format in the low four bits,
 /// and what it is relative to in the three bits above. The highest bit, 0x80, says that the pointer
 /// is indirect: neither `format` nor `application` keeps it.
-///
-/// <!-- part of crates/uses/src/constants.rt -->
-/// ```rust
-/// pub fn is_absolute(encoding: DwEhPe) -> bool
-///     ensures { IsTrue result ↔ (encoding.0 ≡ 0x00) }
-/// {
-///     encoding.0 == gimli_core::DW_EH_PE_absptr.0
-/// }
-/// ```
 #[derive(Clone, Copy, Debug, PartialEq, Eq)]
 pub struct DwEhPe(pub u8);
 

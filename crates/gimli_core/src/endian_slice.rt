@@ -10,13 +10,6 @@ use crate::reader::Reader;
 use std::borrow::CowSlice;
 
 /// A reader over bytes that were lent. It copies none, and takes no memory.
-///
-/// <!-- part of crates/uses/src/numbers.rt -->
-/// ```rust
-/// let mut input = EndianSlice::new(bytes, LittleEndian);
-/// let number = input.read_uleb128()?;
-/// Ok((number, input.len()))
-/// ```
 #[derive(Clone, Copy, Debug, Default, PartialEq, Eq)]
 pub struct EndianSlice<'i, E: Endianity> {
     slice: &'i [u8],

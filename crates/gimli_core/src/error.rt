@@ -16,13 +16,6 @@ use std::fmt;
 pub struct ReaderOffsetId(pub u64);
 
 /// Why bytes could not be read.
-///
-/// <!-- part of crates/uses/src/reading.rt -->
-/// ```rust
-/// if found.push(row).is_err() {
-///     return Err(Error::OutOfMemory);
-/// }
-/// ```
 #[derive(Clone, Copy, Debug, PartialEq, Eq)]
 pub enum Error {
     /// Bytes are missing. It holds the number of bytes that were left where they were looked for.

@@ -8,14 +8,6 @@ ghost use Rattle.gimli_core.specs.Reading.{result_map, offset_of, sized_sum};
 use crate::error::{Error, Result};
 
 /// A number of bytes in a reader, or an offset into a section. Each number of 32 bits has one.
-///
-/// <!-- part of crates/uses/src/where_is.rt -->
-/// ```rust
-/// let offset = header.offset().0.into_u64();
-/// let Some(directory) = self.compilations.directory_of(offset) else {
-///     return Paths::new(header, self.strings, None).of_row(alloc, row);
-/// };
-/// ```
 pub trait ReaderOffset: Copy + Eq + Ord {
     /// The number that it stands for.
     ghost number: { Self → ℕ };

@@ -26,16 +26,6 @@ pub(crate) const MOST: usize = 0xffff_ffff;
 pub(crate) const STATEMENT: u32 = 0x8000_0000;
 
 /// A file of a unit, which entries name by its index.
-///
-/// <!-- part of crates/uses/src/index.rt -->
-/// ```rust
-/// let source = Source {
-///     unit: 0,
-///     first: 0,
-///     size: 6,
-///     reason: 0,
-/// };
-/// ```
 #[derive(Clone, Copy, Debug, PartialEq, Eq)]
 pub struct Source {
     /// The offset in `.debug_line` of the unit.
@@ -49,16 +39,6 @@ pub struct Source {
 }
 
 /// A line of a source.
-///
-/// <!-- part of crates/uses/src/index.rt -->
-/// ```rust
-/// let place = SourceLine {
-///     source: 0,
-///     line,
-///     column: 0,
-///     is_stmt: true,
-/// };
-/// ```
 #[derive(Clone, Copy, Debug, PartialEq, Eq)]
 pub struct SourceLine {
     /// The index of the source.
@@ -72,14 +52,6 @@ pub struct SourceLine {
 }
 
 /// What holds from an address on, up to that of the next entry.
-///
-/// <!-- part of crates/uses/src/index.rt -->
-/// ```rust
-/// Entry {
-///     address,
-///     place: Some(place),
-/// }
-/// ```
 #[derive(Clone, Copy, Debug, PartialEq, Eq)]
 pub struct Entry {
     /// The first address.
@@ -89,18 +61,6 @@ pub struct Entry {
 }
 
 /// What an index is made of.
-///
-/// <!-- part of crates/uses/src/index.rt -->
-/// ```rust
-///     address_size: 8,
-///     sources: &[source],
-///     entries: &entries,
-///     paths: PATH,
-///     identity: b"build 1",
-/// };
-/// let mut bytes = Vec::new(alloc);
-/// contents.write(&mut bytes)?;
-/// ```
 #[derive(Clone, Copy, Debug)]
 pub struct Contents<'a> {
     /// The bytes of an address.

@@ -7,15 +7,6 @@ use std::alloc::{AllocError, AllocFailed};
 use std::fmt;
 
 /// Why bytes aren't taken as an index.
-///
-/// <!-- part of crates/uses/src/index.rt -->
-/// ```rust
-/// let index = match LineIndex::open(bytes) {
-///     Ok(index) => index,
-///     Err(IndexError::NotIndex) => return writeln!(text, "this is another file"),
-///     Err(refusal) => return writeln!(text, "damaged: {refusal}"),
-/// };
-/// ```
 #[derive(Clone, Copy, Debug, PartialEq, Eq)]
 pub enum IndexError {
     /// They don't begin as an index does.
@@ -59,14 +50,6 @@ impl fmt::Display for IndexError {
 impl std::error::Error for IndexError {}
 
 /// Why no index is made.
-///
-/// <!-- part of crates/uses/src/index.rt -->
-/// ```rust
-/// match refusal {
-///     MakeError::NotAscending => writeln!(text, "an address goes down"),
-///     other => writeln!(text, "no index: {other}"),
-/// }
-/// ```
 #[derive(Clone, Copy, Debug, PartialEq, Eq)]
 pub enum MakeError {
     /// An entry is below the one before it.

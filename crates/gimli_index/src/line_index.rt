@@ -26,12 +26,10 @@ const SOURCE_SIZE: usize = 24;
 
 /// An index of the lines of a program, as it lies in its bytes. Any number of threads may ask one.
 ///
-/// <!-- part of crates/uses/src/index.rt -->
+/// <!-- part of crates/uses/src/line_map.rt -->
 /// ```rust
-/// match index.find(address) {
-///     Some(place) => print_place(address, place, text)?,
-///     None => writeln!(text, "{address:#x} ??")?,
-/// }
+/// let index = LineIndex::open(&bytes)?;
+/// index.check()?;
 /// ```
 #[derive(Clone, Copy, Debug)]
 pub struct LineIndex<'a> {

@@ -1,18 +1,6 @@
 //! Where code comes from.
 
 /// Why a place has no path.
-///
-/// <!-- part of crates/uses/src/index.rt -->
-/// ```rust
-/// match place.path {
-///     Ok(path) => {
-///         let size = path.len();
-///         writeln!(text, "{address:#x} line {line}, a path of {size} bytes")
-///     }
-///     Err(NoPath::Reason(reason)) => writeln!(text, "{address:#x} line {line}, reason {reason}"),
-///     Err(NoPath::Outside) => writeln!(text, "{address:#x} line {line}, damaged"),
-/// }
-/// ```
 #[derive(Clone, Copy, Debug, PartialEq, Eq)]
 pub enum NoPath {
     /// It couldn't be told when the index was made, for the reason of this number, which isn't 0.
@@ -22,18 +10,6 @@ pub enum NoPath {
 }
 
 /// Where code comes from.
-///
-/// <!-- part of crates/uses/src/index.rt -->
-/// ```rust
-/// match place.path {
-///     Ok(path) => {
-///         let size = path.len();
-///         writeln!(text, "{address:#x} line {line}, a path of {size} bytes")
-///     }
-///     Err(NoPath::Reason(reason)) => writeln!(text, "{address:#x} line {line}, reason {reason}"),
-///     Err(NoPath::Outside) => writeln!(text, "{address:#x} line {line}, damaged"),
-/// }
-/// ```
 #[derive(Clone, Copy, Debug)]
 pub struct Place<'a> {
     /// The whole path of the file, or why there is none.
@@ -49,14 +25,6 @@ pub struct Place<'a> {
 }
 
 /// What holds from an address on, up to that of the next start.
-///
-/// <!-- part of crates/uses/src/index.rt -->
-/// ```rust
-/// if let Some(Start { address, place }) = index.get(number) {
-///     let line = place.map_or(0, |place| place.line);
-///     writeln!(text, "from {address:#x}: line {line}")?;
-/// }
-/// ```
 #[derive(Clone, Copy, Debug)]
 pub struct Start<'a> {
     /// The first address.

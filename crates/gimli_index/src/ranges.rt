@@ -8,13 +8,6 @@ use crate::line_index::LineIndex;
 use crate::place::Place;
 
 /// Addresses of which an index says one thing.
-///
-/// <!-- part of crates/uses/src/line_map.rt -->
-/// ```rust
-/// for range in index.ranges() {
-///     let PlaceRange { start, end, place } = range;
-///     write!(text, "{start:#x} to ")?;
-/// ```
 #[derive(Clone, Copy, Debug)]
 pub struct PlaceRange<'a> {
     /// The first address.
@@ -26,13 +19,6 @@ pub struct PlaceRange<'a> {
 }
 
 /// The ranges of an index, in ascending order: an iterator.
-///
-/// <!-- part of crates/uses/src/line_map.rt -->
-/// ```rust
-/// for range in index.ranges() {
-///     let PlaceRange { start, end, place } = range;
-///     write!(text, "{start:#x} to ")?;
-/// ```
 #[derive(Clone, Copy, Debug)]
 pub struct PlaceRanges<'a> {
     index: LineIndex<'a>,

@@ -18,13 +18,6 @@ use std::alloc::Global;
 use std::marker::Model;
 
 /// The section `.debug_line`, which holds the line programs of units.
-///
-/// <!-- part of crates/uses/src/lookup.rt -->
-/// ```rust
-/// let program = section.program(alloc, offset, 8, None, None)?;
-/// let lookup = Lookup::new(program)?;
-/// Ok(row_at(&lookup, address))
-/// ```
 #[derive(Clone, Copy, Debug, Default)]
 pub struct DebugLine<R> {
     debug_line_section: R,

@@ -46,18 +46,6 @@ fn is_out_of_memory<T>(outcome: &Result<T>) -> bool
 }
 
 /// A unit of a section `.debug_line`.
-///
-/// <!-- part of crates/uses/src/ends.rt -->
-/// ```rust
-/// match unit.program {
-///     Ok(program) => {
-///         let version = program.header().version();
-///         writeln!(text, "unit {offset}, version {version}")?;
-///         print_sequences(program, text)
-///     }
-///     Err(refusal) => writeln!(text, "unit {offset}: {refusal}"),
-/// }
-/// ```
 #[derive(Drop)]
 #[derive_where(Debug; R, R::Offset)]
 pub struct LineUnit<R: Reader> {
@@ -68,14 +56,6 @@ pub struct LineUnit<R: Reader> {
 }
 
 /// The units of a section that are still to come, in order.
-///
-/// <!-- part of crates/uses/src/ends.rt -->
-/// ```rust
-/// let mut units = units;
-/// 'units: while let Some(unit) = units.next()? {
-///     print_unit(unit, text)?;
-/// }
-/// ```
 #[derive(Drop)]
 #[derive_where(Debug; R, R::Offset)]
 pub struct LineUnits<R: Reader> {

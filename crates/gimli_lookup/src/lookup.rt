@@ -42,13 +42,6 @@ fn keep_each(alloc: Global, rows: Vec<RowList>) -> Result<Vec<KeptRows>>
 }
 
 /// The rows of a line program, kept so that those that cover an address are found.
-///
-/// <!-- part of crates/uses/src/lookup.rt -->
-/// ```rust
-/// let program = section.program(alloc, offset, 8, None, None)?;
-/// let lookup = Lookup::new(program)?;
-/// Ok(row_at(&lookup, address))
-/// ```
 #[derive(Drop)]
 #[derive_where(Debug; R, R::Offset)]
 pub struct Lookup<R: Reader> {

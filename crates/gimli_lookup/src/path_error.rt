@@ -7,14 +7,6 @@ use std::alloc::{AllocError, AllocFailed};
 use std::fmt;
 
 /// Why a file has no path.
-///
-/// <!-- part of crates/uses/src/where_is.rt -->
-/// ```rust
-/// let Ok(directory) = directory.to_slice() else {
-///     return Err(PathError::OutOfMemory);
-/// };
-/// Paths::new(header, self.strings, Some(&directory)).of_row(alloc, row)
-/// ```
 #[derive(Clone, Copy, Debug, PartialEq, Eq)]
 pub enum PathError {
     /// A string by its index into the string offsets (`DW_FORM_strx` and its like), which aren't

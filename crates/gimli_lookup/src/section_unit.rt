@@ -22,7 +22,6 @@ use std::ops::Range;
 /// let Some(header) = unit.and_then(|unit| unit.header()) else {
 ///     return Err(PathError::InvalidFileIndex(found.row.file_index()));
 /// };
-/// let path = program.path_of(alloc, header, &found.row)?;
 /// ```
 #[derive(Drop)]
 #[derive_where(Debug; R, R::Offset)]

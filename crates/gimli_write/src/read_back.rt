@@ -32,13 +32,6 @@ use std::alloc::Global;
 use std::marker::Model;
 
 /// What is read of a unit.
-///
-/// <!-- part of crates/uses/src/shift.rt -->
-/// ```rust
-/// let shifted = shift(alloc, unit, by)?;
-/// print_rows(&shifted.rows, text)?;
-/// Ok(())
-/// ```
 #[derive(Debug, Drop)]
 pub struct RoundTrip {
     /// The offset of the unit in its section.

@@ -49,18 +49,6 @@ impl DirectoryId {
 }
 
 /// The index of a file in its line program, from 0 on.
-///
-/// <!-- part of crates/uses/src/make_unit.rt -->
-/// ```rust
-/// let Some((file, _, _)) = program.files().next() else {
-///     bail!("the program has no file");
-/// };
-/// program.set_address(Address::Constant(0x1000))?;
-/// for (offset, line) in [(0, 3), (4, 4)] {
-///     let row = program.row();
-///     row.file = file;
-///     row.address_offset = offset;
-/// ```
 #[derive(Clone, Copy, Debug, PartialEq, Eq, Hash)]
 pub struct FileId(usize);
 
@@ -404,13 +392,6 @@ impl Clone for FileTable {
 }
 
 /// The files of a line program in order, each with its id, its path and its directory.
-///
-/// <!-- part of crates/uses/src/make_unit.rt -->
-/// ```rust
-/// let Some((file, _, _)) = program.files().next() else {
-///     bail!("the program has no file");
-/// };
-/// ```
 #[derive(Debug, Drop)]
 pub struct Files<'a> {
     table: &'a FileTable,

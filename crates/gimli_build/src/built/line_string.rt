@@ -8,15 +8,6 @@ use gimli_core::{DwForm, Encoding, constants};
 use std::alloc::AllocError;
 
 /// A text of a line program: the name of a directory or a file, or a file's source.
-///
-/// <!-- part of crates/uses/src/make_unit.rt -->
-/// ```rust
-/// let directory = LineString::new(b"/w", encoding, line_strings)?;
-/// let path = LineString::new(b"a.c", encoding, line_strings)?;
-/// let lines = LineEncoding::default();
-/// let program = LineProgram::new(alloc, encoding, lines, directory, None, path, None)?;
-/// Ok(program)
-/// ```
 #[derive(Debug, PartialEq, Eq, Hash, Drop)]
 pub enum LineString {
     /// A text in the line program itself.

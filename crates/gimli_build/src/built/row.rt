@@ -7,18 +7,6 @@ use crate::built::files::FileId;
 use gimli_core::{Encoding, LineEncoding};
 
 /// A row of a line program that is built.
-///
-/// <!-- part of crates/uses/src/make_unit.rt -->
-/// ```rust
-/// let row = program.row();
-/// row.file = file;
-/// row.address_offset = offset;
-/// row.line = line;
-/// if !program.can_generate_row() {
-///     bail!("line {line} can't be built");
-/// }
-/// program.generate_row()?;
-/// ```
 #[derive(Clone, Copy, Debug, PartialEq, Eq)]
 pub struct LineRow {
     /// How many bytes the machine instruction is after the address that was last set in the

@@ -29,17 +29,6 @@ pub struct FileEntryFormat {
 }
 
 /// A source file.
-///
-/// <!-- part of crates/uses/src/reading.rt -->
-/// ```rust
-/// let Some(file) = row.file(header) else {
-///     return Ok(None);
-/// };
-/// match file.directory(header) {
-///     Some(directory) => Ok(Some(text(directory, sections)?)),
-///     None => Ok(None),
-/// }
-/// ```
 #[derive(Copy, Debug, PartialEq, Eq)]
 pub struct FileEntry<R, Offset = <R as Reader>::Offset>
 where

@@ -62,13 +62,6 @@ pub trait LineProgram<R: Reader> {
 }
 
 /// A line program that was not run yet, so that files may still be defined.
-///
-/// <!-- part of crates/uses/src/lookup.rt -->
-/// ```rust
-/// let program = section.program(alloc, offset, 8, None, None)?;
-/// let lookup = Lookup::new(program)?;
-/// Ok(row_at(&lookup, address))
-/// ```
 #[derive(Clone, Debug, PartialEq, Eq, Drop)]
 pub struct IncompleteLineProgram<R, Offset = <R as Reader>::Offset>
 where

@@ -16,7 +16,7 @@ use std::num::NonZeroU64;
 
 /// A row, or the registers on the way to one (DWARF 5, 6.2.2).
 ///
-/// <!-- part of crates/uses/src/shift.rt -->
+/// <!-- part of crates/uses/src/rows.rt -->
 /// ```rust
 /// let address = row.address();
 /// let file = row.file_index();
@@ -42,14 +42,6 @@ pub struct LineRow {
 }
 
 /// The column of a row. The left edge is below all columns.
-///
-/// <!-- part of crates/uses/src/where_is.rt -->
-/// ```rust
-/// match row.column() {
-///     ColumnType::LeftEdge => 0,
-///     ColumnType::Column(column) => column.get(),
-/// }
-/// ```
 #[derive(Clone, Copy, Debug, PartialEq, Eq, PartialOrd, Ord)]
 pub enum ColumnType {
     /// The left edge of the line.

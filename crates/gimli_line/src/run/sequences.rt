@@ -11,15 +11,6 @@ use std::alloc::Global;
 use std::marker::Model;
 
 /// A sequence of a line program: rows of which the last one is an end row, and no other.
-///
-/// <!-- part of crates/uses/src/ends.rt -->
-/// ```rust
-/// for sequence in &sequences {
-///     let start = sequence.start;
-///     let end = sequence.end;
-///     writeln!(text, "  {start:#x} to {end:#x}")?;
-/// }
-/// ```
 #[derive(Clone, Debug, Drop)]
 pub struct LineSequence<R: Reader> {
     /// The address of its first row; 0 where the end row is the only one.

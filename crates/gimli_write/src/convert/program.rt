@@ -67,12 +67,6 @@ impl<R: Reader, P: Drop> Drop for ConvertLineProgram<'_, '_, R, P> {
 
 /// The header of a source, made into the directories and files of a program that is to be built. It
 /// borrows no table.
-///
-/// <!-- part of crates/uses/src/converting.rt -->
-/// ```rust
-/// let mut converter = header.converter(line_strings, strings);
-/// converter.read_row()
-/// ```
 #[derive(Drop)]
 #[derive_where(Debug; R, R::Offset)]
 pub struct ConvertLineHeader<R: Reader> {
