@@ -2,17 +2,22 @@
 
 use gimli_core::{Error, Reader};
 use gimli_line::{LineProgram, LineRows};
-use rows_reading::{Attempts, Handed, Lines, Unit, UnitLocation};
+use line_text::UnitLocation;
+use rows::{Attempts, Handed, Lines, Unit};
 use std::alloc::Global;
 
 /// The rows of a unit, where memory is refused them: the files must be as before, and each later
 /// call must say that there is no more row. Prints `state` and the count of calls where this
 /// doesn't hold.
 pub fn watch_rows(alloc: Global, section: &[u8], location: UnitLocation, lines: &mut Lines<'_>) {
+    let handed = Handed {
+        directory: None,
+        name: None,
+    };
     let unit = Unit {
         section,
         location,
-        handed: &Handed::nothing(),
+        handed: &handed,
     };
     let Ok(program) = unit.program(alloc, Attempts::Two) else {
         return;

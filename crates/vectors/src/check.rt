@@ -1,9 +1,9 @@
 //! Rows that are run and compared with what is expected of them.
 
 use crate::comparison::is_expected;
-use crate::rows::{Row, RowCommand};
+use crate::row_file::{Row, RowCommand};
 use crate::run::run_command;
-use rows_reading::Attempts;
+use rows::Attempts;
 use std::alloc::Global;
 use std::io;
 use std::io::Write;

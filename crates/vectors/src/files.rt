@@ -1,6 +1,6 @@
 //! The files with the sections of a conversion.
 
-use rows_reading::Sections;
+use rows::Sections;
 use std::{fs, io};
 
 /// How many words of a conversion stand before its files of texts, or the parts that are their

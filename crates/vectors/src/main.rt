@@ -31,13 +31,13 @@ mod files;
 mod indexes;
 mod lines;
 mod parts;
-mod rows;
+mod row_file;
 mod run;
 
 use check::check_rows;
 use files::{SectionFiles, WORDS};
-use rows::{Fault, parse_rows};
-use rows_reading::{Attempts, Request, Stop};
+use row_file::{Fault, parse_rows};
+use rows::{Attempts, Request, Stop};
 use run::run_over;
 use std::io::{BufWriter, ErrorKind, Write};
 use std::process::ExitCode;
@@ -105,7 +105,7 @@ fn print_unit(rt: &HostRuntime, command: &str, file: &str, words: &[&str]) -> io
 fn print_scripts(rt: &HostRuntime) -> io::Result<u8> {
     let script = io::read_to_string(rt.alloc(), rt.stdin())?;
     let mut out = Vec::new(rt.alloc());
-    let done = rows_writing::write(request(rt, &[]), script.as_str(), &mut out);
+    let done = rows::write(request(rt, &[]), script.as_str(), &mut out);
     print_all(rt, &out, done)
 }
 

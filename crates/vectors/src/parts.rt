@@ -2,7 +2,7 @@
 //! before them.
 
 use gimli_core::RunTimeEndian;
-use rows_reading::{Stop, push_bytes};
+use rows::{Stop, push_bytes};
 use std::alloc::Global;
 use std::mem;
 

@@ -3,22 +3,13 @@
 use crate::again::watch_rows;
 use crate::files::split_words;
 use crate::lines::run_lines;
-use crate::rows::{Input, RowCommand};
-use gimli_bytes::{EndianVec, PieceVec};
-use gimli_core::RunTimeEndian;
+use crate::row_file::{Input, RowCommand};
 use linetool_commands::Command;
-use rows_calls::write_section;
-use rows_reading::{
-    Attempts, Lines, Part, Request, Sections, Stop, addresses, paths, places, print_unit, walk,
+use rows::{
+    Attempts, Kind, Lines, Part, Request, Sections, Stop, addresses, convert, paths, places,
+    print_unit, walk,
 };
-use rows_writing::{Kind, convert};
 use std::alloc::{AllocError, Global};
-
-/// A section in one vector.
-type InOne = EndianVec<RunTimeEndian>;
-
-/// A section in pieces of four bytes.
-type InPieces = PieceVec<RunTimeEndian, 4>;
 
 /// What a command of a row prints: its output, its lines on standard error after `stderr`, and its
 /// status, where it isn't 0, after `status`.
@@ -62,10 +53,7 @@ fn run_script(
     out: &mut Vec<u8>,
 ) -> Result<u8, Stop> {
     match name {
-        "write" => rows_writing::write(request, script, out),
-        "read" => rows_calls::read(request, script, out),
-        "bytes" => write_section::<InOne>(request, script, out),
-        "pieces" => write_section::<InPieces>(request, script, out),
+        "write" => rows::write(request, script, out),
         _ => Err(Stop::Bad),
     }
 }
