@@ -2,11 +2,8 @@
 
 ghost use Rattle.rows.specs.Within.{AreWithin, texts_of};
 
-use crate::arguments::{Arguments, Details, Form, Item, Text};
-use crate::digest::digest_of;
 use crate::programs;
 use crate::programs::Names;
-use crate::stop::{Attempts, Stop};
 use crate::tables::{TableBytes, Tables};
 use crate::unit::{read_program, write_program};
 use gimli_core::{Encoding, RunTimeEndian};
@@ -14,6 +11,7 @@ use gimli_write::{
     ConvertResult, DebugLine, DirectoryId, Error, FileId, FileInfo, LineProgram, LineString,
     RoundTrip, Writer,
 };
+use row_text::{Arguments, Attempts, Details, Form, Item, Stop, Text, digest_of};
 use std::alloc::Global;
 use std::marker::Model;
 

@@ -1,17 +1,16 @@
 //! Commands over one unit.
 
 ghost use Rattle.std.specs.Prelude.{◌≡◌, Err};
-ghost use Rattle.rows.specs.declared.stop.Stop.TheVariants.{Bad};
+ghost use Rattle.row_text.specs.declared.stop.Stop.TheVariants.{Bad};
 
 use crate::header_text::print_header;
 use crate::instruction_text::print_instructions;
-use crate::lines::Lines;
 use crate::request::{Handed, Request, parse_location};
-use crate::stop::{Attempts, Stop};
 use crate::value_text::Lender;
 use gimli_core::{DebugLineOffset, EndianSlice, Error};
 use gimli_line::{DebugLine, IncompleteLineProgram};
 use line_text::{Slice, UnitLocation};
+use row_text::{Attempts, Lines, Stop};
 use std::alloc::Global;
 
 /// What is printed of a unit.
@@ -66,7 +65,7 @@ fn print_part<R: Lender>(
     match (program, part) {
         (Ok(program), Part::Header) => print_header(program.header(), lines),
         (Ok(program), Part::Instructions) => print_instructions(program.header(), lines),
-        (Err(e), _) => lines.put_refusal(e),
+        (Err(e), _) => lines.put_refusal("error ", e),
     }
 }
 

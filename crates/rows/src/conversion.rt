@@ -6,12 +6,10 @@ ghost use Rattle.rows.specs.Taken.{IsTaken};
 
 use crate::command::Unit;
 use crate::item_text::FileIndex;
-use crate::lines::Lines;
-use crate::output::Refused;
+use crate::output::put_refused;
 use crate::reading::{Ending, Kind, print_after_header, print_not_begun};
 use crate::request::Request;
 use crate::script::print_program;
-use crate::stop::Attempts;
 use crate::tables::Tables;
 use crate::target::Target;
 use gimli_line::IncompleteLineProgram;
@@ -21,6 +19,7 @@ use gimli_write::{
     LineStringTable, StringId, StringTable, convert_program,
 };
 use line_text::Slice;
+use row_text::{Attempts, Lines};
 use std::fmt;
 
 /// A unit that is converted, with all that is handed in.
@@ -47,7 +46,7 @@ impl<'i> Conversion<'i> {
     /// is refused or the target breaks a condition, no conversion can be asked for.
     pub fn print(self, kind: Kind, lines: &mut Lines<'_>) {
         match self.program() {
-            Err(error) => lines.put_refusal(error),
+            Err(error) => lines.put_refusal("error ", error),
             Ok(_program) if self.target.is_taken() => self.print_taken(kind, lines),
             Ok(_program) => lines.put("condition"),
         }
@@ -138,7 +137,7 @@ impl<'i> Conversion<'i> {
                 let order = self.unit.location.order;
                 print_program(self.request, program, tables, order, lines);
             }
-            Err(error) => lines.put(Refused(error)),
+            Err(error) => put_refused(error, lines),
         }
     }
 

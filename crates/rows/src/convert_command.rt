@@ -1,16 +1,15 @@
 //! The commands of conversions.
 
 ghost use Rattle.std.specs.Prelude.{◌≡◌, Err};
-ghost use Rattle.rows.specs.declared.stop.Stop.TheVariants.{Bad};
+ghost use Rattle.row_text.specs.declared.stop.Stop.TheVariants.{Bad};
 
 use crate::command::Unit;
 use crate::conversion::Conversion;
-use crate::lines::Lines;
 use crate::reading::Kind;
 use crate::request::{Handed, Request, Sections, parse_location};
-use crate::stop::Stop;
 use crate::target::Target;
 use gimli_core::EndianSlice;
+use row_text::{Lines, Stop};
 
 /// Prints what a conversion reads, by items or by sequences, and after items what is built of them.
 /// The words are the order of bytes, the size of an address, the offset of the unit, the directory

@@ -1,14 +1,11 @@
 //! Lookups over a section: the rows that cover an address, and where the code of a line begins.
 
-use crate::lines::Lines;
 use crate::request::{Request, Sections, parse_location};
-use crate::stop::Stop;
-use crate::value_text::{ErrorText, Optional};
-use crate::words::{parse_number, parse_text};
 use gimli_core::{Reader, ReaderOffset};
 use gimli_line::DebugLine;
 use gimli_lookup::SectionLookup;
 use line_text::{RowLine, Slice, UnitLocation};
+use row_text::{Lines, Stop, parse_number, parse_text};
 use std::alloc::Global;
 
 /// Prints the units of a section, and for each address the rows that cover it. The words are the
@@ -45,16 +42,18 @@ fn lookup_over(
 /// Prints the lines of units.
 fn print_units<R: Reader>(lookup: &SectionLookup<R>, lines: &mut Lines<'_>) {
     for unit in lookup.units() {
-        let version = unit.header().map(|header| header.version());
-        let word = if version.is_some() {
-            " fault "
-        } else {
-            " error "
-        };
         let offset = unit.offset().0.into_u64();
-        let version = Optional(" version ", version, "");
-        let fault = Optional(word, unit.fault().map(ErrorText), "");
-        lines.put(format_args!("unit {offset}{version}{fault}"));
+        lines.add(format_args!("unit {offset}"));
+        let mut word = " error ";
+        if let Some(header) = unit.header() {
+            let version = header.version();
+            lines.add(format_args!(" version {version}"));
+            word = " fault ";
+        }
+        match unit.fault() {
+            Some(fault) => lines.put_refusal(word, fault),
+            None => lines.put(""),
+        }
     }
 }
 

@@ -1,13 +1,12 @@
 //! The whole paths of the files of a unit.
 
 use crate::command::Unit;
-use crate::lines::Lines;
 use crate::request::{Handed, Request, Sections, parse_location};
-use crate::stop::{Attempts, Stop};
 use gimli_core::{Error, Reader};
 use gimli_line::LineProgramHeader;
 use gimli_lookup::{PathError, Paths, StringSections};
 use line_text::Text;
+use row_text::{Attempts, Lines, Stop};
 use std::alloc::Global;
 
 /// Prints the whole path of each file of a unit, or why it isn't known. The words are the order of
@@ -35,7 +34,7 @@ pub fn paths(request: Request<'_>, sections: Sections<'_>, out: &mut Vec<u8>) ->
             &mut lines,
         ),
         Err(Error::OutOfMemory) => lines.refuse(),
-        Err(e) => lines.put_refusal(e),
+        Err(e) => lines.put_refusal("error ", e),
     }
     lines.finish()
 }

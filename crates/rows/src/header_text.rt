@@ -1,10 +1,10 @@
 //! A header, a line for each part.
 
-use crate::lines::Lines;
-use crate::value_text::{FileLine, Lender, Optional, value_text};
+use crate::value_text::{Lender, add_value};
 use gimli_core::{Format, ReaderOffset};
 use gimli_line::{FileEntry, FileEntryFormat, LineProgramHeader};
 use line_text::{Digits, Words};
+use row_text::Lines;
 
 /// Prints a header.
 pub(crate) fn print_header<R: Lender>(header: &LineProgramHeader<R>, lines: &mut Lines<'_>) {
@@ -81,8 +81,9 @@ fn print_directories<R: Lender>(header: &LineProgramHeader<R>, lines: &mut Lines
     let last = header.include_directories().len() as u64;
     for index in 0..=last {
         if let Some(directory) = header.directory(index) {
-            let directory = value_text(&directory);
-            lines.put(format_args!("directory {index} {directory}"));
+            lines.add(format_args!("directory {index} "));
+            add_value(&directory, lines);
+            lines.put("");
         }
     }
 }
@@ -99,15 +100,16 @@ fn print_files<R: Lender>(header: &LineProgramHeader<R>, lines: &mut Lines<'_>) 
 
 /// Prints a file: its values, in the order of the tables of version 5.
 fn print_file<R: Lender>(index: u64, file: &FileEntry<R>, lines: &mut Lines<'_>) {
-    let path = file.path_name();
-    let source = file.source();
-    lines.put(FileLine {
-        index,
-        path: value_text(&path),
-        directory: file.directory_index(),
-        timestamp: file.timestamp(),
-        size: file.size(),
-        md5: Digits(file.md5()),
-        source: Optional("", source.as_ref().map(value_text), "-"),
-    });
+    lines.add(format_args!("file {index} "));
+    add_value(&file.path_name(), lines);
+    let directory = file.directory_index();
+    let timestamp = file.timestamp();
+    let size = file.size();
+    let md5 = Digits(file.md5());
+    lines.add(format_args!(" dir {directory} time {timestamp} size {size} md5 {md5} source "));
+    match &file.source() {
+        Some(source) => add_value(source, lines),
+        None => lines.add("-"),
+    }
+    lines.put("");
 }

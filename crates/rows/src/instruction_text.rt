@@ -1,8 +1,8 @@
 //! The instructions of a program, a line for each.
 
-use crate::lines::Lines;
-use crate::value_text::{Held, Lender, Value, value_text};
-use gimli_line::{FileEntry, LineInstruction, LineProgramHeader};
+use crate::value_text::{Lender, add_value};
+use gimli_line::{LineInstruction, LineProgramHeader};
+use row_text::{Held, Lines};
 
 /// Prints the instructions of a program, up to the first refusal.
 pub(crate) fn print_instructions<R: Lender>(header: &LineProgramHeader<R>, lines: &mut Lines<'_>) {
@@ -11,66 +11,65 @@ pub(crate) fn print_instructions<R: Lender>(header: &LineProgramHeader<R>, lines
         match instructions.next_instruction(header) {
             Ok(Some(instruction)) => print_instruction(&instruction, lines),
             Ok(None) => return,
-            Err(e) => return lines.put_refusal(e),
+            Err(e) => return lines.put_refusal("error ", e),
         }
     }
 }
 
-/// Prints the line of an instruction.
+/// Prints the line of an instruction: its variant and its operands; of a file that it defines the
+/// path, directory, timestamp and size.
 fn print_instruction<R: Lender>(instruction: &LineInstruction<R>, lines: &mut Lines<'_>) {
     if let LineInstruction::DefineFile(file) = instruction {
-        return print_definition(file, lines);
+        let directory = file.directory_index();
+        let timestamp = file.timestamp();
+        let size = file.size();
+        lines.add("DefineFile(");
+        add_value(&file.path_name(), lines);
+        lines.put(format_args!(", {directory}, {timestamp}, {size})"));
+        return;
     }
-    lines.put(instruction_text(instruction));
+    let (variant, held) = parts(instruction);
+    lines.add_value(variant, held);
+    lines.put("");
 }
 
-/// Prints the line of a file that a program defines: its path, directory, timestamp and size.
-fn print_definition<R: Lender>(file: &FileEntry<R>, lines: &mut Lines<'_>) {
-    let path = file.path_name();
-    let path = value_text(&path);
-    let directory = file.directory_index();
-    let timestamp = file.timestamp();
-    let size = file.size();
-    lines.put(format_args!("DefineFile({path}, {directory}, {timestamp}, {size})"));
-}
-
-/// An instruction, as it is printed: its variant, and its operands. Those of a file that it defines
-/// are left out.
-fn instruction_text<R: Lender>(instruction: &LineInstruction<R>) -> Value<'_> {
+/// The name of an instruction's variant, and its operands. Those of a file that it defines are left
+/// out.
+fn parts<R: Lender>(instruction: &LineInstruction<R>) -> (&'static str, Held<'_>) {
     match instruction {
-        LineInstruction::Special(opcode) => Value("Special", Held::Number(u64::from(*opcode))),
-        LineInstruction::Copy => Value("Copy", Held::Nothing),
-        LineInstruction::AdvancePc(n) => Value("AdvancePc", Held::Number(*n)),
-        LineInstruction::AdvanceLine(n) => Value("AdvanceLine", Held::Signed(*n)),
-        LineInstruction::SetFile(n) => Value("SetFile", Held::Number(*n)),
-        LineInstruction::SetColumn(n) => Value("SetColumn", Held::Number(*n)),
-        LineInstruction::NegateStatement => Value("NegateStatement", Held::Nothing),
-        LineInstruction::SetBasicBlock => Value("SetBasicBlock", Held::Nothing),
-        LineInstruction::ConstAddPc => Value("ConstAddPc", Held::Nothing),
-        LineInstruction::FixedAddPc(n) => Value("FixedAddPc", Held::Number(u64::from(*n))),
-        LineInstruction::SetPrologueEnd => Value("SetPrologueEnd", Held::Nothing),
-        LineInstruction::SetEpilogueBegin => Value("SetEpilogueBegin", Held::Nothing),
-        LineInstruction::SetIsa(n) => Value("SetIsa", Held::Number(*n)),
+        LineInstruction::Special(n) => ("Special", Held::Number(i128::from(*n))),
+        LineInstruction::Copy => ("Copy", Held::Nothing),
+        LineInstruction::AdvancePc(n) => ("AdvancePc", Held::Number(i128::from(*n))),
+        LineInstruction::AdvanceLine(n) => ("AdvanceLine", Held::Number(i128::from(*n))),
+        LineInstruction::SetFile(n) => ("SetFile", Held::Number(i128::from(*n))),
+        LineInstruction::SetColumn(n) => ("SetColumn", Held::Number(i128::from(*n))),
+        LineInstruction::NegateStatement => ("NegateStatement", Held::Nothing),
+        LineInstruction::SetBasicBlock => ("SetBasicBlock", Held::Nothing),
+        LineInstruction::ConstAddPc => ("ConstAddPc", Held::Nothing),
+        LineInstruction::FixedAddPc(n) => ("FixedAddPc", Held::Number(i128::from(*n))),
+        LineInstruction::SetPrologueEnd => ("SetPrologueEnd", Held::Nothing),
+        LineInstruction::SetEpilogueBegin => ("SetEpilogueBegin", Held::Nothing),
+        LineInstruction::SetIsa(n) => ("SetIsa", Held::Number(i128::from(*n))),
         LineInstruction::UnknownStandard0(opcode) => {
-            Value("UnknownStandard0", Held::Number(u64::from(opcode.0)))
+            ("UnknownStandard0", Held::Number(i128::from(opcode.0)))
         }
         LineInstruction::UnknownStandard1(opcode, n) => {
-            Value("UnknownStandard1", Held::Opcode(opcode.0, *n))
+            ("UnknownStandard1", Held::Operand(opcode.0, *n))
         }
         LineInstruction::UnknownStandardN(opcode, operands) => {
-            Value(
+            (
                 "UnknownStandardN",
-                Held::OpcodeBytes(opcode.0, operands.lent_bytes()),
+                Held::Operands(opcode.0, operands.lent_bytes()),
             )
         }
-        LineInstruction::EndSequence => Value("EndSequence", Held::Nothing),
-        LineInstruction::SetAddress(n) => Value("SetAddress", Held::Number(*n)),
-        LineInstruction::DefineFile(_) => Value("DefineFile", Held::Nothing),
-        LineInstruction::SetDiscriminator(n) => Value("SetDiscriminator", Held::Number(*n)),
+        LineInstruction::EndSequence => ("EndSequence", Held::Nothing),
+        LineInstruction::SetAddress(n) => ("SetAddress", Held::Number(i128::from(*n))),
+        LineInstruction::DefineFile(_) => ("DefineFile", Held::Nothing),
+        LineInstruction::SetDiscriminator(n) => ("SetDiscriminator", Held::Number(i128::from(*n))),
         LineInstruction::UnknownExtended(opcode, operands) => {
-            Value(
+            (
                 "UnknownExtended",
-                Held::OpcodeBytes(opcode.0, operands.lent_bytes()),
+                Held::Operands(opcode.0, operands.lent_bytes()),
             )
         }
     }

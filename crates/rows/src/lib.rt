@@ -3,41 +3,35 @@
 //! `docs/ROWS.md` has their words and what they print.
 #![tactic(auto)]
 
-mod arguments;
+mod again;
 mod array_section;
 mod builder;
 mod command;
 mod conversion;
 mod convert_command;
 mod covering_rows;
-mod digest;
 mod file_paths;
 mod header_text;
 mod instruction_text;
 mod item_text;
-mod lines;
 mod output;
 mod programs;
 mod reading;
 mod request;
 mod script;
 mod section;
-mod stop;
 mod tables;
 mod target;
 mod unit;
 mod unit_walk;
 mod value_text;
-mod words;
 
+pub use again::watch_rows;
 pub use command::{Part, Unit, print_unit};
 pub use convert_command::convert;
 pub use covering_rows::{addresses, places};
 pub use file_paths::paths;
-pub use lines::Lines;
 pub use reading::Kind;
 pub use request::{Handed, Request, Sections};
 pub use script::write;
-pub use stop::{Attempts, Stop};
 pub use unit_walk::walk;
-pub use words::push_bytes;

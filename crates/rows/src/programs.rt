@@ -4,12 +4,10 @@ ghost use Rattle.std.specs.Prelude.{◌≡◌, ◌≢◌, ◌<◌, ◌≤◌, le
 ghost use Rattle.gimli_write.specs.LineText.{line_text, HasNoZero, IsNotEmpty, IsWithin};
 ghost use Rattle.rows.specs.Within.{AreWithin, AreIds, texts_of};
 
-use crate::arguments::{Form, Item, Row, Text};
-use crate::stop::Stop;
 use crate::tables::Tables;
-use crate::words::parse_text;
 use gimli_core::{Encoding, LineEncoding};
 use gimli_write::{DirectoryId, FileId, FileInfo, LineProgram, LineRow, LineString};
+use row_text::{Form, Item, Row, Stop, Text, parse_text};
 use std::alloc::Global;
 
 /// The names of a new program.

@@ -1,14 +1,13 @@
 //! What a conversion reads, as it is printed.
 
 use crate::item_text::{Item, Row};
-use crate::lines::Lines;
-use crate::output::Refused;
-use crate::value_text::Optional;
+use crate::output::put_refused;
 use gimli_core::Reader;
 use gimli_write::{
     ConvertError, ConvertLineHeader, ConvertLineSequence, ConvertLineSequenceEnd, LineStringTable,
     StringTable,
 };
+use row_text::Lines;
 
 /// What a conversion is read by.
 #[derive(Clone, Copy, Debug, PartialEq, Eq)]
@@ -32,8 +31,10 @@ pub(crate) enum Ending {
 
 /// Prints a sequence: its start, its rows and its end.
 fn print_sequence(sequence: &ConvertLineSequence, lines: &mut Lines<'_>) {
-    let start = Optional("", sequence.start, "-");
-    lines.put(format_args!("sequence {start}"));
+    match sequence.start {
+        Some(start) => lines.put(format_args!("sequence {start}")),
+        None => lines.put("sequence -"),
+    }
     for row in sequence.rows.as_slice() {
         lines.put(Row(*row));
     }
@@ -45,7 +46,7 @@ fn print_sequence(sequence: &ConvertLineSequence, lines: &mut Lines<'_>) {
 
 /// Prints why a conversion isn't begun.
 pub(crate) fn print_not_begun(error: ConvertError, lines: &mut Lines<'_>) -> Ending {
-    lines.put(Refused(error));
+    put_refused(error, lines);
     match error {
         ConvertError::OutOfMemory => Ending::OutOfMemory(true),
         _ => Ending::NotBegun,
@@ -76,7 +77,7 @@ pub(crate) fn print_after_header<R: Reader>(
             },
         };
         if let Err(error) = read {
-            lines.put(Refused(error));
+            put_refused(error, lines);
             let stands = converter.read_row().err() == Some(ConvertError::OutOfMemory);
             return match error {
                 ConvertError::OutOfMemory => Ending::OutOfMemory(stands),

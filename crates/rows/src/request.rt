@@ -1,10 +1,9 @@
 //! What the words after a command's name ask for.
 
-use crate::stop::{Attempts, Stop};
-use crate::words::{parse_number, parse_text};
 use gimli_core::{EndianSlice, RunTimeEndian};
 use gimli_lookup::StringSections;
 use line_text::{Slice, UnitLocation, parse_order, parse_size};
+use row_text::{Attempts, Stop, parse_number, parse_text};
 use std::alloc::Global;
 
 /// A command that is asked for.

@@ -2,18 +2,16 @@
 
 ghost use Rattle.rows.specs.Within.{AreWithin, texts_of};
 
-use crate::arguments::{Arguments, Target};
 use crate::array_section::ArraySection;
 use crate::builder::Builder;
-use crate::lines::Lines;
-use crate::output::{Refused, print_answer};
+use crate::output::{print_answer, put_refused};
 use crate::request::Request;
 use crate::section::Section;
-use crate::stop::{Attempts, Stop};
 use crate::tables::Tables;
 use gimli_core::{Encoding, RunTimeEndian};
 use gimli_write::{ConvertError, DebugLine, EndianVec, Error, LineProgram, PieceVec};
 use line_text::BytesLine;
+use row_text::{Arguments, Attempts, Lines, Stop, Target};
 use std::alloc::Global;
 
 /// Builds the programs of a text's scripts and writes them; appends what is printed, and returns
@@ -308,7 +306,7 @@ impl Script {
         }
         match &answer {
             Some(Ok(answer)) => print_answer(answer, lines),
-            Some(Err(error)) => lines.put(Refused(*error)),
+            Some(Err(error)) => put_refused(*error, lines),
             None => self.print_end(Stop::Condition, lines),
         }
         matches!(answer, Some(Ok(_)))

@@ -1,9 +1,8 @@
 //! The encodings of the program that a conversion builds.
 
-use crate::arguments::Arguments;
-use crate::stop::Stop;
 use gimli_core::{Encoding, LineEncoding};
 use gimli_write::LineProgram;
+use row_text::{Arguments, Stop};
 use std::alloc::Global;
 
 /// The encodings of the program that is built; where none is handed in it is that of the source.

@@ -7,12 +7,12 @@ ghost use Rattle.gimli_write.specs.Conditions.{CanWrite};
 ghost use Rattle.rows.specs.Within.{AreWithin, IsFileWritable, texts_of};
 
 use crate::programs::{has_no_zero, is_within};
-use crate::stop::Stop;
 use crate::tables::Tables;
 use gimli_core::{Encoding, RunTimeEndian};
 use gimli_write::{
     ConvertResult, DebugLine, EndianVec, LineProgram, LineString, RoundTrip, Writer, round_trip,
 };
+use row_text::Stop;
 use std::alloc::Global;
 
 /// Writes a program. Requires directories that are in these tables.

@@ -1,11 +1,9 @@
 //! The units of a section, one after the other.
 
-use crate::lines::Lines;
 use crate::request::{Request, parse_location};
-use crate::stop::Stop;
-use crate::value_text::ErrorText;
 use gimli_core::{Reader, ReaderOffset};
 use gimli_line::{DebugLine, LineUnits};
+use row_text::{Lines, Stop};
 
 /// Prints the units of a section. The words are the order of bytes and the size of an address.
 pub fn walk(request: Request<'_>, section: &[u8], out: &mut Vec<u8>) -> Result<(), Stop> {
@@ -36,8 +34,8 @@ fn print_units<R: Reader>(units: LineUnits<R>, lines: &mut Lines<'_>) {
                 lines.put(format_args!("unit {offset} version {version}"));
             }
             Err(e) => {
-                let refusal = ErrorText(*e);
-                lines.put(format_args!("unit {offset} error {refusal}"));
+                lines.add(format_args!("unit {offset}"));
+                lines.put_refusal(" error ", *e);
             }
         }
     }

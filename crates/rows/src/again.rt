@@ -1,9 +1,11 @@
 //! What must stand where memory is refused to the rows of a unit.
 
+use crate::command::Unit;
+use crate::request::Handed;
 use gimli_core::{Error, Reader};
 use gimli_line::{LineProgram, LineRows};
 use line_text::UnitLocation;
-use rows::{Attempts, Handed, Lines, Unit};
+use row_text::{Attempts, Lines};
 use std::alloc::Global;
 
 /// The rows of a unit, where memory is refused them: the files must be as before, and each later
@@ -19,28 +21,28 @@ pub fn watch_rows(alloc: Global, section: &[u8], location: UnitLocation, lines: 
         location,
         handed: &handed,
     };
-    let Ok(program) = unit.program(alloc, Attempts::Two) else {
-        return;
-    };
-    if let Some((call, false)) = refused_call(program.rows()) {
-        lines.put(format_args!("state {call}"));
+    if let Ok(program) = unit.program(alloc, Attempts::Two) {
+        watch_calls(program.rows(), lines);
     }
 }
 
-/// The count of the call that memory was refused to, and whether what must stand does; None where
-/// there is none.
-fn refused_call<R: Reader, P: LineProgram<R> + Drop>(rows: LineRows<R, P>) -> Option<(u64, bool)> {
+/// Prints the count of the call that memory was refused to, where something doesn't stand as it
+/// must after it.
+fn watch_calls<R: Reader, P: LineProgram<R> + Drop>(rows: LineRows<R, P>, lines: &mut Lines<'_>) {
     let mut rows = rows;
     for call in 1..u64::MAX {
         let files = rows.header().file_names().len();
         match rows.next_row() {
             Ok(Some(_)) => {}
-            Ok(None) => return None,
-            Err(Error::OutOfMemory) => return Some((call, stands(rows, files))),
-            Err(_) => return None,
+            Err(Error::OutOfMemory) => {
+                if !stands(rows, files) {
+                    lines.put(format_args!("state {call}"));
+                }
+                return;
+            }
+            _ => return,
         }
     }
-    None
 }
 
 /// Whether there are so many files after a refused call, and no row.

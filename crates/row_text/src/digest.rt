@@ -17,7 +17,7 @@ impl fmt::Write for Digest {
 }
 
 /// The digest of what a value prints.
-pub(crate) fn digest_of<D: Display + Drop>(value: D) -> u64 {
+pub fn digest_of<D: Display + Drop>(value: D) -> u64 {
     let mut digest = Digest(0xcbf2_9ce4_8422_2325);
     // A digest takes every text.
     let _ = write!(digest, "{value}");

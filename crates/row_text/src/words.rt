@@ -18,12 +18,19 @@ pub fn parse_number(word: &str) -> Result<u64, Stop> {
 /// is empty, or has other letters after a `%`, is one.
 pub fn parse_text(alloc: Global, word: &str) -> Result<Vec<u8>, Stop> {
     let mut text = Vec::new(alloc);
-    if word == "%" {
-        return Ok(text);
+    push_text(&mut text, word)?;
+    Ok(text)
+}
+
+/// Appends a text.
+fn push_text(text: &mut Vec<u8>, word: &str) -> Result<(), Stop> {
+    match word {
+        "" => return Err(Stop::Bad),
+        "%" => return Ok(()),
+        _ => {}
     }
     let mut parts = word.split('%');
-    let plain = parts.next().unwrap_or("");
-    text.extend_from_slice(plain.as_bytes())?;
+    text.extend_from_slice(parts.next().unwrap_or("").as_bytes())?;
     for part in parts {
         let [high, low, plain @ ..] = part.as_bytes() else {
             return Err(Stop::Bad);
@@ -31,11 +38,7 @@ pub fn parse_text(alloc: Global, word: &str) -> Result<Vec<u8>, Stop> {
         text.push(parse_byte(&[*high, *low])?)?;
         text.extend_from_slice(plain)?;
     }
-    if word.is_empty() {
-        Err(Stop::Bad)
-    } else {
-        Ok(text)
-    }
+    Ok(())
 }
 
 /// Appends bytes in two hexadecimal digits each, with blanks and line breaks between, where `N*HH`

@@ -1,19 +1,23 @@
 //! Files of rows as they are read.
 
-use crate::files::WORDS;
 use crate::parts::Parts;
+use crate::stop::Stop;
 use gimli_core::RunTimeEndian;
-use rows::Stop;
+use line_text::print_bytes;
 use std::alloc::Global;
+
+/// How many words of a conversion stand before its files of texts, or the parts that are their
+/// bytes.
+pub const CONVERSION_WORDS: usize = 7;
 
 /// A row: commands over one input, and the output that is expected of each of them.
 #[derive(Drop)]
-pub struct Row<'t> {
+pub struct TestRow<'t> {
     pub name: &'t str,
     /// The commands, of which there is one at least.
     pub commands: Vec<RowCommand<'t>>,
     /// The lines of the output.
-    pub expected: String,
+    pub expected: Vec<u8>,
     /// Whether the output must be another one than this.
     pub must_differ: bool,
 }
@@ -45,7 +49,7 @@ pub enum Fault {
 }
 
 /// The rows of a file.
-pub fn parse_rows<'t>(alloc: Global, text: &'t str) -> Result<Vec<Row<'t>>, Fault> {
+pub fn parse_rows<'t>(alloc: Global, text: &'t str) -> Result<Vec<TestRow<'t>>, Fault> {
     let mut file = RowsReader {
         alloc,
         rows: Vec::new(alloc),
@@ -75,7 +79,7 @@ fn fault_at(line: usize, taken: Result<(), Stop>) -> Result<(), Fault> {
 #[derive(Drop)]
 struct Draft<'t> {
     /// The row, with its commands once the input has ended.
-    row: Row<'t>,
+    row: TestRow<'t>,
     /// The words of each command.
     words: Vec<&'t str>,
     /// The lines of the input.
@@ -86,10 +90,10 @@ impl<'t> Draft<'t> {
     /// A row of this name, without a command.
     fn new(alloc: Global, name: &'t str) -> Draft<'t> {
         Draft {
-            row: Row {
+            row: TestRow {
                 name,
                 commands: Vec::new(alloc),
-                expected: String::new(alloc),
+                expected: Vec::new(alloc),
                 must_differ: false,
             },
             words: Vec::new(alloc),
@@ -114,6 +118,21 @@ impl<'t> Draft<'t> {
         }
     }
 
+    /// Takes a line of the output, or one that stands for the lines of bytes.
+    fn take_output(&mut self, alloc: Global, parts: &Parts<'_>, line: &str) -> Result<(), Stop> {
+        let Some(text) = line.strip_prefix(":: ") else {
+            self.row.expected.extend_from_slice(line.as_bytes())?;
+            self.row.expected.push(b'\n')?;
+            return Ok(());
+        };
+        let words = self.words.first().copied().unwrap_or("");
+        let bytes = parts.expand(alloc, text, order_of(words))?;
+        match print_bytes(&bytes, &mut self.row.expected) {
+            Ok(()) => Ok(()),
+            Err(_) => Err(Stop::Memory),
+        }
+    }
+
     /// Ends the input, and makes of it what each command is given.
     fn end_input(&mut self, alloc: Global, parts: &Parts<'_>) -> Result<(), Stop> {
         for words in &self.words {
@@ -128,7 +147,7 @@ impl<'t> Draft<'t> {
 #[derive(Drop)]
 struct RowsReader<'t> {
     alloc: Global,
-    rows: Vec<Row<'t>>,
+    rows: Vec<TestRow<'t>>,
     parts: Parts<'t>,
     draft: Option<Draft<'t>>,
 }
@@ -143,7 +162,7 @@ impl<'t> RowsReader<'t> {
         }
         match (&mut self.draft, line.strip_prefix(":= ")) {
             (Some(draft), None) if !draft.row.commands.is_empty() => {
-                push_line(&mut draft.row.expected, line)
+                draft.take_output(self.alloc, &self.parts, line)
             }
             (Some(draft), Some(_)) if !draft.row.commands.is_empty() => Err(Stop::Bad),
             (_, Some(part)) => self.parts.define(self.alloc, part.trim()),
@@ -212,7 +231,8 @@ fn named_parts(
     order: RunTimeEndian,
 ) -> Result<Vec<Vec<u8>>, Stop> {
     let mut named = Vec::new(alloc);
-    let Some(others) = words_before_parts(words) else {
+    let name = words.split_whitespace().next().unwrap_or("");
+    let Some(others) = words_before_parts(name) else {
         return Ok(named);
     };
     for word in words.split_whitespace().skip(others) {
@@ -232,9 +252,9 @@ fn push_line(text: &mut String, line: &str) -> Result<(), Stop> {
 
 /// How many words of a command with texts stand before the parts that hold them, itself among
 /// these. None where the command has no texts.
-fn words_before_parts(words: &str) -> Option<usize> {
-    match words.split_whitespace().next()? {
-        "convert" | "convert_sequences" => Some(WORDS + 1),
+pub fn words_before_parts(name: &str) -> Option<usize> {
+    match name {
+        "convert" | "convert_sequences" => Some(CONVERSION_WORDS + 1),
         "paths" | "addresses" => Some(6),
         "lines" => Some(1),
         _ => None,
@@ -243,10 +263,7 @@ fn words_before_parts(words: &str) -> Option<usize> {
 
 /// Whether the command with these words takes a script.
 fn takes_script(words: &str) -> bool {
-    match words.split_whitespace().next() {
-        Some(word) => word == "write",
-        None => false,
-    }
+    words.split_whitespace().next() == Some("write")
 }
 
 /// Whether the input of the command with these words is the text of standard input.

@@ -1,6 +1,6 @@
 //! Why a command isn't done.
 
-use gimli_write::Error;
+use gimli_bytes::Error;
 use std::alloc::{AllocError, AllocFailed};
 
 /// Whether a library call that returns `OutOfMemory` is made once more.

@@ -1,8 +1,9 @@
 //! Bytes in hexadecimal, which may name parts that were defined before, and have unit lengths put
 //! before them.
 
+use crate::stop::Stop;
+use crate::words::push_bytes;
 use gimli_core::RunTimeEndian;
-use rows::{Stop, push_bytes};
 use std::alloc::Global;
 use std::mem;
 

@@ -4,8 +4,8 @@ ghost use Rattle.std.specs.Prelude.{◌≤◌};
 
 use crate::stop::Stop;
 use crate::words::{parse_number, parse_text, push_bytes};
+use gimli_bytes::Address;
 use gimli_core::{Encoding, Format, LineEncoding, RunTimeEndian};
-use gimli_write::Address;
 use line_text::parse_order;
 use std::alloc::Global;
 
@@ -17,7 +17,7 @@ const LAST_FILE: u64 = 999;
 
 /// What a program is written into.
 #[derive(Clone, Copy)]
-pub(crate) enum Target {
+pub enum Target {
     /// A vector.
     Vector,
     /// Pieces of one byte.
@@ -32,7 +32,7 @@ pub(crate) enum Target {
 
 /// Where a text is kept.
 #[derive(Clone, Copy)]
-pub(crate) enum Form {
+pub enum Form {
     /// Where `LineString::new` keeps it.
     Usual,
     /// In the line program itself.
@@ -45,14 +45,14 @@ pub(crate) enum Form {
 
 /// A text as its word has it, and where it is kept.
 #[derive(Clone, Copy)]
-pub(crate) struct Text<'a> {
+pub struct Text<'a> {
     pub form: Form,
     pub word: &'a str,
 }
 
 /// What is known of a file.
 #[derive(Clone, Copy)]
-pub(crate) struct Details<'a> {
+pub struct Details<'a> {
     pub timestamp: u64,
     pub size: u64,
     pub md5: [u8; 16],
@@ -61,7 +61,7 @@ pub(crate) struct Details<'a> {
 
 /// A call that builds an item, or sets what is written of files.
 #[derive(Clone, Copy)]
-pub(crate) enum Item<'a> {
+pub enum Item<'a> {
     /// Sets what is written of files, by letters.
     Flags(&'a str),
     /// Begins a sequence.
@@ -76,7 +76,7 @@ pub(crate) enum Item<'a> {
 
 /// A row, with its file as a number from 0 on, and the letters of the flags that hold.
 #[derive(Clone, Copy)]
-pub(crate) struct Row<'a> {
+pub struct Row<'a> {
     pub offset: u64,
     pub op_index: u64,
     pub file: u64,
@@ -90,7 +90,7 @@ pub(crate) struct Row<'a> {
 /// The words of a line that are left. Of words that are missing, or aren't what they are taken for,
 /// the first is kept as a stop, and something stands in the place of each.
 #[derive(Clone, Copy)]
-pub(crate) struct Arguments<'a> {
+pub struct Arguments<'a> {
     alloc: Global,
     rest: &'a [&'a str],
     stop: Option<Stop>,
@@ -310,14 +310,7 @@ impl<'a> Arguments<'a> {
             "flags" => return Item::Flags(self.letters("tsmS")),
             "begin" if self.rest.is_empty() => return Item::Begin(None),
             "begin" => return Item::Begin(Some(Address::Constant(self.number(u64::MAX)))),
-            "set" if self.rest == ["symbol"].as_slice() => {
-                self.rest = &[];
-                return Item::Set(Address::Symbol {
-                    symbol: 0,
-                    addend: 0,
-                });
-            }
-            "set" => return Item::Set(Address::Constant(self.number(u64::MAX))),
+            "set" => return Item::Set(self.address()),
             "row" => return Item::Row(self.row()),
             "end" => {}
             _ => self.refuse(Stop::Bad),
@@ -328,6 +321,20 @@ impl<'a> Arguments<'a> {
             _ => Some(self.number(u64::MAX)),
         };
         Item::End(offset, op_index)
+    }
+
+    /// An address, or `symbol`.
+    fn address(&mut self) -> Address {
+        match self.rest {
+            ["symbol"] => {
+                self.rest = &[];
+                Address::Symbol {
+                    symbol: 0,
+                    addend: 0,
+                }
+            }
+            _ => Address::Constant(self.number(u64::MAX)),
+        }
     }
 
     /// A row.
