@@ -6,9 +6,10 @@ use line_text::parse_digits;
 use std::alloc::{AllocError, Global};
 use std::fmt::Write;
 
-/// The text in which a line `:* N TEXT` stands for TEXT so many times. In TEXT `{}` ends a line, and
-/// a number in braces goes up each time, by one, or by what follows it after a `+`: `{41}` in its two
-/// or sixteen hexadecimal digits, `{#1}` in decimal ones, and `{'41}` as the letter of that number.
+/// The text in which a line `:* N TEXT` stands for TEXT so many times. In TEXT `{}` ends a line,
+/// and a number in braces goes up each time, by one, or by what follows it after a `+`: `{41}` in
+/// its two or sixteen hexadecimal digits, `{#1}` in decimal ones, and `{'41}` as the letter of that
+/// number.
 pub fn repeat_lines(alloc: Global, text: &str) -> Result<String, AllocError> {
     let mut all = String::new(alloc);
     for line in text.lines() {

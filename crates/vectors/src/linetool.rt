@@ -49,8 +49,8 @@ impl Write for Room<'_> {
 }
 
 /// Runs a command of `linetool`, a second time from the start where memory is refused it and
-/// attempts are two, and returns its status. Before it may stand `room N`, where its output has room
-/// for N bytes, `missing`, where its file isn't there, or `broken`, where reading that fails.
+/// attempts are two, and returns its status. Before it may stand `room N`, where its output has
+/// room for N bytes, `missing`, where its file isn't there, or `broken`, where reading that fails.
 pub fn run_linetool(
     request: Request<'_>,
     words: &[&str],
