@@ -8,7 +8,7 @@ use crate::row_count::RowTotal;
 use gimli_core::{Reader, ReaderOffset};
 use gimli_line::{FileEntry, IncompleteLineProgram, LineProgramHeader};
 use gimli_lookup::{PathError, StringSections};
-use rows_reading::Digits;
+use line_text::Digits;
 use std::alloc::Global;
 use std::fmt;
 use std::io::Write;

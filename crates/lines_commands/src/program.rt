@@ -13,7 +13,7 @@ use elf_sections::{Elf, SectionBytes, SectionPlace, SymbolTable};
 use gimli_core::{EndianSlice, Endianity, Section};
 use gimli_line::DebugLine;
 use gimli_lookup::StringSections;
-use rows_reading::Slice;
+use line_text::Slice;
 use std::alloc::Global;
 
 /// The sections of a program that commands read, and how they are read. An [`Input`] borrows from

@@ -1,9 +1,6 @@
 //! The program `linetool`: prints what the line programs of a `.debug_line` section hold.
 #![tactic(auto)]
 
-#[cfg(test)]
-mod tests;
-
 use linetool_commands::Refusal;
 use std::env::{Env, FillError};
 use std::fs::File;

@@ -1,53 +1,40 @@
 //! Rows that are run and compared with what is expected of them.
 
-use crate::comparison::is_expected;
-use crate::rows::{Row, RowCommand};
 use crate::run::run_command;
-use rows_reading::Attempts;
+use row_text::{Attempts, RowCommand, TestRow, is_expected};
 use std::alloc::Global;
 use std::io;
 use std::io::Write;
 
-/// How many rows are as stated, and how many aren't.
-#[derive(Clone, Copy, Debug, PartialEq, Eq)]
-pub struct Tally {
-    pub as_stated: u64,
-    pub not: u64,
-}
-
-/// Runs rows, and prints each whose output isn't the expected one.
+/// Runs rows, and prints each command whose output isn't the expected one. Returns how many rows
+/// aren't as stated.
 pub fn check_rows<O: Write>(
     alloc: Global,
-    rows: &[Row<'_>],
+    rows: &[TestRow<'_>],
     attempts: Attempts,
     out: &mut O,
-) -> io::Result<Tally> {
-    let mut tally = Tally {
-        as_stated: 0,
-        not: 0,
-    };
+) -> io::Result<usize> {
+    let mut not = 0usize;
     for row in rows {
-        if check_row(alloc, row, attempts, out)? {
-            tally.as_stated = tally.as_stated.saturating_add(1);
-        } else {
-            tally.not = tally.not.saturating_add(1);
+        if !check_row(alloc, row, attempts, out)? {
+            not = not.saturating_add(1);
         }
     }
-    Ok(tally)
+    Ok(not)
 }
 
-/// Runs the commands of a row, and prints each whose output isn't the expected one. Whether there
-/// is none.
+/// Runs the commands of a row, and prints each whose output isn't the expected one, or is it where
+/// it must differ. Whether there is none.
 fn check_row<O: Write>(
     alloc: Global,
-    row: &Row<'_>,
+    row: &TestRow<'_>,
     attempts: Attempts,
     out: &mut O,
 ) -> io::Result<bool> {
     let mut is_as_stated = true;
     for command in &row.commands {
         let got = run_command(alloc, command, attempts)?;
-        if !gives_what_is_stated(row, &got) {
+        if is_expected(&row.expected, &got) == row.must_differ {
             is_as_stated = false;
             print_command(row, command, &got, out)?;
         }
@@ -55,15 +42,10 @@ fn check_row<O: Write>(
     Ok(is_as_stated)
 }
 
-/// Whether the output is the expected one, or another where it must differ.
-fn gives_what_is_stated(row: &Row<'_>, got: &[u8]) -> bool {
-    is_expected(row.expected.as_bytes(), got) != row.must_differ
-}
-
-/// Prints a command of a row whose output isn't the expected one. Its words stand there where the
-/// row has others.
+/// Prints a command of a row, what is expected of it and what it gave. Its words stand there where
+/// the row has others.
 fn print_command<O: Write>(
-    row: &Row<'_>,
+    row: &TestRow<'_>,
     command: &RowCommand<'_>,
     got: &[u8],
     out: &mut O,
@@ -79,7 +61,8 @@ fn print_command<O: Write>(
     } else {
         "expected"
     };
-    let expected = row.expected.as_str().trim_end_matches('\n');
-    writeln!(out, "{rule}\n{expected}\ngot")?;
+    writeln!(out, "{rule}")?;
+    out.write_all(&row.expected)?;
+    writeln!(out, "got")?;
     out.write_all(got)
 }

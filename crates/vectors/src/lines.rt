@@ -6,7 +6,7 @@ use clap::Error;
 use lines_commands::{
     Files, Request, Screen, SourceFiles, SymbolFiles, UnitFiles, run_diff, run_on,
 };
-use rows_reading::Stop;
+use row_text::Stop;
 use std::alloc::{AllocError, Global};
 use std::io;
 use std::io::Write;

@@ -24,27 +24,24 @@
 //! `docs/ROWS.md` has the files of rows, and the commands of a row.
 #![tactic(auto)]
 
-mod again;
 mod check;
-mod comparison;
-mod files;
 mod indexes;
 mod lines;
-mod parts;
-mod rows;
+mod linetool;
 mod run;
 
 use check::check_rows;
-use files::{SectionFiles, WORDS};
-use rows::{Fault, parse_rows};
-use rows_reading::{Attempts, Request, Stop};
-use run::run_over;
+use row_text::{Attempts, CONVERSION_WORDS, Fault, Input, Stop, parse_rows, repeat_lines};
+use run::run;
 use std::io::{BufWriter, ErrorKind, Write};
 use std::process::ExitCode;
 use std::{env, fmt, fs, io};
 
 /// The status where the words, a script or a file aren't what they must be.
 const MALFORMED: u8 = 2;
+
+/// The place of the last word that names no file of texts.
+const LAST_WORD: usize = CONVERSION_WORDS + 1;
 
 /// The status where a row isn't as stated.
 const NOT_AS_STATED: u8 = 1;
@@ -81,50 +78,39 @@ fn start(rt: &HostRuntime) -> io::Result<u8> {
             let status = check_files(rt, files, Attempts::Two)?;
             Ok(if status == NOT_AS_STATED { 0 } else { status })
         }
-        ["write"] => print_scripts(rt),
-        [command, file, rest @ ..] => print_unit(rt, command, file, rest),
+        ["write"] => {
+            let script = io::read_to_string(rt.alloc(), rt.stdin())?;
+            print_all(rt, &words, &Input::Script(script))
+        }
+        [
+            "header" | "instructions" | "convert" | "convert_sequences",
+            file,
+            ..
+        ] => {
+            let section = fs::read(rt, *file)?;
+            let mut own = Vec::new(rt.alloc());
+            let mut texts = Vec::new(rt.alloc());
+            for (place, word) in words.iter().enumerate() {
+                match place {
+                    1 => {}
+                    0..=LAST_WORD => own.push(*word)?,
+                    _ => texts.push(fs::read(rt, *word)?)?,
+                }
+            }
+            print_all(rt, &own, &Input::Section(section, texts))
+        }
         _ => Ok(tell(rt, "no such words", MALFORMED)),
     }
 }
 
-/// Prints what a command gives of a unit of a file.
-fn print_unit(rt: &HostRuntime, command: &str, file: &str, words: &[&str]) -> io::Result<u8> {
-    let count = match command {
-        "header" | "instructions" => words.len(),
-        "convert" | "convert_sequences" => words.len().min(WORDS),
-        _ => return Ok(tell(rt, "no such words", MALFORMED)),
-    };
-    let (words, texts) = words.split_at(count);
-    let files = SectionFiles::read(rt, file, texts)?;
+/// Prints what a command gives, and returns its status.
+fn print_all(rt: &HostRuntime, words: &[&str], input: &Input) -> io::Result<u8> {
     let mut out = Vec::new(rt.alloc());
-    let done = run_over(request(rt, words), command, files.sections(), &mut out);
-    print_all(rt, &out, done)
-}
-
-/// Runs the scripts on standard input, and prints what they give.
-fn print_scripts(rt: &HostRuntime) -> io::Result<u8> {
-    let script = io::read_to_string(rt.alloc(), rt.stdin())?;
-    let mut out = Vec::new(rt.alloc());
-    let done = rows_writing::write(request(rt, &[]), script.as_str(), &mut out);
-    print_all(rt, &out, done)
-}
-
-/// A command with these words.
-fn request<'w>(rt: &HostRuntime, words: &'w [&'w str]) -> Request<'w> {
-    Request {
-        alloc: rt.alloc(),
-        words,
-        attempts: Attempts::One,
-    }
-}
-
-/// Prints what a command gave, and returns its status.
-fn print_all(rt: &HostRuntime, text: &[u8], done: Result<u8, Stop>) -> io::Result<u8> {
-    match done {
+    match run(rt.alloc(), words, Attempts::One, input, &mut out) {
         Err(Stop::Memory) => Err(io::Error::from(ErrorKind::OutOfMemory)),
         Err(_) => Ok(tell(rt, "not what the command takes", MALFORMED)),
         Ok(status) => {
-            rt.stdout().write_all(text)?;
+            rt.stdout().write_all(&out)?;
             Ok(status)
         }
     }
@@ -137,21 +123,23 @@ fn check_files(rt: &HostRuntime, files: &[&str], attempts: Attempts) -> io::Resu
     let mut status = 0;
     for file in files {
         let text = fs::read_to_string(rt, *file)?;
-        let rows = match parse_rows(rt.alloc(), text.as_str()) {
-            Ok(rows) => rows,
+        let text = repeat_lines(rt.alloc(), &text)?;
+        match parse_rows(rt.alloc(), &text) {
+            Ok(rows) => {
+                let not = check_rows(rt.alloc(), &rows, attempts, &mut out)?;
+                let as_stated = rows.len().saturating_sub(not);
+                writeln!(out, "{file}: {as_stated} rows as stated, {not} not")?;
+                status = if not == 0 { status } else { NOT_AS_STATED };
+            }
             Err(Fault::Memory) => return Err(io::Error::from(ErrorKind::OutOfMemory)),
             Err(Fault::Line(line)) => {
                 out.flush()?;
-                let text = format_args!("{file}:{line}: this can't stand here");
-                return Ok(tell(rt, text, MALFORMED));
+                return Ok(tell(
+                    rt,
+                    format_args!("{file}:{line}: this can't stand here"),
+                    MALFORMED,
+                ));
             }
-        };
-        let tally = check_rows(rt.alloc(), &rows, attempts, &mut out)?;
-        let as_stated = tally.as_stated;
-        let not = tally.not;
-        writeln!(out, "{file}: {as_stated} rows as stated, {not} not")?;
-        if not != 0 {
-            status = NOT_AS_STATED;
         }
     }
     out.flush()?;

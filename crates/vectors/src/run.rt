@@ -1,24 +1,12 @@
 //! What a command of a row gives.
 
-use crate::again::watch_rows;
-use crate::files::split_words;
 use crate::lines::run_lines;
-use crate::rows::{Input, RowCommand};
-use gimli_bytes::{EndianVec, PieceVec};
-use gimli_core::RunTimeEndian;
-use linetool_commands::Command;
-use rows_calls::write_section;
-use rows_reading::{
-    Attempts, Lines, Part, Request, Sections, Stop, addresses, paths, places, print_unit, walk,
+use crate::linetool::run_linetool;
+use row_text::{Attempts, Input, Lines, RowCommand, Stop, words_before_parts};
+use rows::{
+    Kind, Part, Request, Sections, addresses, convert, paths, places, print_unit, walk, write,
 };
-use rows_writing::{Kind, convert};
 use std::alloc::{AllocError, Global};
-
-/// A section in one vector.
-type InOne = EndianVec<RunTimeEndian>;
-
-/// A section in pieces of four bytes.
-type InPieces = PieceVec<RunTimeEndian, 4>;
 
 /// What a command of a row prints: its output, its lines on standard error after `stderr`, and its
 /// status, where it isn't 0, after `status`.
@@ -29,17 +17,7 @@ pub fn run_command(
 ) -> Result<Vec<u8>, AllocError> {
     let words: Vec<&str> = command.words.split_whitespace().collect(alloc)?;
     let mut out = Vec::new(alloc);
-    let request = Request {
-        alloc,
-        words: words.get(1..).unwrap_or(&[]),
-        attempts,
-    };
-    let name = words.first().copied().unwrap_or("");
-    let done = match &command.input {
-        Input::Script(script) => run_script(request, name, script, &mut out),
-        Input::Section(section, named) => run_row(request, name, &words, section, named, &mut out),
-    };
-    let status = match done {
+    let status = match run(alloc, &words, attempts, &command.input, &mut out) {
         Ok(status) => status,
         Err(Stop::Memory) => return Err(AllocError),
         Err(_) => 2,
@@ -54,47 +32,35 @@ pub fn run_command(
     }
 }
 
-/// Runs a command on a script, and returns its status.
-fn run_script(
-    request: Request<'_>,
-    name: &str,
-    script: &str,
+/// Runs a command on what it is given, and returns its status. Of a command with texts the words
+/// after its own ones name the parts that hold them.
+pub fn run(
+    alloc: Global,
+    words: &[&str],
+    attempts: Attempts,
+    input: &Input,
     out: &mut Vec<u8>,
 ) -> Result<u8, Stop> {
-    match name {
-        "write" => rows_writing::write(request, script, out),
-        "read" => rows_calls::read(request, script, out),
-        "bytes" => write_section::<InOne>(request, script, out),
-        "pieces" => write_section::<InPieces>(request, script, out),
-        _ => Err(Stop::Bad),
-    }
-}
-
-/// Runs a command over a section and the parts that its words name, and returns its status.
-fn run_row<'r>(
-    request: Request<'_>,
-    name: &str,
-    all: &[&str],
-    section: &'r [u8],
-    named: &'r [Vec<u8>],
-    out: &mut Vec<u8>,
-) -> Result<u8, Stop> {
-    if name == "lines" {
-        return run_lines(request.alloc, all, section, named, out);
-    }
-    let sections = sections_of(section, named)?;
-    let words = match name {
-        "convert" | "convert_sequences" => without_parts(request.alloc, request.words)?,
-        "addresses" | "paths" => {
-            Vec::from_slice(request.alloc, &request.words[..request.words.len().min(5)])?
-        }
-        _ => Vec::from_slice(request.alloc, request.words)?,
-    };
+    let name = words.first().copied().unwrap_or("");
+    let count = words_before_parts(name).unwrap_or(words.len());
     let request = Request {
-        words: &words,
-        ..request
+        alloc,
+        words: words.get(1..count.min(words.len())).unwrap_or(&[]),
+        attempts,
     };
-    run_over(request, name, sections, out)
+    match input {
+        Input::Script(script) => write(request, script, out),
+        Input::Section(section, named) if name == "lines" => {
+            run_lines(alloc, words, section, named, out)
+        }
+        Input::Section(section, named) => {
+            let sections = sections_of(section, named)?;
+            if words.iter().skip(count).any(|word| !word.starts_with('@')) {
+                return Err(Stop::Bad);
+            }
+            run_over(request, name, words, sections, out)
+        }
+    }
 }
 
 /// The sections of a row: that of lines, and after it those of texts, as far as they are named.
@@ -113,92 +79,29 @@ fn sections_of<'r>(lines: &'r [u8], named: &'r [Vec<u8>]) -> Result<Sections<'r>
 }
 
 /// Runs a command over sections, and returns its status.
-pub fn run_over(
+fn run_over(
     request: Request<'_>,
     name: &str,
+    words: &[&str],
     sections: Sections<'_>,
     out: &mut Vec<u8>,
 ) -> Result<u8, Stop> {
     let section = sections.lines;
-    match name {
-        "convert" => convert(request, Kind::Items, sections, out)?,
-        "convert_sequences" => convert(request, Kind::Sequences, sections, out)?,
-        "header" => print_unit(request, Part::Header, section, out)?,
-        "instructions" => print_unit(request, Part::Instructions, section, out)?,
-        "places" => places(request, section, out)?,
-        "addresses" => addresses(request, sections, out)?,
-        "walk" => walk(request, section, out)?,
-        "paths" => paths(request, sections, out)?,
-        name => return run_linetool(request, name, section, out),
+    let done = match name {
+        "convert" => convert(request, Kind::Items, sections, out),
+        "convert_sequences" => convert(request, Kind::Sequences, sections, out),
+        "header" => print_unit(request, Part::Header, section, out),
+        "instructions" => print_unit(request, Part::Instructions, section, out),
+        "places" => places(request, section, out),
+        "addresses" => addresses(request, sections, out),
+        "walk" => walk(request, section, out),
+        "paths" => paths(request, sections, out),
+        _ => return run_linetool(request, words, section, out),
+    };
+    match done {
+        Ok(()) => Ok(0),
+        Err(stop) => Err(stop),
     }
-    Ok(0)
-}
-
-/// The words of a conversion that name no part; parts stand after the others.
-fn without_parts<'w>(alloc: Global, words: &[&'w str]) -> Result<Vec<&'w str>, AllocError> {
-    let (words, named) = split_words(words);
-    let mut others = Vec::from_slice(alloc, words)?;
-    for word in named {
-        if !word.starts_with('@') {
-            others.push(*word)?;
-        }
-    }
-    Ok(others)
-}
-
-/// Runs a command of `linetool`, a second time from the start where memory is refused it and
-/// attempts are two, and returns its status.
-fn run_linetool(
-    request: Request<'_>,
-    name: &str,
-    section: &[u8],
-    out: &mut Vec<u8>,
-) -> Result<u8, Stop> {
-    let alloc = request.alloc;
-    let words = linetool_words(request, name)?;
-    let start = out.len();
-    let mut err = Vec::new(alloc);
-    let mut status = linetool_commands::run(alloc, &words, Some(section), out, &mut err);
-    if request.attempts == Attempts::Two {
-        if err.as_slice() == b"refused: memory\n".as_slice() {
-            out.truncate(start);
-            err.clear();
-            status = linetool_commands::run(alloc, &words, Some(section), out, &mut err);
-        }
-        watch_command(alloc, &words, section, out)?;
-    }
-    // A vector takes no more output only where memory is refused.
-    if status != 0 && err.is_empty() {
-        return Err(Stop::Memory);
-    }
-    print_errors(&err, out)?;
-    Ok(status)
-}
-
-/// The words of a command of `linetool`: a file stands after each name but `demo`.
-fn linetool_words<'w>(request: Request<'w>, name: &'w str) -> Result<Vec<&'w str>, AllocError> {
-    let mut words = Vec::new(request.alloc);
-    match name {
-        "" => {}
-        "demo" => words.push(name)?,
-        name => words.extend_from_slice(&[name, "FILE"])?,
-    }
-    words.extend_from_slice(request.words)?;
-    Ok(words)
-}
-
-/// Watches the rows of a command that prints them.
-fn watch_command(
-    alloc: Global,
-    words: &[&str],
-    section: &[u8],
-    out: &mut Vec<u8>,
-) -> Result<(), Stop> {
-    let mut lines = Lines::new(out);
-    if let Some(Command::Rows(location)) = Command::parse(words) {
-        watch_rows(alloc, section, location, &mut lines);
-    }
-    lines.finish()
 }
 
 /// Prints the lines that stand on standard error, to the last byte.

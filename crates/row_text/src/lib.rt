@@ -1,0 +1,24 @@
+//! Rows and scripts as text: what a file of rows says, when an output is the expected one, the
+//! words of a script, and the lines that a command prints. `docs/ROWS.md` has the language.
+#![tactic(auto)]
+
+mod arguments;
+mod comparison;
+mod digest;
+mod lines;
+mod parts;
+mod repeat;
+mod row_file;
+mod stop;
+mod words;
+
+pub use arguments::{Arguments, Details, Form, Item, Row, Target, Text};
+pub use comparison::is_expected;
+pub use digest::digest_of;
+pub use lines::{Held, Lines};
+pub use repeat::repeat_lines;
+pub use row_file::{
+    CONVERSION_WORDS, Fault, Input, RowCommand, TestRow, parse_rows, words_before_parts,
+};
+pub use stop::{Attempts, Stop};
+pub use words::{parse_number, parse_text};

@@ -1,0 +1,78 @@
+//! Words: numbers, texts and bytes.
+
+use crate::stop::Stop;
+use line_text::parse_digits;
+use std::alloc::Global;
+use std::str;
+
+/// A number in decimal digits, or in hexadecimal ones after `0x`, where it fits.
+pub fn parse_number(word: &str) -> Result<u64, Stop> {
+    let number = match word.strip_prefix("0x") {
+        Some(digits) => parse_digits(digits, 16),
+        None => parse_digits(word, 10),
+    };
+    number.ok_or(Stop::Bad)
+}
+
+/// A text: `%` and two hexadecimal digits are a byte, and `%` alone is the empty text. No word that
+/// is empty, or has other letters after a `%`, is one.
+pub fn parse_text(alloc: Global, word: &str) -> Result<Vec<u8>, Stop> {
+    let mut text = Vec::new(alloc);
+    push_text(&mut text, word)?;
+    Ok(text)
+}
+
+/// Appends a text.
+fn push_text(text: &mut Vec<u8>, word: &str) -> Result<(), Stop> {
+    match word {
+        "" => return Err(Stop::Bad),
+        "%" => return Ok(()),
+        _ => {}
+    }
+    let mut parts = word.split('%');
+    text.extend_from_slice(parts.next().unwrap_or("").as_bytes())?;
+    for part in parts {
+        let [high, low, plain @ ..] = part.as_bytes() else {
+            return Err(Stop::Bad);
+        };
+        text.push(parse_byte(&[*high, *low])?)?;
+        text.extend_from_slice(plain)?;
+    }
+    Ok(())
+}
+
+/// Appends bytes in two hexadecimal digits each, with blanks and line breaks between, where `N*HH`
+/// is N times a byte.
+pub fn push_bytes(bytes: &mut Vec<u8>, text: &str) -> Result<(), Stop> {
+    for word in text.split_whitespace() {
+        match word.split_once('*') {
+            Some((count, byte)) => {
+                let byte = parse_byte(byte.as_bytes())?;
+                let count = parse_number(count)? as usize;
+                let length = bytes.len().checked_add(count).ok_or(Stop::Bad)?;
+                bytes.resize(length, byte)?;
+            }
+            None => push_digits(bytes, word.as_bytes())?,
+        }
+    }
+    Ok(())
+}
+
+/// Appends the bytes of a word of digits.
+fn push_digits(bytes: &mut Vec<u8>, word: &[u8]) -> Result<(), Stop> {
+    for pair in word.chunks(2) {
+        bytes.push(parse_byte(pair)?)?;
+    }
+    Ok(())
+}
+
+/// The byte of two hexadecimal digits.
+fn parse_byte(digits: &[u8]) -> Result<u8, Stop> {
+    match (digits, str::from_utf8(digits)) {
+        ([_, _], Ok(digits)) => match parse_digits(digits, 16) {
+            Some(byte) => u8::try_from(byte).ok().ok_or(Stop::Bad),
+            None => Err(Stop::Bad),
+        },
+        _ => Err(Stop::Bad),
+    }
+}

@@ -1,0 +1,26 @@
+-- A converted program can be written, so its directories are in the tables.
+use Rattle.std.proofs.Common.{ℕ, Option, Some, option_map, rules}
+use Rattle.gimli_bytes.specs.declared.address.Address.{Address}
+use Rattle.gimli_bytes.specs.declared.address.Address.TheVariants.{Constant}
+use Rattle.gimli_write.specs.convert.Conversion.{outcome_with}
+use Rattle.gimli_write.specs.convert.DoneConversions.{DoneConversion}
+use Rattle.gimli_write.specs.convert.Preparation.{handed_of}
+use Rattle.rows.proofs.conversion.Conversion.built_once.Goals as goal
+
+pub returns : goal.returns
+returns c =
+    let same : ℕ → Option Address = λ a. Some (Constant a) in
+    let self = c.args.self in
+    let done : DoneConversion = record {
+      convert_address = same;
+      source = record {
+        notation = c.in-Ok.program.notation;
+        sections = record { strings = self.strings.slice.now; line_strings = self.line_strings.slice.now };
+        header = c.in-Ok.program.meaning;
+        given = handed_of self.target.encoding self.target.line_encoding (option_map (λ s. s.slice.now) self.name);
+      };
+      line_strings = c.args.tables.now.line_strings;
+      outcome = outcome_with c.in_ok-built.built c.convert_program.new.line_strings;
+      is = c.in_ok-built.ensures.outcome.converts same (λ a r post. search rules);
+    } in
+    (c.converted_programs_can_be_written.ensures done c.convert_program.new.strings).directories

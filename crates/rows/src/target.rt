@@ -1,0 +1,52 @@
+//! The encodings of the program that a conversion builds.
+
+use gimli_core::{Encoding, LineEncoding};
+use gimli_write::LineProgram;
+use row_text::{Arguments, Stop};
+use std::alloc::Global;
+
+/// The encodings of the program that is built; where none is handed in it is that of the source.
+#[derive(Clone, Copy, Debug)]
+pub(crate) struct Target {
+    pub encoding: Option<Encoding>,
+    pub line_encoding: Option<LineEncoding>,
+}
+
+impl Target {
+    ghost use Rattle.std.specs.Prelude.{IsTrue};
+    ghost use Rattle.rows.specs.Taken.{IsTaken};
+
+    /// The target that a word names: `-` for the source's own, or the version, the format and the
+    /// size of an address, and after them what lines are encoded by, if it isn't as in the source.
+    /// All are numbers with commas between.
+    pub fn parse(alloc: Global, word: &str) -> Result<Target, Stop> {
+        let mut target = Target {
+            encoding: None,
+            line_encoding: None,
+        };
+        if word == "-" {
+            return Ok(target);
+        }
+        let numbers: Vec<&str> = word.split(',').collect(alloc)?;
+        let mut words = Arguments::new(alloc, numbers.as_slice());
+        target.encoding = Some(words.encoding());
+        if numbers.len() > 3 {
+            target.line_encoding = Some(words.line_encoding());
+        }
+        words.finish()?;
+        Ok(target)
+    }
+
+    /// Whether a conversion takes it. Without numbers of lines it is judged with those that are
+    /// usual.
+    pub fn is_taken(self) -> bool
+        ensures { IsTrue result → IsTaken self }
+    {
+        match (self.encoding, self.line_encoding) {
+            (Some(encoding), Some(lines)) => LineProgram::accepts(encoding, lines),
+            (Some(encoding), None) => LineProgram::accepts(encoding, LineEncoding::default()),
+            (None, None) => true,
+            (None, Some(_)) => false,
+        }
+    }
+}

@@ -1,0 +1,117 @@
+//! The program `linetool`, as a command of a row.
+
+use crate::run::print_errors;
+use linetool_commands::Command;
+use row_text::{Attempts, Lines, Stop, parse_number};
+use rows::{Request, watch_rows};
+use std::io;
+use std::io::{ErrorKind, Read, Write};
+
+/// A file that is read byte by byte.
+#[derive(Clone, Copy)]
+struct RowFile<'s> {
+    bytes: &'s [u8],
+    /// Whether reading fails where the bytes end.
+    breaks: bool,
+}
+
+impl Read for RowFile<'_> {
+    fn read(&mut self, buf: &mut [u8]) -> io::Result<usize> {
+        if self.bytes.is_empty() && self.breaks {
+            return Err(io::Error::from(ErrorKind::BrokenPipe));
+        }
+        let count = buf.len().min(self.bytes.len());
+        let (bytes, rest) = self.bytes.split_at(count);
+        buf[..count].copy_from_slice(bytes);
+        self.bytes = rest;
+        Ok(count)
+    }
+}
+
+/// An output that has room for so many bytes more.
+#[derive(Drop)]
+struct Room<'o> {
+    out: &'o mut Vec<u8>,
+    left: usize,
+}
+
+impl Write for Room<'_> {
+    fn write(&mut self, bytes: &[u8]) -> io::Result<usize> {
+        let count = bytes.len().min(self.left);
+        self.out.extend_from_slice(&bytes[..count])?;
+        self.left -= count;
+        Ok(count)
+    }
+
+    fn flush(&mut self) -> io::Result<()> {
+        Ok(())
+    }
+}
+
+/// Runs a command of `linetool`, a second time from the start where memory is refused it and
+/// attempts are two, and returns its status. Before it may stand `room N`, where its output has
+/// room for N bytes, `missing`, where its file isn't there, or `broken`, where reading that fails.
+pub fn run_linetool(
+    request: Request<'_>,
+    words: &[&str],
+    section: &[u8],
+    out: &mut Vec<u8>,
+) -> Result<u8, Stop> {
+    let mut file = Some(RowFile {
+        bytes: section,
+        breaks: words.first() == Some(&"broken"),
+    });
+    let mut left = usize::MAX;
+    let words = match words {
+        ["room", room, words @ ..] => {
+            left = parse_number(room)? as usize;
+            words
+        }
+        ["missing", words @ ..] => {
+            file = None;
+            words
+        }
+        ["broken", words @ ..] => words,
+        words => words,
+    };
+    let mut own = Vec::new(request.alloc);
+    for word in words {
+        own.push(*word)?;
+        // A file stands after each name but `demo`.
+        if own.len() == 1 && *word != "demo" {
+            own.push("FILE")?;
+        }
+    }
+    let start = out.len();
+    let mut err = Vec::new(request.alloc);
+    let mut room = Room { out, left };
+    let mut status = linetool_commands::run(request.alloc, &own, file, &mut room, &mut err);
+    if request.attempts == Attempts::Two && err.as_slice() == b"refused: memory\n".as_slice() {
+        room.out.truncate(start);
+        err.clear();
+        status = linetool_commands::run(request.alloc, &own, file, &mut room, &mut err);
+    }
+    // An output with room takes no more only where memory is refused.
+    if status != 0 && err.is_empty() && room.left != 0 {
+        return Err(Stop::Memory);
+    }
+    print_errors(&err, out)?;
+    if request.attempts == Attempts::Two {
+        watch_command(request, &own, section, out)?;
+    }
+    Ok(status)
+}
+
+/// Watches the rows of a command that prints them.
+fn watch_command(
+    request: Request<'_>,
+    words: &[&str],
+    section: &[u8],
+    out: &mut Vec<u8>,
+) -> Result<(), Stop> {
+    let mut lines = Lines::new(out);
+    if let Some(Command::Rows(location)) = Command::parse(words) {
+        watch_rows(request.alloc, section, location, &mut lines);
+    }
+    lines.finish()
+}
