@@ -3,24 +3,13 @@
 
 ghost use Rattle.std.specs.Prelude.{◌≡◌, ◌≤◌, IfOk, IfErr};
 ghost use Rattle.std.specs.IoError.{error_kind};
-ghost use Rattle.lines_commands.specs.Lines.{HasLines};
+ghost use Rattle.lines_inputs.specs.Lines.{HasLines};
 
-use crate::addresses::print_addresses;
-use crate::check::print_check;
-use crate::diff::print_diff;
-use crate::input::{Files, Kind};
-use crate::input_error::InputError;
-use crate::listing::{Listing, print_each, print_units};
-use crate::locate::{print_places, print_places_in_sections};
-use crate::output::Output;
-use crate::program::Program;
-use crate::report::Verdict;
-use crate::request::{Command, Form, Request};
-use crate::screen::Screen;
-use crate::source::print_source;
-use crate::source_file::{NoSources, SourceFiles};
-use crate::stat::print_stat;
 use elf_sections::ElfError;
+use lines_answers::{print_addresses, print_places, print_places_in_sections, print_source};
+use lines_inputs::{InputError, Output, Program};
+use lines_reports::{Listing, print_check, print_diff, print_each, print_stat, print_units};
+use lines_words::{Command, Files, Form, Kind, NoSources, Request, Screen, SourceFiles, Verdict};
 use std::alloc::Global;
 use std::io;
 use std::io::{BufRead, ErrorKind, Write};
@@ -145,47 +134,6 @@ fn program_of<'i, O: Write, E: Write>(
         Err(refusal) => {
             output.tell_refusal(refusal);
             None
-        }
-    }
-}
-
-impl<'w> Command<'w> {
-    /// Whether paths are printed: the texts are read for these alone.
-    pub fn prints_paths(&self) -> bool {
-        !matches!(self, Command::Units { .. } | Command::Ask { .. })
-    }
-
-    /// Whether whole paths are printed: the sections of units are read for these alone. The command
-    /// `rows` prints the last part of each for people.
-    pub fn prints_whole_paths(&self) -> bool {
-        match self {
-            Command::Rows { form, .. } => *form != Form::Text,
-            _ => self.prints_paths(),
-        }
-    }
-
-    /// The new file of the command `diff`.
-    pub fn new_file(&self) -> Option<&'w str> {
-        match self {
-            Command::Diff { new, .. } => Some(*new),
-            _ => None,
-        }
-    }
-
-    /// Whether the command `diff` prints JSON objects.
-    fn is_json(&self) -> bool {
-        match self {
-            Command::Diff { is_json, .. } => *is_json,
-            _ => false,
-        }
-    }
-
-    /// Whether names of functions are printed: symbols are read for these alone.
-    pub fn prints_functions(&self) -> bool {
-        match self {
-            Command::Where { form, .. } => form.has_function,
-            Command::Source(_) => true,
-            _ => false,
         }
     }
 }

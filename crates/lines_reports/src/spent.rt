@@ -122,7 +122,7 @@ impl Spent {
     }
 
     /// Its place among all.
-    pub(crate) fn number(self) -> usize
+    pub fn number(self) -> usize
         ensures number { result ≡ number self }
         ensures bound { result < 22 }
     {
@@ -135,7 +135,7 @@ impl Spent {
     }
 
     /// The opcode of an instruction.
-    pub(crate) fn on<R: Reader>(instruction: &LineInstruction<R>) -> Spent
+    pub fn on<R: Reader>(instruction: &LineInstruction<R>) -> Spent
         ensures { result ≡ spent_on (ins_seen R.bytes R.Offset.number instruction.now) }
     {
         match instruction {

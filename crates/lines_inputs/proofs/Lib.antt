@@ -1,0 +1,2 @@
+pub mod ComponentTexts
+mod WorkedPaths

@@ -1,0 +1,4 @@
+pub mod KeptComponents
+pub mod Lines
+pub mod Lookups
+pub mod WholePaths
