@@ -7,7 +7,7 @@ use Rattle.gimli_index.specs.Found.{IsIndexAppended, texts_of}
 use Rattle.gimli_lookup.specs.Section.{KeptUnit}
 use Rattle.lines_inputs.specs.Lookups.{AreUnitsIn}
 use Rattle.lines_inputs.specs.declared.input.Input.{Input}
-use Rattle.rows_reading.specs.OrderAndSize.{size_number}
+use Rattle.line_text.specs.OrderAndSize.{size_number}
 
 -- bytes are an index with this name, which says of each address what is found there: by the rows of
 -- the units, and by whole paths, of the texts and the directories of compilations that are read

@@ -8,7 +8,7 @@ use Rattle.gimli_lookup.specs.SectionUnits.{AreUnitsOf}
 use Rattle.lines_inputs.specs.declared.input.Input.{Input}
 use Rattle.lines_inputs.specs.declared.lookup.Covering.{Covering}
 use Rattle.lines_inputs.specs.declared.lookup.Covering.TheVariants.{Kept, Found}
-use Rattle.rows_reading.specs.OrderAndSize.{size_number}
+use Rattle.line_text.specs.OrderAndSize.{size_number}
 
 -- these are the units of the line programs that are read, and what is kept of each
 abbrev pub AreUnitsIn : {R : Type 0} → (R → List ℕ) → (R → Bool) → ℕ → Input R → List KeptUnit

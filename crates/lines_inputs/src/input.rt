@@ -4,7 +4,7 @@ use gimli_compilation::CompilationSections;
 use gimli_core::{Reader, ReaderOffset, Section};
 use gimli_line::DebugLine;
 use gimli_lookup::StringSections;
-use rows_reading::AddressSize;
+use line_text::AddressSize;
 
 /// Why an object file is refused by a command that needs addresses.
 pub const NOT_LINKED: &str = "an object file, whose addresses are not known before it is \

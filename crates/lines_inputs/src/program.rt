@@ -14,7 +14,7 @@ use gimli_core::{EndianSlice, Endianity, Section};
 use gimli_line::DebugLine;
 use gimli_lookup::StringSections;
 use lines_words::{Files, Kind, Notation};
-use rows_reading::Slice;
+use line_text::Slice;
 use std::alloc::Global;
 
 /// The sections of a program that commands read, and how they are read. An [`Input`] borrows from

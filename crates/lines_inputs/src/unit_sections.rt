@@ -8,7 +8,7 @@ use gimli_compilation::CompilationSections;
 use gimli_core::{EndianSlice, RunTimeEndian};
 use gimli_lookup::StringSections;
 use lines_words::UnitFiles;
-use rows_reading::Slice;
+use line_text::Slice;
 
 /// The bytes of the sections of units, beside those of texts.
 #[derive(Drop)]

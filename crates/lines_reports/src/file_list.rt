@@ -5,7 +5,7 @@ use gimli_line::{FileEntry, IncompleteLineProgram, LineProgramHeader};
 use gimli_lookup::{PathError, StringSections};
 use lines_inputs::{Output, PathSources, PathText, RowTotal};
 use lines_words::path_fields;
-use rows_reading::Digits;
+use line_text::Digits;
 use std::alloc::Global;
 use std::fmt;
 use std::io::Write;

@@ -1,6 +1,6 @@
 -- What words say: addresses, offsets, and lines of paths.
 use Rattle.std.specs.Prelude.{◌≡◌, ◌≢◌, ◌++◌, ◌⊎◌, ℕ, List, [], codes}
-use Rattle.rows_reading.specs.Digits.{NamesNumber}
+use Rattle.line_text.specs.Digits.{NamesNumber}
 
 -- the word is 0x or 0X, and then these bytes
 abbrev pub HasPrefix : List ℕ → List ℕ → Type 0

@@ -1,6 +1,6 @@
 //! Texts and paths in JSON (RFC 8259).
 
-use rows_reading::Digits;
+use line_text::Digits;
 use std::alloc::{AllocError, Global};
 use std::fmt;
 

@@ -1,7 +1,7 @@
 //! How files are read, and their bytes.
 
 use gimli_core::RunTimeEndian;
-use rows_reading::AddressSize;
+use line_text::AddressSize;
 
 /// How the bytes of a file are read.
 #[derive(Clone, Copy, Debug, PartialEq, Eq)]

@@ -5,7 +5,7 @@ ghost use Rattle.lines_words.specs.Words.{HasPrefix, NamesAddress, NamesOffset};
 ghost use Rattle.lines_words.specs.Words.{NamesPlace, NamesTarget};
 
 use crate::request::CodeAddress;
-use rows_reading::parse_digits;
+use line_text::parse_digits;
 
 /// An address in hexadecimal digits of either case, with or without `0x`. None for another word,
 /// and for one that doesn't fit 64 bits.

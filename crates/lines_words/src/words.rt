@@ -19,7 +19,7 @@ use crate::request::{
 };
 use clap::error::ErrorKind;
 use clap::{ArgMatches, Error};
-use rows_reading::{AddressSize, parse_digits, parse_order, parse_size};
+use line_text::{AddressSize, parse_digits, parse_order, parse_size};
 use std::alloc::{AllocError, Global};
 
 /// How many lines the command `source` prints before a place and after it, where nothing is said.

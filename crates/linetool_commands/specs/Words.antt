@@ -5,10 +5,10 @@ use Rattle.std.specs.List.{list_any}
 use Rattle.std.specs.Str.Parse.{IsNumeral, digits_value}
 use Rattle.gimli_core.specs.declared.endianity.RunTimeEndian.{RunTimeEndian}
 use Rattle.gimli_core.specs.declared.endianity.RunTimeEndian.TheVariants.{Little, Big}
-use Rattle.rows_reading.specs.declared.order_and_size.AddressSize.{AddressSize}
-use Rattle.rows_reading.specs.declared.order_and_size.AddressSize.TheVariants.{One, Two, Four}
-use Rattle.rows_reading.specs.declared.order_and_size.AddressSize.TheVariants.{Eight}
-use Rattle.rows_reading.specs.declared.request.UnitLocation.{UnitLocation}
+use Rattle.line_text.specs.declared.order_and_size.AddressSize.{AddressSize}
+use Rattle.line_text.specs.declared.order_and_size.AddressSize.TheVariants.{One, Two, Four}
+use Rattle.line_text.specs.declared.order_and_size.AddressSize.TheVariants.{Eight}
+use Rattle.line_text.specs.declared.unit_location.UnitLocation.{UnitLocation}
 use Rattle.linetool_commands.specs.declared.words.Numbers.{Numbers}
 use Rattle.linetool_commands.specs.declared.words.Query.{Query}
 use Rattle.linetool_commands.specs.declared.words.Command.{Command}

@@ -14,7 +14,7 @@ use crate::units::print_units;
 use crate::words::Command;
 use gimli_core::Reader;
 use gimli_line::{CompleteLineProgram, IncompleteLineProgram, LineSequence};
-use rows_reading::{SequenceLine, UnitLocation};
+use line_text::{SequenceLine, UnitLocation};
 use std::alloc::Global;
 use std::io::{Read, Write};
 

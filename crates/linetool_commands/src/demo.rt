@@ -14,7 +14,7 @@ use gimli_write::{
     Address, DebugLine, EndianVec, Error, LineProgram, LineString, LineStringTable, PieceVec,
     StringTable, Writer,
 };
-use rows_reading::{AddressSize, UnitLocation, print_bytes};
+use line_text::{AddressSize, UnitLocation, print_bytes};
 use std::alloc::Global;
 use std::io::Write;
 

@@ -5,7 +5,7 @@ ghost use Rattle.std.specs.Prelude.{◌≡◌, IfErr};
 use crate::refusal::Refusal;
 use gimli_core::Reader;
 use gimli_line::{IncompleteLineProgram, LineProgram, LineRow, LineRows};
-use rows_reading::RowLine;
+use line_text::RowLine;
 use std::fmt;
 use std::io::Write;
 

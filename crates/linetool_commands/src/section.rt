@@ -5,7 +5,7 @@ ghost use Rattle.std.specs.Prelude.{◌≡◌, Err, IsNone};
 use crate::refusal::Refusal;
 use gimli_core::{DebugLineOffset, EndianSlice, Reader, RunTimeEndian};
 use gimli_line::{DebugLine, IncompleteLineProgram};
-use rows_reading::{AddressSize, UnitLocation};
+use line_text::{AddressSize, UnitLocation};
 use std::alloc::Global;
 use std::io::Read;
 

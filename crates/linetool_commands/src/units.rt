@@ -10,7 +10,7 @@ use crate::section::read_section;
 use crate::words::Numbers;
 use gimli_core::{Reader, ReaderOffset};
 use gimli_line::{DebugLine, LineUnit, LineUnits};
-use rows_reading::ShortLine;
+use line_text::ShortLine;
 use std::alloc::Global;
 use std::io::{Read, Write};
 

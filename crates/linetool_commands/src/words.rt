@@ -6,7 +6,7 @@ ghost use Rattle.std.specs.List.{list_any};
 ghost use Rattle.linetool_commands.specs.Words.{is_capital, NamesAddress, NamesLocation};
 
 use gimli_core::RunTimeEndian;
-use rows_reading::{AddressSize, UnitLocation, parse_digits, parse_order, parse_size};
+use line_text::{AddressSize, UnitLocation, parse_digits, parse_order, parse_size};
 
 /// A command, with what its words say.
 #[derive(Clone, Copy, Debug, PartialEq, Eq)]

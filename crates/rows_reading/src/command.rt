@@ -6,11 +6,12 @@ ghost use Rattle.rows_reading.specs.declared.stop.Stop.TheVariants.{Bad};
 use crate::header_text::print_header;
 use crate::instruction_text::print_instructions;
 use crate::lines::Lines;
-use crate::request::{Handed, Request, UnitLocation};
+use crate::request::{Handed, Request, parse_location};
 use crate::stop::{Attempts, Stop};
-use crate::value_text::{Lender, Slice};
+use crate::value_text::Lender;
 use gimli_core::{DebugLineOffset, EndianSlice, Error};
 use gimli_line::{DebugLine, IncompleteLineProgram};
+use line_text::{Slice, UnitLocation};
 use std::alloc::Global;
 
 /// What is printed of a unit.
@@ -36,7 +37,7 @@ pub fn print_unit(
     let [order, size, offset, words @ ..] = request.words else {
         return Err(Stop::Bad);
     };
-    let location = UnitLocation::parse(order, size, offset)?;
+    let location = parse_location(order, size, offset)?;
     let handed = match (part, words) {
         (Part::Header, [directory, name]) => Handed::parse(request.alloc, directory, name)?,
         (Part::Instructions, []) => Handed::nothing(),

@@ -2,13 +2,13 @@
 
 use crate::lines::Lines;
 use crate::numbers::parse_number;
-use crate::request::{Request, UnitLocation};
-use crate::row_line::RowLine;
+use crate::request::{Request, parse_location};
 use crate::stop::Stop;
-use crate::value_text::{ErrorText, Optional, Slice};
+use crate::value_text::{ErrorText, Optional};
 use gimli_core::{Reader, ReaderOffset};
 use gimli_line::DebugLine;
 use gimli_lookup::{SectionLookup, UnitLookup};
+use line_text::{RowLine, Slice, UnitLocation};
 use std::alloc::Global;
 
 /// Prints the units of a section, and for each address the rows that cover it. The words are the
@@ -21,7 +21,7 @@ pub fn places(request: Request<'_>, section: &[u8], out: &mut Vec<u8>) -> Result
     for word in words {
         addresses.push(parse_number(word)?)?;
     }
-    let location = UnitLocation::parse(order, size, "0")?;
+    let location = parse_location(order, size, "0")?;
     let lookup = lookup_over(request.alloc, location, parse_number(lowest)?, section)?;
     let mut lines = Lines::new(out);
     print_places(&lookup, &addresses, &mut lines);

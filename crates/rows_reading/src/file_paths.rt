@@ -2,12 +2,12 @@
 
 use crate::command::Unit;
 use crate::lines::Lines;
-use crate::print::Text;
-use crate::request::{Handed, Request, Sections, UnitLocation};
+use crate::request::{Handed, Request, Sections, parse_location};
 use crate::stop::{Attempts, Stop};
 use gimli_core::{Error, Reader};
 use gimli_line::LineProgramHeader;
 use gimli_lookup::{PathError, Paths, StringSections};
+use line_text::Text;
 use std::alloc::Global;
 
 /// Prints the whole path of each file of a unit, or why it isn't known. The words are the order of
@@ -17,7 +17,7 @@ pub fn paths(request: Request<'_>, sections: Sections<'_>, out: &mut Vec<u8>) ->
     let [order, size, offset, directory, comp_dir] = request.words else {
         return Err(Stop::Bad);
     };
-    let location = UnitLocation::parse(order, size, offset)?;
+    let location = parse_location(order, size, offset)?;
     let Handed { directory, name } = Handed::parse(request.alloc, directory, comp_dir)?;
     let handed = Handed {
         directory,

@@ -1,11 +1,10 @@
 //! A header, a line for each part.
 
 use crate::lines::Lines;
-use crate::print::Digits;
-use crate::row_line::Words;
 use crate::value_text::{FileLine, Held, Lender, Optional, Value};
 use gimli_core::Format;
 use gimli_line::{FileEntry, FileEntryFormat, LineProgramHeader};
+use line_text::{Digits, Words};
 
 /// Prints a header.
 pub fn print_header<R: Lender>(header: &LineProgramHeader<R>, lines: &mut Lines<'_>) {

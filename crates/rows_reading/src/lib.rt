@@ -6,18 +6,13 @@
 mod bytes;
 mod command;
 mod covering_rows;
-mod digits;
 mod file_paths;
 mod header_text;
 mod instruction_text;
 mod line_addresses;
 mod lines;
 mod numbers;
-mod order_and_size;
-mod print;
 mod request;
-mod row_line;
-mod short_line;
 mod stop;
 mod unit_walk;
 mod value_text;
@@ -25,16 +20,15 @@ mod value_text;
 pub use bytes::{parse_optional, parse_text, push_bytes};
 pub use command::{Part, Unit, print_unit};
 pub use covering_rows::places;
-pub use digits::parse_digits;
 pub use file_paths::paths;
 pub use line_addresses::addresses;
+pub use line_text::{
+    AddressSize, BytesLine, Digits, RowLine, Slice, Text, UnitLocation, Words, parse_order,
+    parse_size, print_bytes,
+};
 pub use lines::Lines;
 pub use numbers::{parse_number, parse_signed, parse_wide};
-pub use order_and_size::{AddressSize, parse_order, parse_size};
-pub use print::{BytesLine, Digits, Text, print_bytes};
-pub use request::{Handed, Request, Sections, UnitLocation};
-pub use row_line::{RowLine, SequenceLine, Words};
-pub use short_line::ShortLine;
+pub use request::{Handed, Request, Sections, parse_location};
 pub use stop::{Attempts, Stop};
 pub use unit_walk::walk;
-pub use value_text::{ErrorText, FileLine, Optional, Slice};
+pub use value_text::{ErrorText, FileLine, Optional};

@@ -4,7 +4,7 @@ use crate::bytes::parse_text;
 use crate::covering_rows::lookup_over;
 use crate::lines::Lines;
 use crate::numbers::parse_number;
-use crate::request::{Request, Sections, UnitLocation};
+use crate::request::{Request, Sections, parse_location};
 use crate::stop::Stop;
 
 /// Prints the addresses at which the code of a line begins, or of the next line that has any. The
@@ -18,7 +18,7 @@ pub fn addresses(
     let [order, size, lowest, path, line] = request.words else {
         return Err(Stop::Bad);
     };
-    let location = UnitLocation::parse(order, size, "0")?;
+    let location = parse_location(order, size, "0")?;
     let line = parse_number(line)?;
     let lowest = parse_number(lowest)?;
     let path = parse_text(request.alloc, path)?;

@@ -1,9 +1,9 @@
 //! Lines that are printed one after another.
 
-use crate::print::BytesLine;
 use crate::stop::Stop;
 use crate::value_text::{ErrorText, Held};
 use gimli_core::Error;
+use line_text::BytesLine;
 use std::fmt;
 use std::io::Write;
 

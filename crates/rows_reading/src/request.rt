@@ -2,11 +2,10 @@
 
 use crate::bytes::parse_optional;
 use crate::numbers::parse_number;
-use crate::order_and_size::{AddressSize, parse_order, parse_size};
 use crate::stop::{Attempts, Stop};
-use crate::value_text::Slice;
 use gimli_core::{EndianSlice, RunTimeEndian};
 use gimli_lookup::StringSections;
+use line_text::{Slice, UnitLocation, parse_order, parse_size};
 use std::alloc::Global;
 
 /// A command that is asked for.
@@ -20,28 +19,15 @@ pub struct Request<'w> {
     pub attempts: Attempts,
 }
 
-/// Where a unit stands in a section, and how its numbers are read.
-#[derive(Clone, Copy, Debug, PartialEq, Eq)]
-pub struct UnitLocation {
-    /// The order of bytes.
-    pub order: RunTimeEndian,
-    /// How wide an address is.
-    pub address_size: AddressSize,
-    /// The offset of the unit in the section.
-    pub offset: usize,
-}
-
-impl UnitLocation {
-    /// The location that three words name.
-    pub fn parse(order: &str, size: &str, offset: &str) -> Result<UnitLocation, Stop> {
-        match (parse_order(order), parse_size(size), parse_number(offset)) {
-            (Some(order), Some(address_size), Ok(offset)) => Ok(UnitLocation {
-                order,
-                address_size,
-                offset: offset as usize,
-            }),
-            _ => Err(Stop::Bad),
-        }
+/// The location that three words name.
+pub fn parse_location(order: &str, size: &str, offset: &str) -> Result<UnitLocation, Stop> {
+    match (parse_order(order), parse_size(size), parse_number(offset)) {
+        (Some(order), Some(address_size), Ok(offset)) => Ok(UnitLocation {
+            order,
+            address_size,
+            offset: offset as usize,
+        }),
+        _ => Err(Stop::Bad),
     }
 }
 

@@ -1,7 +1,7 @@
 //! The units of a section, one after the other.
 
 use crate::lines::Lines;
-use crate::request::{Request, UnitLocation};
+use crate::request::{Request, parse_location};
 use crate::stop::Stop;
 use crate::value_text::ErrorText;
 use gimli_core::{Reader, ReaderOffset};
@@ -12,7 +12,7 @@ pub fn walk(request: Request<'_>, section: &[u8], out: &mut Vec<u8>) -> Result<(
     let [order, size] = request.words else {
         return Err(Stop::Bad);
     };
-    let location = UnitLocation::parse(order, size, "0")?;
+    let location = parse_location(order, size, "0")?;
     let section = DebugLine::new(section, location.order);
     let units = section.units(request.alloc, location.address_size.bytes());
     let mut lines = Lines::new(out);

@@ -1,11 +1,8 @@
 //! Values of forms, files and refusals, as text.
 
-use crate::print::Digits;
-use gimli_core::{AttributeValue, EndianSlice, Error, Reader, ReaderOffset, RunTimeEndian};
+use gimli_core::{AttributeValue, Error, Reader, ReaderOffset};
+use line_text::{Digits, Slice};
 use std::fmt;
-
-/// The reader of a section.
-pub type Slice<'i> = EndianSlice<'i, RunTimeEndian>;
 
 /// A reader that lends the bytes left.
 pub trait Lender: Reader {

@@ -7,7 +7,7 @@ use crate::conversion::Conversion;
 use crate::reading::Kind;
 use crate::target::Target;
 use gimli_core::EndianSlice;
-use rows_reading::{Handed, Lines, Request, Sections, Stop, Unit, UnitLocation, parse_optional};
+use rows_reading::{Handed, Lines, Request, Sections, Stop, Unit, parse_location, parse_optional};
 
 /// Prints what a conversion reads, by items or by sequences, and after items what is built of them.
 /// The words are the order of bytes, the size of an address, the offset of the unit, the directory
@@ -24,7 +24,7 @@ pub fn convert(
     let [order, size, offset, directory, name, unit_name, target] = request.words else {
         return Err(Stop::Bad);
     };
-    let location = UnitLocation::parse(order, size, offset)?;
+    let location = parse_location(order, size, offset)?;
     let target = Target::parse(request.alloc, target)?;
     let handed = Handed::parse(request.alloc, directory, name)?;
     let name = parse_optional(request.alloc, unit_name)?;

@@ -1,11 +1,11 @@
 //! The commands of the program `lines` that make an index or ask one.
 
 use crate::lines::part_of;
+use line_text::BytesLine;
 use lines_commands::{
     Command, Files, IndexFiles, LineNames, MadeIndex, Request, Screen, SymbolFiles, UnitFiles,
     make_index, program_identity, run_ask, run_ask_lines,
 };
-use rows_reading::BytesLine;
 use std::alloc::{AllocError, Global};
 use std::io;
 use std::io::Write;

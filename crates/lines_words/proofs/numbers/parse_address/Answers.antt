@@ -1,5 +1,5 @@
 use Rattle.std.proofs.Common.{sym, subst, ⊎_elim}
-use Rattle.rows_reading.specs.Digits.{NamesNumber}
+use Rattle.line_text.specs.Digits.{NamesNumber}
 use Rattle.lines_words.proofs.numbers.parse_address.Goals as goal
 
 pub returns-in-None-clause-only : goal.returns-in-None-clause-only

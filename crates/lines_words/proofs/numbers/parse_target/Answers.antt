@@ -1,7 +1,7 @@
 use Rattle.std.proofs.Common.{rules, arith, ◌≡◌, ◌++◌, ℕ, List, Some, None, IsNone, [], ◌∷◌, refl, sym, ap, ◌∙◌, subst}
 use mathlib.Core.Bool.{true≢false}
 use Rattle.std.specs.Str.Parse.{digits_value}
-use Rattle.rows_reading.specs.Digits.{NamesNumber}
+use Rattle.line_text.specs.Digits.{NamesNumber}
 use Rattle.lines_words.specs.Words.{NamesTarget}
 use Rattle.lines_words.proofs.Separators.{HasNo, last_parts, digits_no, has_one, same_parts}
 use Rattle.lines_words.proofs.numbers.parse_target.Goals as goal

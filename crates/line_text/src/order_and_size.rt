@@ -15,7 +15,7 @@ pub enum AddressSize {
 }
 
 impl AddressSize {
-    ghost use Rattle.rows_reading.specs.OrderAndSize.{size_number};
+    ghost use Rattle.line_text.specs.OrderAndSize.{size_number};
 
     /// The number of bytes.
     pub fn bytes(self) -> u8

@@ -1,7 +1,7 @@
 //! Numbers in digits alone.
 
 ghost use Rattle.std.specs.Prelude.{◌≡◌, ◌≤◌, ℕ, IfSome, Some};
-ghost use Rattle.rows_reading.specs.Digits.{NamesNumber};
+ghost use Rattle.line_text.specs.Digits.{NamesNumber};
 
 /// A number in digits alone. None for another word, and for one that doesn't fit 64 bits.
 pub fn parse_digits(digits: &str, radix: u32) -> Option<u64>

@@ -2,7 +2,7 @@ use Rattle.std.proofs.Common.{length, drop, ap, arith}
 use Rattle.std.specs.Fmt.{decimal}
 use Rattle.std.proofs.lemmas.Fmt.{length-decimal-le}
 use Rattle.std.proofs.lemmas.List.{length-append, length-drop}
-use Rattle.rows_reading.proofs.short_line.ShortLine.prepend_number.Goals as goal
+use Rattle.line_text.proofs.short_line.ShortLine.prepend_number.Goals as goal
 
 -- A number below 2^64 has twenty digits at most, and the line leaves room for as many.
 pub write_digits-self-inside-requires : goal.write_digits-self-inside-requires

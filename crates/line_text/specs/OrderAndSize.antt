@@ -1,8 +1,8 @@
 -- The numbers of a section: the order of their bytes, and the size of an address.
 use Rattle.std.specs.Prelude.{ℕ}
-use Rattle.rows_reading.specs.declared.order_and_size.AddressSize.{AddressSize}
-use Rattle.rows_reading.specs.declared.order_and_size.AddressSize.TheVariants.{One, Two, Four}
-use Rattle.rows_reading.specs.declared.order_and_size.AddressSize.TheVariants.{Eight}
+use Rattle.line_text.specs.declared.order_and_size.AddressSize.{AddressSize}
+use Rattle.line_text.specs.declared.order_and_size.AddressSize.TheVariants.{One, Two, Four}
+use Rattle.line_text.specs.declared.order_and_size.AddressSize.TheVariants.{Eight}
 
 -- the number of bytes of a size
 abbrev pub size_number : AddressSize → ℕ
