@@ -1,20 +1,30 @@
-//! The commands of `lines` that tell where code comes from, and where that of a line is.
+//! The commands of `lines` that tell where code comes from: `where`, `at`, `source`, and `index`,
+//! whose file `where` asks too.
 #![tactic(auto)]
 
 mod addresses;
+mod asked;
 mod index_fault;
+mod index_files;
 mod index_places;
 mod line_answers;
 mod locate;
 mod made_index;
 mod opened_index;
-mod pretty;
+mod path_files;
+mod place_printer;
 mod source;
 mod source_list;
 
 pub use addresses::print_addresses;
-pub use index_places::run_ask;
-pub use line_answers::run_ask_lines;
-pub use locate::{print_places, print_places_in_sections};
-pub use made_index::{make_index, program_identity};
-pub use source::print_source;
+pub use asked::{Asked, asked_by};
+pub use index_fault::IndexFault;
+pub use index_files::{IndexFiles, MadeIndex};
+pub use index_places::IndexPlaces;
+pub use line_answers::LineAnswers;
+pub use locate::{Answered, Places, SourcePlace, print_below};
+pub use made_index::{index_of_program, program_identity};
+pub use opened_index::open_index;
+pub use place_printer::PlacePrinter;
+pub use source::{SourceRow, SourceRows};
+pub use source_list::print_lines;

@@ -1,49 +1,15 @@
 //! The command `index`: the index of a program's lines, as bytes.
 
-ghost use Rattle.std.specs.Prelude.{◌≡◌, ◌≤◌, IfOk, IfSome};
+ghost use Rattle.std.specs.Prelude.{◌≡◌, IfOk, IfSome};
 ghost use Rattle.lines_answers.specs.MadeIndexes.{IsMade};
 
 use crate::opened_index::identity_of;
 use elf_sections::{Elf, ElfError};
 use gimli_core::Reader;
 use gimli_index::{MakeError, write_index};
-use lines_inputs::{
-    Input, InputError, MadeIndex, NOT_LINKED, Output, Program, look_up, path_sources,
-};
-use lines_words::{Files, Kind, Screen};
-use std::alloc::Global;
-use std::io;
-use std::io::Write;
-
-/// Makes the index of a program, which is named so in messages. It is named by the build id where
-/// there is one, or else by the SHA-256 of the line programs. A fault of a unit is reported; what
-/// stands before it is in the index all the same. Fails where memory is missing.
-pub fn make_index<E: Write>(
-    alloc: Global,
-    screen: Screen,
-    name: &str,
-    kind: Kind,
-    files: Files<'_>,
-    build_id: Option<&[u8]>,
-    err: &mut E,
-) -> io::Result<MadeIndex>
-    ensures { IfOk result (λ made. made.status ≤ 1) }
-{
-    let mut out = Vec::new(alloc);
-    let mut output = Output::new(name, screen, &mut out, err);
-    let bytes = match Program::new(alloc, kind, files) {
-        Ok(program) => {
-            let build_id = own_build_id(kind, files, build_id);
-            index_of_program(alloc, &program, build_id, &mut output)
-        }
-        Err(refusal) => {
-            output.tell_refusal(refusal);
-            None
-        }
-    };
-    let status = output.finish()?;
-    Ok(MadeIndex { bytes, status })
-}
+use lines_inputs::{Input, InputError, NOT_LINKED, PathSources, Program, look_up};
+use lines_words::{Files, Kind, Output};
+use std::alloc::{AllocError, Global};
 
 /// What names a program in its index: the build id that is told or that it has, or else the SHA-256
 /// of its line programs. Refused as `InputError` says.
@@ -89,39 +55,39 @@ fn own_build_id<'i>(kind: Kind, files: Files<'i>, build_id: Option<&'i [u8]>) ->
     }
 }
 
-/// The bytes of the index of a program. None where there is none, which is reported.
-fn index_of_program<O: Write, E: Write>(
+/// The bytes of the index of a program, which is named by the build id where there is one, or else
+/// by the SHA-256 of the line programs. None where there is none, which is reported. A fault of a
+/// unit is reported; what stands before it is in the index all the same.
+pub fn index_of_program(
     alloc: Global,
     program: &Program<'_>,
+    kind: Kind,
+    files: Files<'_>,
     build_id: Option<&[u8]>,
-    output: &mut Output<'_, O, E>,
-) -> Option<Vec<u8>> {
+    output: &mut Output<'_>,
+) -> Result<Option<Vec<u8>>, AllocError> {
     let input = program.input();
     if !input.is_linked {
         output.tell(NOT_LINKED);
-        return None;
+        return Ok(None);
     }
-    match identity_of(alloc, build_id, program.lines()) {
-        Ok(identity) => index_of_input(alloc, &input, &identity, output),
-        Err(_) => {
-            output.fail_for_memory();
-            None
-        }
-    }
+    let build_id = own_build_id(kind, files, build_id);
+    let identity = identity_of(alloc, build_id, program.lines())?;
+    index_of_input(alloc, &input, &identity, output)
 }
 
 /// The bytes of the index of what is read. None where there is none, which is reported.
-fn index_of_input<R: Reader, O: Write, E: Write>(
+fn index_of_input<R: Reader>(
     alloc: Global,
     input: &Input<R>,
     identity: &[u8],
-    output: &mut Output<'_, O, E>,
-) -> Option<Vec<u8>>
-    ensures { IfSome result (λ made.
-        IsMade R.bytes R.big R.Offset.limit input.now identity.now made.items) }
+    output: &mut Output<'_>,
+) -> Result<Option<Vec<u8>>, AllocError>
+    ensures { IfOk result (λ made. IfSome made (λ made.
+        IsMade R.bytes R.big R.Offset.limit input.now identity.now made.items)) }
 {
     let lookup = look_up(alloc, input, output)?;
-    let sources = path_sources(alloc, input, output)?;
+    let sources = PathSources::new(alloc, input)?;
     let mut bytes = Vec::new(alloc);
     let size = u16::from(input.address_size.bytes());
     let strings = sources.strings();
@@ -135,14 +101,11 @@ fn index_of_input<R: Reader, O: Write, E: Write>(
         identity,
         &mut bytes,
     ) {
-        Ok(()) => Some(bytes),
-        Err(MakeError::OutOfMemory) => {
-            output.fail_for_memory();
-            None
-        }
+        Ok(()) => Ok(Some(bytes)),
+        Err(MakeError::OutOfMemory) => Err(AllocError),
         Err(refusal) => {
             output.tell(refusal);
-            None
+            Ok(None)
         }
     }
 }

@@ -15,7 +15,7 @@ use std::alloc::{AllocError, Global};
 
 /// What names a program in its index: its build id, or where it has none, the SHA-256 of its line
 /// programs.
-pub fn identity_of(
+pub(crate) fn identity_of(
     alloc: Global,
     build_id: Option<&[u8]>,
     lines: &[u8],

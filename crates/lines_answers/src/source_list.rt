@@ -1,13 +1,11 @@
 //! How lines of source are printed, with the addresses of their code.
 
 use crate::source::SourceRow;
-use lines_inputs::{Output, PathText};
 use lines_words::{
-    SourceChoice, SourceFiles, SourceText, Style, bytes_fields, line_at, lines_of, path_fields,
+    JsonField, Output, PathText, SourceChoice, SourcePlace, SourceText, Style, line_at, lines_of,
 };
 use std::alloc::{AllocError, Global};
 use std::fmt;
-use std::io::Write;
 
 /// The first line of several, and the last.
 #[derive(Clone, Copy)]
@@ -18,31 +16,26 @@ struct LineRange {
 
 /// Prints the lines of a file about one that is asked for, or else about its rows. Where the file
 /// can't be read, that is said, and the lines are printed without their texts.
-pub fn print_lines<S: SourceFiles, O: Write, E: Write>(
+pub fn print_lines(
     alloc: Global,
     path: &[u8],
-    asked: Option<u64>,
+    file: Option<Vec<u8>>,
     rows: &[SourceRow],
     choice: SourceChoice<'_>,
-    files: &S,
-    output: &mut Output<'_, O, E>,
-) {
-    let Ok(file) = files.source(alloc, path) else {
-        return output.fail_for_memory();
-    };
-    let Ok(ranges) = ranges_of(alloc, asked, rows, choice.context) else {
-        return output.fail_for_memory();
-    };
+    output: &mut Output<'_>,
+) -> Result<(), AllocError> {
     if file.is_none() {
         let path = PathText(path);
         output.note(format_args!("the source file {path} can't be read"));
     }
     let file = file.unwrap_or(Vec::new(alloc));
-    let Ok(lines) = lines_of(alloc, &file) else {
-        return output.fail_for_memory();
+    let lines = lines_of(alloc, &file)?;
+    let asked = match choice.place {
+        SourcePlace::Line { line, .. } => Some(line),
+        SourcePlace::Function(_) => None,
     };
+    let ranges = ranges_of(alloc, asked, rows, choice.context)?;
     let listing = SourceListing {
-        alloc,
         path,
         lines: &lines,
         asked,
@@ -50,6 +43,7 @@ pub fn print_lines<S: SourceFiles, O: Write, E: Write>(
         is_json: choice.is_json,
     };
     listing.print(&ranges, output);
+    Ok(())
 }
 
 /// The lines that are printed: so many before the asked one and after it, or before each row and
@@ -90,7 +84,6 @@ fn range_about(line: u64, context: u64) -> LineRange {
 /// Lines of a file, with their rows.
 #[derive(Clone, Copy)]
 struct SourceListing<'l> {
-    alloc: Global,
     path: &'l [u8],
     /// The lines of the file; none where it can't be read.
     lines: &'l [&'l [u8]],
@@ -103,7 +96,7 @@ struct SourceListing<'l> {
 
 impl<'l> SourceListing<'l> {
     /// Prints the lines of ranges.
-    fn print<O: Write, E: Write>(self, ranges: &[LineRange], output: &mut Output<'_, O, E>) {
+    fn print(self, ranges: &[LineRange], output: &mut Output<'_>) {
         if !self.is_json {
             let path = PathText(self.path);
             output.print_heading(path);
@@ -117,7 +110,7 @@ impl<'l> SourceListing<'l> {
     }
 
     /// Prints the lines of a range that have a text or rows, and the one that is asked for.
-    fn print_range<O: Write, E: Write>(self, range: LineRange, output: &mut Output<'_, O, E>) {
+    fn print_range(self, range: LineRange, output: &mut Output<'_>) {
         for line in range.first..=range.last {
             let text = line_at(self.lines, line);
             let rows = self.rows_of(line);
@@ -141,12 +134,12 @@ impl<'l> SourceListing<'l> {
     }
 
     /// Prints a line beside its first row, and the other rows below it.
-    fn print_line<O: Write, E: Write>(
+    fn print_line(
         self,
         line: u64,
         text: Option<&[u8]>,
         rows: &[SourceRow],
-        output: &mut Output<'_, O, E>,
+        output: &mut Output<'_>,
     ) {
         let is_asked = self.asked == Some(line);
         let mark = if is_asked { '>' } else { ' ' };
@@ -171,45 +164,43 @@ impl<'l> SourceListing<'l> {
     }
 
     /// Prints a line as a JSON object.
-    fn print_json<O: Write, E: Write>(
+    fn print_json(
         self,
         line: u64,
         text: Option<&[u8]>,
         rows: &[SourceRow],
-        output: &mut Output<'_, O, E>,
+        output: &mut Output<'_>,
     ) {
-        match self.json_of(line, text, rows) {
-            Ok(object) => output.print(object),
-            Err(_) => output.fail_for_memory(),
-        }
+        let path = JsonField::of_path(Some(self.path));
+        let text = JsonField {
+            name: "text",
+            bytes: text,
+        };
+        let rows = JsonRows(rows);
+        output.print(format_args!("{{{path},\"line\":{line},{text},\"rows\":[{rows}]}}"));
     }
+}
 
-    /// A line as a JSON object.
-    fn json_of(
-        self,
-        line: u64,
-        text: Option<&[u8]>,
-        rows: &[SourceRow],
-    ) -> Result<String, AllocError> {
-        let alloc = self.alloc;
-        let path = path_fields(alloc, Some(self.path))?;
-        let text = bytes_fields(alloc, "text", text)?;
-        let mut object = format!(in alloc; "{{{path},\"line\":{line},{text},\"rows\":[")?;
+/// Rows, as JSON objects.
+#[derive(Clone, Copy)]
+struct JsonRows<'l>(&'l [SourceRow]);
+
+impl fmt::Display for JsonRows<'_> {
+    fn fmt<W: fmt::Write>(&self, f: &mut fmt::Formatter<W>) -> fmt::Result {
         let mut before = "";
-        for row in rows {
+        for row in self.0 {
             let SourceRow {
                 address,
                 is_stmt,
                 ..
             } = row;
-            let row = format!(in alloc;
+            write!(
+                f,
                 "{before}{{\"address\":\"0x{address:x}\",\"is_stmt\":{is_stmt}}}"
             )?;
-            object.push_str(&row)?;
             before = ",";
         }
-        object.push_str("]}")?;
-        Ok(object)
+        Ok(())
     }
 }
 

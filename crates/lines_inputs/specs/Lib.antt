@@ -1,4 +1,3 @@
-pub mod KeptComponents
 pub mod Lines
 pub mod Lookups
 pub mod WholePaths

@@ -25,47 +25,12 @@ pub fn column_of(row: &LineRow) -> u64
     }
 }
 
-/// A column after its line, where one is shown.
-#[derive(Clone, Copy)]
-pub struct ShownColumn(pub Option<u64>);
-
-impl fmt::Display for ShownColumn {
-    fn fmt<W: fmt::Write>(&self, f: &mut fmt::Formatter<W>) -> fmt::Result {
-        match self.0 {
-            Some(column) => write!(f, ":{column}"),
-            None => Ok(()),
-        }
-    }
-}
-
-/// A share of a whole, in percent and as a bar.
-#[derive(Clone, Copy)]
-pub struct Percent(pub u64, pub u64);
-
-impl fmt::Display for Percent {
-    fn fmt<W: fmt::Write>(&self, f: &mut fmt::Formatter<W>) -> fmt::Result {
-        let whole = u128::from(self.1.max(1));
-        let tenths = u128::from(self.0) * 1000 / whole;
-        let percent = tenths / 10;
-        let tenth = tenths % 10;
-        write!(f, "{percent:>3}.{tenth}%")?;
-        let bar = tenths.min(1000) / 50;
-        if bar > 0 {
-            f.write_str("  ")?;
-        }
-        for _ in 0..bar {
-            f.write_char('#')?;
-        }
-        Ok(())
-    }
-}
-
 /// The flags of a row, as words in JSON.
 #[derive(Clone, Copy)]
 pub struct JsonFlags(pub LineRow);
 
-/// The flags of a row, as letters, each in a place of its own, with a stroke in place of each
-/// that doesn't hold.
+/// The flags of a row, as letters, each in a place of its own, with a stroke in place of each that
+/// doesn't hold.
 #[derive(Clone, Copy)]
 pub struct FlagLetters(pub LineRow);
 

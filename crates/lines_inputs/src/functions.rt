@@ -1,9 +1,8 @@
 //! The names of code, by the symbols of a program.
 
-use crate::path_text::PathText;
 use crate::section_source::SectionSource;
 use elf_sections::{CodeSymbol, ElfError, SectionBytes, SymbolTable};
-use lines_words::{SymbolFiles, name_field};
+use lines_words::{JsonText, PathText, SymbolFiles};
 use std::alloc::{AllocError, Global};
 use std::fmt;
 
@@ -15,14 +14,14 @@ const CHOOSING: u8 = 10;
 
 /// The sections of symbols.
 #[derive(Drop)]
-pub struct SymbolSections<'i> {
+pub(crate) struct SymbolSections<'i> {
     symbols: SectionBytes<'i>,
     names: SectionBytes<'i>,
 }
 
 impl<'i> SymbolSections<'i> {
     /// Those of these bytes.
-    pub fn lent(files: SymbolFiles<'i>) -> SymbolSections<'i> {
+    pub(crate) fn lent(files: SymbolFiles<'i>) -> SymbolSections<'i> {
         SymbolSections {
             symbols: SectionBytes::Lent(files.symbols),
             names: SectionBytes::Lent(files.names),
@@ -31,7 +30,7 @@ impl<'i> SymbolSections<'i> {
 
     /// Those of an ELF file: all symbols, or else those for linking when it runs. One that is
     /// missing or can't be read counts as empty. Fails only with `OutOfMemory`.
-    pub fn of_elf(source: SectionSource<'i>) -> Result<SymbolSections<'i>, ElfError> {
+    pub(crate) fn of_elf(source: SectionSource<'i>) -> Result<SymbolSections<'i>, ElfError> {
         let symbols = source.readable(b".symtab")?;
         if symbols.as_slice().is_empty() {
             return Ok(SymbolSections {
@@ -44,7 +43,7 @@ impl<'i> SymbolSections<'i> {
     }
 
     /// The symbols.
-    pub fn table(&self, is_big_endian: bool, address_size: u8) -> SymbolTable<'_> {
+    pub(crate) fn table(&self, is_big_endian: bool, address_size: u8) -> SymbolTable<'_> {
         SymbolTable::new(
             is_big_endian,
             address_size,
@@ -144,18 +143,10 @@ fn is_function(symbol: CodeSymbol, section: Option<u16>) -> bool {
 /// The name of a function before its place, where names are shown.
 #[derive(Clone, Copy)]
 pub struct ShownFunction<'n> {
+    /// Whether names are shown.
     pub is_shown: bool,
+    /// The name, where it is known.
     pub name: Option<&'n [u8]>,
-}
-
-impl ShownFunction<'_> {
-    /// The field of a JSON object, with a comma before it; nothing where names aren't shown.
-    pub fn json(self, alloc: Global) -> Result<String, AllocError> {
-        if !self.is_shown {
-            return Ok(String::new(alloc));
-        }
-        name_field(alloc, self.name)
-    }
 }
 
 impl fmt::Display for ShownFunction<'_> {
@@ -165,5 +156,25 @@ impl fmt::Display for ShownFunction<'_> {
         }
         let name = PathText(self.name.unwrap_or(b"??"));
         write!(f, "{name} at ")
+    }
+}
+
+/// The name of a function as a field of a JSON object, with a comma before it; nothing where names
+/// aren't shown.
+#[derive(Clone, Copy)]
+pub struct JsonFunction<'n>(pub ShownFunction<'n>);
+
+impl fmt::Display for JsonFunction<'_> {
+    fn fmt<W: fmt::Write>(&self, f: &mut fmt::Formatter<W>) -> fmt::Result {
+        if !self.0.is_shown {
+            return Ok(());
+        }
+        match self.0.name {
+            Some(name) => {
+                let name = JsonText(name);
+                write!(f, ",\"function\":{name}")
+            }
+            None => f.write_str(",\"function\":null"),
+        }
     }
 }

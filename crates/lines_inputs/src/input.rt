@@ -7,8 +7,8 @@ use gimli_lookup::StringSections;
 use line_text::AddressSize;
 
 /// Why an object file is refused by a command that needs addresses.
-pub const NOT_LINKED: &str = "an object file, whose addresses are not known before it is \
-    linked; the command where takes a section and an offset in it";
+pub const NOT_LINKED: &str = "an object file, whose addresses are not known before it is linked; \
+    the command where takes a section and an offset in it";
 
 /// The sections of a program that a command reads.
 #[derive(Clone, Copy)]

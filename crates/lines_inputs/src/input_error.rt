@@ -1,6 +1,8 @@
 //! Why a file has no line programs that can be read, and what to do.
 
 use elf_sections::ElfError;
+use lines_words::Output;
+use std::alloc::AllocError;
 use std::fmt;
 
 /// Why the sections of a file can't be read.
@@ -52,5 +54,16 @@ impl fmt::Display for InputError {
 impl From<ElfError> for InputError {
     fn from(error: ElfError) -> InputError {
         InputError::Elf(error)
+    }
+}
+
+/// Reports why sections can't be read. Missing memory is no fault of them.
+pub fn tell_refusal(refusal: InputError, output: &mut Output<'_>) -> Result<(), AllocError> {
+    match refusal {
+        InputError::Elf(ElfError::OutOfMemory) => Err(AllocError),
+        refusal => {
+            output.tell(refusal);
+            Ok(())
+        }
     }
 }

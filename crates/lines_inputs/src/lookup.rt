@@ -1,15 +1,13 @@
 //! The rows of all units of a section, for the commands that look among them.
 
-ghost use Rattle.std.specs.Prelude.{ℕ, All, IfSome};
+ghost use Rattle.std.specs.Prelude.{◌≡◌, ℕ, All, IfOk, IfSome, None};
 ghost use Rattle.lines_inputs.specs.Lookups.{AreUnitsIn, IsReadFrom, Knows};
 
 use crate::input::Input;
-use crate::output::Output;
-use crate::progress::{Printing, Progress};
 use gimli_core::{Reader, ReaderOffset};
 use gimli_lookup::{CoveringRows, FoundRows, SectionLookup, UnitLookup, find_in_section};
-use std::alloc::Global;
-use std::io::Write;
+use lines_words::Output;
+use std::alloc::{AllocError, Global};
 
 /// Up to how many addresses are found in one run over the section, which keeps no other rows. With
 /// sequences of three rows an index of all rows costs as much from a hundred on, and with longer
@@ -50,79 +48,58 @@ impl<R: Reader> Covering<R> {
     }
 }
 
-/// Keeps the rows of all units, as `look_up` does.
-pub fn look_up_any<R: Reader, O: Write, E: Write>(
+/// Finds the rows that cover addresses: of a few in one run, of others, and of any where none are
+/// given, by the rows of all units. The fault of each unit is reported.
+pub fn look_up_each<R: Reader>(
     alloc: Global,
     input: &Input<R>,
-    output: &mut Output<'_, O, E>,
-) -> Option<Covering<R>>
-    ensures read { IfSome result (IsReadFrom R.bytes R.big R.Offset.limit input.now) }
-    ensures any { IfSome result (λ covering. (a : ℕ) → Knows covering a) }
+    addresses: Option<Vec<u64>>,
+    output: &mut Output<'_>,
+) -> Result<Covering<R>, AllocError>
+    ensures read { IfOk result (IsReadFrom R.bytes R.big R.Offset.limit input.now) }
+    ensures any { addresses.entry ≡ None
+        → IfOk result (λ covering. (a : ℕ) → Knows covering a) }
+    ensures each { IfSome addresses.entry
+        (λ few. IfOk result (λ covering. All (Knows covering) few.items)) }
 {
-    let lookup = look_up(alloc, input, output)?;
-    Some(Covering::Kept(lookup))
-}
-
-/// Finds the rows that cover addresses: of a few in one run, of others by the rows of all units.
-/// The fault of each unit is reported, as `look_up` does. None where memory is missing.
-pub fn look_up_each<R: Reader, O: Write, E: Write>(
-    alloc: Global,
-    input: &Input<R>,
-    addresses: Vec<u64>,
-    output: &mut Output<'_, O, E>,
-) -> Option<Covering<R>>
-    ensures read { IfSome result (IsReadFrom R.bytes R.big R.Offset.limit input.now) }
-    ensures each { IfSome result (λ covering. All (Knows covering) addresses.items) }
-{
-    if addresses.len() > FEW {
-        return look_up_any(alloc, input, output);
-    }
-    let mut progress = Progress::new(input.length(), output.screen(), Printing::Rare);
-    progress.show_whole(output);
+    let few = match addresses {
+        Some(addresses) if addresses.len() <= FEW => addresses,
+        _ => return Ok(Covering::Kept(look_up(alloc, input, output)?)),
+    };
     let size = input.address_size.bytes();
-    match find_in_section(&input.lines, alloc, size, input.lowest, &addresses) {
+    match find_in_section(&input.lines, alloc, size, input.lowest, &few) {
         Ok(found) => {
-            progress.clear(output);
             tell_faults(&found.units, output);
-            Some(Covering::Found { addresses, found })
+            Ok(Covering::Found {
+                addresses: few,
+                found,
+            })
         }
-        Err(_) => {
-            output.fail_for_memory();
-            None
-        }
+        Err(_) => Err(AllocError),
     }
 }
 
 /// Keeps the rows of all units. The fault of each unit is reported; what stands before it is kept
-/// all the same. None where memory is missing.
-pub fn look_up<R: Reader, O: Write, E: Write>(
+/// all the same.
+pub fn look_up<R: Reader>(
     alloc: Global,
     input: &Input<R>,
-    output: &mut Output<'_, O, E>,
-) -> Option<SectionLookup<R>>
-    ensures { IfSome result (AreUnitsIn R.bytes R.big R.Offset.limit input.now) }
+    output: &mut Output<'_>,
+) -> Result<SectionLookup<R>, AllocError>
+    ensures { IfOk result (AreUnitsIn R.bytes R.big R.Offset.limit input.now) }
 {
-    let mut progress = Progress::new(input.length(), output.screen(), Printing::Rare);
-    progress.show_whole(output);
     let size = input.address_size.bytes();
     match SectionLookup::new(&input.lines, alloc, size, input.lowest) {
         Ok(lookup) => {
-            progress.clear(output);
             tell_faults(lookup.units(), output);
-            Some(lookup)
+            Ok(lookup)
         }
-        Err(_) => {
-            output.fail_for_memory();
-            None
-        }
+        Err(_) => Err(AllocError),
     }
 }
 
 /// Reports the fault of each unit.
-fn tell_faults<R: Reader, O: Write, E: Write>(
-    units: &[UnitLookup<R>],
-    output: &mut Output<'_, O, E>,
-) {
+fn tell_faults<R: Reader>(units: &[UnitLookup<R>], output: &mut Output<'_>) {
     for unit in units {
         let offset = unit.offset().0.into_u64();
         match (unit.header(), unit.fault()) {

@@ -4,10 +4,9 @@
 //! 3.1.1 and 6.2.4). In version 5 a header has it too, and where it is relative there, the paths go
 //! on from that of `.debug_info` (DWARF 5, the same sections).
 
-ghost use Rattle.std.specs.Prelude.{◌≡◌, ◌≢◌, Err, IfErr, IfOk, IfSome, Ok, option_map};
+ghost use Rattle.std.specs.Prelude.{◌≡◌, ◌≢◌, Err, IfErr, IfOk, Ok, option_map};
 ghost use Rattle.gimli_compilation.specs.Directories.{TellsDirectories, directory_for};
 ghost use Rattle.gimli_compilation.specs.Sections.{sections_of};
-ghost use Rattle.gimli_core.specs.declared.error.Error.{Error};
 ghost use Rattle.gimli_line.specs.header.File.{file_seen};
 ghost use Rattle.gimli_lookup.specs.Paths.{file_path, row_path};
 ghost use Rattle.gimli_lookup.specs.Strings.{strings};
@@ -15,14 +14,12 @@ ghost use Rattle.gimli_lookup.specs.declared.path_error.PathError.TheVariants.{O
 ghost use Rattle.lines_inputs.specs.WholePaths.{paths_by};
 
 use crate::input::Input;
-use crate::output::Output;
-use crate::path_fault::PathFault;
 use gimli_compilation::Compilations;
 use gimli_core::{Reader, ReaderOffset};
 use gimli_line::{FileEntry, LineProgramHeader, LineRow};
 use gimli_lookup::{PathError, Paths, StringSections};
-use std::alloc::Global;
-use std::io::Write;
+use std::alloc::{AllocError, Global};
+use std::fmt;
 
 /// What whole paths are made of, beside the header of a unit.
 #[derive(Drop)]
@@ -33,41 +30,21 @@ pub struct PathSources<R: Reader> {
     compilations: Compilations<R>,
 }
 
-/// The sources of the paths of a program, for a command that prints paths: the first entry of each
-/// unit of `.debug_info` is read once. None where memory is missing, which is reported.
-pub fn path_sources<R: Reader, O: Write, E: Write>(
-    alloc: Global,
-    input: &Input<R>,
-    output: &mut Output<'_, O, E>,
-) -> Option<PathSources<R>>
-    ensures directories { IfSome result (λ sources.
-        TellsDirectories (sections_of R.bytes R.big R.Offset.limit input.now.compilations)
-        (λ line. option_map R.bytes (directory_for sources.compilations line))) }
-    ensures strings { IfSome result (λ sources. sources.strings ≡ input.now.strings) }
-{
-    match PathSources::new(alloc, input) {
-        Ok(sources) => Some(sources),
-        Err(_) => {
-            output.fail_for_memory();
-            None
-        }
-    }
-}
-
 impl<R: Reader> PathSources<R> {
-    /// Reads the first entry of each unit. Fails only with `OutOfMemory`.
-    fn new(alloc: Global, input: &Input<R>) -> gimli_core::Result<PathSources<R>>
+    /// Reads the first entry of each unit of `.debug_info` once.
+    pub fn new(alloc: Global, input: &Input<R>) -> Result<PathSources<R>, AllocError>
         ensures directories { IfOk result (λ sources.
             TellsDirectories (sections_of R.bytes R.big R.Offset.limit input.now.compilations)
             (λ line. option_map R.bytes (directory_for sources.compilations line))) }
         ensures strings { IfOk result (λ sources. sources.strings ≡ input.now.strings) }
-        ensures err { IfErr result (λ e. e ≡ Error.OutOfMemory) }
     {
-        let compilations = Compilations::new(alloc, &input.compilations)?;
-        Ok(PathSources {
-            strings: input.strings,
-            compilations,
-        })
+        match Compilations::new(alloc, &input.compilations) {
+            Ok(compilations) => Ok(PathSources {
+                strings: input.strings,
+                compilations,
+            }),
+            Err(_) => Err(AllocError),
+        }
     }
 
     /// Why a path can't be told, as it is printed.
@@ -144,5 +121,42 @@ impl<R: Reader> PathSources<R> {
             Some(file) => self.of_file(alloc, header, file),
             None => Err(PathError::InvalidFileIndex(row.file_index())),
         }
+    }
+
+    /// The whole path of the file of an index; None where there is none, or it can't be told.
+    pub fn known_path(
+        &self,
+        alloc: Global,
+        header: &LineProgramHeader<R>,
+        index: u64,
+    ) -> Result<Option<Vec<u8>>, AllocError> {
+        let Some(file) = header.file(index) else {
+            return Ok(None);
+        };
+        match self.of_file(alloc, header, file) {
+            Ok(path) => Ok(Some(path)),
+            Err(PathError::OutOfMemory) => Err(AllocError),
+            Err(_) => Ok(None),
+        }
+    }
+}
+
+/// Why a path can't be told, as it is printed.
+#[derive(Clone, Copy, Debug, PartialEq, Eq)]
+pub struct PathFault {
+    /// Why.
+    pub error: PathError,
+    /// Whether the section `.debug_line_str` is missing.
+    pub is_without_texts: bool,
+}
+
+impl fmt::Display for PathFault {
+    fn fmt<W: fmt::Write>(&self, f: &mut fmt::Formatter<W>) -> fmt::Result {
+        let error = self.error;
+        write!(f, "{error}")?;
+        if self.is_without_texts && error == PathError::StringOffsetOutOfBounds {
+            f.write_str("; name the section .debug_line_str by --line-str")?;
+        }
+        Ok(())
     }
 }

@@ -13,8 +13,8 @@ use elf_sections::{Elf, SectionBytes, SectionPlace, SymbolTable};
 use gimli_core::{EndianSlice, Endianity, Section};
 use gimli_line::DebugLine;
 use gimli_lookup::StringSections;
-use lines_words::{Files, Kind, Notation};
 use line_text::Slice;
+use lines_words::{Files, Kind, Notation};
 use std::alloc::Global;
 
 /// The sections of a program that commands read, and how they are read. An [`Input`] borrows from

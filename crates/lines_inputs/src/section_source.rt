@@ -14,15 +14,15 @@ use std::alloc::Global;
 
 /// An ELF file whose sections are read.
 #[derive(Clone, Copy)]
-pub struct SectionSource<'i> {
+pub(crate) struct SectionSource<'i> {
     /// Makes memory for what isn't lent by the file.
-    pub alloc: Global,
+    pub(crate) alloc: Global,
     /// The bytes of the file.
-    pub file: &'i [u8],
+    pub(crate) file: &'i [u8],
     /// The file.
-    pub elf: Elf<'i>,
+    pub(crate) elf: Elf<'i>,
     /// Which addresses count where it is an object file.
-    pub place: SectionPlace,
+    pub(crate) place: SectionPlace,
 }
 
 impl<'i> SectionSource<'i> {
@@ -36,7 +36,7 @@ impl<'i> SectionSource<'i> {
     }
 
     /// The section `.debug_line`. Refused where there is none.
-    pub fn lines(self) -> Result<SectionBytes<'i>, InputError>
+    pub(crate) fn lines(self) -> Result<SectionBytes<'i>, InputError>
         ensures { IfOk result (λ section. relocated_at (file_of self.entry.elf) self.entry.place
             (codes ".debug_line") ≡ Ok (Some (bytes_of section))) }
     {
@@ -48,7 +48,7 @@ impl<'i> SectionSource<'i> {
     }
 
     /// The section of a name; other bytes where the file has none, or where these are not empty.
-    pub fn texts(self, name: &[u8], other: &'i [u8]) -> Result<SectionBytes<'i>, ElfError> {
+    pub(crate) fn texts(self, name: &[u8], other: &'i [u8]) -> Result<SectionBytes<'i>, ElfError> {
         if !other.is_empty() {
             return Ok(SectionBytes::Lent(other));
         }
@@ -61,7 +61,7 @@ impl<'i> SectionSource<'i> {
 
     /// The section of a name; no bytes where it is missing or can't be read. Fails only with
     /// `OutOfMemory`.
-    pub fn readable(self, name: &[u8]) -> Result<SectionBytes<'i>, ElfError>
+    pub(crate) fn readable(self, name: &[u8]) -> Result<SectionBytes<'i>, ElfError>
         ensures err { IfErr result (λ e. e ≡ OutOfMemory) }
     {
         match self.section(name) {

@@ -7,12 +7,12 @@ use elf_sections::{ElfError, SectionBytes};
 use gimli_compilation::CompilationSections;
 use gimli_core::{EndianSlice, RunTimeEndian};
 use gimli_lookup::StringSections;
-use lines_words::UnitFiles;
 use line_text::Slice;
+use lines_words::UnitFiles;
 
 /// The bytes of the sections of units, beside those of texts.
 #[derive(Drop)]
-pub struct UnitSections<'i> {
+pub(crate) struct UnitSections<'i> {
     /// `.debug_info`
     info: SectionBytes<'i>,
     /// `.debug_abbrev`
@@ -23,7 +23,7 @@ pub struct UnitSections<'i> {
 
 impl<'i> UnitSections<'i> {
     /// Those of these bytes.
-    pub fn lent(files: UnitFiles<'i>) -> UnitSections<'i> {
+    pub(crate) fn lent(files: UnitFiles<'i>) -> UnitSections<'i> {
         UnitSections {
             info: SectionBytes::Lent(files.info),
             abbreviations: SectionBytes::Lent(files.abbreviations),
@@ -33,7 +33,7 @@ impl<'i> UnitSections<'i> {
 
     /// Those of an ELF file. One that is missing or can't be read counts as empty: paths stay as
     /// the line programs have them. Fails only with `OutOfMemory`.
-    pub fn of_elf(source: SectionSource<'i>) -> Result<UnitSections<'i>, ElfError> {
+    pub(crate) fn of_elf(source: SectionSource<'i>) -> Result<UnitSections<'i>, ElfError> {
         Ok(UnitSections {
             info: source.readable(b".debug_info")?,
             abbreviations: source.readable(b".debug_abbrev")?,
@@ -42,7 +42,7 @@ impl<'i> UnitSections<'i> {
     }
 
     /// Readers over them, beside those over the texts.
-    pub fn readers<'s>(
+    pub(crate) fn readers<'s>(
         &'s self,
         order: RunTimeEndian,
         strings: StringSections<Slice<'s>>,

@@ -1,81 +1,173 @@
 //! The command `diff`: which lines have other code in a new program than in an old one.
 
 use crate::coverage::{Change, Coverage, Place};
-use crate::stat::{path_of_number, path_or_unknown};
-use gimli_core::{Error, Reader};
-use gimli_line::{LineProgramHeader, LineRow, OneShotLineRows};
-use indexmap::IndexSet;
-use lines_inputs::{Input, Output, PathSources, PathText, Printing, Walk, line_of, path_sources};
-use lines_words::{UnitChoice, path_fields};
+use crate::path_numbers::PathNumbers;
+use gimli_core::Reader;
+use gimli_line::LineRow;
+use lines_inputs::{Input, PathSources, Printing, UnitRows, Walk, line_of};
+use lines_words::{JsonCount, JsonField, Output, PathText, Pieces, UnitChoice};
 use std::alloc::{AllocError, Global};
-use std::collections::BTreeMap;
 use std::fmt;
-use std::io::Write;
 
-/// Prints each line that has another number of bytes of code in a new program than in an old one,
-/// and how many lines there are. The command ends as refused where there is a difference.
-pub fn print_diff<'o, R: Reader, O: Write, E: Write>(
+/// The code of each line of two programs.
+#[derive(Drop)]
+pub struct Diff<R: Reader> {
     alloc: Global,
-    old: &Input<R>,
-    new: &Input<R>,
-    new_name: &'o str,
+    old: Side<R>,
+    new: Side<R>,
+    /// Whether the new program is read.
+    is_new: bool,
     is_json: bool,
-    output: &mut Output<'o, O, E>,
-) {
-    let mut paths = IndexSet::new(alloc);
-    let Some(old) = coverage_of(alloc, old, &mut paths, output) else {
-        return;
-    };
-    output.rename(new_name);
-    let Some(new) = coverage_of(alloc, new, &mut paths, output) else {
-        return;
-    };
-    let Ok(differences) = old.differences(alloc, &new) else {
-        return output.fail_for_memory();
-    };
-    for (place, change) in &differences {
-        print_change(alloc, *place, *change, &paths, is_json, output);
+    paths: PathNumbers,
+}
+
+impl<R: Reader> Diff<R> {
+    /// No line is known. The old program is read first.
+    pub fn new(
+        alloc: Global,
+        old: &Input<R>,
+        new: &Input<R>,
+        is_json: bool,
+        output: &mut Output<'_>,
+    ) -> Result<Diff<R>, AllocError> {
+        Ok(Diff {
+            alloc,
+            old: Side::new(alloc, old, output)?,
+            new: Side::new(alloc, new, output)?,
+            is_new: false,
+            is_json,
+            paths: PathNumbers::new(alloc),
+        })
     }
-    if !differences.is_empty() {
-        output.refuse();
+
+    /// Goes on to the new program.
+    pub fn begin_new(&mut self) {
+        self.is_new = true;
     }
-    let old = old.count();
-    let new = new.count();
-    let count = differences.len();
-    if is_json {
+
+    /// Prints each line that has another number of bytes of code in the new program than in the old
+    /// one, and how many lines there are. The command ends as refused where there is a difference.
+    fn print_differences(&self, output: &mut Output<'_>) -> Result<(), AllocError> {
+        let differences = self
+            .old
+            .coverage
+            .differences(self.alloc, &self.new.coverage)?;
+        for (place, change) in &differences {
+            self.print_change(*place, *change, output);
+        }
+        if !differences.is_empty() {
+            output.refuse();
+        }
+        let old = self.old.coverage.count();
+        let new = self.new.coverage.count();
+        let count = differences.len();
+        if self.is_json {
+            output.print(format_args!(
+                "{{\"old_lines\":{old},\"new_lines\":{new},\"differences\":{count}}}"
+            ));
+        } else {
+            output.print(format_args!(
+                "lines with code: {old} in the old program, {new} in the new one; differences: \
+                 {count}"
+            ));
+        }
+        Ok(())
+    }
+
+    /// Prints a line that differs.
+    fn print_change(&self, place: Place, change: Change, output: &mut Output<'_>) {
+        let path = self.paths.path(place.path);
+        let line = place.line;
+        if !self.is_json {
+            let path = PathText(path);
+            let change = ChangeText(change);
+            return output.print(format_args!("{path}:{line}  {change}"));
+        }
+        let path = JsonField::of_path(Some(path));
+        let old = JsonCount(change.old);
+        let new = JsonCount(change.new);
         output.print(format_args!(
-            "{{\"old_lines\":{old},\"new_lines\":{new},\"differences\":{count}}}"
-        ));
-    } else {
-        output.print(format_args!(
-            "lines with code: {old} in the old program, {new} in the new one; differences: {count}"
+            "{{{path},\"line\":{line},\"old_bytes\":{old},\"new_bytes\":{new}}}"
         ));
     }
 }
 
-/// Prints a line that differs.
-fn print_change<O: Write, E: Write>(
-    alloc: Global,
-    place: Place,
-    change: Change,
-    paths: &IndexSet<Vec<u8>>,
-    is_json: bool,
-    output: &mut Output<'_, O, E>,
-) {
-    let path = path_of_number(paths, place.path);
-    let line = place.line;
-    if !is_json {
-        let path = PathText(path);
-        let change = ChangeText(change);
-        return output.print(format_args!("{path}:{line}  {change}"));
+impl<R: Reader> Pieces for Diff<R> {
+    /// Adds the code of the next unit. After the last one of the new program follow the lines that
+    /// differ.
+    fn print_next(&mut self, output: &mut Output<'_>) -> Result<bool, AllocError> {
+        if !self.is_new {
+            return self.old.add_next(&mut self.paths, output);
+        }
+        let has_more = self.new.add_next(&mut self.paths, output)?;
+        if !has_more {
+            self.print_differences(output)?;
+        }
+        Ok(has_more)
     }
-    let old = JsonCount(change.old);
-    let new = JsonCount(change.new);
-    match path_fields(alloc, Some(path)) {
-        Ok(path) => output.print(format_args!(
-            "{{{path},\"line\":{line},\"old_bytes\":{old},\"new_bytes\":{new}}}"
-        )),
-        Err(_) => output.fail_for_memory(),
+}
+
+/// One of two programs, and how many bytes of code each of its lines has.
+#[derive(Drop)]
+struct Side<R: Reader> {
+    walk: Walk<R>,
+    sources: PathSources<R>,
+    /// An address below which there is no code.
+    lowest: u64,
+    coverage: Coverage,
+}
+
+impl<R: Reader> Side<R> {
+    /// No line is known.
+    fn new(alloc: Global, input: &Input<R>, output: &mut Output<'_>) -> Result<Side<R>, AllocError> {
+        Ok(Side {
+            walk: Walk::new(alloc, input, UnitChoice::All, Printing::Rare, output),
+            sources: PathSources::new(alloc, input)?,
+            lowest: input.lowest,
+            coverage: Coverage::new(alloc),
+        })
+    }
+
+    /// Adds the code of the next unit, whose fault is reported. False where there is none.
+    fn add_next(
+        &mut self,
+        paths: &mut PathNumbers,
+        output: &mut Output<'_>,
+    ) -> Result<bool, AllocError> {
+        let Some(mut unit) = self.walk.next_rows(output)? else {
+            return Ok(false);
+        };
+        paths.begin_unit();
+        let mut before: Option<LineRow> = None;
+        for _ in 0..u64::MAX {
+            let Some(row) = unit.next_row()? else {
+                break;
+            };
+            if let Some(before) = &before {
+                self.add_row(&unit, before, row.address(), paths)?;
+            }
+            before = (!row.end_sequence()).then_some(row);
+        }
+        unit.tell_fault(output);
+        Ok(true)
+    }
+
+    /// Adds the code of a row up to an address.
+    fn add_row(
+        &mut self,
+        unit: &UnitRows<R>,
+        row: &LineRow,
+        end: u64,
+        paths: &mut PathNumbers,
+    ) -> Result<(), AllocError> {
+        if row.address() < self.lowest || end <= row.address() {
+            return Ok(());
+        }
+        let place = Place {
+            path: paths.number_of(unit.header(), row.file_index(), &self.sources)?,
+            line: line_of(row),
+        };
+        self.coverage.add(place, end.saturating_sub(row.address()))
     }
 }
 
@@ -91,135 +183,5 @@ impl fmt::Display for ChangeText {
             (None, Some(new)) => write!(f, "no code, now {new} bytes"),
             (None, None) => f.write_str("no code"),
         }
-    }
-}
-
-/// A number in JSON, or null where there is none.
-#[derive(Clone, Copy)]
-struct JsonCount(Option<u64>);
-
-impl fmt::Display for JsonCount {
-    fn fmt<W: fmt::Write>(&self, f: &mut fmt::Formatter<W>) -> fmt::Result {
-        match self.0 {
-            Some(count) => write!(f, "{count}"),
-            None => f.write_str("null"),
-        }
-    }
-}
-
-/// How many bytes of code each line of a program has. None where memory is missing. The faults of
-/// its units are reported.
-fn coverage_of<R: Reader, O: Write, E: Write>(
-    alloc: Global,
-    input: &Input<R>,
-    paths: &mut IndexSet<Vec<u8>>,
-    output: &mut Output<'_, O, E>,
-) -> Option<Coverage> {
-    let sources = path_sources(alloc, input, output)?;
-    let mut coverage = Coverage::new(alloc);
-    let mut walk = Walk::new(
-        alloc,
-        input,
-        UnitChoice::All,
-        output.screen(),
-        Printing::Rare,
-    );
-    for _ in 0..u64::MAX {
-        let Some((offset, program)) = walk.next_program(output) else {
-            break;
-        };
-        let mut unit = UnitCoverage {
-            alloc,
-            sources: &sources,
-            lowest: input.lowest,
-            numbers: BTreeMap::new(alloc),
-            rows: 0,
-        };
-        match unit.add_rows(&mut program.rows(), paths, &mut coverage) {
-            Ok(None) => {}
-            Ok(Some(fault)) => output.tell_fault(offset, unit.rows, fault),
-            Err(_) => output.fail_for_memory(),
-        }
-    }
-    if output.has_failed() {
-        None
-    } else {
-        Some(coverage)
-    }
-}
-
-/// What adds the code of a unit.
-#[derive(Drop)]
-struct UnitCoverage<'s, R: Reader> {
-    alloc: Global,
-    sources: &'s PathSources<R>,
-    /// An address below which there is no code.
-    lowest: u64,
-    /// The numbers of the paths of files.
-    numbers: BTreeMap<u64, usize>,
-    rows: u64,
-}
-
-impl<R: Reader> UnitCoverage<'_, R> {
-    /// Adds the code of each row up to the next one in its sequence, up to the end of the program
-    /// or its first fault, which is returned.
-    fn add_rows(
-        &mut self,
-        rows: &mut OneShotLineRows<R>,
-        paths: &mut IndexSet<Vec<u8>>,
-        coverage: &mut Coverage,
-    ) -> Result<Option<Error>, AllocError> {
-        let mut before: Option<LineRow> = None;
-        for _ in 0..u64::MAX {
-            match rows.next_row() {
-                Ok(Some((header, row))) => {
-                    let row = *row;
-                    self.rows = self.rows.saturating_add(1);
-                    if let Some(before) = &before {
-                        self.add_row(header, before, row.address(), paths, coverage)?;
-                    }
-                    before = (!row.end_sequence()).then_some(row);
-                }
-                Ok(None) => break,
-                Err(Error::OutOfMemory) => return Err(AllocError),
-                Err(fault) => return Ok(Some(fault)),
-            }
-        }
-        Ok(None)
-    }
-
-    /// Adds the code of a row up to an address.
-    fn add_row(
-        &mut self,
-        header: &LineProgramHeader<R>,
-        row: &LineRow,
-        end: u64,
-        paths: &mut IndexSet<Vec<u8>>,
-        coverage: &mut Coverage,
-    ) -> Result<(), AllocError> {
-        if row.address() < self.lowest || end <= row.address() {
-            return Ok(());
-        }
-        let place = Place {
-            path: self.number_of(header, row.file_index(), paths)?,
-            line: line_of(row),
-        };
-        coverage.add(place, end.saturating_sub(row.address()))
-    }
-
-    /// The number of the path of a file.
-    fn number_of(
-        &mut self,
-        header: &LineProgramHeader<R>,
-        file: u64,
-        paths: &mut IndexSet<Vec<u8>>,
-    ) -> Result<usize, AllocError> {
-        if let Some(number) = self.numbers.get(&file).copied() {
-            return Ok(number);
-        }
-        let path = path_or_unknown(self.alloc, header, file, self.sources)?;
-        let (number, _) = paths.insert_full(path)?;
-        self.numbers.insert(file, number)?;
-        Ok(number)
     }
 }

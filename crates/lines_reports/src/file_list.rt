@@ -1,143 +1,126 @@
-//! The command `files`: the directories and files of a unit.
+//! The command `files`: the directories and files of units.
 
 use gimli_core::{Reader, ReaderOffset};
-use gimli_line::{FileEntry, IncompleteLineProgram, LineProgramHeader};
+use gimli_line::{FileEntry, LineProgramHeader};
 use gimli_lookup::{PathError, StringSections};
-use lines_inputs::{Output, PathSources, PathText, RowTotal};
-use lines_words::path_fields;
 use line_text::Digits;
-use std::alloc::Global;
+use lines_inputs::{Input, PathSources, Printing, UnitRows, Walk};
+use lines_words::{JsonCount, JsonField, Output, PathText, Pieces, UnitChoice};
+use std::alloc::{AllocError, Global};
 use std::fmt;
-use std::io::Write;
 
-/// Prints the directories and files of a program, with those that it defines before its first
-/// fault. The fault is reported.
-pub fn print_files<R: Reader, O: Write, E: Write>(
+/// The directories and files of units, one unit after the other.
+#[derive(Drop)]
+pub struct FileList<R: Reader> {
     alloc: Global,
-    offset: u64,
-    program: IncompleteLineProgram<R>,
-    sources: &PathSources<R>,
-    is_json: bool,
-    output: &mut Output<'_, O, E>,
-) {
-    if !is_json {
-        output.print_unit_heading(offset, program.header().version());
-    }
-    let mut rows = program.rows();
-    let total = RowTotal::of(&mut rows);
-    if let Some(fault) = total.fault {
-        output.tell_fault(offset, total.rows, fault);
-    }
-    let header = rows.header();
-    let list = FileList {
-        alloc,
-        offset,
-        is_json,
-    };
-    list.print_directories(header, sources, output);
-    list.print_each_file(header, sources, output);
-}
-
-/// How the directories and files of a unit are printed.
-#[derive(Clone, Copy)]
-struct FileList {
-    alloc: Global,
-    /// The offset of the unit.
-    offset: u64,
+    walk: Walk<R>,
+    sources: PathSources<R>,
     is_json: bool,
 }
 
-impl FileList {
-    /// Prints the directories of a header, as they are written.
-    fn print_directories<R: Reader, O: Write, E: Write>(
-        self,
-        header: &LineProgramHeader<R>,
-        sources: &PathSources<R>,
-        output: &mut Output<'_, O, E>,
-    ) {
+impl<R: Reader> FileList<R> {
+    /// No unit was printed.
+    pub fn new(
+        alloc: Global,
+        input: &Input<R>,
+        units: UnitChoice,
+        is_json: bool,
+        output: &mut Output<'_>,
+    ) -> Result<FileList<R>, AllocError> {
+        Ok(FileList {
+            alloc,
+            walk: Walk::new(alloc, input, units, Printing::Steady, output),
+            sources: PathSources::new(alloc, input)?,
+            is_json,
+        })
+    }
+
+    /// Prints the directories of a unit, as they are written.
+    fn print_directories(
+        &self,
+        unit: &UnitRows<R>,
+        output: &mut Output<'_>,
+    ) -> Result<(), AllocError> {
+        let header = unit.header();
         let last = header.include_directories().len() as u64;
         for index in 0..=last {
             let Some(directory) = header.directory(index) else {
                 continue;
             };
-            let path = match sources.strings().attr_line_string(directory) {
-                Ok(path) => self.copy_of(&path),
+            let path = match self.sources.strings().attr_line_string(directory) {
+                Ok(path) => match path.to_slice() {
+                    Ok(path) => Ok(Vec::from_slice(self.alloc, &path)?),
+                    Err(_) => return Err(AllocError),
+                },
                 Err(fault) => Err(fault),
             };
-            self.print_entry("directory", index, path, NoDetails, sources, output);
+            self.print_entry(unit.offset, "directory", index, path, "", output)?;
         }
+        Ok(())
     }
 
-    /// A copy of a directory.
-    fn copy_of<R: Reader>(self, path: &R) -> Result<Vec<u8>, PathError> {
-        match path.to_slice() {
-            Ok(path) => Ok(Vec::from_slice(self.alloc, &path)?),
-            Err(_) => Err(PathError::OutOfMemory),
-        }
-    }
-
-    /// Prints the files of a header, with their whole paths.
-    fn print_each_file<R: Reader, O: Write, E: Write>(
-        self,
-        header: &LineProgramHeader<R>,
-        sources: &PathSources<R>,
-        output: &mut Output<'_, O, E>,
-    ) {
+    /// Prints the files of a unit, with their whole paths.
+    fn print_files(&self, unit: &UnitRows<R>, output: &mut Output<'_>) -> Result<(), AllocError> {
+        let header = unit.header();
         let last = header.file_names().len() as u64;
         for index in 0..=last {
             let Some(file) = header.file(index) else {
                 continue;
             };
-            let details = Details::new(header, file, sources.strings());
-            let path = sources.of_file(self.alloc, header, file);
-            if self.is_json {
-                self.print_entry("file", index, path, JsonDetails(details), sources, output);
-            } else {
-                self.print_entry("file", index, path, details, sources, output);
-            }
+            let details = Details::new(header, file, self.sources.strings(), self.is_json);
+            let path = self.sources.of_file(self.alloc, header, file);
+            self.print_entry(unit.offset, "file", index, path, details, output)?;
         }
+        Ok(())
     }
 
-    /// Prints a directory or a file. Why it has no path is reported.
-    fn print_entry<R: Reader, O: Write, E: Write>(
-        self,
+    /// Prints a directory or a file of the unit at an offset. Why it has no path is reported.
+    fn print_entry(
+        &self,
+        offset: u64,
         kind: &str,
         index: u64,
         path: Result<Vec<u8>, PathError>,
         details: impl fmt::Display + Drop,
-        sources: &PathSources<R>,
-        output: &mut Output<'_, O, E>,
-    ) {
+        output: &mut Output<'_>,
+    ) -> Result<(), AllocError> {
         let (path, fault) = match path {
             Ok(path) => (Some(path), None),
-            Err(PathError::OutOfMemory) => return output.fail_for_memory(),
-            Err(fault) => (None, Some(sources.fault(fault))),
+            Err(PathError::OutOfMemory) => return Err(AllocError),
+            Err(fault) => (None, Some(self.sources.fault(fault))),
         };
-        let offset = self.offset;
+        let path = path.as_deref();
         if self.is_json {
-            let Ok(path) = path_fields(self.alloc, path.as_deref()) else {
-                return output.fail_for_memory();
-            };
+            let path = JsonField::of_path(path);
             output.print(format_args!(
                 "{{\"unit\":\"0x{offset:x}\",\"{kind}\":{index},{path}{details}}}"
             ));
         } else {
-            let path = PathText(path.as_deref().unwrap_or(b"??"));
+            let path = PathText(path.unwrap_or(b"??"));
             output.print(format_args!("{kind} {index}  {path}{details}"));
         }
         if let Some(fault) = fault {
             output.tell_of_unit(offset, format_args!("{kind} {index}: {fault}"));
         }
+        Ok(())
     }
 }
 
-/// A directory has no details.
-#[derive(Clone, Copy)]
-struct NoDetails;
-
-impl fmt::Display for NoDetails {
-    fn fmt<W: fmt::Write>(&self, _f: &mut fmt::Formatter<W>) -> fmt::Result {
-        Ok(())
+impl<R: Reader> Pieces for FileList<R> {
+    /// Prints the directories and files of the next unit, with those that its program defines before
+    /// its first fault. The fault is reported.
+    fn print_next(&mut self, output: &mut Output<'_>) -> Result<bool, AllocError> {
+        let Some(mut unit) = self.walk.next_rows(output)? else {
+            return Ok(false);
+        };
+        if !self.is_json {
+            output.print_unit_heading(unit.offset, unit.header().version());
+        }
+        unit.run()?;
+        unit.tell_fault(output);
+        self.print_directories(&unit, output)?;
+        self.print_files(&unit, output)?;
+        Ok(true)
     }
 }
 
@@ -149,6 +132,7 @@ struct Details<'d> {
     md5: Option<&'d [u8; 16]>,
     /// The number of bytes of the source that is held with the file.
     source: Option<u64>,
+    is_json: bool,
 }
 
 impl<'d> Details<'d> {
@@ -157,6 +141,7 @@ impl<'d> Details<'d> {
         header: &LineProgramHeader<R>,
         file: &'d FileEntry<R>,
         strings: &StringSections<R>,
+        is_json: bool,
     ) -> Details<'d> {
         Details {
             time: file.timestamp(),
@@ -167,6 +152,7 @@ impl<'d> Details<'d> {
                 None
             },
             source: source_length(file, strings),
+            is_json,
         }
     }
 }
@@ -178,9 +164,12 @@ fn source_length<R: Reader>(file: &FileEntry<R>, strings: &StringSections<R>) ->
     Some(source.len().into_u64())
 }
 
-/// A time and a size of 0 say nothing (DWARF 5, section 6.2.4).
 impl fmt::Display for Details<'_> {
     fn fmt<W: fmt::Write>(&self, f: &mut fmt::Formatter<W>) -> fmt::Result {
+        if self.is_json {
+            return self.write_json(f);
+        }
+        // A time and a size of 0 say nothing (DWARF 5, section 6.2.4).
         if self.time != 0 {
             let time = self.time;
             write!(f, "  time {time}")?;
@@ -200,26 +189,20 @@ impl fmt::Display for Details<'_> {
     }
 }
 
-/// What a header says of a file, as fields of a JSON object.
-#[derive(Clone, Copy)]
-struct JsonDetails<'d>(Details<'d>);
-
-impl fmt::Display for JsonDetails<'_> {
-    fn fmt<W: fmt::Write>(&self, f: &mut fmt::Formatter<W>) -> fmt::Result {
-        let details = self.0;
-        let time = details.time;
-        let size = details.size;
+impl Details<'_> {
+    /// Writes fields of a JSON object.
+    fn write_json<W: fmt::Write>(&self, f: &mut fmt::Formatter<W>) -> fmt::Result {
+        let time = self.time;
+        let size = self.size;
         write!(f, ",\"time\":{time},\"size\":{size}")?;
-        match details.md5 {
+        match self.md5 {
             Some(md5) => {
                 let md5 = Digits(md5);
                 write!(f, ",\"md5\":\"{md5}\"")?;
             }
             None => f.write_str(",\"md5\":null")?,
         }
-        match details.source {
-            Some(source) => write!(f, ",\"source_bytes\":{source}"),
-            None => f.write_str(",\"source_bytes\":null"),
-        }
+        let source = JsonCount(self.source);
+        write!(f, ",\"source_bytes\":{source}")
     }
 }

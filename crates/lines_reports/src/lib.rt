@@ -1,31 +1,32 @@
-//! The commands of `lines` that tell what line programs hold, and what they count.
+//! The commands of `lines` that tell what line programs hold: `units`, `files`, `rows`, `check`,
+//! `stat` and `diff`; and what they count.
 //!
 //! [`Tally`] counts what the bytes of a section are spent on, [`Coverage`] which bytes of code each
 //! line of a file has, and [`Change`] says how those of two programs differ.
 #![tactic(auto)]
 
 mod check;
-mod check_unit;
 mod coverage;
 mod diff;
-mod duplicates;
 mod file_list;
-mod instruction_start;
+mod findings;
 pub mod laws;
-mod listing;
-mod overlaps;
+mod path_numbers;
 mod row_list;
 mod sizes;
 mod spent;
 mod stat;
 mod tally;
+mod unit_check;
 mod unit_list;
 
-pub use check::print_check;
+pub use check::Check;
 pub use coverage::{Change, Coverage, Place};
-pub use diff::print_diff;
-pub use listing::{Listing, print_each, print_units};
+pub use diff::Diff;
+pub use file_list::FileList;
+pub use row_list::RowList;
 pub use sizes::{InstructionBytes, instruction_bytes};
 pub use spent::Spent;
-pub use stat::print_stat;
+pub use stat::Stat;
 pub use tally::{Share, Tally};
+pub use unit_list::UnitList;

@@ -1,140 +1,134 @@
-//! The command `rows`: the rows of a unit.
+//! The command `rows`: the rows of units.
 
 use gimli_core::Reader;
-use gimli_line::{IncompleteLineProgram, LineProgramHeader, LineRow};
+use gimli_line::LineRow;
 use gimli_lookup::PathError;
 use lines_inputs::{
-    FlagLetters, JsonFlags, Output, PathSources, PathText, RowCount, column_of, last_part, line_of,
+    FlagLetters, Input, JsonFlags, PathSources, Printing, RowCount, UnitRows, Walk, column_of,
+    line_of,
 };
-use lines_words::{Form, path_fields};
+use lines_words::{Form, JsonField, Output, PathText, Pieces, UnitChoice, last_part};
 use std::alloc::{AllocError, Global};
-use std::io::Write;
 
-/// Prints the rows of a program up to its end or its first fault, which is reported.
-pub fn print_rows<R: Reader, O: Write, E: Write>(
-    alloc: Global,
-    offset: u64,
-    form: Form,
-    program: IncompleteLineProgram<R>,
-    sources: &PathSources<R>,
-    output: &mut Output<'_, O, E>,
-) {
-    if form != Form::Json {
-        print_headings(offset, program.header().version(), output);
-    }
-    let mut printer = RowPrinter {
-        alloc,
-        offset,
-        form,
-        file: None,
-        path: String::new(alloc),
-        rows: 0,
-    };
-    printer.print_program(program, sources, output);
-}
+/// How many rows are printed before they are handed on.
+const SOME: u64 = 1024;
 
-/// Prints what stands above rows.
-fn print_headings<O: Write, E: Write>(offset: u64, version: u16, output: &mut Output<'_, O, E>) {
-    output.print_unit_heading(offset, version);
-    output.print_heading("           address     line  column  discr  isa  flags  file");
-}
-
-/// What prints the rows of a unit one after the other, and keeps how the path of the last one's
-/// file is printed.
+/// The rows of units, one after the other.
 #[derive(Drop)]
-struct RowPrinter {
+pub struct RowList<R: Reader> {
     alloc: Global,
-    offset: u64,
     form: Form,
+    walk: Walk<R>,
+    sources: PathSources<R>,
+    /// The unit whose rows are printed.
+    unit: Option<UnitRows<R>>,
     /// The file of the last row.
     file: Option<u64>,
     /// How the path of that file is printed.
     path: String,
-    /// How many rows were printed.
-    rows: u64,
 }
 
-impl RowPrinter {
-    /// Prints the rows of a program up to its end or its first fault, which is reported.
-    fn print_program<R: Reader, O: Write, E: Write>(
-        &mut self,
-        program: IncompleteLineProgram<R>,
-        sources: &PathSources<R>,
-        output: &mut Output<'_, O, E>,
-    ) {
-        let mut rows = program.rows();
-        for _ in 0..u64::MAX {
-            match rows.next_row() {
-                Ok(Some((header, row))) => {
-                    let row = *row;
-                    self.look_up(header, &row, sources, output);
-                    self.rows = self.rows.saturating_add(1);
-                    self.print(&row, output);
-                }
-                Ok(None) => break,
-                Err(fault) => {
-                    output.tell_fault(self.offset, self.rows, fault);
-                    break;
-                }
-            }
-            if output.has_failed() {
-                break;
-            }
-        }
+impl<R: Reader> RowList<R> {
+    /// No row was printed.
+    pub fn new(
+        alloc: Global,
+        input: &Input<R>,
+        units: UnitChoice,
+        form: Form,
+        output: &mut Output<'_>,
+    ) -> Result<RowList<R>, AllocError> {
+        Ok(RowList {
+            alloc,
+            form,
+            walk: Walk::new(alloc, input, units, Printing::Steady, output),
+            sources: PathSources::new(alloc, input)?,
+            unit: None,
+            file: None,
+            path: String::new(alloc),
+        })
     }
 
-    /// Keeps the path of a row's file. Where it has none, that is reported once for rows of one
-    /// file that follow each other.
-    fn look_up<R: Reader, O: Write, E: Write>(
+    /// Prints some rows of a unit. False after the last one, and after a fault, which is reported.
+    fn print_some(
         &mut self,
-        header: &LineProgramHeader<R>,
-        row: &LineRow,
-        sources: &PathSources<R>,
-        output: &mut Output<'_, O, E>,
-    ) {
-        if self.file == Some(row.file_index()) {
-            return;
+        unit: &mut UnitRows<R>,
+        output: &mut Output<'_>,
+    ) -> Result<bool, AllocError> {
+        for _ in 0..SOME {
+            let Some(row) = unit.next_row()? else {
+                unit.tell_fault(output);
+                return Ok(false);
+            };
+            if self.file != Some(row.file_index()) {
+                self.look_up(unit, &row, output)?;
+            }
+            match self.form {
+                Form::Json => print_json(unit.offset, &row, &self.path, output),
+                _ => print_text(&row, &self.path, output),
+            }
         }
+        Ok(true)
+    }
+
+    /// Keeps how the path of a row's file is printed. Where it has none, that is reported once for
+    /// rows of one file that follow each other.
+    fn look_up(
+        &mut self,
+        unit: &UnitRows<R>,
+        row: &LineRow,
+        output: &mut Output<'_>,
+    ) -> Result<(), AllocError> {
         self.file = Some(row.file_index());
-        let shown = match sources.of_row(self.alloc, header, row) {
-            Ok(path) => shown_path(self.alloc, self.form, Some(&path)),
-            Err(PathError::OutOfMemory) => Err(AllocError),
+        let path = match self.sources.of_row(self.alloc, unit.header(), row) {
+            Ok(path) => Some(path),
+            Err(PathError::OutOfMemory) => return Err(AllocError),
             Err(fault) => {
-                let fault = sources.fault(fault);
-                let rows = RowCount(self.rows);
-                output.tell_of_unit(self.offset, format_args!("after {rows}: {fault}"));
-                shown_path(self.alloc, self.form, None)
+                let fault = self.sources.fault(fault);
+                let rows = RowCount(unit.count.saturating_sub(1));
+                output.tell_of_unit(unit.offset, format_args!("after {rows}: {fault}"));
+                None
             }
         };
-        match shown {
-            Ok(path) => self.path = path,
-            Err(_) => output.fail_for_memory(),
+        if self.form == Form::Json {
+            let path = JsonField::of_path(path.as_deref());
+            self.path = format!(in self.alloc; "{path}")?;
+            return Ok(());
         }
-    }
-
-    /// Prints a row.
-    fn print<O: Write, E: Write>(&self, row: &LineRow, output: &mut Output<'_, O, E>) {
-        match self.form {
-            Form::Json => print_json(self.offset, row, &self.path, output),
-            _ => print_text(row, &self.path, output),
-        }
+        let path = match &path {
+            Some(path) if self.form == Form::Text => last_part(path),
+            Some(path) => path,
+            None => b"??",
+        };
+        let path = PathText(path);
+        self.path = format!(in self.alloc; "{path}")?;
+        Ok(())
     }
 }
 
-/// How a path is printed; `??` or null where there is none.
-fn shown_path(alloc: Global, form: Form, path: Option<&[u8]>) -> Result<String, AllocError> {
-    let path = match (form, path) {
-        (Form::Json, path) => return path_fields(alloc, path),
-        (_, None) => return String::from_str(alloc, "??"),
-        (Form::Text, Some(path)) => last_part(path),
-        (Form::WholePaths, Some(path)) => path,
-    };
-    let path = PathText(path);
-    format!(in alloc; "{path}")
+impl<R: Reader> Pieces for RowList<R> {
+    /// Prints the headings of the next unit, or some of its rows.
+    fn print_next(&mut self, output: &mut Output<'_>) -> Result<bool, AllocError> {
+        if let Some(mut unit) = self.unit.take() {
+            if self.print_some(&mut unit, output)? {
+                self.unit = Some(unit);
+            }
+            return Ok(true);
+        }
+        let Some(unit) = self.walk.next_rows(output)? else {
+            return Ok(false);
+        };
+        if self.form != Form::Json {
+            output.print_unit_heading(unit.offset, unit.header().version());
+            output.print_heading("           address     line  column  discr  isa  flags  file");
+        }
+        self.file = None;
+        self.unit = Some(unit);
+        Ok(true)
+    }
 }
 
 /// Prints a row for people.
-fn print_text<O: Write, E: Write>(row: &LineRow, path: &str, output: &mut Output<'_, O, E>) {
+fn print_text(row: &LineRow, path: &str, output: &mut Output<'_>) {
     let address = row.address();
     let line = line_of(row);
     let column = column_of(row);
@@ -153,12 +147,7 @@ fn print_text<O: Write, E: Write>(row: &LineRow, path: &str, output: &mut Output
 }
 
 /// Prints a row as a JSON object.
-fn print_json<O: Write, E: Write>(
-    offset: u64,
-    row: &LineRow,
-    path: &str,
-    output: &mut Output<'_, O, E>,
-) {
+fn print_json(offset: u64, row: &LineRow, path: &str, output: &mut Output<'_>) {
     let address = row.address();
     let op_index = row.op_index();
     let file = row.file_index();

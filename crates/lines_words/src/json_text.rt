@@ -1,67 +1,108 @@
-//! Texts and paths in JSON (RFC 8259).
+//! Texts in JSON (RFC 8259).
 
 use line_text::Digits;
-use std::alloc::{AllocError, Global};
 use std::fmt;
 
-/// A text in quotes.
-pub fn quoted(alloc: Global, text: &str) -> Result<String, AllocError> {
-    match serde_json::to_string(alloc, &text) {
-        Ok(text) => Ok(text),
-        Err(_) => Err(AllocError),
-    }
-}
+/// Bytes as a JSON string. Where they aren't UTF-8, each that isn't ASCII stands as U+FFFD.
+#[derive(Clone, Copy)]
+pub struct JsonText<'t>(pub &'t [u8]);
 
-/// The field `path` of an object, null where there is no path. Where the path isn't UTF-8, each of
-/// its bytes that isn't ASCII stands as U+FFFD, and the field `path_bytes` has its bytes in
-/// hexadecimal digits.
-pub fn path_fields(alloc: Global, path: Option<&[u8]>) -> Result<String, AllocError> {
-    bytes_fields(alloc, "path", path)
-}
-
-/// A field of an object for bytes, null where there are none; what isn't UTF-8 as in a path.
-pub fn bytes_fields(alloc: Global, name: &str, bytes: Option<&[u8]>) -> Result<String, AllocError> {
-    let Some(bytes) = bytes else {
-        return format!(in alloc; "\"{name}\":null");
-    };
-    if let Ok(text) = str::from_utf8(bytes) {
-        let text = quoted(alloc, text)?;
-        return format!(in alloc; "\"{name}\":{text}");
-    }
-    let text = lossy(alloc, bytes)?;
-    let text = quoted(alloc, &text)?;
-    let digits = Digits(bytes);
-    format!(in alloc; "\"{name}\":{text},\"{name}_bytes\":\"{digits}\"")
-}
-
-/// The field `function` of an object, null where there is no name, with a comma before it. In a
-/// name that isn't UTF-8 each byte that isn't ASCII stands as U+FFFD.
-pub fn name_field(alloc: Global, name: Option<&[u8]>) -> Result<String, AllocError> {
-    let Some(name) = name else {
-        return String::from_str(alloc, ",\"function\":null");
-    };
-    let text = match str::from_utf8(name) {
-        Ok(text) => quoted(alloc, text)?,
-        Err(_) => {
-            let text = lossy(alloc, name)?;
-            quoted(alloc, &text)?
+impl fmt::Display for JsonText<'_> {
+    fn fmt<W: fmt::Write>(&self, f: &mut fmt::Formatter<W>) -> fmt::Result {
+        f.write_char('"')?;
+        match str::from_utf8(self.0) {
+            Ok(text) => write_characters(text, f)?,
+            Err(_) => write_ascii(self.0, f)?,
         }
-    };
-    format!(in alloc; ",\"function\":{text}")
+        f.write_char('"')
+    }
 }
 
-/// Bytes as text, with U+FFFD in the place of each that isn't ASCII.
-fn lossy(alloc: Global, bytes: &[u8]) -> Result<String, AllocError> {
-    let mut text = String::new(alloc);
-    for byte in bytes {
-        let character = if byte.is_ascii() {
-            char::from(*byte)
-        } else {
-            '\u{fffd}'
-        };
-        text.push(character)?;
+/// Writes the characters of a string.
+fn write_characters<W: fmt::Write>(text: &str, f: &mut fmt::Formatter<W>) -> fmt::Result {
+    for character in text.chars() {
+        write_character(character, f)?;
     }
-    Ok(text)
+    Ok(())
+}
+
+/// Writes those bytes of a string that are ASCII, and what stands for the others.
+fn write_ascii<W: fmt::Write>(bytes: &[u8], f: &mut fmt::Formatter<W>) -> fmt::Result {
+    for byte in bytes {
+        if byte.is_ascii() {
+            write_character(char::from(*byte), f)?;
+        } else {
+            f.write_char('\u{fffd}')?;
+        }
+    }
+    Ok(())
+}
+
+/// Writes a character of a string (section 7).
+fn write_character<W: fmt::Write>(character: char, f: &mut fmt::Formatter<W>) -> fmt::Result {
+    match character {
+        '"' => f.write_str("\\\""),
+        '\\' => f.write_str("\\\\"),
+        '\n' => f.write_str("\\n"),
+        '\r' => f.write_str("\\r"),
+        '\t' => f.write_str("\\t"),
+        '\u{8}' => f.write_str("\\b"),
+        '\u{c}' => f.write_str("\\f"),
+        '\0'..='\u{1f}' => {
+            let number = u32::from(character);
+            write!(f, "\\u{number:04x}")
+        }
+        _ => f.write_char(character),
+    }
+}
+
+/// A field of an object for bytes, null where there are none. Where they aren't UTF-8, a second
+/// field, with `_bytes` after the name, has them in hexadecimal digits.
+#[derive(Clone, Copy)]
+pub struct JsonField<'f> {
+    /// The name of the field.
+    pub name: &'f str,
+    /// The bytes.
+    pub bytes: Option<&'f [u8]>,
+}
+
+impl JsonField<'_> {
+    /// The field of a path.
+    pub fn of_path(path: Option<&[u8]>) -> JsonField<'_> {
+        JsonField {
+            name: "path",
+            bytes: path,
+        }
+    }
+}
+
+impl fmt::Display for JsonField<'_> {
+    fn fmt<W: fmt::Write>(&self, f: &mut fmt::Formatter<W>) -> fmt::Result {
+        let name = self.name;
+        let Some(bytes) = self.bytes else {
+            return write!(f, "\"{name}\":null");
+        };
+        let text = JsonText(bytes);
+        write!(f, "\"{name}\":{text}")?;
+        if str::from_utf8(bytes).is_ok() {
+            return Ok(());
+        }
+        let digits = Digits(bytes);
+        write!(f, ",\"{name}_bytes\":\"{digits}\"")
+    }
+}
+
+/// A number in JSON, or null where there is none.
+#[derive(Clone, Copy)]
+pub struct JsonCount(pub Option<u64>);
+
+impl fmt::Display for JsonCount {
+    fn fmt<W: fmt::Write>(&self, f: &mut fmt::Formatter<W>) -> fmt::Result {
+        match self.0 {
+            Some(count) => write!(f, "{count}"),
+            None => f.write_str("null"),
+        }
+    }
 }
 
 /// An offset as a JSON string, or null where there is none.

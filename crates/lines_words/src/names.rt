@@ -75,37 +75,35 @@ pub struct NameText<'n>(pub &'n str);
 
 impl fmt::Display for NameText<'_> {
     fn fmt<W: fmt::Write>(&self, f: &mut fmt::Formatter<W>) -> fmt::Result {
-        for character in self.0.chars() {
-            write_character(character, f)?;
-        }
-        Ok(())
+        write_name(self.0, false, f)
     }
 }
 
 /// A message that names words, whose lines stay apart.
 #[derive(Clone, Copy)]
-pub struct MessageText<'m>(pub &'m str);
+pub(crate) struct MessageText<'m>(pub(crate) &'m str);
 
 impl fmt::Display for MessageText<'_> {
     fn fmt<W: fmt::Write>(&self, f: &mut fmt::Formatter<W>) -> fmt::Result {
-        for character in self.0.chars() {
-            match character {
-                '\n' => f.write_char('\n')?,
-                _ => write_character(character, f)?,
-            }
-        }
-        Ok(())
+        write_name(self.0, true, f)
     }
 }
 
-/// Writes a character of a word.
-fn write_character<W: fmt::Write>(character: char, f: &mut fmt::Formatter<W>) -> fmt::Result {
-    if let Some(byte) = byte_of(character) {
-        return write!(f, "\\x{byte:02x}");
+/// Writes the characters of a word, or of lines of words.
+fn write_name<W: fmt::Write>(
+    name: &str,
+    has_lines: bool,
+    f: &mut fmt::Formatter<W>,
+) -> fmt::Result {
+    for character in name.chars() {
+        if let Some(byte) = byte_of(character) {
+            write!(f, "\\x{byte:02x}")?;
+        } else if character.is_control() && !(has_lines && character == '\n') {
+            let number = u32::from(character);
+            write!(f, "\\x{number:02x}")?;
+        } else {
+            f.write_char(character)?;
+        }
     }
-    if character.is_control() {
-        let number = u32::from(character);
-        return write!(f, "\\x{number:02x}");
-    }
-    f.write_char(character)
+    Ok(())
 }

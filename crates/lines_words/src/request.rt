@@ -2,7 +2,7 @@
 
 ghost use Rattle.std.specs.Prelude.{◌≡◌, ◌⊎◌, ◌↔◌, IsTrue};
 
-use crate::kind::Kind;
+use crate::files::Kind;
 use crate::kinds::CheckChoice;
 
 /// What the words ask for: a command over a file.

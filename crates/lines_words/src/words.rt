@@ -8,8 +8,8 @@ ghost use Rattle.clap.specs.Words.{first_value, found_of};
 ghost use Rattle.lines_words.specs.Words.{NamesAddress, NamesOffset, NamesTarget};
 ghost use Rattle.lines_words.specs.Choice.{ChoosesUnits, NamesBias};
 
+use crate::files::{Kind, Notation};
 use crate::grammar::{command, program};
-use crate::kind::{Kind, Notation};
 use crate::kinds::{CheckChoice, KindSet};
 use crate::names::{MessageText, NameText};
 use crate::numbers::{parse_address, parse_code_address, parse_offset, parse_target};

@@ -4,7 +4,7 @@ use crate::indexes::{RowFiles, run_with_index, words_of_program};
 use crate::run::print_errors;
 use clap::Error;
 use lines_commands::{
-    Files, Request, Screen, SourceFiles, SymbolFiles, UnitFiles, run_diff, run_on,
+    Files, Request, Screen, SourceFiles, SymbolFiles, UnitFiles, run, run_diff,
 };
 use rows_reading::Stop;
 use std::alloc::{AllocError, Global};
@@ -98,7 +98,7 @@ fn perform(
     let Some(file) = new else {
         let mut input: &[u8] = &[];
         let screen = Screen::none();
-        return run_on(alloc, screen, request, files, &source, &mut input, out, err);
+        return run(alloc, screen, request, files, &source, &mut input, out, err);
     };
     let new = Files { file, ..files };
     run_diff(

@@ -1,15 +1,14 @@
 //! What a check finds, its kind, and the sentence that tells it.
 
-use crate::path_fault::PathFault;
-use crate::row_count::RowCount;
 use gimli_core::Error;
-use lines_words::FindingKind;
+use lines_inputs::{PathFault, RowCount};
+use lines_words::{CheckChoice, FindingKind, Form, JsonOffset, Output, Style};
 use std::fmt;
 
 /// What a check finds in a unit. Rows are counted from 1, those that are left out not among them.
 /// No sentence has a character that JSON escapes.
 #[derive(Clone, Copy)]
-pub enum Finding {
+pub(crate) enum Finding {
     /// The header is refused.
     Header(Error),
     /// An instruction of the program is refused, which begins at a byte of the section and comes
@@ -70,7 +69,7 @@ pub enum Finding {
 impl Finding {
     /// What kind it is of. File 0 is there from version 5 on, where it is the file of the
     /// compilation, and may be in the table once more. Code that is dropped is at address 0 too.
-    pub fn kind(self) -> FindingKind {
+    fn kind(self) -> FindingKind {
         match self {
             Finding::Header(_) => FindingKind::Header,
             Finding::Program { .. } => FindingKind::Program,
@@ -96,7 +95,7 @@ impl Finding {
 
     /// The byte of the section that a fault in the unit at an offset stands at: where its header
     /// begins, or the instruction.
-    pub fn byte(self, unit: u64) -> Option<u64> {
+    fn byte(self, unit: u64) -> Option<u64> {
         match self {
             Finding::Header(_) => Some(unit),
             Finding::Program { byte, .. } => Some(byte),
@@ -163,6 +162,77 @@ impl fmt::Display for Finding {
                 "the sequence from 0x{start:x} to 0x{end:x} overlaps that from 0x{other_start:x} \
                 to 0x{other_end:x} in the unit at 0x{other_unit:x}"
             ),
+        }
+    }
+}
+
+/// What was found so far, and what of it is told.
+#[derive(Clone, Copy)]
+pub(crate) struct Findings {
+    choice: CheckChoice,
+    /// How many there were of each kind.
+    counts: [u64; 12],
+}
+
+impl Findings {
+    /// Nothing was found.
+    pub(crate) fn new(choice: CheckChoice) -> Findings {
+        Findings {
+            choice,
+            counts: [0; 12],
+        }
+    }
+
+    /// Counts what is found in the unit at an offset, and prints it where it is told.
+    pub(crate) fn print(&mut self, unit: u64, finding: Finding, output: &mut Output<'_>) {
+        let kind = finding.kind();
+        let (number, name, severity) = kind.entry();
+        self.counts[number] = self.counts[number].saturating_add(1);
+        output.judge(self.choice, kind);
+        if !self.choice.is_all && !self.choice.counts(kind) {
+            return;
+        }
+        let severity = severity.name();
+        if self.choice.form == Form::Json {
+            let byte = JsonOffset(finding.byte(unit));
+            return output.print(format_args!(
+                "{{\"unit\":\"0x{unit:x}\",\"severity\":\"{severity}\",\"kind\":\"{name}\",\
+                 \"byte\":{byte},\"message\":\"{finding}\"}}"
+            ));
+        }
+        let Style { begin, end } = output.screen().heading();
+        output.print(format_args!(
+            "{begin}unit at 0x{unit:x}:{end} {severity}: {finding} [{name}]"
+        ));
+    }
+
+    /// Prints how many findings of each kind there were in so many units, and how many of them
+    /// count.
+    pub(crate) fn print_counts(&self, units: u64, output: &mut Output<'_>) {
+        let is_json = self.choice.form == Form::Json;
+        let mut findings = 0u64;
+        for kind in FindingKind::ALL {
+            let (number, name, severity) = kind.entry();
+            let count = self.counts[number];
+            if count == 0 {
+                continue;
+            }
+            if self.choice.counts(kind) {
+                findings = findings.saturating_add(count);
+            }
+            let severity = severity.name();
+            if is_json {
+                output.print(format_args!(
+                    "{{\"severity\":\"{severity}\",\"kind\":\"{name}\",\"count\":{count}}}"
+                ));
+            } else {
+                output.print(format_args!("{name} ({severity}): {count}"));
+            }
+        }
+        if is_json {
+            output.print(format_args!("{{\"units\":{units},\"findings\":{findings}}}"));
+        } else {
+            output.print(format_args!("units: {units}, findings: {findings}"));
         }
     }
 }

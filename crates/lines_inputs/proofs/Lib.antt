@@ -1,2 +1,0 @@
-pub mod ComponentTexts
-mod WorkedPaths
