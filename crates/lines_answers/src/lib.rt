@@ -22,7 +22,7 @@ pub use index_fault::IndexFault;
 pub use index_files::{IndexFiles, MadeIndex};
 pub use index_places::IndexPlaces;
 pub use line_answers::LineAnswers;
-pub use locate::{Answered, Places, SourcePlace, print_below};
+pub use locate::{Answered, Places, SourceLine, print_below};
 pub use made_index::{index_of_program, program_identity};
 pub use opened_index::open_index;
 pub use place_printer::PlacePrinter;

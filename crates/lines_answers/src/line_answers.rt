@@ -68,8 +68,8 @@ impl<'n> LineAnswers<'n> {
         None
     }
 
-    /// Where the index is that has to be read for what a line names. None where it is kept, or can't
-    /// be asked, which is reported once.
+    /// Where the index is that has to be read for what a line names. None where it is kept, or
+    /// can't be asked, which is reported once.
     pub fn missing(
         &mut self,
         name: &str,

@@ -19,14 +19,14 @@ pub enum Answered {
     /// It is answered.
     Whole,
     /// It is, and a line of source is to be printed below.
-    Above(SourcePlace),
+    Above(SourceLine),
     /// It is asked of another section.
     Elsewhere,
 }
 
 /// A line and a column of a source file.
 #[derive(Drop)]
-pub struct SourcePlace {
+pub struct SourceLine {
     /// The whole path.
     pub path: Vec<u8>,
     /// The line.
@@ -125,7 +125,7 @@ impl<'f, 'n, R: Reader> Places<'f, 'n, R> {
             self.tell_fault(address, &found, fault, output);
         }
         match path {
-            Some(path) if self.printer.form.has_source => Ok(Answered::Above(SourcePlace {
+            Some(path) if self.printer.form.has_source => Ok(Answered::Above(SourceLine {
                 path,
                 line,
                 column,
@@ -217,7 +217,7 @@ impl fmt::Display for RowFields {
 /// edge. Prints nothing where the file has no such line.
 pub fn print_below(
     alloc: Global,
-    place: &SourcePlace,
+    place: &SourceLine,
     file: &[u8],
     output: &mut Output<'_>,
 ) -> Result<(), AllocError> {

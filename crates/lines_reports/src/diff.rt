@@ -119,7 +119,11 @@ struct Side<R: Reader> {
 
 impl<R: Reader> Side<R> {
     /// No line is known.
-    fn new(alloc: Global, input: &Input<R>, output: &mut Output<'_>) -> Result<Side<R>, AllocError> {
+    fn new(
+        alloc: Global,
+        input: &Input<R>,
+        output: &mut Output<'_>,
+    ) -> Result<Side<R>, AllocError> {
         Ok(Side {
             walk: Walk::new(alloc, input, UnitChoice::All, Printing::Rare, output),
             sources: PathSources::new(alloc, input)?,

@@ -107,8 +107,8 @@ impl<R: Reader> FileList<R> {
 }
 
 impl<R: Reader> Pieces for FileList<R> {
-    /// Prints the directories and files of the next unit, with those that its program defines before
-    /// its first fault. The fault is reported.
+    /// Prints the directories and files of the next unit, with those that its program defines
+    /// before its first fault. The fault is reported.
     fn print_next(&mut self, output: &mut Output<'_>) -> Result<bool, AllocError> {
         let Some(mut unit) = self.walk.next_rows(output)? else {
             return Ok(false);

@@ -96,7 +96,7 @@ impl<R: Reader> RowList<R> {
         }
         let path = match &path {
             Some(path) if self.form == Form::Text => last_part(path),
-            Some(path) => path,
+            Some(path) => path.as_slice(),
             None => b"??",
         };
         let path = PathText(path);

@@ -8,13 +8,6 @@ use gimli_core::Reader;
 use gimli_line::LineInstruction;
 
 /// What bytes of a section are spent on; instructions by DWARF 5, sections 6.2.5.1 to 6.2.5.3.
-///
-/// <!-- part of crates/lines_commands/src/stat.rt -->
-/// ```rust
-/// for spent in Spent::ALL {
-///     let share = self.tally.share(spent);
-///     let name = spent.name();
-/// ```
 #[derive(Clone, Copy, Debug, PartialEq, Eq)]
 pub enum Spent {
     /// The header of a unit, without its tables.

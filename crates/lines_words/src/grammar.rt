@@ -6,178 +6,123 @@ use std::alloc::{AllocError, Global};
 /// The version of the program.
 const VERSION: &str = "1.0";
 
-/// What is said of a command, and what it takes beside a file.
+/// What is said of a command, and what it takes beside its file.
 #[derive(Clone, Copy)]
 struct Entry {
     name: &'static str,
     about: &'static str,
     example: &'static str,
-    file: Argument,
     arguments: &'static [Argument],
 }
 
-/// What a command takes.
+/// What commands take: the name and the help of each, and of an option with a value the name of
+/// that.
 #[derive(Clone, Copy)]
-struct Argument {
-    name: &'static str,
-    shape: Shape,
-    help: &'static str,
-    /// What has no place beside it.
-    without: &'static [&'static str],
-}
-
-/// How an argument is written.
-#[derive(Clone, Copy)]
-enum Shape {
+enum Argument {
     /// A word that may be left out.
-    Word,
+    Word(&'static str, &'static str),
     /// A word that has to be there.
-    Needed,
-    /// A word that has to be there, unless something stands in the place of the file.
-    NeededAlone,
+    Needed(&'static str, &'static str),
     /// Any number of words.
-    Words,
+    Words(&'static str, &'static str),
     /// An option without a value.
-    Flag,
+    Flag(&'static str, &'static str),
     /// One that may be written as a letter.
-    LetterFlag(char),
-    /// An option with a value of this name.
-    Option(&'static str),
+    LetterFlag(char, &'static str, &'static str),
+    /// An option with a value.
+    Option(&'static str, &'static str, &'static str),
     /// One that may be written as a letter.
-    LetterOption(char, &'static str),
+    LetterOption(char, &'static str, &'static str, &'static str),
     /// One that may come several times.
-    Options(&'static str),
-    /// One for a raw section.
-    RawOption(&'static str),
+    Options(&'static str, &'static str, &'static str),
 }
 
-/// What stands in the place of the file.
+/// What has no place beside what.
+const CONFLICTS: [(&str, &[&str]); 7] = [
+    ("pretty", &["json"]),
+    ("whole-paths", &["json"]),
+    ("basenames", &["relative-to"]),
+    ("index", &["functions"]),
+    ("maps", &["index", "functions", "raw", "line-str", "str"]),
+    ("files", &["index", "maps", "functions"]),
+    ("FILE", &["maps", "files"]),
+];
+
+/// What stands in the place of the file of the command `where`.
 const INSTEAD_OF_FILE: [&str; 3] = ["index", "maps", "files"];
-
-const FILE: Argument = Argument {
-    name: "FILE",
-    shape: Shape::Needed,
-    help: "An ELF file, or with --raw a section .debug_line; - is standard input",
-    without: &[],
-};
-
-/// The file whose places are asked for. It may be left out where an index is named, and has no
-/// place beside lines that say what they ask.
-const ASKED_FILE: Argument = Argument {
-    name: "FILE",
-    shape: Shape::NeededAlone,
-    help: "An ELF file, or with --raw a section .debug_line; - is standard input",
-    without: &["maps", "files"],
-};
 
 /// How the file of each command is read.
 const OF_FILE: [Argument; 4] = [
-    Argument {
-        name: "raw",
-        shape: Shape::Option("little|big"),
-        help: "FILE is a section .debug_line alone, in this order of bytes",
-        without: &[],
-    },
-    Argument {
-        name: "address-size",
-        shape: Shape::RawOption("N"),
-        help: "With --raw: the bytes of an address up to version 4: 1, 2, 4 or 8 (8 if unsaid)",
-        without: &[],
-    },
-    Argument {
-        name: "line-str",
-        shape: Shape::Option("FILE"),
-        help: "The section .debug_line_str",
-        without: &[],
-    },
-    Argument {
-        name: "str",
-        shape: Shape::Option("FILE"),
-        help: "The section .debug_str",
-        without: &[],
-    },
+    Argument::Option(
+        "raw",
+        "little|big",
+        "FILE is a section .debug_line alone, in this order of bytes",
+    ),
+    Argument::Option(
+        "address-size",
+        "N",
+        "With --raw: the bytes of an address up to version 4: 1, 2, 4 or 8 (8 if unsaid)",
+    ),
+    Argument::Option("line-str", "FILE", "The section .debug_line_str"),
+    Argument::Option("str", "FILE", "The section .debug_str"),
 ];
 
-const JSON: Argument = Argument {
-    name: "json",
-    shape: Shape::Flag,
-    help: "Prints a JSON object a line",
-    without: &[],
-};
+const JSON: Argument = Argument::Flag("json", "Prints a JSON object a line");
 
-const SOURCE: Argument = Argument {
-    name: "source",
-    shape: Shape::Option("SOURCE"),
-    help: "Reads this source file in the place of those that paths name",
-    without: &[],
-};
+const SOURCE: Argument = Argument::Option(
+    "source",
+    "SOURCE",
+    "Reads this source file in the place of those that paths name",
+);
 
-const UNIT: Argument = Argument {
-    name: "UNIT",
-    shape: Shape::Word,
-    help: "The offset of a unit, as the command units prints it",
-    without: &[],
-};
+const UNIT: Argument = Argument::Word(
+    "UNIT",
+    "The offset of a unit, as the command units prints it",
+);
 
 /// What the command `where` takes.
 const OF_WHERE: [Argument; 11] = [
-    Argument {
-        name: "ADDRESS",
-        shape: Shape::Words,
-        help: "An address in hexadecimal digits, or in an object file SECTION+OFFSET; without one \
-               they are read from standard input",
-        without: &[],
-    },
-    Argument {
-        name: "functions",
-        shape: Shape::LetterFlag('f'),
-        help: "Prints the name of the function that holds the address, before the path",
-        without: &[],
-    },
-    Argument {
-        name: "pretty",
-        shape: Shape::Flag,
-        help: "Prints the line of source below each answer, with a mark at the column",
-        without: &["json"],
-    },
+    Argument::Words(
+        "ADDRESS",
+        "An address in hexadecimal digits, or in an object file SECTION+OFFSET; without one they \
+         are read from standard input",
+    ),
+    Argument::LetterFlag(
+        'f',
+        "functions",
+        "Prints the name of the function that holds the address, before the path",
+    ),
+    Argument::Flag(
+        "pretty",
+        "Prints the line of source below each answer, with a mark at the column",
+    ),
     SOURCE,
-    Argument {
-        name: "basenames",
-        shape: Shape::Flag,
-        help: "Prints the last component of each path",
-        without: &["relative-to"],
-    },
-    Argument {
-        name: "relative-to",
-        shape: Shape::Option("DIR"),
-        help: "Prints paths that begin with this directory without it",
-        without: &[],
-    },
-    Argument {
-        name: "bias",
-        shape: Shape::Option("ADDRESS"),
-        help: "Subtracts this from each address, for a program that was loaded elsewhere",
-        without: &[],
-    },
-    Argument {
-        name: "index",
-        shape: Shape::Option("INDEX"),
-        help: "Asks an index in the place of FILE, which may be left out; where it is named, the \
-               index has to be its own",
-        without: &["functions"],
-    },
-    Argument {
-        name: "maps",
-        shape: Shape::Option("DIR"),
-        help: "Reads lines of a build id and an address, and asks DIR/xx/rest.lines of each",
-        without: &["index", "functions", "raw", "line-str", "str"],
-    },
-    Argument {
-        name: "files",
-        shape: Shape::Flag,
-        help: "Reads lines of a file and an address, in the place of FILE",
-        without: &["index", "maps", "functions"],
-    },
+    Argument::Flag("basenames", "Prints the last component of each path"),
+    Argument::Option(
+        "relative-to",
+        "DIR",
+        "Prints paths that begin with this directory without it",
+    ),
+    Argument::Option(
+        "bias",
+        "ADDRESS",
+        "Subtracts this from each address, for a program that was loaded elsewhere",
+    ),
+    Argument::Option(
+        "index",
+        "INDEX",
+        "Asks an index in the place of FILE, which may be left out; where it is named, the index \
+         has to be its own",
+    ),
+    Argument::Option(
+        "maps",
+        "DIR",
+        "Reads lines of a build id and an address, and asks DIR/xx/rest.lines of each",
+    ),
+    Argument::Flag(
+        "files",
+        "Reads lines of a file and an address, in the place of FILE",
+    ),
     JSON,
 ];
 
@@ -187,46 +132,34 @@ const COMMANDS: [Entry; 10] = [
         name: "where",
         about: "Prints path:line:column of each address, ??:0:0 where there is none",
         example: "Example: lines where a.out 401136 0x40113D",
-        file: ASKED_FILE,
         arguments: &OF_WHERE,
     },
     Entry {
         name: "index",
         about: "Writes an index of the lines, for where --index and where --maps",
         example: "Example: lines index a.out -o a.out.lines",
-        file: FILE,
-        arguments: &[Argument {
-            name: "output",
-            shape: Shape::LetterOption('o', "OUT"),
-            help: "Where the index goes; without it to FILE with .lines after it, and - is \
-                   standard output",
-            without: &[],
-        }],
+        arguments: &[Argument::LetterOption(
+            'o',
+            "output",
+            "OUT",
+            "Where the index goes; without it to FILE with .lines after it, and - is standard \
+             output",
+        )],
     },
     Entry {
         name: "at",
         about: "Prints the addresses to break at for a line, or for the next one that has code",
         example: "Example: lines at a.out src/main.c:12",
-        file: FILE,
         arguments: &[
-            Argument {
-                name: "PATH:LINE",
-                shape: Shape::Needed,
-                help: "A line of each file whose path ends so, by whole parts",
-                without: &[],
-            },
-            Argument {
-                name: "columns",
-                shape: Shape::Flag,
-                help: "Prints the column after the line",
-                without: &[],
-            },
-            Argument {
-                name: "range",
-                shape: Shape::Flag,
-                help: "Prints where the row of each address ends, after its beginning",
-                without: &[],
-            },
+            Argument::Needed(
+                "PATH:LINE",
+                "A line of each file whose path ends so, by whole parts",
+            ),
+            Argument::Flag("columns", "Prints the column after the line"),
+            Argument::Flag(
+                "range",
+                "Prints where the row of each address ends, after its beginning",
+            ),
             JSON,
         ],
     },
@@ -234,21 +167,18 @@ const COMMANDS: [Entry; 10] = [
         name: "source",
         about: "Prints the source of a line or of a function, with the addresses of each line",
         example: "Example: lines source -C 5 a.out src/main.c:12",
-        file: FILE,
         arguments: &[
-            Argument {
-                name: "PLACE",
-                shape: Shape::Needed,
-                help: "A line of each file whose path ends so, PATH:LINE, or else the name of a \
-                       function, as its symbol has it",
-                without: &[],
-            },
-            Argument {
-                name: "context",
-                shape: Shape::LetterOption('C', "N"),
-                help: "Prints so many lines before it and after it (3 if unsaid)",
-                without: &[],
-            },
+            Argument::Needed(
+                "PLACE",
+                "A line of each file whose path ends so, PATH:LINE, or else the name of a \
+                 function, as its symbol has it",
+            ),
+            Argument::LetterOption(
+                'C',
+                "context",
+                "N",
+                "Prints so many lines before it and after it (3 if unsaid)",
+            ),
             SOURCE,
             JSON,
         ],
@@ -257,29 +187,21 @@ const COMMANDS: [Entry; 10] = [
         name: "units",
         about: "Prints a line for each unit",
         example: "Example: lines units a.out",
-        file: FILE,
         arguments: &[JSON],
     },
     Entry {
         name: "files",
         about: "Prints the directories and files of the units",
         example: "Example: lines files a.out 0x8d",
-        file: FILE,
         arguments: &[UNIT, JSON],
     },
     Entry {
         name: "rows",
         about: "Prints the rows of the units",
         example: "Example: lines rows --whole-paths a.out 0x8d",
-        file: FILE,
         arguments: &[
             UNIT,
-            Argument {
-                name: "whole-paths",
-                shape: Shape::Flag,
-                help: "Prints whole paths",
-                without: &["json"],
-            },
+            Argument::Flag("whole-paths", "Prints whole paths"),
             JSON,
         ],
     },
@@ -289,26 +211,18 @@ const COMMANDS: [Entry; 10] = [
         example: "Kinds: header, program, no-path, no-file (fault); goes-down, below-code, no-end \
                   (lost); same-path, overlap (odd); file-0, merged, dropped (usual)\n\
                   Example: lines check --deny odd --allow overlap a.out",
-        file: FILE,
         arguments: &[
-            Argument {
-                name: "deny",
-                shape: Shape::Options("KIND"),
-                help: "Makes the status 1 for these too: a kind, or fault, lost, odd or usual",
-                without: &[],
-            },
-            Argument {
-                name: "allow",
-                shape: Shape::Options("KIND"),
-                help: "Only counts these, whatever --deny says: a kind, or fault, lost or odd",
-                without: &[],
-            },
-            Argument {
-                name: "all",
-                shape: Shape::Flag,
-                help: "Tells what is usual or allowed too",
-                without: &[],
-            },
+            Argument::Options(
+                "deny",
+                "KIND",
+                "Makes the status 1 for these too: a kind, or fault, lost, odd or usual",
+            ),
+            Argument::Options(
+                "allow",
+                "KIND",
+                "Only counts these, whatever --deny says: a kind, or fault, lost or odd",
+            ),
+            Argument::Flag("all", "Tells what is usual or allowed too"),
             JSON,
         ],
     },
@@ -316,21 +230,14 @@ const COMMANDS: [Entry; 10] = [
         name: "stat",
         about: "Prints what the bytes of the line programs are spent on",
         example: "Example: lines stat a.out",
-        file: FILE,
         arguments: &[JSON],
     },
     Entry {
         name: "diff",
         about: "Prints the lines that have other code in a new program; the status is 1 for any",
         example: "Example: lines diff a.out.old a.out",
-        file: FILE,
         arguments: &[
-            Argument {
-                name: "NEW",
-                shape: Shape::Needed,
-                help: "The new program; FILE is the old one",
-                without: &[],
-            },
+            Argument::Needed("NEW", "The new program; FILE is the old one"),
             JSON,
         ],
     },
@@ -372,38 +279,77 @@ impl Entry {
         let mut command = Command::new(alloc, self.name)
             .about(self.about)
             .after_help(self.example)
-            .arg(self.file.argument(alloc)?)?;
+            .arg(self.file(alloc)?)?;
         for argument in OF_FILE.iter().chain(self.arguments) {
             command = command.arg(argument.argument(alloc)?)?;
         }
         Ok(command)
     }
+
+    /// The file. That of the command `where` may be left out where an index is named, and has no
+    /// place beside lines that say what they ask.
+    fn file<'a>(&self, alloc: Global) -> Result<Arg<'a>, AllocError> {
+        let file = Arg::new(alloc, "FILE").help(
+            "An ELF file, or with --raw a section .debug_line; - is standard input",
+        );
+        if self.name == "where" {
+            return without_others(file.required_unless_present_any(&INSTEAD_OF_FILE)?, "FILE");
+        }
+        Ok(file.required(true))
+    }
 }
 
 impl Argument {
     /// The argument.
-    fn argument<'a>(&self, alloc: Global) -> Result<Arg<'a>, AllocError> {
-        let word = Arg::new(alloc, self.name).help(self.help);
-        let argument = match self.shape {
-            Shape::Word => word,
-            Shape::Needed => word.required(true),
-            Shape::NeededAlone => word.required_unless_present_any(&INSTEAD_OF_FILE)?,
-            Shape::Words => word.action(ArgAction::Append).num_args(0..),
-            Shape::Flag => word.long(self.name).action(ArgAction::SetTrue),
-            Shape::LetterFlag(letter) => word
-                .long(self.name)
-                .short(letter)
-                .action(ArgAction::SetTrue),
-            Shape::Option(value) => word.long(self.name).value_name(value).action(ArgAction::Set),
-            Shape::LetterOption(letter, value) => {
-                word.long(self.name).short(letter).value_name(value)
+    fn argument<'a>(self, alloc: Global) -> Result<Arg<'a>, AllocError> {
+        match self {
+            Argument::Word(name, help) => Ok(Arg::new(alloc, name).help(help)),
+            Argument::Needed(name, help) => Ok(Arg::new(alloc, name).help(help).required(true)),
+            Argument::Words(name, help) => {
+                let words = Arg::new(alloc, name).help(help);
+                Ok(words.action(ArgAction::Append).num_args(0..))
             }
-            Shape::Options(value) => word
-                .long(self.name)
-                .value_name(value)
-                .action(ArgAction::Append),
-            Shape::RawOption(value) => word.long(self.name).value_name(value).requires_arg("raw")?,
-        };
-        argument.conflicts_with_all(self.without)
+            Argument::Flag(name, help) => { without_others(flag(alloc, name, help), name) }
+            Argument::LetterFlag(letter, name, help) => Ok(flag(alloc, name, help).short(letter)),
+            Argument::Option("address-size", value, help) => {
+                option(alloc, "address-size", value, help).requires_arg("raw")
+            }
+            Argument::Option(name, value, help) => {
+                without_others(option(alloc, name, value, help), name)
+            }
+            Argument::LetterOption(letter, name, value, help) => {
+                Ok(option(alloc, name, value, help).short(letter))
+            }
+            Argument::Options(name, value, help) => {
+                Ok(option(alloc, name, value, help).action(ArgAction::Append))
+            }
+        }
     }
+}
+
+/// An option without a value.
+fn flag<'a>(alloc: Global, name: &'a str, help: &'a str) -> Arg<'a> {
+    Arg::new(alloc, name)
+        .long(name)
+        .action(ArgAction::SetTrue)
+        .help(help)
+}
+
+/// An option with a value.
+fn option<'a>(alloc: Global, name: &'a str, value: &'a str, help: &'a str) -> Arg<'a> {
+    Arg::new(alloc, name)
+        .long(name)
+        .value_name(value)
+        .action(ArgAction::Set)
+        .help(help)
+}
+
+/// An argument of a name, that has no place beside some others.
+fn without_others<'a>(argument: Arg<'a>, name: &str) -> Result<Arg<'a>, AllocError> {
+    for (own, others) in CONFLICTS {
+        if own == name {
+            return argument.conflicts_with_all(others);
+        }
+    }
+    Ok(argument)
 }

@@ -151,15 +151,6 @@ pub struct CodeLine<'w> {
 }
 
 /// Which lines of source are printed, and how.
-///
-/// <!-- part of crates/lines_commands/src/words.rt -->
-/// ```rust
-/// "source" => Ok(Command::Source(SourceChoice {
-///     place: source_place_of(matches)?,
-///     context: context_of(matches)?,
-///     is_json: matches.get_flag("json"),
-/// })),
-/// ```
 #[derive(Clone, Copy, Debug, PartialEq, Eq)]
 pub struct SourceChoice<'w> {
     /// The place.
@@ -171,14 +162,6 @@ pub struct SourceChoice<'w> {
 }
 
 /// A place in the source.
-///
-/// <!-- part of crates/lines_commands/src/words.rt -->
-/// ```rust
-/// match parse_target(word) {
-///     Some((path, line)) => Ok(SourcePlace::Line { path, line }),
-///     None => Ok(SourcePlace::Function(word)),
-/// }
-/// ```
 #[derive(Clone, Copy, Debug, PartialEq, Eq)]
 pub enum SourcePlace<'w> {
     /// A line of the files whose whole path ends with the components of another.

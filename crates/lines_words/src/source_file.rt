@@ -3,14 +3,6 @@
 use std::alloc::{AllocError, Global};
 
 /// Where source files are read from.
-///
-/// <!-- part of crates/lines/src/main.rt -->
-/// ```rust
-/// let sources = Sources {
-///     rt,
-///     only: request.source,
-/// };
-/// ```
 pub trait SourceFiles {
     /// The bytes of the file of a path; None where it can't be read.
     fn source(&self, alloc: Global, path: &[u8]) -> Result<Option<Vec<u8>>, AllocError>;
