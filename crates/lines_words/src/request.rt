@@ -99,14 +99,6 @@ impl<'w> Command<'w> {
         }
     }
 
-    /// Whether the command `diff` prints JSON objects.
-    pub fn is_json(&self) -> bool {
-        match self {
-            Command::Diff { is_json, .. } => *is_json,
-            _ => false,
-        }
-    }
-
     /// Whether names of functions are printed: symbols are read for these alone.
     pub fn prints_functions(&self) -> bool {
         match self {

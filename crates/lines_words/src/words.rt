@@ -167,7 +167,7 @@ fn command_of<'w>(
 fn where_of<'w>(alloc: Global, matches: &ArgMatches<'w>) -> Result<Command<'w>, Mistake<'w>> {
     let form = place_form_of(matches)?;
     if let Some(index) = matches.get_str("index") {
-        let addresses = asked_addresses(alloc, matches)?;
+        let addresses = addresses_of(alloc, matches)?;
         return Ok(Command::Ask {
             index,
             addresses,
@@ -200,25 +200,16 @@ fn first_address(matches: &ArgMatches<'_>) -> Option<u64> {
     parse_address(matches.get_str("FILE")?)
 }
 
-/// The addresses that are named beside an index.
-fn asked_addresses<'w>(
-    alloc: Global,
-    matches: &ArgMatches<'w>,
-) -> Result<Vec<CodeAddress<'w>>, Mistake<'w>> {
-    let mut addresses = addresses_of(alloc, matches)?;
-    if let Some(first) = first_address(matches) {
-        let first = CodeAddress::Linked(first);
-        addresses.insert(0, first).map_err(AllocError::from)?;
-    }
-    Ok(addresses)
-}
-
-/// The addresses that are named.
+/// The addresses that are named; beside an index the first word may be one.
 fn addresses_of<'w>(
     alloc: Global,
     matches: &ArgMatches<'w>,
 ) -> Result<Vec<CodeAddress<'w>>, Mistake<'w>> {
     let mut addresses = Vec::new(alloc);
+    if let Some(first) = first_address(matches) {
+        let first = CodeAddress::Linked(first);
+        addresses.push(first).map_err(AllocError::from)?;
+    }
     for word in matches.get_strs("ADDRESS").unwrap_or(&[]) {
         match parse_code_address(word) {
             Some(address) => addresses.push(address).map_err(AllocError::from)?,
