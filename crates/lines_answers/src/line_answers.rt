@@ -35,13 +35,14 @@ impl<'n> LineAnswers<'n> {
         names: LineNames<'n>,
         form: PlaceForm<'n>,
     ) -> Result<LineAnswers<'n>, AllocError> {
-        let printer = PlacePrinter::new(alloc, form)?;
         let most = NonZeroUsize::new(KEPT).unwrap_or(NonZeroUsize::MIN);
+        let printer = PlacePrinter::new(alloc, form)?;
+        let kept = LruCache::new(alloc, most)?;
         Ok(LineAnswers {
             alloc,
             names,
             printer,
-            kept: LruCache::new(alloc, most)?,
+            kept,
             refused: HashSet::new(alloc),
         })
     }

@@ -59,6 +59,7 @@ impl<'w, R: Reader> SourceRows<'w, R> {
         choice: SourceChoice<'w>,
         output: &mut Output<'_>,
     ) -> Result<Option<SourceRows<'w, R>>, AllocError> {
+        let sources = PathSources::new(alloc, input)?;
         let word = bytes_of_word(alloc, choice.place.word())?;
         let wanted = match choice.place {
             SourcePlace::Line { line, .. } => Wanted::Line { end: word, line },
@@ -77,7 +78,7 @@ impl<'w, R: Reader> SourceRows<'w, R> {
             wanted,
             lowest: input.lowest,
             walk: Walk::new(alloc, input, UnitChoice::All, Printing::Rare, output),
-            sources: PathSources::new(alloc, input)?,
+            sources,
             paths: IndexSet::new(alloc),
             rows: Vec::new(alloc),
         }))

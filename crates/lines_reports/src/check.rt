@@ -36,11 +36,12 @@ impl<R: Reader> Check<R> {
         choice: CheckChoice,
         output: &mut Output<'_>,
     ) -> Result<Check<R>, AllocError> {
+        let sources = PathSources::new(alloc, input)?;
         Ok(Check {
             alloc,
             lowest: input.lowest,
             is_linked: input.is_linked,
-            sources: PathSources::new(alloc, input)?,
+            sources,
             walk: Walk::new(alloc, input, UnitChoice::All, Printing::Rare, output),
             unit: None,
             units: 0,

@@ -124,9 +124,10 @@ impl<R: Reader> Side<R> {
         input: &Input<R>,
         output: &mut Output<'_>,
     ) -> Result<Side<R>, AllocError> {
+        let sources = PathSources::new(alloc, input)?;
         Ok(Side {
             walk: Walk::new(alloc, input, UnitChoice::All, Printing::Rare, output),
-            sources: PathSources::new(alloc, input)?,
+            sources,
             lowest: input.lowest,
             coverage: Coverage::new(alloc),
         })

@@ -27,10 +27,11 @@ impl<R: Reader> FileList<R> {
         is_json: bool,
         output: &mut Output<'_>,
     ) -> Result<FileList<R>, AllocError> {
+        let sources = PathSources::new(alloc, input)?;
         Ok(FileList {
             alloc,
             walk: Walk::new(alloc, input, units, Printing::Steady, output),
-            sources: PathSources::new(alloc, input)?,
+            sources,
             is_json,
         })
     }

@@ -37,11 +37,12 @@ impl<R: Reader> RowList<R> {
         form: Form,
         output: &mut Output<'_>,
     ) -> Result<RowList<R>, AllocError> {
+        let sources = PathSources::new(alloc, input)?;
         Ok(RowList {
             alloc,
             form,
             walk: Walk::new(alloc, input, units, Printing::Steady, output),
-            sources: PathSources::new(alloc, input)?,
+            sources,
             unit: None,
             file: None,
             path: String::new(alloc),

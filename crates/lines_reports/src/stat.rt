@@ -49,10 +49,11 @@ impl<R: Reader> Stat<R> {
         is_json: bool,
         output: &mut Output<'_>,
     ) -> Result<Stat<R>, AllocError> {
+        let sources = PathSources::new(alloc, input)?;
         Ok(Stat {
             alloc,
             walk: Walk::new(alloc, input, UnitChoice::All, Printing::Rare, output),
-            sources: PathSources::new(alloc, input)?,
+            sources,
             is_json,
             all: input.length(),
             tally: Tally::new(),
