@@ -7,7 +7,8 @@ use crate::place_printer::{FoundPlace, PlacePrinter};
 use gimli_core::{Reader, ReaderOffset};
 use gimli_lookup::{CoveringRows, PathError};
 use lines_inputs::{
-    Covering, Functions, Input, JsonFlags, PathSources, column_of, line_of, look_up_each,
+    Covering, Functions, Input, JsonFlags, PathSources, column_of, line_of, look_up_any,
+    look_up_each,
 };
 use lines_words::{CodeAddress, ColumnMark, Output, PlaceForm, SourceText, line_at, lines_of};
 use std::alloc::{AllocError, Global};
@@ -60,8 +61,12 @@ impl<'f, 'n, R: Reader> Places<'f, 'n, R> {
         section: Option<&'f [u8]>,
         output: &mut Output<'_>,
     ) -> Result<Places<'f, 'n, R>, AllocError> {
-        let addresses = unmoved(alloc, addresses, form.bias)?;
-        let lookup = look_up_each(alloc, input, addresses, output)?;
+        let lookup = if addresses.is_empty() {
+            look_up_any(alloc, input, output)?
+        } else {
+            let addresses = unmoved(alloc, addresses, form.bias)?;
+            look_up_each(alloc, input, addresses, output)?
+        };
         let sources = PathSources::new(alloc, input)?;
         let printer = PlacePrinter::new(alloc, form)?;
         Ok(Places {
@@ -161,16 +166,12 @@ impl<'f, 'n, R: Reader> Places<'f, 'n, R> {
     }
 }
 
-/// The addresses that are looked for, before the program was moved by a bias; None where any may
-/// be.
+/// The addresses that are looked for, before the program was moved by a bias.
 fn unmoved(
     alloc: Global,
     addresses: &[CodeAddress<'_>],
     bias: u64,
-) -> Result<Option<Vec<u64>>, AllocError> {
-    if addresses.is_empty() {
-        return Ok(None);
-    }
+) -> Result<Vec<u64>, AllocError> {
     let mut unmoved = Vec::new(alloc);
     for address in addresses {
         if let CodeAddress::Linked(address) = *address {
@@ -179,7 +180,7 @@ fn unmoved(
             }
         }
     }
-    Ok(Some(unmoved))
+    Ok(unmoved)
 }
 
 /// The line and the column that are shown: those of the row that covers the address, which is the

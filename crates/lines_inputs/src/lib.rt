@@ -18,7 +18,7 @@ pub use fields::{FlagLetters, JsonFlags, column_of, line_of};
 pub use functions::{Functions, JsonFunction, ShownFunction};
 pub use input::{Input, NOT_LINKED};
 pub use input_error::{InputError, tell_refusal};
-pub use lookup::{Covering, look_up, look_up_each};
+pub use lookup::{Covering, look_up, look_up_any, look_up_each};
 pub use path_sources::{PathFault, PathSources};
 pub use program::Program;
 pub use unit_rows::{RowCount, UnitRows};

@@ -1,6 +1,6 @@
 //! The rows of all units of a section, for the commands that look among them.
 
-ghost use Rattle.std.specs.Prelude.{◌≡◌, ℕ, All, IfOk, IfSome, None};
+ghost use Rattle.std.specs.Prelude.{ℕ, All, IfOk};
 ghost use Rattle.lines_inputs.specs.Lookups.{AreUnitsIn, IsReadFrom, Knows};
 
 use crate::input::Input;
@@ -48,32 +48,38 @@ impl<R: Reader> Covering<R> {
     }
 }
 
-/// Finds the rows that cover addresses: of a few in one run, of others, and of any where none are
-/// given, by the rows of all units. The fault of each unit is reported.
-pub fn look_up_each<R: Reader>(
+/// Keeps the rows of all units, as `look_up` does.
+pub fn look_up_any<R: Reader>(
     alloc: Global,
     input: &Input<R>,
-    addresses: Option<Vec<u64>>,
     output: &mut Output<'_>,
 ) -> Result<Covering<R>, AllocError>
     ensures read { IfOk result (IsReadFrom R.bytes R.big R.Offset.limit input.now) }
-    ensures any { addresses.entry ≡ None
-        → IfOk result (λ covering. (a : ℕ) → Knows covering a) }
-    ensures each { IfSome addresses.entry
-        (λ few. IfOk result (λ covering. All (Knows covering) few.items)) }
+    ensures any { IfOk result (λ covering. (a : ℕ) → Knows covering a) }
 {
-    let few = match addresses {
-        Some(addresses) if addresses.len() <= FEW => addresses,
-        _ => return Ok(Covering::Kept(look_up(alloc, input, output)?)),
-    };
+    let lookup = look_up(alloc, input, output)?;
+    Ok(Covering::Kept(lookup))
+}
+
+/// Finds the rows that cover addresses: of a few in one run, of others by the rows of all units.
+/// The fault of each unit is reported, as `look_up` does.
+pub fn look_up_each<R: Reader>(
+    alloc: Global,
+    input: &Input<R>,
+    addresses: Vec<u64>,
+    output: &mut Output<'_>,
+) -> Result<Covering<R>, AllocError>
+    ensures read { IfOk result (IsReadFrom R.bytes R.big R.Offset.limit input.now) }
+    ensures each { IfOk result (λ covering. All (Knows covering) addresses.items) }
+{
+    if addresses.len() > FEW {
+        return look_up_any(alloc, input, output);
+    }
     let size = input.address_size.bytes();
-    match find_in_section(&input.lines, alloc, size, input.lowest, &few) {
+    match find_in_section(&input.lines, alloc, size, input.lowest, &addresses) {
         Ok(found) => {
             tell_faults(&found.units, output);
-            Ok(Covering::Found {
-                addresses: few,
-                found,
-            })
+            Ok(Covering::Found { addresses, found })
         }
         Err(_) => Err(AllocError),
     }
