@@ -118,7 +118,7 @@ fn perform(rt: &HostRuntime, request: &Request<'_>, files: Files<'_>) -> io::Res
         rt,
         only: request.source,
     };
-    lines_commands::run_on(
+    lines_commands::run(
         alloc,
         screen(rt),
         request,

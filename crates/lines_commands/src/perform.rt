@@ -3,61 +3,24 @@
 
 ghost use Rattle.std.specs.Prelude.{◌≡◌, ◌≤◌, IfOk, IfErr};
 ghost use Rattle.std.specs.IoError.{error_kind};
-ghost use Rattle.lines_commands.specs.Lines.{HasLines};
+ghost use Rattle.lines_inputs.specs.Lines.{HasLines};
 
-use crate::addresses::print_addresses;
-use crate::check::print_check;
-use crate::diff::print_diff;
-use crate::input::{Files, Kind};
-use crate::input_error::InputError;
-use crate::listing::{Listing, print_each, print_units};
-use crate::locate::{print_places, print_places_in_sections};
-use crate::output::Output;
-use crate::program::Program;
-use crate::report::Verdict;
-use crate::request::{Command, Form, Request};
-use crate::screen::Screen;
-use crate::source::print_source;
-use crate::source_file::{NoSources, SourceFiles};
-use crate::stat::print_stat;
+use crate::answering::{locate, locate_in_sections, print_source};
 use elf_sections::ElfError;
+use lines_answers::print_addresses;
+use lines_inputs::{InputError, NOT_LINKED, Program, show_reading, tell_refusal};
+use lines_reports::{Check, Diff, FileList, RowList, Stat, UnitList};
+use lines_words::{Command, Files, Kind, Output, Pieces, Request, Screen, SourceFiles, Verdict};
 use std::alloc::Global;
 use std::io;
 use std::io::{BufRead, ErrorKind, Write};
 
 /// Does what a request asks for, and returns the status of the program: 0, or 1 where something was
-/// refused, and reported on standard error, or found by a check. Fails where memory is missing,
-/// where standard input can't be read, and where standard output takes no more; what was printed
-/// before stands.
-pub fn run<I: BufRead, O: Write, E: Write>(
-    alloc: Global,
-    request: &Request<'_>,
-    files: Files<'_>,
-    input: &mut I,
-    out: &mut O,
-    err: &mut E,
-) -> io::Result<u8>
-    ensures status { IfOk result (λ status. status ≤ 1) }
-    ensures no_lines { request.now.kind ≡ Kind.Elf → (HasLines files.entry.file.now → ⊥)
-        → IfOk result (λ status. status ≡ 1) }
-    ensures no_lines_fails { request.now.kind ≡ Kind.Elf → (HasLines files.entry.file.now → ⊥)
-        → IfErr result (λ e. error_kind e ≡ ErrorKind.OutOfMemory) }
-{
-    run_on(
-        alloc,
-        Screen::none(),
-        request,
-        files,
-        &NoSources,
-        input,
-        out,
-        err,
-    )
-}
-
-/// Does what `run` does, where source files may be read, and outputs may be terminals: headings and
-/// faults are set off there, and a long command prints how far it is.
-pub fn run_on<S: SourceFiles, I: BufRead, O: Write, E: Write>(
+/// refused, and reported on standard error, or found by a check. Source files may be read, and
+/// outputs may be terminals: headings and faults are set off there, and a long command prints how
+/// far it is. Fails where memory is missing, where standard input can't be read, and where standard
+/// output takes no more; what was printed before stands.
+pub fn run<S: SourceFiles, I: BufRead, O: Write, E: Write>(
     alloc: Global,
     screen: Screen,
     request: &Request<'_>,
@@ -73,7 +36,7 @@ pub fn run_on<S: SourceFiles, I: BufRead, O: Write, E: Write>(
     ensures no_lines_fails { request.now.kind ≡ Kind.Elf → (HasLines files.entry.file.now → ⊥)
         → IfErr result (λ e. error_kind e ≡ ErrorKind.OutOfMemory) }
 {
-    let mut output = Output::new(request.file, screen, out, err);
+    let mut output = Output::new(alloc, request.file, screen);
     let program = match Program::new(alloc, request.kind, files) {
         Ok(program) => program,
         Err(InputError::Elf(ElfError::OutOfMemory)) => {
@@ -81,19 +44,124 @@ pub fn run_on<S: SourceFiles, I: BufRead, O: Write, E: Write>(
         }
         Err(refusal) => {
             output.tell(refusal);
+            // Where the message can't be written, the status still says it.
+            let _ = output.hand_on(out, err);
             return Ok(Verdict::Faulty.status());
         }
     };
+    let command = &request.command;
     perform(
         alloc,
-        &request.command,
+        command,
         &program,
         files,
         sources,
         input,
         &mut output,
-    );
-    output.finish()
+        out,
+        err,
+    )?;
+    output.finish(out, err)
+}
+
+/// Does what a command asks for.
+fn perform<S: SourceFiles, I: BufRead, O: Write, E: Write>(
+    alloc: Global,
+    command: &Command<'_>,
+    program: &Program<'_>,
+    files: Files<'_>,
+    sources: &S,
+    input: &mut I,
+    output: &mut Output<'_>,
+    out: &mut O,
+    err: &mut E,
+) -> io::Result<()> {
+    let sections = &program.input();
+    match command {
+        Command::Where { addresses, form } if sections.is_linked => locate(
+            alloc, program, addresses, *form, sources, input, output, out, err,
+        ),
+        Command::Where { addresses, form } => locate_in_sections(
+            alloc, files, addresses, *form, sources, input, output, out, err,
+        ),
+        Command::At(line) if sections.is_linked => {
+            let is_told = show_reading(sections.length(), output);
+            output.hand_on(out, err)?;
+            print_addresses(alloc, sections, *line, output)?;
+            if is_told {
+                output.clear();
+            }
+            Ok(())
+        }
+        Command::Source(choice) if sections.is_linked => {
+            print_source(alloc, program, *choice, sources, output, out, err)
+        }
+        Command::At(_) | Command::Source(_) => {
+            output.tell(NOT_LINKED);
+            Ok(())
+        }
+        command => report(alloc, command, program, output, out, err),
+    }
+}
+
+/// Prints what line programs hold.
+fn report<O: Write, E: Write>(
+    alloc: Global,
+    command: &Command<'_>,
+    program: &Program<'_>,
+    output: &mut Output<'_>,
+    out: &mut O,
+    err: &mut E,
+) -> io::Result<()> {
+    let sections = &program.input();
+    match command {
+        Command::Units { is_json } => {
+            let mut list = UnitList::new(alloc, sections, *is_json, output);
+            print_all(&mut list, output, out, err)
+        }
+        Command::Files { units, is_json } => {
+            let mut list = FileList::new(alloc, sections, *units, *is_json, output)?;
+            print_all(&mut list, output, out, err)
+        }
+        Command::Rows { units, form } => {
+            let mut list = RowList::new(alloc, sections, *units, *form, output)?;
+            print_all(&mut list, output, out, err)
+        }
+        Command::Check(choice) => {
+            let mut check = Check::new(alloc, sections, *choice, output)?;
+            print_all(&mut check, output, out, err)
+        }
+        Command::Stat { is_json } => {
+            let mut stat = Stat::new(alloc, sections, *is_json, output)?;
+            print_all(&mut stat, output, out, err)
+        }
+        Command::Diff { .. } => {
+            output.tell("the command diff takes two files");
+            Ok(())
+        }
+        _ => {
+            output.tell("the command asks or makes an index");
+            Ok(())
+        }
+    }
+}
+
+/// Prints all pieces, and hands each on.
+pub(crate) fn print_all<P: Pieces, O: Write, E: Write>(
+    pieces: &mut P,
+    output: &mut Output<'_>,
+    out: &mut O,
+    err: &mut E,
+) -> io::Result<()> {
+    output.hand_on(out, err)?;
+    for _ in 0..u64::MAX {
+        let printed = pieces.print_next(output);
+        output.hand_on(out, err)?;
+        if !printed? {
+            break;
+        }
+    }
+    Ok(())
 }
 
 /// Prints how the program that a request names differs from a new one, and returns the status: 0,
@@ -110,122 +178,42 @@ pub fn run_diff<O: Write, E: Write>(
 ) -> io::Result<u8>
     ensures status { IfOk result (λ status. status ≤ 1) }
 {
-    let new_name = request.command.new_file().unwrap_or("");
-    let is_json = request.command.is_json();
-    let mut output = Output::new(request.file, screen, out, err);
-    let Some(old) = program_of(alloc, request.kind, old, &mut output) else {
-        return output.finish();
-    };
-    let old_name = request.file;
-    output.rename(new_name);
-    let Some(new) = program_of(alloc, new_kind, new, &mut output) else {
-        return output.finish();
-    };
-    output.rename(old_name);
-    print_diff(
-        alloc,
-        &old.input(),
-        &new.input(),
-        new_name,
+    let Command::Diff {
+        new: new_name,
         is_json,
-        &mut output,
-    );
-    output.finish()
+    } = &request.command
+    else {
+        return Ok(1);
+    };
+    let mut output = Output::new(alloc, request.file, screen);
+    let Some(old) = program_of(alloc, request.kind, old, &mut output)? else {
+        return output.finish(out, err);
+    };
+    output.rename(*new_name);
+    let Some(new) = program_of(alloc, new_kind, new, &mut output)? else {
+        return output.finish(out, err);
+    };
+    output.rename(request.file);
+    let mut diff = Diff::new(alloc, &old.input(), &new.input(), *is_json, &mut output)?;
+    print_all(&mut diff, &mut output, out, err)?;
+    output.rename(*new_name);
+    diff.begin_new();
+    print_all(&mut diff, &mut output, out, err)?;
+    output.finish(out, err)
 }
 
 /// The sections of a program. None where they can't be read, which is reported.
-fn program_of<'i, O: Write, E: Write>(
+fn program_of<'i>(
     alloc: Global,
     kind: Kind,
     files: Files<'i>,
-    output: &mut Output<'_, O, E>,
-) -> Option<Program<'i>> {
+    output: &mut Output<'_>,
+) -> io::Result<Option<Program<'i>>> {
     match Program::new(alloc, kind, files) {
-        Ok(program) => Some(program),
+        Ok(program) => Ok(Some(program)),
         Err(refusal) => {
-            output.tell_refusal(refusal);
-            None
+            tell_refusal(refusal, output)?;
+            Ok(None)
         }
-    }
-}
-
-impl<'w> Command<'w> {
-    /// Whether paths are printed: the texts are read for these alone.
-    pub fn prints_paths(&self) -> bool {
-        !matches!(self, Command::Units { .. } | Command::Ask { .. })
-    }
-
-    /// Whether whole paths are printed: the sections of units are read for these alone. The command
-    /// `rows` prints the last part of each for people.
-    pub fn prints_whole_paths(&self) -> bool {
-        match self {
-            Command::Rows { form, .. } => *form != Form::Text,
-            _ => self.prints_paths(),
-        }
-    }
-
-    /// The new file of the command `diff`.
-    pub fn new_file(&self) -> Option<&'w str> {
-        match self {
-            Command::Diff { new, .. } => Some(*new),
-            _ => None,
-        }
-    }
-
-    /// Whether the command `diff` prints JSON objects.
-    fn is_json(&self) -> bool {
-        match self {
-            Command::Diff { is_json, .. } => *is_json,
-            _ => false,
-        }
-    }
-
-    /// Whether names of functions are printed: symbols are read for these alone.
-    pub fn prints_functions(&self) -> bool {
-        match self {
-            Command::Where { form, .. } => form.has_function,
-            Command::Source(_) => true,
-            _ => false,
-        }
-    }
-}
-
-/// Does what a command asks for.
-fn perform<S: SourceFiles, I: BufRead, O: Write, E: Write>(
-    alloc: Global,
-    command: &Command<'_>,
-    program: &Program<'_>,
-    files: Files<'_>,
-    sources: &S,
-    input: &mut I,
-    output: &mut Output<'_, O, E>,
-) {
-    let sections = &program.input();
-    match command {
-        Command::Where { addresses, form } if sections.is_linked => {
-            let symbols = program.symbols();
-            print_places(
-                alloc, sections, symbols, addresses, *form, sources, input, output,
-            );
-        }
-        Command::Where { addresses, form } => {
-            print_places_in_sections(alloc, files, addresses, *form, sources, input, output);
-        }
-        Command::At(line) => print_addresses(alloc, sections, *line, output),
-        Command::Source(choice) => {
-            print_source(alloc, sections, program.symbols(), *choice, sources, output);
-        }
-        Command::Units { is_json } => print_units(alloc, sections, *is_json, output),
-        Command::Files { units, is_json } => {
-            let is_json = *is_json;
-            print_each(alloc, sections, *units, Listing::Files { is_json }, output);
-        }
-        Command::Rows { units, form } => {
-            print_each(alloc, sections, *units, Listing::Rows(*form), output);
-        }
-        Command::Check(choice) => print_check(alloc, sections, *choice, output),
-        Command::Stat { is_json } => print_stat(alloc, sections, *is_json, output),
-        Command::Diff { .. } => output.tell("the command diff takes two files"),
-        _ => output.tell("the command asks or makes an index"),
     }
 }

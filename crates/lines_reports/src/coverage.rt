@@ -10,15 +10,6 @@ use std::collections::BTreeMap;
 use std::marker::Model;
 
 /// A line of a file, by the number of its path.
-///
-/// <!-- part of crates/lines_commands/src/diff.rt -->
-/// ```rust
-/// let place = Place {
-///     path: self.number_of(header, row.file_index(), paths)?,
-///     line: line_of(row),
-/// };
-/// coverage.add(place, end.saturating_sub(row.address()))
-/// ```
 #[derive(Clone, Copy, Debug, PartialEq, Eq, PartialOrd, Ord)]
 pub struct Place {
     /// The number of the path.
@@ -28,15 +19,6 @@ pub struct Place {
 }
 
 /// How many bytes of code each place has.
-///
-/// <!-- part of crates/lines_commands/src/diff.rt -->
-/// ```rust
-/// let place = Place {
-///     path: self.number_of(header, row.file_index(), paths)?,
-///     line: line_of(row),
-/// };
-/// coverage.add(place, end.saturating_sub(row.address()))
-/// ```
 #[derive(Drop)]
 pub struct Coverage {
     bytes: BTreeMap<Place, u64>,
@@ -52,13 +34,6 @@ impl Model for Coverage {
 }
 
 /// How the code of a place differs in a new program from that in an old one.
-///
-/// <!-- part of crates/lines_commands/src/diff.rt -->
-/// ```rust
-/// for (place, change) in &differences {
-///     print_change(alloc, *place, *change, &paths, is_json, output);
-/// }
-/// ```
 #[derive(Clone, Copy, Debug, PartialEq, Eq)]
 pub struct Change {
     /// How many bytes it has in the old program; None where it has no row there.

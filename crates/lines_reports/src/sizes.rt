@@ -20,12 +20,6 @@ use gimli_core::{Reader, ReaderOffset, Result};
 use gimli_line::LineInstruction;
 
 /// The bytes of an instruction.
-///
-/// <!-- part of crates/lines_reports/src/tally.rt -->
-/// ```rust
-/// let bytes = instruction_bytes(&instruction, rest)?;
-/// self.add(Spent::on(&instruction), bytes.opcode, bytes.operands);
-/// ```
 #[derive(Clone, Copy, Debug, PartialEq, Eq)]
 pub struct InstructionBytes {
     /// Those that say which one it is: one, or of an extended instruction the zero, the length and

@@ -8,13 +8,6 @@ use gimli_core::Reader;
 use gimli_line::LineInstruction;
 
 /// What bytes of a section are spent on; instructions by DWARF 5, sections 6.2.5.1 to 6.2.5.3.
-///
-/// <!-- part of crates/lines_commands/src/stat.rt -->
-/// ```rust
-/// for spent in Spent::ALL {
-///     let share = self.tally.share(spent);
-///     let name = spent.name();
-/// ```
 #[derive(Clone, Copy, Debug, PartialEq, Eq)]
 pub enum Spent {
     /// The header of a unit, without its tables.
@@ -122,7 +115,7 @@ impl Spent {
     }
 
     /// Its place among all.
-    pub(crate) fn number(self) -> usize
+    pub fn number(self) -> usize
         ensures number { result ≡ number self }
         ensures bound { result < 22 }
     {
@@ -135,7 +128,7 @@ impl Spent {
     }
 
     /// The opcode of an instruction.
-    pub(crate) fn on<R: Reader>(instruction: &LineInstruction<R>) -> Spent
+    pub fn on<R: Reader>(instruction: &LineInstruction<R>) -> Spent
         ensures { result ≡ spent_on (ins_seen R.bytes R.Offset.number instruction.now) }
     {
         match instruction {

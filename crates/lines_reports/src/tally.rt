@@ -14,13 +14,6 @@ use gimli_core::{Error, Format, Reader, ReaderOffset, Result};
 use gimli_line::{LineInstructions, LineProgramHeader};
 
 /// What was spent on one thing.
-///
-/// <!-- part of crates/lines_commands/src/stat.rt -->
-/// ```rust
-/// for spent in Spent::ALL {
-///     let share = self.tally.share(spent);
-///     let name = spent.name();
-/// ```
 #[derive(Clone, Copy, Debug, PartialEq, Eq)]
 pub struct Share {
     /// How many there are of it.
@@ -60,13 +53,6 @@ impl Share {
 }
 
 /// What the bytes of units are spent on.
-///
-/// <!-- part of crates/lines_commands/src/stat.rt -->
-/// ```rust
-/// for spent in Spent::ALL {
-///     let share = self.tally.share(spent);
-///     let name = spent.name();
-/// ```
 #[derive(Clone, Copy, Debug, PartialEq, Eq)]
 pub struct Tally {
     shares: [Share; 22],

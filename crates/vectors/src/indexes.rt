@@ -1,98 +1,31 @@
 //! The commands of the program `lines` that make an index or ask one.
 
-use crate::lines::part_of;
+use crate::lines::LinesRow;
 use line_text::BytesLine;
 use lines_commands::{
-    Command, Files, IndexFiles, LineNames, MadeIndex, Request, Screen, SymbolFiles, UnitFiles,
-    make_index, program_identity, run_ask, run_ask_lines,
+    Files, IndexFiles, LineNames, MadeIndex, Request, Screen, SymbolFiles, UnitFiles, make_index,
+    program_identity, run_ask, run_ask_lines,
 };
-use std::alloc::{AllocError, Global};
 use std::io;
 use std::io::Write;
 
 /// How many bytes of an index are printed on a line.
 const LINE: usize = 16;
 
-/// Whether words ask lines of standard input, which name parts.
-fn asks_lines(words: &[&str]) -> bool {
-    words
-        .iter()
-        .any(|word| *word == "--maps" || *word == "--files")
-}
-
-/// The words that the program is given: not those of parts that lines name.
-pub(crate) fn words_of_program<'w>(
-    alloc: Global,
-    words: &[&'w str],
-) -> Result<Vec<&'w str>, AllocError> {
-    let mut own = Vec::new(alloc);
-    let asks_lines = asks_lines(words);
-    for word in words {
-        if !asks_lines || !word.starts_with('@') {
-            own.push(*word)?;
-        }
-    }
-    Ok(own)
-}
-
-/// What a row has: its words, its input, and the parts that its words name.
-#[derive(Clone, Copy)]
-pub(crate) struct RowFiles<'r> {
-    pub(crate) alloc: Global,
-    pub(crate) words: &'r [&'r str],
-    pub(crate) input: Files<'r>,
-    pub(crate) named: &'r [Vec<u8>],
-}
-
-impl<'r> RowFiles<'r> {
-    /// The bytes of a file: of the part that a word names by `@`, or else of the input of the row.
-    fn file(self, name: &str) -> Files<'r> {
-        if !name.starts_with('@') {
-            return self.input;
-        }
-        Files {
-            file: part_of(self.words, self.named, Some(name)),
-            ..self.input
-        }
-    }
-}
-
-/// Does what a request over an index asks for; None for another one.
-pub(crate) fn run_with_index(
-    row: RowFiles<'_>,
-    request: &Request<'_>,
-    out: &mut Vec<u8>,
-    err: &mut Vec<u8>,
-) -> io::Result<Option<u8>> {
-    match &request.command {
-        Command::Index { .. } => print_index(row, request, out, err).map(Some),
-        Command::Ask { index, .. } => ask(row, request, *index, out, err).map(Some),
-        Command::AskLines { names, .. } => ask_lines(row, request, *names, out, err).map(Some),
-        _ => Ok(None),
-    }
-}
-
 /// Makes the index of the input of a row.
 fn index_of_input(
-    row: RowFiles<'_>,
+    row: LinesRow<'_>,
     request: &Request<'_>,
     err: &mut Vec<u8>,
 ) -> io::Result<MadeIndex> {
     let name = request.file;
-    make_index(
-        row.alloc,
-        Screen::none(),
-        name,
-        request.kind,
-        row.input,
-        None,
-        err,
-    )
+    let kind = request.kind;
+    make_index(row.alloc, Screen::none(), name, kind, row.input, None, err)
 }
 
 /// Prints the bytes of the index of a file.
-fn print_index(
-    row: RowFiles<'_>,
+pub(crate) fn print_index(
+    row: LinesRow<'_>,
     request: &Request<'_>,
     out: &mut Vec<u8>,
     err: &mut Vec<u8>,
@@ -107,9 +40,10 @@ fn print_index(
     Ok(made.status)
 }
 
-/// Asks an index: that of a part, or else one that is made of the input of the row.
-fn ask(
-    row: RowFiles<'_>,
+/// Asks an index: that of a part, or else one that is made of the input of the row. It has to be
+/// that of the file of the request, where one is named.
+pub(crate) fn ask(
+    row: LinesRow<'_>,
     request: &Request<'_>,
     index: &str,
     out: &mut Vec<u8>,
@@ -141,7 +75,7 @@ fn ask(
 }
 
 /// What names the file of a request, where one is named.
-fn identity_of(row: RowFiles<'_>, request: &Request<'_>) -> io::Result<Option<Vec<u8>>> {
+fn identity_of(row: LinesRow<'_>, request: &Request<'_>) -> io::Result<Option<Vec<u8>>> {
     if request.file.is_empty() {
         return Ok(None);
     }
@@ -153,22 +87,18 @@ fn identity_of(row: RowFiles<'_>, request: &Request<'_>) -> io::Result<Option<Ve
 }
 
 /// Asks the indexes that the lines of the input of a row name.
-fn ask_lines(
-    row: RowFiles<'_>,
+pub(crate) fn ask_lines(
+    row: LinesRow<'_>,
     request: &Request<'_>,
     names: LineNames<'_>,
     out: &mut Vec<u8>,
     err: &mut Vec<u8>,
 ) -> io::Result<u8> {
     let mut input = row.input.file;
-    let folder = match names {
-        LineNames::BuildIds(folder) => Some(folder),
-        LineNames::Files => None,
-    };
     let mut source = PartIndexes {
         row,
         request,
-        folder,
+        names,
     };
     run_ask_lines(
         row.alloc,
@@ -184,25 +114,15 @@ fn ask_lines(
 /// Parts that are indexes in a folder, or programs.
 #[derive(Drop)]
 struct PartIndexes<'r, 'w> {
-    row: RowFiles<'r>,
+    row: LinesRow<'r>,
     request: &'r Request<'w>,
-    folder: Option<&'r str>,
-}
-
-impl PartIndexes<'_, '_> {
-    /// The part that is the index at a place.
-    fn part(&self, folder: &str, place: &str) -> Option<&[u8]> {
-        let name = place.strip_prefix(folder)?.strip_prefix('/')?;
-        let mut parts = self.row.words.iter().filter(|word| word.starts_with('@'));
-        let number = parts.position(|word| word.strip_prefix('@') == Some(name))?;
-        Some(self.row.named.get(number)?.as_slice())
-    }
+    names: LineNames<'r>,
 }
 
 impl IndexFiles for PartIndexes<'_, '_> {
     fn index_at<E: Write>(&mut self, place: &str, err: &mut E) -> io::Result<MadeIndex> {
         let alloc = self.row.alloc;
-        let Some(folder) = self.folder else {
+        let LineNames::BuildIds(folder) = self.names else {
             let files = Files {
                 units: UnitFiles::NONE,
                 symbols: SymbolFiles::NONE,
@@ -211,18 +131,19 @@ impl IndexFiles for PartIndexes<'_, '_> {
             let kind = self.request.kind;
             return make_index(alloc, Screen::none(), place, kind, files, None, err);
         };
-        match self.part(folder, place) {
-            Some(bytes) => Ok(MadeIndex {
+        let name = place
+            .strip_prefix(folder)
+            .and_then(|name| name.strip_prefix('/'));
+        if let Some(bytes) = name.and_then(|name| self.row.part(name)) {
+            return Ok(MadeIndex {
                 bytes: Some(Vec::from_slice(alloc, bytes)?),
                 status: 0,
-            }),
-            None => {
-                writeln!(err, "lines: {place}: there is no such part")?;
-                Ok(MadeIndex {
-                    bytes: None,
-                    status: 1,
-                })
-            }
+            });
         }
+        writeln!(err, "lines: {place}: there is no such part")?;
+        Ok(MadeIndex {
+            bytes: None,
+            status: 1,
+        })
     }
 }

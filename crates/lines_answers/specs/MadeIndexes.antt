@@ -1,0 +1,26 @@
+-- The index that is made of the rows that are read.
+use Rattle.std.specs.Prelude.{ℕ, Bool, List, []}
+use Rattle.std.specs.Option.{option_map}
+use Rattle.gimli_compilation.specs.Directories.{TellsDirectories, directory_for}
+use Rattle.gimli_compilation.specs.Sections.{sections_of}
+use Rattle.gimli_index.specs.Found.{IsIndexAppended, texts_of}
+use Rattle.gimli_lookup.specs.Section.{KeptUnit}
+use Rattle.lines_inputs.specs.Lookups.{AreUnitsIn}
+use Rattle.lines_inputs.specs.declared.input.Input.{Input}
+use Rattle.line_text.specs.OrderAndSize.{size_number}
+
+-- bytes are an index with this name, which says of each address what is found there: by the rows of
+-- the units, and by whole paths, of the texts and the directories of compilations that are read
+pub record IsMade {R : Type 0} (bytes : R → List ℕ) (big : R → Bool) (limit : ℕ)
+    (input : Input R) (name made : List ℕ) : Type 0 where
+  pub kept : List KeptUnit
+  pub are : AreUnitsIn bytes big limit input kept
+  pub directories : List (ℕ × R)
+  pub tell : TellsDirectories (sections_of bytes big limit input.compilations)
+      (λ line. option_map bytes (directory_for directories line))
+  pub is_index : IsIndexAppended (record {
+    texts = texts_of bytes input.strings directories;
+    units = kept;
+    size = size_number input.address_size;
+    name = name;
+  }) [] made

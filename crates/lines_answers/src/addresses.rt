@@ -1,0 +1,280 @@
+//! The command `at`: the addresses of a line, in the files whose path ends with what is asked for.
+
+use crate::path_files::{PathFiles, SeenFile};
+use gimli_core::{Error, Reader};
+use gimli_index::PathEnd;
+use gimli_line::LineRow;
+use gimli_lookup::{Addresses, SectionLookup};
+use lines_inputs::{Input, PathSources, column_of, line_of, look_up};
+use lines_words::{CodeLine, JsonField, NameText, Output, PathText, bytes_of_word};
+use std::alloc::{AllocError, Global};
+use std::collections::BTreeMap;
+use std::fmt;
+
+/// Prints the addresses of a line in each file whose whole path ends with the components that are
+/// asked for, each path once: where to break at the line. Where none of its rows is a statement,
+/// the addresses of these rows; where it has none, those of the next line that has statements.
+/// Where there is none, the command ends as refused.
+pub fn print_addresses<R: Reader>(
+    alloc: Global,
+    input: &Input<R>,
+    asked: CodeLine<'_>,
+    output: &mut Output<'_>,
+) -> Result<(), AllocError> {
+    let lookup = look_up(alloc, input, output)?;
+    let search = Search {
+        alloc,
+        input,
+        lookup: &lookup,
+        asked,
+    };
+    let files = search.find_files()?;
+    if files.is_empty() {
+        let end = NameText(asked.path);
+        output.note(format_args!("no file's path ends with {end}"));
+    }
+    let mut is_found = false;
+    for number in 0..files.len() {
+        let (path, files) = files.get(number);
+        if search.print_of_path(path, files, output)? {
+            is_found = true;
+        }
+    }
+    if !is_found {
+        output.refuse();
+    }
+    Ok(())
+}
+
+/// A search for the addresses of a line.
+#[derive(Clone, Copy)]
+struct Search<'s, R: Reader> {
+    alloc: Global,
+    input: &'s Input<R>,
+    lookup: &'s SectionLookup<R>,
+    asked: CodeLine<'s>,
+}
+
+impl<R: Reader> Search<'_, R> {
+    /// The files that are meant in all units. One that has no path is passed over.
+    fn find_files(self) -> Result<PathFiles, AllocError> {
+        let sources = PathSources::new(self.alloc, self.input)?;
+        let end = bytes_of_word(self.alloc, self.asked.path)?;
+        let end = PathEnd::new(&end);
+        let mut files = PathFiles::new(self.alloc);
+        for (unit, kept) in self.lookup.units().iter().enumerate() {
+            let Some(header) = kept.header() else {
+                continue;
+            };
+            let last = header.file_names().len() as u64;
+            for index in 0..=last {
+                if let Some(path) = sources.known_path(self.alloc, header, index)? {
+                    if end.is_end_of(&path) {
+                        files.add(path, SeenFile { unit, index })?;
+                    }
+                }
+            }
+        }
+        Ok(files)
+    }
+
+    /// Prints the addresses in the files of one path, and returns whether there is any.
+    fn print_of_path(
+        self,
+        path: &[u8],
+        files: &[SeenFile],
+        output: &mut Output<'_>,
+    ) -> Result<bool, AllocError> {
+        let found = self.addresses_of(files)?;
+        let first = found.iter().map(|found| found.line).min();
+        let asked = self.asked.line;
+        if first == Some(asked) {
+            self.print_statements(path, asked, files, &found, output)?;
+            return Ok(true);
+        }
+        let others = self.columns_of(files, asked, false)?;
+        for (address, column) in &others {
+            self.print_address(path, asked, false, *address, Some(*column), output);
+        }
+        if !others.is_empty() {
+            return Ok(true);
+        }
+        let text = PathText(path);
+        match first {
+            Some(line) => {
+                output.note(format_args!(
+                    "no code at line {asked} of {text}; the next is line {line}"
+                ));
+                self.print_statements(path, line, files, &found, output)?;
+            }
+            None => output.note(format_args!("no code from line {asked} on in {text}")),
+        }
+        Ok(first.is_some())
+    }
+
+    /// Prints the statements of a line.
+    fn print_statements(
+        self,
+        path: &[u8],
+        line: u64,
+        files: &[SeenFile],
+        found: &[Addresses],
+        output: &mut Output<'_>,
+    ) -> Result<(), AllocError> {
+        let columns = if self.asked.has_column || self.asked.is_json {
+            self.columns_of(files, line, true)?
+        } else {
+            BTreeMap::new(self.alloc)
+        };
+        for found in found.iter().filter(|found| found.line == line) {
+            for address in &found.addresses {
+                let column = columns.get(address).copied();
+                self.print_address(path, line, true, *address, column, output);
+            }
+        }
+        Ok(())
+    }
+
+    /// Prints an address of a line.
+    fn print_address(
+        self,
+        path: &[u8],
+        line: u64,
+        is_stmt: bool,
+        address: u64,
+        column: Option<u64>,
+        output: &mut Output<'_>,
+    ) {
+        let end = self.end_of_row(address);
+        if self.asked.is_json {
+            let path = JsonField::of_path(Some(path));
+            let column = column.unwrap_or(0);
+            return output.print(format_args!(
+                "{{\"address\":\"0x{address:x}\",{path},\"line\":{line},\"column\":{column},\
+                 \"range\":[\"0x{address:x}\",\"0x{end:x}\"],\"is_stmt\":{is_stmt}}}"
+            ));
+        }
+        let path = PathText(path);
+        let end = ShownEnd(self.asked.has_range.then_some(end));
+        let column = ShownColumn(column.filter(|_| self.asked.has_column));
+        let note = if is_stmt { "" } else { "  not a statement" };
+        output.print(format_args!("0x{address:x}{end}  {path}:{line}{column}{note}"));
+    }
+
+    /// Where the row ends that covers the addresses from one on; there where none does.
+    fn end_of_row(self, address: u64) -> u64 {
+        match self.lookup.find(address) {
+            Some(found) if found.row.address() == address => found.next.address(),
+            _ => address,
+        }
+    }
+
+    /// The addresses in each file: those of the first line from the asked one on that has any.
+    fn addresses_of(self, files: &[SeenFile]) -> Result<Vec<Addresses>, AllocError> {
+        let mut found = Vec::new(self.alloc);
+        for file in files {
+            if let Some(addresses) = self.addresses_in(*file)? {
+                found.push(addresses)?;
+            }
+        }
+        Ok(found)
+    }
+
+    /// The addresses in one file.
+    fn addresses_in(self, file: SeenFile) -> Result<Option<Addresses>, AllocError> {
+        if file.unit >= self.lookup.units().len() {
+            return Ok(None);
+        }
+        match self
+            .lookup
+            .addresses_of_file(file.unit, file.index, self.asked.line)
+        {
+            Ok(found) => Ok(found),
+            Err(_) => Err(AllocError),
+        }
+    }
+
+    /// The columns of rows of a line, by their addresses: of those that are statements, or of those
+    /// that aren't.
+    fn columns_of(
+        self,
+        files: &[SeenFile],
+        line: u64,
+        is_stmt: bool,
+    ) -> Result<BTreeMap<u64, u64>, AllocError> {
+        let mut columns = BTreeMap::new(self.alloc);
+        for file in files {
+            self.add_columns(*file, line, is_stmt, &mut columns)?;
+        }
+        Ok(columns)
+    }
+
+    /// Adds the columns of rows of a line in one file. The faults of the unit were reported before.
+    fn add_columns(
+        self,
+        file: SeenFile,
+        line: u64,
+        is_stmt: bool,
+        columns: &mut BTreeMap<u64, u64>,
+    ) -> Result<(), AllocError> {
+        let Some(unit) = self.lookup.units().get(file.unit) else {
+            return Ok(());
+        };
+        let size = self.input.address_size.bytes();
+        let lines = &self.input.lines;
+        let Ok(program) = lines.program(self.alloc, unit.offset(), size, None, None) else {
+            return Err(AllocError);
+        };
+        let mut rows = program.rows();
+        for _ in 0..u64::MAX {
+            match rows.next_row() {
+                Ok(Some((_, row))) => {
+                    let is_meant = row.file_index() == file.index && line_of(row) == line;
+                    if is_meant && row.is_stmt() == is_stmt && self.is_code(file.unit, row) {
+                        columns.insert(row.address(), column_of(row))?;
+                    }
+                }
+                Ok(None) => break,
+                Err(Error::OutOfMemory) => return Err(AllocError),
+                Err(_) => break,
+            }
+        }
+        Ok(())
+    }
+
+    /// Whether code of a row is sure to be there: a statement was found before, and any other row
+    /// of a unit must be the one that covers its address.
+    fn is_code(self, unit: usize, row: &LineRow) -> bool {
+        match self.lookup.find(row.address()) {
+            _ if row.is_stmt() => true,
+            Some(found) => found.unit == unit && found.row == *row,
+            None => false,
+        }
+    }
+}
+
+/// The end of a range after its beginning, where it is shown.
+#[derive(Clone, Copy)]
+struct ShownEnd(Option<u64>);
+
+impl fmt::Display for ShownEnd {
+    fn fmt<W: fmt::Write>(&self, f: &mut fmt::Formatter<W>) -> fmt::Result {
+        match self.0 {
+            Some(end) => write!(f, "-0x{end:x}"),
+            None => Ok(()),
+        }
+    }
+}
+
+/// A column after its line, where it is shown.
+#[derive(Clone, Copy)]
+struct ShownColumn(Option<u64>);
+
+impl fmt::Display for ShownColumn {
+    fn fmt<W: fmt::Write>(&self, f: &mut fmt::Formatter<W>) -> fmt::Result {
+        match self.0 {
+            Some(column) => write!(f, ":{column}"),
+            None => Ok(()),
+        }
+    }
+}

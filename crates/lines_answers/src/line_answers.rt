@@ -1,0 +1,140 @@
+//! The command `where` over lines that name what they ask.
+
+use crate::index_files::MadeIndex;
+use crate::index_places::print_place;
+use crate::opened_index::open_index;
+use crate::place_printer::PlacePrinter;
+use gimli_index::LineIndex;
+use lines_words::{
+    LineNames, NameText, Output, PathText, PlaceForm, build_id_of, map_path, parse_line_question,
+};
+use lru::LruCache;
+use std::alloc::{AllocError, Global};
+use std::collections::HashSet;
+use std::num::NonZeroUsize;
+
+/// How many indexes are kept.
+const KEPT: usize = 16;
+
+/// What lines are answered by.
+#[derive(Drop)]
+pub struct LineAnswers<'n> {
+    alloc: Global,
+    names: LineNames<'n>,
+    printer: PlacePrinter<'n>,
+    /// The indexes that were asked last, by what lines name.
+    kept: LruCache<String, Vec<u8>>,
+    /// What lines name that can't be asked.
+    refused: HashSet<String>,
+}
+
+impl<'n> LineAnswers<'n> {
+    /// No index is kept.
+    pub fn new(
+        alloc: Global,
+        names: LineNames<'n>,
+        form: PlaceForm<'n>,
+    ) -> Result<LineAnswers<'n>, AllocError> {
+        let most = NonZeroUsize::new(KEPT).unwrap_or(NonZeroUsize::MIN);
+        let printer = PlacePrinter::new(alloc, form)?;
+        let kept = LruCache::new(alloc, most)?;
+        Ok(LineAnswers {
+            alloc,
+            names,
+            printer,
+            kept,
+            refused: HashSet::new(alloc),
+        })
+    }
+
+    /// What a line without its ends asks for. None where it asks for nothing, which is answered, or
+    /// isn't a name and an address, which is reported too.
+    pub fn question<'l>(&self, line: &'l [u8], output: &mut Output<'_>) -> Option<(&'l str, u64)> {
+        let asked = match str::from_utf8(line) {
+            Ok(text) => parse_line_question(text),
+            Err(_) => None,
+        };
+        if let Some((name, address)) = asked {
+            return Some((name.trim_end(), address));
+        }
+        self.printer.print_unknown(None, None, output);
+        if !line.is_empty() {
+            let wanted = match self.names {
+                LineNames::BuildIds(_) => "a build id and an address",
+                LineNames::Files => "a file and an address",
+            };
+            let line = PathText(line);
+            output.tell(format_args!("'{line}' is not {wanted}"));
+        }
+        None
+    }
+
+    /// Where the index is that has to be read for what a line names. None where it is kept, or
+    /// can't be asked, which is reported once.
+    pub fn missing(
+        &mut self,
+        name: &str,
+        output: &mut Output<'_>,
+    ) -> Result<Option<String>, AllocError> {
+        if self.kept.contains(name) || self.refused.contains(name) {
+            return Ok(None);
+        }
+        let LineNames::BuildIds(folder) = self.names else {
+            return Ok(Some(String::from_str(self.alloc, name)?));
+        };
+        let id = build_id_of(self.alloc, name)?;
+        if let Some([first, rest @ ..]) = id.as_deref() {
+            return Ok(Some(map_path(self.alloc, folder, *first, rest)?));
+        }
+        self.refuse(name)?;
+        let name = NameText(name);
+        output.tell(format_args!("'{name}' is no build id, hexadecimal digits in pairs"));
+        Ok(None)
+    }
+
+    /// Keeps the index of what a line names, which was read at a place. One of a build id has to be
+    /// that of its program, or that is reported.
+    pub fn keep(
+        &mut self,
+        name: &str,
+        place: &str,
+        made: MadeIndex,
+        output: &mut Output<'_>,
+    ) -> Result<(), AllocError> {
+        if made.status != 0 {
+            output.refuse();
+        }
+        let Some(bytes) = made.bytes else {
+            return self.refuse(name);
+        };
+        if let LineNames::BuildIds(_) = self.names {
+            let id = build_id_of(self.alloc, name)?;
+            if let Err(fault) = open_index(&bytes, id.as_deref()) {
+                output.tell_of(place, fault);
+                return self.refuse(name);
+            }
+        }
+        let name = String::from_str(self.alloc, name)?;
+        self.kept.put(name, bytes)?;
+        Ok(())
+    }
+
+    /// Remembers that something can't be asked.
+    fn refuse(&mut self, name: &str) -> Result<(), AllocError> {
+        let name = String::from_str(self.alloc, name)?;
+        self.refused.insert(name)?;
+        Ok(())
+    }
+
+    /// Prints the place of an address of what a line names.
+    pub fn answer(&mut self, name: &str, address: u64, output: &mut Output<'_>) {
+        let index = match self.kept.get(name) {
+            Some(bytes) => LineIndex::open(bytes).ok(),
+            None => None,
+        };
+        match index {
+            Some(index) => print_place(&self.printer, index, address, output),
+            None => self.printer.print_unknown(Some(address), None, output),
+        }
+    }
+}

@@ -1,0 +1,238 @@
+//! The command `where`: the place in the source of each address.
+
+ghost use Rattle.std.specs.Prelude.{◌≡◌};
+
+use crate::asked::Asked;
+use crate::place_printer::{FoundPlace, PlacePrinter};
+use gimli_core::{Reader, ReaderOffset};
+use gimli_lookup::{CoveringRows, PathError};
+use lines_inputs::{
+    Covering, Functions, Input, JsonFlags, PathSources, column_of, line_of, look_up_any,
+    look_up_each,
+};
+use lines_words::{CodeAddress, ColumnMark, Output, PlaceForm, SourceText, line_at, lines_of};
+use std::alloc::{AllocError, Global};
+use std::fmt;
+
+/// What came of a question.
+#[derive(Drop)]
+pub enum Answered {
+    /// It is answered.
+    Whole,
+    /// It is, and a line of source is to be printed below.
+    Above(SourceLine),
+    /// It is asked of another section.
+    Elsewhere,
+}
+
+/// A line and a column of a source file.
+#[derive(Drop)]
+pub struct SourceLine {
+    /// The whole path.
+    pub path: Vec<u8>,
+    /// The line.
+    pub line: u64,
+    /// The column.
+    pub column: u64,
+}
+
+/// The rows of all units of a section, or those at a few addresses, and how their places are
+/// printed.
+#[derive(Drop)]
+pub struct Places<'f, 'n, R: Reader> {
+    alloc: Global,
+    lookup: Covering<R>,
+    sources: PathSources<R>,
+    functions: Functions<'n>,
+    printer: PlacePrinter<'f>,
+    /// The name of the section, in an object file.
+    section: Option<&'f [u8]>,
+}
+
+impl<'f, 'n, R: Reader> Places<'f, 'n, R> {
+    /// Reads the rows for the addresses of a linked program that are named, or where none is, for
+    /// any; in an object file those of one section.
+    pub fn new(
+        alloc: Global,
+        input: &Input<R>,
+        functions: Functions<'n>,
+        addresses: &[CodeAddress<'_>],
+        form: PlaceForm<'f>,
+        section: Option<&'f [u8]>,
+        output: &mut Output<'_>,
+    ) -> Result<Places<'f, 'n, R>, AllocError> {
+        let lookup = if addresses.is_empty() {
+            look_up_any(alloc, input, output)?
+        } else {
+            let addresses = unmoved(alloc, addresses, form.bias)?;
+            look_up_each(alloc, input, addresses, output)?
+        };
+        let sources = PathSources::new(alloc, input)?;
+        let printer = PlacePrinter::new(alloc, form)?;
+        Ok(Places {
+            alloc,
+            lookup,
+            sources,
+            functions,
+            printer,
+            section,
+        })
+    }
+
+    /// Prints the place of what is asked. A word that is no address is reported, and printed as an
+    /// address without a place is.
+    pub fn answer(
+        &self,
+        asked: Asked<'_>,
+        output: &mut Output<'_>,
+    ) -> Result<Answered, AllocError> {
+        match (asked, self.section) {
+            (Asked::Address(CodeAddress::Linked(address)), None) => {
+                self.print_place(address, output)
+            }
+            (Asked::Address(CodeAddress::InSection { section, offset }), Some(own))
+                if section.as_bytes() == own => self.print_place(offset, output),
+            (_, Some(_)) => Ok(Answered::Elsewhere),
+            (asked, None) => {
+                self.printer.print_other(asked, output);
+                Ok(Answered::Whole)
+            }
+        }
+    }
+
+    /// Prints the place of an address.
+    fn print_place(&self, address: u64, output: &mut Output<'_>) -> Result<Answered, AllocError> {
+        let own = address.checked_sub(self.printer.form.bias);
+        let function = own.and_then(|own| self.functions.name_at(own));
+        let Some(found) = own.and_then(|own| self.lookup.find(own)) else {
+            self.printer.print_unknown(Some(address), function, output);
+            return Ok(Answered::Whole);
+        };
+        let (path, fault) = match self.path_of(&found) {
+            Ok(path) => (Some(path), None),
+            Err(PathError::OutOfMemory) => return Err(AllocError),
+            Err(fault) => (None, Some(fault)),
+        };
+        let (line, column) = line_and_column(&found);
+        let place = FoundPlace {
+            address,
+            function,
+            path: path.as_deref(),
+            line,
+            column,
+        };
+        let fields = RowFields {
+            found,
+            bias: self.printer.form.bias,
+        };
+        self.printer.print_found(place, fields, output);
+        if let Some(fault) = fault {
+            self.tell_fault(address, &found, fault, output);
+        }
+        match path {
+            Some(path) if self.printer.form.has_source => Ok(Answered::Above(SourceLine {
+                path,
+                line,
+                column,
+            })),
+            _ => Ok(Answered::Whole),
+        }
+    }
+
+    /// The whole path of the file of a row. Refused as `PathError` says.
+    fn path_of(&self, found: &CoveringRows) -> Result<Vec<u8>, PathError> {
+        let unit = self.lookup.units().get(found.unit);
+        match unit.and_then(|unit| unit.header()) {
+            Some(header) => self.sources.of_row(self.alloc, header, &found.row),
+            None => Err(PathError::InvalidFileIndex(found.row.file_index())),
+        }
+    }
+
+    /// Reports why the path at an address isn't known.
+    fn tell_fault(
+        &self,
+        address: u64,
+        found: &CoveringRows,
+        fault: PathError,
+        output: &mut Output<'_>,
+    ) {
+        let fault = self.sources.fault(fault);
+        if let Some(unit) = self.lookup.units().get(found.unit) {
+            output.tell_of_unit(
+                unit.offset().0.into_u64(),
+                format_args!("at address 0x{address:x}: {fault}"),
+            );
+        }
+    }
+}
+
+/// The addresses that are looked for, before the program was moved by a bias.
+fn unmoved(
+    alloc: Global,
+    addresses: &[CodeAddress<'_>],
+    bias: u64,
+) -> Result<Vec<u64>, AllocError> {
+    let mut unmoved = Vec::new(alloc);
+    for address in addresses {
+        if let CodeAddress::Linked(address) = *address {
+            if let Some(own) = address.checked_sub(bias) {
+                unmoved.push(own)?;
+            }
+        }
+    }
+    Ok(unmoved)
+}
+
+/// The line and the column that are shown: those of the row that covers the address, which is the
+/// first of the two.
+fn line_and_column(found: &CoveringRows) -> (u64, u64)
+    ensures { result ≡ (found.now.row.line, found.now.row.column) }
+{
+    (line_of(&found.row), column_of(&found.row))
+}
+
+/// What a JSON object says of rows beside their place. The range is moved by the bias, as the
+/// address is.
+#[derive(Clone, Copy)]
+struct RowFields {
+    found: CoveringRows,
+    bias: u64,
+}
+
+impl fmt::Display for RowFields {
+    fn fmt<W: fmt::Write>(&self, f: &mut fmt::Formatter<W>) -> fmt::Result {
+        let row = self.found.row;
+        let start = row.address().saturating_add(self.bias);
+        let end = self.found.next.address().saturating_add(self.bias);
+        let discriminator = row.discriminator();
+        let flags = JsonFlags(row);
+        write!(
+            f,
+            ",\"range\":[\"0x{start:x}\",\"0x{end:x}\"],\"discriminator\":{discriminator},\
+             \"flags\":{flags}"
+        )
+    }
+}
+
+/// Prints the line of a place in its file, and below it a mark at the column, where that is no left
+/// edge. Prints nothing where the file has no such line.
+pub fn print_below(
+    alloc: Global,
+    place: &SourceLine,
+    file: &[u8],
+    output: &mut Output<'_>,
+) -> Result<(), AllocError> {
+    let lines = lines_of(alloc, file)?;
+    if let Some(text) = line_at(&lines, place.line) {
+        let shown = SourceText(text);
+        output.print(format_args!("  {shown}"));
+        if place.column > 0 {
+            let mark = ColumnMark {
+                text,
+                column: place.column,
+            };
+            output.print(format_args!("  {mark}"));
+        }
+    }
+    Ok(())
+}

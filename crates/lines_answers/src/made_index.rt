@@ -1,0 +1,111 @@
+//! The command `index`: the index of a program's lines, as bytes.
+
+ghost use Rattle.std.specs.Prelude.{◌≡◌, IfOk, IfSome};
+ghost use Rattle.lines_answers.specs.MadeIndexes.{IsMade};
+
+use crate::opened_index::identity_of;
+use elf_sections::{Elf, ElfError};
+use gimli_core::Reader;
+use gimli_index::{MakeError, write_index};
+use lines_inputs::{Input, InputError, NOT_LINKED, PathSources, Program, look_up};
+use lines_words::{Files, Kind, Output};
+use std::alloc::{AllocError, Global};
+
+/// What names a program in its index: the build id that is told or that it has, or else the SHA-256
+/// of its line programs. Refused as `InputError` says.
+pub fn program_identity(
+    alloc: Global,
+    kind: Kind,
+    files: Files<'_>,
+    build_id: Option<&[u8]>,
+) -> Result<Vec<u8>, InputError>
+    ensures told { IfSome build_id.entry (λ id. IfOk result (λ named. named.items ≡ id.now)) }
+{
+    match build_id {
+        Some(id) => told_identity(alloc, id),
+        None => own_identity(alloc, kind, files),
+    }
+}
+
+/// A build id, as what names a program.
+fn told_identity(alloc: Global, id: &[u8]) -> Result<Vec<u8>, InputError>
+    ensures { IfOk result (λ named. named.items ≡ id.now) }
+{
+    match Vec::from_slice(alloc, id) {
+        Ok(named) => Ok(named),
+        Err(_) => Err(InputError::Elf(ElfError::OutOfMemory)),
+    }
+}
+
+/// The build id of a program, or else the SHA-256 of its line programs.
+fn own_identity(alloc: Global, kind: Kind, files: Files<'_>) -> Result<Vec<u8>, InputError> {
+    if let Some(id) = own_build_id(kind, files, None) {
+        return told_identity(alloc, id);
+    }
+    let program = Program::new(alloc, kind, files)?;
+    let named = identity_of(alloc, None, program.lines()).map_err(ElfError::from)?;
+    Ok(named)
+}
+
+/// The build id that is told, or else that of an ELF file.
+fn own_build_id<'i>(kind: Kind, files: Files<'i>, build_id: Option<&'i [u8]>) -> Option<&'i [u8]> {
+    match (build_id, kind) {
+        (None, Kind::Elf) => Elf::parse(files.file).ok()?.build_id().ok()?,
+        _ => build_id,
+    }
+}
+
+/// The bytes of the index of a program, which is named by the build id where there is one, or else
+/// by the SHA-256 of the line programs. None where there is none, which is reported. A fault of a
+/// unit is reported; what stands before it is in the index all the same.
+pub fn index_of_program(
+    alloc: Global,
+    program: &Program<'_>,
+    kind: Kind,
+    files: Files<'_>,
+    build_id: Option<&[u8]>,
+    output: &mut Output<'_>,
+) -> Result<Option<Vec<u8>>, AllocError> {
+    let input = program.input();
+    if !input.is_linked {
+        output.tell(NOT_LINKED);
+        return Ok(None);
+    }
+    let build_id = own_build_id(kind, files, build_id);
+    let identity = identity_of(alloc, build_id, program.lines())?;
+    index_of_input(alloc, &input, &identity, output)
+}
+
+/// The bytes of the index of what is read. None where there is none, which is reported.
+fn index_of_input<R: Reader>(
+    alloc: Global,
+    input: &Input<R>,
+    identity: &[u8],
+    output: &mut Output<'_>,
+) -> Result<Option<Vec<u8>>, AllocError>
+    ensures { IfOk result (λ made. IfSome made (λ made.
+        IsMade R.bytes R.big R.Offset.limit input.now identity.now made.items)) }
+{
+    let lookup = look_up(alloc, input, output)?;
+    let sources = PathSources::new(alloc, input)?;
+    let mut bytes = Vec::new(alloc);
+    let size = u16::from(input.address_size.bytes());
+    let strings = sources.strings();
+    let compilations = sources.compilations();
+    match write_index(
+        alloc,
+        &lookup,
+        strings,
+        compilations,
+        size,
+        identity,
+        &mut bytes,
+    ) {
+        Ok(()) => Ok(Some(bytes)),
+        Err(MakeError::OutOfMemory) => Err(AllocError),
+        Err(refusal) => {
+            output.tell(refusal);
+            Ok(None)
+        }
+    }
+}

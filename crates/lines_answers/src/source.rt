@@ -1,0 +1,206 @@
+//! The command `source`: lines of source, with the addresses of their code beside them.
+
+use gimli_core::Reader;
+use gimli_index::PathEnd;
+use gimli_line::{LineProgramHeader, LineRow};
+use indexmap::IndexSet;
+use lines_inputs::{Functions, Input, PathSources, Printing, UnitRows, Walk, line_of};
+use lines_words::{NameText, Output, Pieces, SourceChoice, SourcePlace, UnitChoice, bytes_of_word};
+use std::alloc::{AllocError, Global};
+use std::collections::BTreeMap;
+
+/// A row of a line of a file.
+#[derive(Clone, Copy, Debug, PartialEq, Eq, PartialOrd, Ord)]
+pub struct SourceRow {
+    /// The number of the path.
+    pub(crate) path: usize,
+    pub(crate) line: u64,
+    pub(crate) address: u64,
+    pub(crate) is_stmt: bool,
+}
+
+impl SourceRow {
+    /// Whether another row has its address and its line.
+    fn is_beside(&self, other: &SourceRow) -> bool {
+        self.path == other.path && self.line == other.line && self.address == other.address
+    }
+}
+
+/// What is looked for.
+#[derive(Drop)]
+enum Wanted {
+    /// Lines about one, in the files whose path ends with the components of another.
+    Line { end: Vec<u8>, line: u64 },
+    /// The rows at these addresses.
+    Code { start: u64, end: u64 },
+}
+
+/// The rows of a place, which are found unit by unit.
+#[derive(Drop)]
+pub struct SourceRows<'w, R: Reader> {
+    alloc: Global,
+    choice: SourceChoice<'w>,
+    wanted: Wanted,
+    /// An address below which there is no code.
+    lowest: u64,
+    walk: Walk<R>,
+    sources: PathSources<R>,
+    /// The paths of files, each once; its number is its place here.
+    paths: IndexSet<Vec<u8>>,
+    rows: Vec<SourceRow>,
+}
+
+impl<'w, R: Reader> SourceRows<'w, R> {
+    /// No row is found yet. None where no function has the name, which is reported.
+    pub fn new(
+        alloc: Global,
+        input: &Input<R>,
+        functions: &Functions<'_>,
+        choice: SourceChoice<'w>,
+        output: &mut Output<'_>,
+    ) -> Result<Option<SourceRows<'w, R>>, AllocError> {
+        let sources = PathSources::new(alloc, input)?;
+        let word = bytes_of_word(alloc, choice.place.word())?;
+        let wanted = match choice.place {
+            SourcePlace::Line { line, .. } => Wanted::Line { end: word, line },
+            SourcePlace::Function(name) => match functions.range_of(&word) {
+                Some((start, end)) => Wanted::Code { start, end },
+                None => {
+                    let name = NameText(name);
+                    output.tell(format_args!("no function has the name {name}"));
+                    return Ok(None);
+                }
+            },
+        };
+        Ok(Some(SourceRows {
+            alloc,
+            choice,
+            wanted,
+            lowest: input.lowest,
+            walk: Walk::new(alloc, input, UnitChoice::All, Printing::Rare, output),
+            sources,
+            paths: IndexSet::new(alloc),
+            rows: Vec::new(alloc),
+        }))
+    }
+
+    /// The path of a number, and its rows; None past the last one.
+    pub fn get(&self, number: usize) -> Option<(&[u8], &[SourceRow])> {
+        let path = self.paths.get_index(number)?;
+        let start = self.rows.partition_point(|row| row.path < number);
+        let end = self.rows.partition_point(|row| row.path <= number);
+        Some((path, self.rows.get(start..end).unwrap_or(&[])))
+    }
+
+    /// Adds the rows of a unit that are wanted.
+    fn add_unit(&mut self, unit: &mut UnitRows<R>) -> Result<(), AllocError> {
+        let mut numbers = BTreeMap::new(self.alloc);
+        if matches!(self.wanted, Wanted::Line { .. }) {
+            let last = unit.header().file_names().len() as u64;
+            for index in 0..=last {
+                self.number_of(unit.header(), index, &mut numbers)?;
+            }
+        }
+        for _ in 0..u64::MAX {
+            let Some(row) = unit.next_row()? else {
+                break;
+            };
+            if self.is_near(&row) {
+                if let Some(path) = self.number_of(unit.header(), row.file_index(), &mut numbers)? {
+                    self.rows.push(SourceRow {
+                        path,
+                        line: line_of(&row),
+                        address: row.address(),
+                        is_stmt: row.is_stmt(),
+                    })?;
+                }
+            }
+        }
+        Ok(())
+    }
+
+    /// Whether a row may be wanted.
+    fn is_near(&self, row: &LineRow) -> bool {
+        let line = line_of(row);
+        let address = row.address();
+        if row.end_sequence() || address < self.lowest {
+            return false;
+        }
+        match &self.wanted {
+            Wanted::Line { line: asked, .. } => {
+                line > 0 && line.abs_diff(*asked) <= self.choice.context
+            }
+            Wanted::Code { start, end } => *start <= address && address < *end,
+        }
+    }
+
+    /// The number of the path of a file; None where it has none, or its rows aren't wanted. Those
+    /// of a unit that were asked for are kept.
+    fn number_of(
+        &mut self,
+        header: &LineProgramHeader<R>,
+        index: u64,
+        numbers: &mut BTreeMap<u64, Option<usize>>,
+    ) -> Result<Option<usize>, AllocError> {
+        if let Some(number) = numbers.get(&index).copied() {
+            return Ok(number);
+        }
+        let path = self.sources.known_path(self.alloc, header, index)?;
+        let number = match path.filter(|path| self.wanted.includes(path)) {
+            Some(path) => Some(self.paths.insert_full(path)?.0),
+            None => None,
+        };
+        numbers.insert(index, number)?;
+        Ok(number)
+    }
+
+    /// Puts the rows in order, each address of a line once: a statement where one of its rows is.
+    fn sort(&mut self) -> Result<(), AllocError> {
+        self.rows.sort()?;
+        let mut distinct: Vec<SourceRow> = Vec::new(self.alloc);
+        for row in &self.rows {
+            let mut row = *row;
+            if let Some(before) = distinct.pop() {
+                if before.is_beside(&row) {
+                    row.is_stmt = row.is_stmt || before.is_stmt;
+                } else {
+                    distinct.push(before)?;
+                }
+            }
+            distinct.push(row)?;
+        }
+        self.rows = distinct;
+        Ok(())
+    }
+}
+
+impl Wanted {
+    /// Whether rows of a path may be wanted.
+    fn includes(&self, path: &[u8]) -> bool {
+        match self {
+            Wanted::Line { end, .. } => PathEnd::new(end).is_end_of(path),
+            Wanted::Code { .. } => true,
+        }
+    }
+}
+
+impl<R: Reader> Pieces for SourceRows<'_, R> {
+    /// Adds the rows of the next unit, whose fault is reported. After the last one the rows are put
+    /// in order; that no file has the place is reported.
+    fn print_next(&mut self, output: &mut Output<'_>) -> Result<bool, AllocError> {
+        if let Some(mut unit) = self.walk.next_rows(output)? {
+            self.add_unit(&mut unit)?;
+            unit.tell_fault(output);
+            return Ok(true);
+        }
+        self.sort()?;
+        if self.paths.is_empty() {
+            let word = NameText(self.choice.place.word());
+            match self.wanted {
+                Wanted::Line { .. } => output.tell(format_args!("no file's path ends with {word}")),
+                Wanted::Code { .. } => output.tell(format_args!("no rows have the code of {word}")),
+            }
+        }
+        Ok(false)
+    }
+}

@@ -1,4 +1,0 @@
-pub mod ComponentTexts
-pub mod LineParts
-pub mod Separators
-mod WorkedPaths

@@ -1,8 +1,0 @@
-use Rattle.std.proofs.Common.{⊎_elim}
-use Rattle.lines_commands.proofs.numbers.parse_offset.Goals as goal
-
-pub returns-in-None-clause-only : goal.returns-in-None-clause-only
-returns-in-None-clause-only c = λ offset h. ⊎_elim
-    (λ n. c.parse_digits-in-None.ensures.only offset n)
-    (λ p. absurd (c.in-None.ensures.cases p.0 p.1))
-    h

@@ -1,9 +1,0 @@
-pub mod Choice
-pub mod Findings
-pub mod Indexes
-pub mod KeptComponents
-pub mod LineQuestions
-pub mod Lines
-pub mod MadeIndexes
-pub mod WholePaths
-pub mod Words

@@ -1,0 +1,3 @@
+pub mod Lines
+pub mod Lookups
+pub mod WholePaths

@@ -1,0 +1,180 @@
+//! The names of code, by the symbols of a program.
+
+use crate::section_source::SectionSource;
+use elf_sections::{CodeSymbol, ElfError, SectionBytes, SymbolTable};
+use lines_words::{JsonText, PathText, SymbolFiles};
+use std::alloc::{AllocError, Global};
+use std::fmt;
+
+/// A symbol that is a function (`STT_FUNC`).
+const FUNCTION: u8 = 2;
+
+/// A function that chooses another as the program begins (`STT_GNU_IFUNC`).
+const CHOOSING: u8 = 10;
+
+/// The sections of symbols.
+#[derive(Drop)]
+pub(crate) struct SymbolSections<'i> {
+    symbols: SectionBytes<'i>,
+    names: SectionBytes<'i>,
+}
+
+impl<'i> SymbolSections<'i> {
+    /// Those of these bytes.
+    pub(crate) fn lent(files: SymbolFiles<'i>) -> SymbolSections<'i> {
+        SymbolSections {
+            symbols: SectionBytes::Lent(files.symbols),
+            names: SectionBytes::Lent(files.names),
+        }
+    }
+
+    /// Those of an ELF file: all symbols, or else those for linking when it runs. One that is
+    /// missing or can't be read counts as empty. Fails only with `OutOfMemory`.
+    pub(crate) fn of_elf(source: SectionSource<'i>) -> Result<SymbolSections<'i>, ElfError> {
+        let symbols = source.readable(b".symtab")?;
+        if symbols.as_slice().is_empty() {
+            return Ok(SymbolSections {
+                symbols: source.readable(b".dynsym")?,
+                names: source.readable(b".dynstr")?,
+            });
+        }
+        let names = source.readable(b".strtab")?;
+        Ok(SymbolSections { symbols, names })
+    }
+
+    /// The symbols.
+    pub(crate) fn table(&self, is_big_endian: bool, address_size: u8) -> SymbolTable<'_> {
+        SymbolTable::new(
+            is_big_endian,
+            address_size,
+            self.symbols.as_slice(),
+            self.names.as_slice(),
+        )
+    }
+}
+
+/// The code of a function. Of several that begin at one address the greatest counts, and of these
+/// the first in the table.
+#[derive(Clone, Copy, Debug, PartialEq, Eq, PartialOrd, Ord)]
+struct CodeRange {
+    start: u64,
+    size: u64,
+    /// How many symbols are left from it on.
+    left: usize,
+    name: u32,
+}
+
+/// The functions of a program, in the order of their addresses.
+#[derive(Drop)]
+pub struct Functions<'n> {
+    table: SymbolTable<'n>,
+    ranges: Vec<CodeRange>,
+}
+
+impl<'n> Functions<'n> {
+    /// The functions among symbols; in an object file those of one section alone.
+    pub fn new(
+        alloc: Global,
+        table: SymbolTable<'n>,
+        section: Option<u16>,
+    ) -> Result<Functions<'n>, AllocError> {
+        let mut ranges = Vec::new(alloc);
+        let count = table.count();
+        for index in 0..count {
+            match table.get(index) {
+                Some(symbol) if is_function(symbol, section) => ranges.push(CodeRange {
+                    start: symbol.address,
+                    size: symbol.size,
+                    left: count.saturating_sub(index),
+                    name: symbol.name,
+                })?,
+                _ => {}
+            }
+        }
+        ranges.sort()?;
+        Ok(Functions { table, ranges })
+    }
+
+    /// The name of the function that holds an address. One whose bytes aren't counted holds all up
+    /// to the next.
+    pub fn name_at(&self, address: u64) -> Option<&'n [u8]> {
+        let after = self.ranges.partition_point(|range| range.start <= address);
+        let range = self.ranges.get(after.checked_sub(1)?)?;
+        let offset = address.checked_sub(range.start)?;
+        if range.size > 0 && offset >= range.size {
+            return None;
+        }
+        self.table.name(range.name)
+    }
+}
+
+impl Functions<'_> {
+    /// The addresses of the first function of a name: where it begins, and where it ends. One whose
+    /// bytes aren't counted ends where the next begins.
+    pub fn range_of(&self, name: &[u8]) -> Option<(u64, u64)> {
+        let mut ranges = self.ranges.iter();
+        let place = ranges.position(|range| self.table.name(range.name) == Some(name))?;
+        let range = self.ranges.get(place)?;
+        if range.size > 0 {
+            return Some((range.start, range.start.saturating_add(range.size)));
+        }
+        Some((range.start, self.next_start(range.start)))
+    }
+
+    /// Where the first function after an address begins; the greatest address where none does.
+    fn next_start(&self, address: u64) -> u64 {
+        let after = self.ranges.partition_point(|range| range.start <= address);
+        match self.ranges.get(after) {
+            Some(range) => range.start,
+            None => u64::MAX,
+        }
+    }
+}
+
+/// Whether a symbol is a function of the program, or of one of its sections.
+fn is_function(symbol: CodeSymbol, section: Option<u16>) -> bool {
+    let is_there = match section {
+        Some(section) => symbol.section == section,
+        None => symbol.section != 0,
+    };
+    is_there && (symbol.kind == FUNCTION || symbol.kind == CHOOSING)
+}
+
+/// The name of a function before its place, where names are shown.
+#[derive(Clone, Copy)]
+pub struct ShownFunction<'n> {
+    /// Whether names are shown.
+    pub is_shown: bool,
+    /// The name, where it is known.
+    pub name: Option<&'n [u8]>,
+}
+
+impl fmt::Display for ShownFunction<'_> {
+    fn fmt<W: fmt::Write>(&self, f: &mut fmt::Formatter<W>) -> fmt::Result {
+        if !self.is_shown {
+            return Ok(());
+        }
+        let name = PathText(self.name.unwrap_or(b"??"));
+        write!(f, "{name} at ")
+    }
+}
+
+/// The name of a function as a field of a JSON object, with a comma before it; nothing where names
+/// aren't shown.
+#[derive(Clone, Copy)]
+pub struct JsonFunction<'n>(pub ShownFunction<'n>);
+
+impl fmt::Display for JsonFunction<'_> {
+    fn fmt<W: fmt::Write>(&self, f: &mut fmt::Formatter<W>) -> fmt::Result {
+        if !self.0.is_shown {
+            return Ok(());
+        }
+        match self.0.name {
+            Some(name) => {
+                let name = JsonText(name);
+                write!(f, ",\"function\":{name}")
+            }
+            None => f.write_str(",\"function\":null"),
+        }
+    }
+}

@@ -1,0 +1,119 @@
+//! The rows of all units of a section, for the commands that look among them.
+
+ghost use Rattle.std.specs.Prelude.{ℕ, All, IfOk};
+ghost use Rattle.lines_inputs.specs.Lookups.{AreUnitsIn, IsReadFrom, Knows};
+
+use crate::input::Input;
+use gimli_core::{Reader, ReaderOffset};
+use gimli_lookup::{CoveringRows, FoundRows, SectionLookup, UnitLookup, find_in_section};
+use lines_words::Output;
+use std::alloc::{AllocError, Global};
+
+/// Up to how many addresses are found in one run over the section, which keeps no other rows. With
+/// sequences of three rows an index of all rows costs as much from a hundred on, and with longer
+/// ones later.
+const FEW: usize = 100;
+
+/// Which rows cover an address.
+#[derive(Drop)]
+pub enum Covering<R: Reader> {
+    /// The rows of all units, for any address.
+    Kept(SectionLookup<R>),
+    /// What was found at a few addresses, and at no others.
+    Found {
+        addresses: Vec<u64>,
+        found: FoundRows<R>,
+    },
+}
+
+impl<R: Reader> Covering<R> {
+    /// The units of the section.
+    pub fn units(&self) -> &[UnitLookup<R>] {
+        match self {
+            Covering::Kept(lookup) => lookup.units(),
+            Covering::Found { found, .. } => &found.units,
+        }
+    }
+
+    /// The rows that cover an address. Where a few addresses alone were looked for, None at any
+    /// other.
+    pub fn find(&self, address: u64) -> Option<CoveringRows> {
+        match self {
+            Covering::Kept(lookup) => lookup.find(address),
+            Covering::Found { addresses, found } => {
+                let index = addresses.iter().position(|asked| *asked == address)?;
+                *found.rows.get(index)?
+            }
+        }
+    }
+}
+
+/// Keeps the rows of all units, as `look_up` does.
+pub fn look_up_any<R: Reader>(
+    alloc: Global,
+    input: &Input<R>,
+    output: &mut Output<'_>,
+) -> Result<Covering<R>, AllocError>
+    ensures read { IfOk result (IsReadFrom R.bytes R.big R.Offset.limit input.now) }
+    ensures any { IfOk result (λ covering. (a : ℕ) → Knows covering a) }
+{
+    let lookup = look_up(alloc, input, output)?;
+    Ok(Covering::Kept(lookup))
+}
+
+/// Finds the rows that cover addresses: of a few in one run, of others by the rows of all units.
+/// The fault of each unit is reported, as `look_up` does.
+pub fn look_up_each<R: Reader>(
+    alloc: Global,
+    input: &Input<R>,
+    addresses: Vec<u64>,
+    output: &mut Output<'_>,
+) -> Result<Covering<R>, AllocError>
+    ensures read { IfOk result (IsReadFrom R.bytes R.big R.Offset.limit input.now) }
+    ensures each { IfOk result (λ covering. All (Knows covering) addresses.items) }
+{
+    if addresses.len() > FEW {
+        return look_up_any(alloc, input, output);
+    }
+    let size = input.address_size.bytes();
+    match find_in_section(&input.lines, alloc, size, input.lowest, &addresses) {
+        Ok(found) => {
+            tell_faults(&found.units, output);
+            Ok(Covering::Found { addresses, found })
+        }
+        Err(_) => Err(AllocError),
+    }
+}
+
+/// Keeps the rows of all units. The fault of each unit is reported; what stands before it is kept
+/// all the same.
+pub fn look_up<R: Reader>(
+    alloc: Global,
+    input: &Input<R>,
+    output: &mut Output<'_>,
+) -> Result<SectionLookup<R>, AllocError>
+    ensures { IfOk result (AreUnitsIn R.bytes R.big R.Offset.limit input.now) }
+{
+    let size = input.address_size.bytes();
+    match SectionLookup::new(&input.lines, alloc, size, input.lowest) {
+        Ok(lookup) => {
+            tell_faults(lookup.units(), output);
+            Ok(lookup)
+        }
+        Err(_) => Err(AllocError),
+    }
+}
+
+/// Reports the fault of each unit.
+fn tell_faults<R: Reader>(units: &[UnitLookup<R>], output: &mut Output<'_>) {
+    for unit in units {
+        let offset = unit.offset().0.into_u64();
+        match (unit.header(), unit.fault()) {
+            (_, None) => {}
+            (None, Some(fault)) => output.tell_of_unit(offset, fault),
+            (Some(_), Some(fault)) => {
+                output.tell_of_unit(offset, format_args!("in its rows: {fault}"));
+            }
+        }
+    }
+}

@@ -1,0 +1,162 @@
+//! The whole paths of files: what a relative one goes on from.
+//!
+//! Up to version 4 the directory of a compilation stands in `.debug_info` alone (DWARF 4, sections
+//! 3.1.1 and 6.2.4). In version 5 a header has it too, and where it is relative there, the paths go
+//! on from that of `.debug_info` (DWARF 5, the same sections).
+
+ghost use Rattle.std.specs.Prelude.{◌≡◌, ◌≢◌, Err, IfErr, IfOk, Ok, option_map};
+ghost use Rattle.gimli_compilation.specs.Directories.{TellsDirectories, directory_for};
+ghost use Rattle.gimli_compilation.specs.Sections.{sections_of};
+ghost use Rattle.gimli_line.specs.header.File.{file_seen};
+ghost use Rattle.gimli_lookup.specs.Paths.{file_path, row_path};
+ghost use Rattle.gimli_lookup.specs.Strings.{strings};
+ghost use Rattle.gimli_lookup.specs.declared.path_error.PathError.TheVariants.{OutOfMemory};
+ghost use Rattle.lines_inputs.specs.WholePaths.{paths_by};
+
+use crate::input::Input;
+use gimli_compilation::Compilations;
+use gimli_core::{Reader, ReaderOffset};
+use gimli_line::{FileEntry, LineProgramHeader, LineRow};
+use gimli_lookup::{PathError, Paths, StringSections};
+use std::alloc::{AllocError, Global};
+use std::fmt;
+
+/// What whole paths are made of, beside the header of a unit.
+#[derive(Drop)]
+pub struct PathSources<R: Reader> {
+    /// The sections of texts.
+    strings: StringSections<R>,
+    /// The directories of compilations, by the offsets of their line programs.
+    compilations: Compilations<R>,
+}
+
+impl<R: Reader> PathSources<R> {
+    /// Reads the first entry of each unit of `.debug_info` once.
+    pub fn new(alloc: Global, input: &Input<R>) -> Result<PathSources<R>, AllocError>
+        ensures directories { IfOk result (λ sources.
+            TellsDirectories (sections_of R.bytes R.big R.Offset.limit input.now.compilations)
+            (λ line. option_map R.bytes (directory_for sources.compilations line))) }
+        ensures strings { IfOk result (λ sources. sources.strings ≡ input.now.strings) }
+    {
+        match Compilations::new(alloc, &input.compilations) {
+            Ok(compilations) => Ok(PathSources {
+                strings: input.strings,
+                compilations,
+            }),
+            Err(_) => Err(AllocError),
+        }
+    }
+
+    /// Why a path can't be told, as it is printed.
+    pub fn fault(&self, error: PathError) -> PathFault {
+        PathFault {
+            error,
+            is_without_texts: self.strings.debug_line_str.is_empty(),
+        }
+    }
+
+    /// The sections of texts.
+    pub fn strings(&self) -> &StringSections<R>
+        ensures { result.now ≡ self.now.strings }
+    {
+        &self.strings
+    }
+
+    /// The directories of compilations.
+    pub fn compilations(&self) -> &Compilations<R>
+        ensures { result.now ≡ self.now.compilations }
+    {
+        &self.compilations
+    }
+
+    /// The whole path of a file of a header, by the directory of the compilation whose line program
+    /// this is. Where none is known, the path stays as `Paths` has it. Refused as `PathError` says.
+    pub fn of_file(
+        &self,
+        alloc: Global,
+        header: &LineProgramHeader<R>,
+        file: &FileEntry<R>,
+    ) -> Result<Vec<u8>, PathError>
+        ensures ok { let directory = directory_for self.now.compilations
+            (R.Offset.number header.now.offset.0) in
+            IfOk result (λ path. file_path
+            (paths_by R.bytes self.now.strings header.now.meaning directory)
+            (file_seen R.bytes R.Offset.number file.now) ≡ Ok path.items) }
+        ensures err { let directory = directory_for self.now.compilations
+            (R.Offset.number header.now.offset.0) in
+            IfErr result (λ e. e ≢ OutOfMemory
+            → file_path (paths_by R.bytes self.now.strings header.now.meaning directory)
+            (file_seen R.bytes R.Offset.number file.now) ≡ Err e) }
+    {
+        let offset = header.offset().0.into_u64();
+        let Some(directory) = self.compilations.directory_of(offset) else {
+            return Paths::new(header, self.strings, None).of_file(alloc, file);
+        };
+        let Ok(directory) = directory.to_slice() else {
+            return Err(PathError::OutOfMemory);
+        };
+        Paths::new(header, self.strings, Some(&directory)).of_file(alloc, file)
+    }
+
+    /// The whole path of a row's file. Refused as `of_file` is, and by `InvalidFileIndex` where the
+    /// header has no such file.
+    pub fn of_row(
+        &self,
+        alloc: Global,
+        header: &LineProgramHeader<R>,
+        row: &LineRow,
+    ) -> Result<Vec<u8>, PathError>
+        ensures ok { let directory = directory_for self.now.compilations
+            (R.Offset.number header.now.offset.0) in
+            IfOk result (λ path. row_path
+            (paths_by R.bytes self.now.strings header.now.meaning directory) row.now
+            ≡ Ok path.items) }
+        ensures err { let directory = directory_for self.now.compilations
+            (R.Offset.number header.now.offset.0) in
+            IfErr result (λ e. e ≢ OutOfMemory
+            → row_path (paths_by R.bytes self.now.strings header.now.meaning directory) row.now
+            ≡ Err e) }
+    {
+        match row.file(header) {
+            Some(file) => self.of_file(alloc, header, file),
+            None => Err(PathError::InvalidFileIndex(row.file_index())),
+        }
+    }
+
+    /// The whole path of the file of an index; None where there is none, or it can't be told.
+    pub fn known_path(
+        &self,
+        alloc: Global,
+        header: &LineProgramHeader<R>,
+        index: u64,
+    ) -> Result<Option<Vec<u8>>, AllocError> {
+        let Some(file) = header.file(index) else {
+            return Ok(None);
+        };
+        match self.of_file(alloc, header, file) {
+            Ok(path) => Ok(Some(path)),
+            Err(PathError::OutOfMemory) => Err(AllocError),
+            Err(_) => Ok(None),
+        }
+    }
+}
+
+/// Why a path can't be told, as it is printed.
+#[derive(Clone, Copy, Debug, PartialEq, Eq)]
+pub struct PathFault {
+    /// Why.
+    pub error: PathError,
+    /// Whether the section `.debug_line_str` is missing.
+    pub is_without_texts: bool,
+}
+
+impl fmt::Display for PathFault {
+    fn fmt<W: fmt::Write>(&self, f: &mut fmt::Formatter<W>) -> fmt::Result {
+        let error = self.error;
+        write!(f, "{error}")?;
+        if self.is_without_texts && error == PathError::StringOffsetOutOfBounds {
+            f.write_str("; name the section .debug_line_str by --line-str")?;
+        }
+        Ok(())
+    }
+}

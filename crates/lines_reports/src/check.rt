@@ -1,0 +1,169 @@
+//! The command `check`: what is wrong, lost, odd or usual in a section.
+
+use crate::findings::{Finding, Findings};
+use crate::unit_check::{Sequence, UnitCheck};
+use gimli_core::{Reader, ReaderOffset};
+use gimli_line::LineProgramHeader;
+use gimli_lookup::PathError;
+use lines_inputs::{Input, PathSources, Printing, Walk};
+use lines_words::{CheckChoice, Output, Pieces, UnitChoice};
+use sha2::{Digest, Sha256};
+use std::alloc::{AllocError, Global};
+
+/// A check of the units of a section, one after the other.
+#[derive(Drop)]
+pub struct Check<R: Reader> {
+    alloc: Global,
+    /// An address below which there is no code.
+    lowest: u64,
+    /// Whether code has its addresses.
+    is_linked: bool,
+    sources: PathSources<R>,
+    walk: Walk<R>,
+    /// The unit that is looked at.
+    unit: Option<UnitCheck<R>>,
+    /// How many units there were.
+    units: u64,
+    sequences: Vec<Sequence>,
+    findings: Findings,
+}
+
+impl<R: Reader> Check<R> {
+    /// Nothing was looked at.
+    pub fn new(
+        alloc: Global,
+        input: &Input<R>,
+        choice: CheckChoice,
+        output: &mut Output<'_>,
+    ) -> Result<Check<R>, AllocError> {
+        let sources = PathSources::new(alloc, input)?;
+        Ok(Check {
+            alloc,
+            lowest: input.lowest,
+            is_linked: input.is_linked,
+            sources,
+            walk: Walk::new(alloc, input, UnitChoice::All, Printing::Rare, output),
+            unit: None,
+            units: 0,
+            sequences: Vec::new(alloc),
+            findings: Findings::new(choice),
+        })
+    }
+
+    /// Prints each file of a unit that has no path, and each that has the path of a file before it.
+    fn check_files(
+        &mut self,
+        unit: u64,
+        header: &LineProgramHeader<R>,
+        output: &mut Output<'_>,
+    ) -> Result<(), AllocError> {
+        let mut files = Vec::new(self.alloc);
+        let last = header.file_names().len() as u64;
+        for index in 0..=last {
+            let Some(file) = header.file(index) else {
+                continue;
+            };
+            match self.sources.of_file(self.alloc, header, file) {
+                Ok(path) => {
+                    let digest = Sha256::digest(&path);
+                    files.push(DigestedFile { digest, index })?;
+                }
+                Err(PathError::OutOfMemory) => return Err(AllocError),
+                Err(error) => {
+                    let error = self.sources.fault(error);
+                    let finding = Finding::NoPath { file: index, error };
+                    self.findings.print(unit, finding, output);
+                }
+            }
+        }
+        files.sort()?;
+        self.print_duplicates(unit, &files, output);
+        Ok(())
+    }
+
+    /// Prints each file whose path is that of the file before it, where files are sorted by their
+    /// paths.
+    fn print_duplicates(&mut self, unit: u64, files: &[DigestedFile], output: &mut Output<'_>) {
+        let mut before: Option<DigestedFile> = None;
+        for file in files {
+            if let Some(other) = before {
+                if other.digest == file.digest {
+                    let finding = Finding::SamePath {
+                        first: other.index,
+                        second: file.index,
+                    };
+                    self.findings.print(unit, finding, output);
+                }
+            }
+            before = Some(*file);
+        }
+    }
+
+    /// Prints each sequence that begins before the end of one that begins no later than it.
+    fn print_overlaps(&mut self, output: &mut Output<'_>) -> Result<(), AllocError> {
+        self.sequences.sort()?;
+        let mut furthest: Option<Sequence> = None;
+        for sequence in self.sequences.iter() {
+            match furthest {
+                Some(other) if sequence.start < other.end => {
+                    let finding = Finding::Overlap {
+                        start: sequence.start,
+                        end: sequence.end,
+                        other_unit: other.unit,
+                        other_start: other.start,
+                        other_end: other.end,
+                    };
+                    self.findings.print(sequence.unit, finding, output);
+                    if sequence.end > other.end {
+                        furthest = Some(*sequence);
+                    }
+                }
+                _ => furthest = Some(*sequence),
+            }
+        }
+        Ok(())
+    }
+}
+
+/// A file, by the digest of its whole path, so that it takes no more memory than the file does, and
+/// its index in the header.
+#[derive(Clone, Copy, Debug, PartialEq, Eq, PartialOrd, Ord)]
+struct DigestedFile {
+    digest: [u8; 32],
+    index: u64,
+}
+
+impl<R: Reader> Pieces for Check<R> {
+    /// Looks at some instructions of a unit, and after the last one at its files. After the last
+    /// unit follow the sequences that overlap, and the counts.
+    fn print_next(&mut self, output: &mut Output<'_>) -> Result<bool, AllocError> {
+        if let Some(mut unit) = self.unit.take() {
+            if unit.run_some(&mut self.sequences, &mut self.findings, output)? {
+                self.unit = Some(unit);
+            } else {
+                self.check_files(unit.offset(), unit.header(), output)?;
+            }
+            return Ok(true);
+        }
+        if let Some(unit) = self.walk.next_unit(output)? {
+            self.units = self.units.saturating_add(1);
+            let offset = unit.offset.0.into_u64();
+            match unit.program {
+                Ok(program) => {
+                    let unit = UnitCheck::new(offset, self.lowest, self.is_linked, program);
+                    self.unit = Some(unit);
+                }
+                Err(refusal) => self
+                    .findings
+                    .print(offset, Finding::Header(refusal), output),
+            }
+            return Ok(true);
+        }
+        // In an object file each section stands at 0, and so do its sequences.
+        if self.is_linked {
+            self.print_overlaps(output)?;
+        }
+        self.findings.print_counts(self.units, output);
+        Ok(false)
+    }
+}

@@ -1,0 +1,192 @@
+//! The command `diff`: which lines have other code in a new program than in an old one.
+
+use crate::coverage::{Change, Coverage, Place};
+use crate::path_numbers::PathNumbers;
+use gimli_core::Reader;
+use gimli_line::LineRow;
+use lines_inputs::{Input, PathSources, Printing, UnitRows, Walk, line_of};
+use lines_words::{JsonCount, JsonField, Output, PathText, Pieces, UnitChoice};
+use std::alloc::{AllocError, Global};
+use std::fmt;
+
+/// The code of each line of two programs.
+#[derive(Drop)]
+pub struct Diff<R: Reader> {
+    alloc: Global,
+    old: Side<R>,
+    new: Side<R>,
+    /// Whether the new program is read.
+    is_new: bool,
+    is_json: bool,
+    paths: PathNumbers,
+}
+
+impl<R: Reader> Diff<R> {
+    /// No line is known. The old program is read first.
+    pub fn new(
+        alloc: Global,
+        old: &Input<R>,
+        new: &Input<R>,
+        is_json: bool,
+        output: &mut Output<'_>,
+    ) -> Result<Diff<R>, AllocError> {
+        Ok(Diff {
+            alloc,
+            old: Side::new(alloc, old, output)?,
+            new: Side::new(alloc, new, output)?,
+            is_new: false,
+            is_json,
+            paths: PathNumbers::new(alloc),
+        })
+    }
+
+    /// Goes on to the new program.
+    pub fn begin_new(&mut self) {
+        self.is_new = true;
+    }
+
+    /// Prints each line that has another number of bytes of code in the new program than in the old
+    /// one, and how many lines there are. The command ends as refused where there is a difference.
+    fn print_differences(&self, output: &mut Output<'_>) -> Result<(), AllocError> {
+        let differences = self
+            .old
+            .coverage
+            .differences(self.alloc, &self.new.coverage)?;
+        for (place, change) in &differences {
+            self.print_change(*place, *change, output);
+        }
+        if !differences.is_empty() {
+            output.refuse();
+        }
+        let old = self.old.coverage.count();
+        let new = self.new.coverage.count();
+        let count = differences.len();
+        if self.is_json {
+            output.print(format_args!(
+                "{{\"old_lines\":{old},\"new_lines\":{new},\"differences\":{count}}}"
+            ));
+        } else {
+            output.print(format_args!(
+                "lines with code: {old} in the old program, {new} in the new one; differences: \
+                 {count}"
+            ));
+        }
+        Ok(())
+    }
+
+    /// Prints a line that differs.
+    fn print_change(&self, place: Place, change: Change, output: &mut Output<'_>) {
+        let path = self.paths.path(place.path);
+        let line = place.line;
+        if !self.is_json {
+            let path = PathText(path);
+            let change = ChangeText(change);
+            return output.print(format_args!("{path}:{line}  {change}"));
+        }
+        let path = JsonField::of_path(Some(path));
+        let old = JsonCount(change.old);
+        let new = JsonCount(change.new);
+        output.print(format_args!(
+            "{{{path},\"line\":{line},\"old_bytes\":{old},\"new_bytes\":{new}}}"
+        ));
+    }
+}
+
+impl<R: Reader> Pieces for Diff<R> {
+    /// Adds the code of the next unit. After the last one of the new program follow the lines that
+    /// differ.
+    fn print_next(&mut self, output: &mut Output<'_>) -> Result<bool, AllocError> {
+        if !self.is_new {
+            return self.old.add_next(&mut self.paths, output);
+        }
+        let has_more = self.new.add_next(&mut self.paths, output)?;
+        if !has_more {
+            self.print_differences(output)?;
+        }
+        Ok(has_more)
+    }
+}
+
+/// One of two programs, and how many bytes of code each of its lines has.
+#[derive(Drop)]
+struct Side<R: Reader> {
+    walk: Walk<R>,
+    sources: PathSources<R>,
+    /// An address below which there is no code.
+    lowest: u64,
+    coverage: Coverage,
+}
+
+impl<R: Reader> Side<R> {
+    /// No line is known.
+    fn new(
+        alloc: Global,
+        input: &Input<R>,
+        output: &mut Output<'_>,
+    ) -> Result<Side<R>, AllocError> {
+        let sources = PathSources::new(alloc, input)?;
+        Ok(Side {
+            walk: Walk::new(alloc, input, UnitChoice::All, Printing::Rare, output),
+            sources,
+            lowest: input.lowest,
+            coverage: Coverage::new(alloc),
+        })
+    }
+
+    /// Adds the code of the next unit, whose fault is reported. False where there is none.
+    fn add_next(
+        &mut self,
+        paths: &mut PathNumbers,
+        output: &mut Output<'_>,
+    ) -> Result<bool, AllocError> {
+        let Some(mut unit) = self.walk.next_rows(output)? else {
+            return Ok(false);
+        };
+        paths.begin_unit();
+        let mut before: Option<LineRow> = None;
+        for _ in 0..u64::MAX {
+            let Some(row) = unit.next_row()? else {
+                break;
+            };
+            if let Some(before) = &before {
+                self.add_row(&unit, before, row.address(), paths)?;
+            }
+            before = (!row.end_sequence()).then_some(row);
+        }
+        unit.tell_fault(output);
+        Ok(true)
+    }
+
+    /// Adds the code of a row up to an address.
+    fn add_row(
+        &mut self,
+        unit: &UnitRows<R>,
+        row: &LineRow,
+        end: u64,
+        paths: &mut PathNumbers,
+    ) -> Result<(), AllocError> {
+        if row.address() < self.lowest || end <= row.address() {
+            return Ok(());
+        }
+        let place = Place {
+            path: paths.number_of(unit.header(), row.file_index(), &self.sources)?,
+            line: line_of(row),
+        };
+        self.coverage.add(place, end.saturating_sub(row.address()))
+    }
+}
+
+/// How many bytes a line has in two programs, for people.
+#[derive(Clone, Copy)]
+struct ChangeText(Change);
+
+impl fmt::Display for ChangeText {
+    fn fmt<W: fmt::Write>(&self, f: &mut fmt::Formatter<W>) -> fmt::Result {
+        match (self.0.old, self.0.new) {
+            (Some(old), Some(new)) => write!(f, "{old} bytes, now {new}"),
+            (Some(old), None) => write!(f, "{old} bytes, now no code"),
+            (None, Some(new)) => write!(f, "no code, now {new} bytes"),
+            (None, None) => f.write_str("no code"),
+        }
+    }
+}

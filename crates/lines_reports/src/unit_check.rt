@@ -1,0 +1,279 @@
+//! What is found in the rows of one unit.
+
+use crate::findings::{Finding, Findings};
+use crate::sizes::instruction_bytes;
+use gimli_core::{Error, Reader, ReaderOffset};
+use gimli_line::{
+    IncompleteLineProgram, LineInstruction, LineInstructions, LineProgramHeader, LineRow,
+};
+use lines_words::Output;
+use std::alloc::AllocError;
+
+/// How many instructions are looked at before findings are handed on.
+const SOME: u64 = 4096;
+
+/// The addresses of a sequence, by its rows that are not left out.
+#[derive(Clone, Copy, Debug, PartialEq, Eq, PartialOrd, Ord)]
+pub(crate) struct Sequence {
+    /// The least address of its rows.
+    pub(crate) start: u64,
+    /// The address of its end.
+    pub(crate) end: u64,
+    /// The offset of its unit.
+    pub(crate) unit: u64,
+}
+
+/// A look at the instructions of a unit, and at the rows that they make.
+#[derive(Drop)]
+pub(crate) struct UnitCheck<R: Reader> {
+    program: IncompleteLineProgram<R>,
+    instructions: LineInstructions<R>,
+    row: LineRow,
+    /// How many instructions were executed.
+    executed: u64,
+    rows: RowCheck,
+}
+
+impl<R: Reader> UnitCheck<R> {
+    /// No instruction of the unit at an offset was looked at.
+    pub(crate) fn new(
+        offset: u64,
+        lowest: u64,
+        is_linked: bool,
+        program: IncompleteLineProgram<R>,
+    ) -> UnitCheck<R> {
+        UnitCheck {
+            instructions: program.header().instructions(),
+            row: LineRow::new(program.header()),
+            program,
+            executed: 0,
+            rows: RowCheck {
+                unit: offset,
+                lowest,
+                is_linked,
+                rows: 0,
+                rows_since_end: 0,
+                start: None,
+                is_left_out: false,
+            },
+        }
+    }
+
+    /// The offset of the unit.
+    pub(crate) fn offset(&self) -> u64 {
+        self.rows.unit
+    }
+
+    /// The header, with the files that are defined so far.
+    pub(crate) fn header(&self) -> &LineProgramHeader<R> {
+        self.program.header()
+    }
+
+    /// Executes some instructions, prints what is found, and adds sequences to others. False after
+    /// the last instruction, and after a fault.
+    pub(crate) fn run_some(
+        &mut self,
+        sequences: &mut Vec<Sequence>,
+        findings: &mut Findings,
+        output: &mut Output<'_>,
+    ) -> Result<bool, AllocError> {
+        for _ in 0..SOME {
+            let instruction = match self.instructions.next_instruction(self.program.header()) {
+                Ok(Some(instruction)) => instruction,
+                Ok(None) => {
+                    self.rows.finish(findings, output);
+                    return Ok(false);
+                }
+                Err(fault) => return self.stop(fault, findings, output),
+            };
+            let set = set_address(&instruction);
+            let before = self.row.address();
+            match self.row.execute(instruction, &mut self.program) {
+                Ok(is_made) => {
+                    let after = self.row.address();
+                    self.rows
+                        .look_at_address(set, before, after, findings, output);
+                    if is_made {
+                        self.take_row(sequences, findings, output)?;
+                    }
+                }
+                Err(fault) => return self.stop(fault, findings, output),
+            }
+            self.executed = self.executed.saturating_add(1);
+        }
+        Ok(true)
+    }
+
+    /// Looks at the row that is made, and goes on to the next one.
+    fn take_row(
+        &mut self,
+        sequences: &mut Vec<Sequence>,
+        findings: &mut Findings,
+        output: &mut Output<'_>,
+    ) -> Result<(), AllocError> {
+        let file = self.row.file_index();
+        let has_file = self.program.header().file(file).is_some();
+        if let Some(sequence) = self.rows.take_row(&self.row, has_file, findings, output) {
+            sequences.push(sequence)?;
+        }
+        self.row.reset(self.program.header());
+        Ok(())
+    }
+
+    /// Prints the fault of the next instruction, which ends the program. Missing memory is no fault
+    /// of it.
+    fn stop(
+        &self,
+        error: Error,
+        findings: &mut Findings,
+        output: &mut Output<'_>,
+    ) -> Result<bool, AllocError> {
+        if error == Error::OutOfMemory {
+            return Err(AllocError);
+        }
+        let unit = self.rows.unit;
+        let byte = instruction_start(self.program.header(), self.executed).unwrap_or(unit);
+        let rows = self.rows.rows;
+        findings.print(unit, Finding::Program { byte, rows, error }, output);
+        Ok(false)
+    }
+}
+
+/// The offset in the section of the instruction that follows so many others of a program. None
+/// where fewer can be read.
+fn instruction_start<R: Reader>(header: &LineProgramHeader<R>, before: u64) -> Option<u64> {
+    let end = header.next_unit_offset()?;
+    let mut instructions = header.instructions();
+    let mut rest = header.raw_program_buf();
+    for _ in 0..before {
+        let instruction = instructions.next_instruction(header).ok()??;
+        instruction_bytes(&instruction, &mut rest).ok()?;
+    }
+    end.0.into_u64().checked_sub(rest.len().into_u64())
+}
+
+/// The address that an instruction sets, where it does.
+fn set_address<R: Reader>(instruction: &LineInstruction<R>) -> Option<u64> {
+    match instruction {
+        LineInstruction::SetAddress(address) => Some(*address),
+        _ => None,
+    }
+}
+
+/// What is kept of the rows of a unit.
+#[derive(Clone, Copy)]
+struct RowCheck {
+    /// The offset of the unit.
+    unit: u64,
+    /// An address below which there is no code.
+    lowest: u64,
+    /// Whether code has its addresses.
+    is_linked: bool,
+    /// How many rows there were, those that are left out not among them.
+    rows: u64,
+    /// How many of them there were since the last end.
+    rows_since_end: u64,
+    /// The least address of the rows since the last end.
+    start: Option<u64>,
+    /// Whether rows are left out, since an address was set that is a tombstone for them.
+    is_left_out: bool,
+}
+
+impl RowCheck {
+    /// Looks at an address that was set. It is a tombstone for the rows that follow where the
+    /// address of the row isn't it: then code was dropped, or addresses go down. In an object file
+    /// each section stands at 0, so that they may.
+    fn look_at_address(
+        &mut self,
+        set: Option<u64>,
+        before: u64,
+        after: u64,
+        findings: &mut Findings,
+        output: &mut Output<'_>,
+    ) {
+        let Some(address) = set else {
+            return;
+        };
+        self.is_left_out = address != after;
+        let rows = self.rows;
+        let is_dropped = address >= before || address == 0 && self.lowest > 0;
+        if self.is_left_out && is_dropped {
+            findings.print(self.unit, Finding::Tombstone { rows, address }, output);
+        } else if self.is_left_out && self.is_linked {
+            let finding = Finding::AddressGoesDown {
+                rows,
+                from: before,
+                to: address,
+            };
+            findings.print(self.unit, finding, output);
+        }
+    }
+
+    /// Looks at a row, and returns the sequence that it ends. One that begins below the lowest
+    /// address of code is dead, and one without an address between overlaps nothing.
+    fn take_row(
+        &mut self,
+        row: &LineRow,
+        has_file: bool,
+        findings: &mut Findings,
+        output: &mut Output<'_>,
+    ) -> Option<Sequence> {
+        let end = row.address();
+        if !self.is_left_out {
+            self.rows = self.rows.saturating_add(1);
+        }
+        if !row.end_sequence() {
+            if !self.is_left_out {
+                self.begin_at(row, has_file, findings, output);
+            }
+            return None;
+        }
+        let start = self
+            .start
+            .filter(|start| *start < end && *start >= self.lowest);
+        let start = start.filter(|_| !self.is_left_out);
+        self.is_left_out = false;
+        self.rows_since_end = 0;
+        self.start = None;
+        let unit = self.unit;
+        start.map(|start| Sequence { start, end, unit })
+    }
+
+    /// Keeps the least address of the rows of a sequence, and looks at the first one, and at the
+    /// file of each.
+    fn begin_at(
+        &mut self,
+        row: &LineRow,
+        has_file: bool,
+        findings: &mut Findings,
+        output: &mut Output<'_>,
+    ) {
+        self.rows_since_end = self.rows_since_end.saturating_add(1);
+        let address = row.address();
+        if self.start.is_none() && address < self.lowest {
+            let finding = Finding::BelowCode {
+                row: self.rows,
+                address,
+                lowest: self.lowest,
+            };
+            findings.print(self.unit, finding, output);
+        }
+        self.start = Some(self.start.unwrap_or(address).min(address));
+        if !has_file {
+            let finding = Finding::NoFile {
+                row: self.rows,
+                address,
+                file: row.file_index(),
+            };
+            findings.print(self.unit, finding, output);
+        }
+    }
+
+    /// Looks at the end of the program.
+    fn finish(&self, findings: &mut Findings, output: &mut Output<'_>) {
+        match self.rows_since_end {
+            0 => {}
+            rows => findings.print(self.unit, Finding::NoEnd { rows }, output),
+        }
+    }
+}

@@ -1,0 +1,4 @@
+pub mod Choice
+pub mod Findings
+pub mod LineQuestions
+pub mod Words

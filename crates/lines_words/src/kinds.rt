@@ -1,0 +1,181 @@
+//! The kinds of what a check finds, how grave each is, and which of them a caller denies or allows.
+
+ghost use Rattle.std.specs.Prelude.{◌≡◌, ◌<◌};
+ghost use Rattle.lines_words.specs.Findings.{is_denied, is_grave, is_in, number, severity};
+
+use crate::request::Form;
+
+/// How grave a finding is.
+#[derive(Clone, Copy, Debug, PartialEq, Eq)]
+pub enum Severity {
+    /// A rule of DWARF is broken: what is read means nothing.
+    Fault,
+    /// Rows that no address finds.
+    Lost,
+    /// What is allowed and unusual.
+    Odd,
+    /// What compilers and linkers do.
+    Usual,
+}
+
+/// What kind a finding is of.
+#[derive(Clone, Copy, Debug, PartialEq, Eq)]
+pub enum FindingKind {
+    /// The header is refused.
+    Header,
+    /// An instruction is refused.
+    Program,
+    /// The path of a file can't be told.
+    NoPath,
+    /// A row names a file that the header doesn't have.
+    NoFile,
+    /// Addresses go down within a sequence.
+    GoesDown,
+    /// A sequence begins below the code.
+    BelowCode,
+    /// No sequence ends after the last rows.
+    NoEnd,
+    /// Two files have one path.
+    SamePath,
+    /// Two sequences overlap.
+    Overlap,
+    /// File 0 of version 5 is in the table once more.
+    FileZero,
+    /// Two sequences have the same addresses.
+    Merged,
+    /// Code was dropped.
+    Dropped,
+}
+
+impl FindingKind {
+    /// All of them, the gravest first.
+    pub const ALL: [FindingKind; 12] = [
+        FindingKind::Header,
+        FindingKind::Program,
+        FindingKind::NoPath,
+        FindingKind::NoFile,
+        FindingKind::GoesDown,
+        FindingKind::BelowCode,
+        FindingKind::NoEnd,
+        FindingKind::SamePath,
+        FindingKind::Overlap,
+        FindingKind::FileZero,
+        FindingKind::Merged,
+        FindingKind::Dropped,
+    ];
+
+    /// Its place among all, its name, and how grave it is.
+    pub fn entry(self) -> (usize, &'static str, Severity)
+        ensures number { result.0 ≡ number self }
+        ensures bound { result.0 < 12 }
+        ensures severity { result.2 ≡ severity self }
+    {
+        match self {
+            FindingKind::Header => (0, "header", Severity::Fault),
+            FindingKind::Program => (1, "program", Severity::Fault),
+            FindingKind::NoPath => (2, "no-path", Severity::Fault),
+            FindingKind::NoFile => (3, "no-file", Severity::Fault),
+            FindingKind::GoesDown => (4, "goes-down", Severity::Lost),
+            FindingKind::BelowCode => (5, "below-code", Severity::Lost),
+            FindingKind::NoEnd => (6, "no-end", Severity::Lost),
+            FindingKind::SamePath => (7, "same-path", Severity::Odd),
+            FindingKind::Overlap => (8, "overlap", Severity::Odd),
+            FindingKind::FileZero => (9, "file-0", Severity::Usual),
+            FindingKind::Merged => (10, "merged", Severity::Usual),
+            FindingKind::Dropped => (11, "dropped", Severity::Usual),
+        }
+    }
+}
+
+impl Severity {
+    /// Its name.
+    pub fn name(self) -> &'static str {
+        match self {
+            Severity::Fault => "fault",
+            Severity::Lost => "lost",
+            Severity::Odd => "odd",
+            Severity::Usual => "usual",
+        }
+    }
+
+    /// Whether it makes the status 1 by itself.
+    fn is_grave(self) -> bool
+        ensures { result ≡ is_grave self }
+    {
+        match self {
+            Severity::Fault => true,
+            Severity::Lost => true,
+            Severity::Odd => false,
+            Severity::Usual => false,
+        }
+    }
+}
+
+/// Some kinds of findings.
+#[derive(Clone, Copy, Debug, PartialEq, Eq)]
+pub struct KindSet([bool; 12]);
+
+impl KindSet {
+    /// No kind.
+    pub fn new() -> KindSet {
+        KindSet([false; 12])
+    }
+
+    /// Adds the kinds that a word names: one, or each that is so grave. False where it names none.
+    pub fn add(&mut self, word: &str) -> bool {
+        let mut is_known = false;
+        for kind in FindingKind::ALL {
+            let (number, name, severity) = kind.entry();
+            if word == name || word == severity.name() {
+                self.0[number] = true;
+                is_known = true;
+            }
+        }
+        is_known
+    }
+
+    /// Whether a kind is among these.
+    fn holds(self, kind: FindingKind) -> bool
+        ensures { result ≡ is_in self.0 kind }
+    {
+        self.0[kind.entry().0]
+    }
+}
+
+/// What a check tells, and what makes its status 1.
+#[derive(Clone, Copy, Debug, PartialEq, Eq)]
+pub struct CheckChoice {
+    /// What makes it 1 beside faults and lost rows.
+    pub denied: KindSet,
+    /// What is only counted, whatever else is said of it.
+    pub allowed: KindSet,
+    /// Whether what is only counted is told too.
+    pub is_all: bool,
+    /// How it is told.
+    pub form: Form,
+}
+
+impl CheckChoice {
+    /// Nothing is denied or allowed.
+    pub fn new() -> CheckChoice {
+        CheckChoice {
+            denied: KindSet::new(),
+            allowed: KindSet::new(),
+            is_all: false,
+            form: Form::Text,
+        }
+    }
+
+    /// Whether a finding of a kind makes the status 1.
+    pub fn denies(self, kind: FindingKind) -> bool
+        ensures { result ≡ is_denied self.allowed.0 self.denied.0 kind }
+    {
+        !self.allowed.holds(kind) && (kind.entry().2.is_grave() || self.denied.holds(kind))
+    }
+
+    /// Whether it counts as something to look at.
+    pub fn counts(self, kind: FindingKind) -> bool {
+        let is_odd = kind.entry().2 == Severity::Odd;
+        self.denies(kind) || is_odd && !self.allowed.holds(kind)
+    }
+}

@@ -1,0 +1,109 @@
+//! Names of files, which are bytes, in the words of the program, which are text.
+//!
+//! A byte of a word that is no UTF-8 stands in the text as a character of a private area, by its
+//! number, and so does each byte of such a character. So each word of bytes has a text of its own.
+
+use std::alloc::{AllocError, Global};
+use std::fmt;
+
+/// The number that a byte counts from in the private area.
+const FIRST: u32 = 0x10_fe00;
+
+/// The text that stands for a word.
+pub fn text_of_word(alloc: Global, word: &[u8]) -> Result<String, AllocError> {
+    let mut text = String::with_capacity(alloc, word.len())?;
+    for chunk in word.utf8_chunks() {
+        push_text(chunk.valid(), &mut text)?;
+        push_bytes(chunk.invalid(), &mut text)?;
+    }
+    Ok(text)
+}
+
+/// The bytes of the word that a text stands for.
+pub fn bytes_of_word(alloc: Global, text: &str) -> Result<Vec<u8>, AllocError> {
+    let mut bytes = Vec::with_capacity(alloc, text.len())?;
+    for character in text.chars() {
+        match byte_of(character) {
+            Some(byte) => bytes.push(byte)?,
+            None => push_character(character, &mut bytes)?,
+        }
+    }
+    Ok(bytes)
+}
+
+/// Appends characters, each of which stands for itself or for its bytes.
+fn push_text(characters: &str, text: &mut String) -> Result<(), AllocError> {
+    for character in characters.chars() {
+        if byte_of(character).is_some() {
+            let mut room = [0; 4];
+            push_bytes(character.encode_utf8(&mut room).as_bytes(), text)?;
+        } else {
+            text.push(character)?;
+        }
+    }
+    Ok(())
+}
+
+/// Appends what stands for bytes above 127.
+fn push_bytes(bytes: &[u8], text: &mut String) -> Result<(), AllocError> {
+    for byte in bytes {
+        let stand_in = char::from_u32(FIRST + u32::from(*byte));
+        text.push(stand_in.unwrap_or('\u{fffd}'))?;
+    }
+    Ok(())
+}
+
+/// Appends the bytes of a character.
+fn push_character(character: char, bytes: &mut Vec<u8>) -> Result<(), AllocError> {
+    let mut room = [0; 4];
+    bytes.extend_from_slice(character.encode_utf8(&mut room).as_bytes())?;
+    Ok(())
+}
+
+/// The byte that a character stands for.
+fn byte_of(character: char) -> Option<u8> {
+    match u32::from(character).checked_sub(FIRST) {
+        Some(byte) if byte > 0x7f => u8::try_from(byte).ok(),
+        _ => None,
+    }
+}
+
+/// A word as it is printed: a control character, and a byte that is no UTF-8, stands as `\x` and
+/// two hexadecimal digits.
+#[derive(Clone, Copy)]
+pub struct NameText<'n>(pub &'n str);
+
+impl fmt::Display for NameText<'_> {
+    fn fmt<W: fmt::Write>(&self, f: &mut fmt::Formatter<W>) -> fmt::Result {
+        write_name(self.0, false, f)
+    }
+}
+
+/// A message that names words, whose lines stay apart.
+#[derive(Clone, Copy)]
+pub(crate) struct MessageText<'m>(pub(crate) &'m str);
+
+impl fmt::Display for MessageText<'_> {
+    fn fmt<W: fmt::Write>(&self, f: &mut fmt::Formatter<W>) -> fmt::Result {
+        write_name(self.0, true, f)
+    }
+}
+
+/// Writes the characters of a word, or of lines of words.
+fn write_name<W: fmt::Write>(
+    name: &str,
+    has_lines: bool,
+    f: &mut fmt::Formatter<W>,
+) -> fmt::Result {
+    for character in name.chars() {
+        if let Some(byte) = byte_of(character) {
+            write!(f, "\\x{byte:02x}")?;
+        } else if character.is_control() && !(has_lines && character == '\n') {
+            let number = u32::from(character);
+            write!(f, "\\x{number:02x}")?;
+        } else {
+            f.write_char(character)?;
+        }
+    }
+    Ok(())
+}

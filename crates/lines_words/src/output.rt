@@ -1,0 +1,201 @@
+//! Where a command prints, and what came of it.
+
+ghost use Rattle.std.specs.Prelude.{◌≡◌, ◌≤◌, ◌↔◌, IfOk, true, false};
+ghost use Rattle.lines_words.specs.Findings.{is_denied};
+
+use crate::kinds::{CheckChoice, FindingKind};
+use crate::names::NameText;
+use crate::screen::{Screen, Style};
+use std::alloc::{AllocError, Global};
+use std::io::{ErrorKind, Write};
+use std::{fmt, io};
+
+/// Whether something was refused, or found that is denied.
+#[derive(Clone, Copy, Debug, PartialEq, Eq)]
+pub enum Verdict {
+    /// Nothing.
+    Clean,
+    /// Something was reported on standard error, or a check found what is denied.
+    Faulty,
+}
+
+impl Verdict {
+    /// The status of the program.
+    pub fn status(self) -> u8
+        ensures bound { result ≤ 1 }
+        ensures clean { self ≡ Verdict.Clean → result ≡ 0 }
+        ensures faulty { self ≡ Verdict.Faulty → result ≡ 1 }
+    {
+        match self {
+            Verdict::Clean => 0,
+            Verdict::Faulty => 1,
+        }
+    }
+}
+
+/// What a command prints on standard output and on standard error, kept until it is handed on: only
+/// what hands it on knows the writers. And what came of the command over the file of a name.
+#[derive(Drop)]
+pub struct Output<'o> {
+    name: &'o str,
+    screen: Screen,
+    out: Vec<u8>,
+    err: Vec<u8>,
+    /// How far the command is, for standard error.
+    progress: Vec<u8>,
+    verdict: Verdict,
+    /// Whether something could not be kept, since memory is missing.
+    is_incomplete: bool,
+}
+
+impl<'o> Output<'o> {
+    /// Nothing was printed yet.
+    pub fn new(alloc: Global, name: &'o str, screen: Screen) -> Output<'o> {
+        Output {
+            name,
+            screen,
+            out: Vec::new(alloc),
+            err: Vec::new(alloc),
+            progress: Vec::new(alloc),
+            verdict: Verdict::Clean,
+            is_incomplete: false,
+        }
+    }
+
+    /// What the outputs are shown on.
+    pub fn screen(&self) -> Screen {
+        self.screen
+    }
+
+    /// Goes on to a file of another name.
+    pub fn rename(&mut self, name: &'o str) {
+        self.name = name;
+    }
+
+    /// Prints a line.
+    pub fn print(&mut self, line: impl fmt::Display + Drop) {
+        if writeln!(self.out, "{line}").is_err() {
+            self.is_incomplete = true;
+        }
+    }
+
+    /// Prints a line of headings.
+    pub fn print_heading(&mut self, heading: impl fmt::Display + Drop) {
+        let Style { begin, end } = self.screen.heading();
+        self.print(format_args!("{begin}{heading}{end}"));
+    }
+
+    /// Prints the heading of the unit at an offset.
+    pub fn print_unit_heading(&mut self, unit: u64, version: u16) {
+        self.print_heading(format_args!("unit at 0x{unit:x}, version {version}"));
+    }
+
+    /// Says a sentence on the file on standard error, which is no fault of it.
+    pub fn note(&mut self, sentence: impl fmt::Display + Drop) {
+        self.note_of(self.name, sentence);
+    }
+
+    /// Says a sentence on a file on standard error.
+    fn note_of(&mut self, name: &str, sentence: impl fmt::Display + Drop) {
+        let name = NameText(name);
+        let Style { begin, end } = self.screen.fault();
+        if writeln!(self.err, "lines: {name}: {begin}{sentence}{end}").is_err() {
+            self.is_incomplete = true;
+        }
+    }
+
+    /// Reports a sentence on the file.
+    pub fn tell(&mut self, sentence: impl fmt::Display + Drop)
+        ensures { self.new.verdict ≡ Verdict.Faulty }
+    {
+        self.note(sentence);
+        self.refuse();
+    }
+
+    /// Reports a sentence on another file.
+    pub fn tell_of(&mut self, name: &str, sentence: impl fmt::Display + Drop)
+        ensures { self.new.verdict ≡ Verdict.Faulty }
+    {
+        self.note_of(name, sentence);
+        self.refuse();
+    }
+
+    /// Reports a sentence on the unit at an offset.
+    pub fn tell_of_unit(&mut self, unit: u64, sentence: impl fmt::Display + Drop)
+        ensures { self.new.verdict ≡ Verdict.Faulty }
+    {
+        self.tell(format_args!("unit at 0x{unit:x}: {sentence}"));
+    }
+
+    /// Ends the command as one that was refused.
+    pub fn refuse(&mut self)
+        ensures { self.new.verdict ≡ Verdict.Faulty }
+    {
+        self.verdict = Verdict::Faulty;
+    }
+
+    /// Ends the command as one that was refused exactly where a choice denies a kind of findings.
+    pub fn judge(&mut self, choice: CheckChoice, kind: FindingKind)
+        ensures denied { is_denied choice.allowed.0 choice.denied.0 kind ≡ true
+            → self.new.verdict ≡ Verdict.Faulty }
+        ensures other { is_denied choice.allowed.0 choice.denied.0 kind ≡ false
+            → self.new.verdict ≡ self.old.verdict }
+    {
+        if choice.denies(kind) {
+            self.verdict = Verdict::Faulty;
+        }
+    }
+
+    /// Shows how far the command is, in a line of standard error that the next one is written over.
+    pub fn show(&mut self, progress: impl fmt::Display + Drop) {
+        self.progress.clear();
+        if write!(self.progress, "{progress}\r").is_err() {
+            self.is_incomplete = true;
+        }
+    }
+
+    /// Clears what shows how far the command is.
+    pub fn clear(&mut self) {
+        let blanks = "";
+        self.show(format_args!("{blanks:40}"));
+    }
+
+    /// Hands on what was printed. Fails where standard output takes no more, and where something
+    /// could not be kept.
+    pub fn hand_on<O: Write, E: Write>(&mut self, out: &mut O, err: &mut E) -> io::Result<()>
+        ensures { self.new.verdict ≡ self.old.verdict }
+    {
+        // Where standard error can't be written to, the status still says it.
+        let _ = err.write_all(&self.err);
+        self.err.clear();
+        out.write_all(&self.out)?;
+        self.out.clear();
+        if !self.progress.is_empty() {
+            out.flush()?;
+            let _ = err.write_all(&self.progress);
+            self.progress.clear();
+        }
+        if self.is_incomplete {
+            return Err(io::Error::from(ErrorKind::OutOfMemory));
+        }
+        Ok(())
+    }
+
+    /// Hands on what was printed, and returns the status of the program: 1 exactly where something
+    /// was reported, or a check found what is denied, else 0.
+    pub fn finish<O: Write, E: Write>(mut self, out: &mut O, err: &mut E) -> io::Result<u8>
+        ensures bound { IfOk result (λ status. status ≤ 1) }
+        ensures exact { IfOk result
+            (λ status. (status ≡ 1) ↔ (self.entry.verdict ≡ Verdict.Faulty)) }
+    {
+        self.hand_on(out, err)?;
+        out.flush()?;
+        Ok(self.verdict.status())
+    }
+}
+
+/// What prints piece by piece, so that each piece is handed on before the next one.
+pub trait Pieces {
+    /// Prints the next piece, and returns whether more may follow.
+    fn print_next(&mut self, output: &mut Output<'_>) -> Result<bool, AllocError>;
+}

@@ -1,0 +1,343 @@
+//! The words of the program, and what they ask for.
+//!
+//! [`parse`] reads them by `clap`. What isn't words of the program, and a question for help or the
+//! version, is an error of `clap`, whose text and status are for the user.
+
+ghost use Rattle.std.specs.Prelude.{◌≡◌, ℕ, List, IfOk, IsOk, Some, codes};
+ghost use Rattle.clap.specs.Words.{first_value, found_of};
+ghost use Rattle.lines_words.specs.Words.{NamesAddress, NamesOffset, NamesTarget};
+ghost use Rattle.lines_words.specs.Choice.{ChoosesUnits, NamesBias};
+
+use crate::files::{Kind, Notation};
+use crate::grammar::{command, program};
+use crate::kinds::{CheckChoice, KindSet};
+use crate::names::{MessageText, NameText};
+use crate::numbers::{parse_address, parse_code_address, parse_offset, parse_target};
+use crate::request::{
+    CodeAddress, CodeLine, Command, Form, LineNames, PathForm, PlaceForm, Request, SourceChoice,
+    SourcePlace, UnitChoice,
+};
+use clap::error::ErrorKind;
+use clap::{ArgMatches, Error};
+use line_text::{AddressSize, parse_digits, parse_order, parse_size};
+use std::alloc::{AllocError, Global};
+
+/// How many lines the command `source` prints before a place and after it, where nothing is said.
+const CONTEXT: u64 = 3;
+
+/// The most lines that it prints there.
+const MOST_CONTEXT: u64 = 100_000;
+
+/// What words ask for, of which the first is the program's name.
+pub fn parse<'w>(alloc: Global, words: &'w [&'w str]) -> Result<Request<'w>, Error> {
+    let mut grammar = program(alloc)?;
+    let matches = grammar.try_get_matches_from_mut(words)?;
+    let mistake = match request_of(alloc, &matches) {
+        Ok(request) => return Ok(request),
+        Err(Mistake::Memory) => return Err(Error::from(AllocError)),
+        Err(Mistake::Word(word, wanted)) => {
+            let word = NameText(word);
+            format!(in alloc; "'{word}' is not {wanted}")?
+        }
+    };
+    let mut command = command(alloc, matches.subcommand_name().unwrap_or(""))?;
+    Err(command.error(ErrorKind::ValueValidation, &mistake)?)
+}
+
+/// What is said of words that ask for nothing, or of help. A control character, and a byte that is
+/// no UTF-8, stands as `\x` and two hexadecimal digits.
+pub fn message_of(alloc: Global, error: &Error) -> Result<String, AllocError> {
+    let message = format!(in alloc; "{error}")?;
+    let message = MessageText(&message);
+    format!(in alloc; "{message}")
+}
+
+/// Why words that the grammar takes ask for nothing.
+#[derive(Clone, Copy)]
+enum Mistake<'w> {
+    /// A word, and what must stand in its place.
+    Word(&'w str, &'static str),
+    /// Memory is missing.
+    Memory,
+}
+
+impl From<AllocError> for Mistake<'_> {
+    fn from(_: AllocError) -> Self {
+        Mistake::Memory
+    }
+}
+
+/// What words ask for that the grammar takes.
+fn request_of<'w>(alloc: Global, matches: &ArgMatches<'w>) -> Result<Request<'w>, Mistake<'w>> {
+    let Some((name, matches)) = matches.subcommand() else {
+        return Err(Mistake::Word("", "a command"));
+    };
+    Ok(Request {
+        file: file_of(matches),
+        kind: kind_of(matches)?,
+        line_str: matches.get_str("line-str"),
+        strings: matches.get_str("str"),
+        source: matches.get_str("source"),
+        command: command_of(alloc, name, matches)?,
+    })
+}
+
+/// How the file is read.
+fn kind_of<'w>(matches: &ArgMatches<'w>) -> Result<Kind, Mistake<'w>> {
+    let Some(word) = matches.get_str("raw") else {
+        return Ok(Kind::Elf);
+    };
+    let Some(order) = parse_order(word) else {
+        return Err(Mistake::Word(word, "an order of bytes, little or big"));
+    };
+    let address_size = address_size_of(matches)?;
+    Ok(Kind::Raw(Notation {
+        order,
+        address_size,
+        lowest: 0,
+    }))
+}
+
+/// How wide an address is in a raw section.
+fn address_size_of<'w>(matches: &ArgMatches<'w>) -> Result<AddressSize, Mistake<'w>> {
+    let Some(word) = matches.get_str("address-size") else {
+        return Ok(AddressSize::Eight);
+    };
+    match parse_size(word) {
+        Some(size) => Ok(size),
+        None => Err(Mistake::Word(word, "an address size: 1, 2, 4 or 8")),
+    }
+}
+
+/// The command of a name.
+fn command_of<'w>(
+    alloc: Global,
+    name: &'w str,
+    matches: &ArgMatches<'w>,
+) -> Result<Command<'w>, Mistake<'w>> {
+    match name {
+        "where" => where_of(alloc, matches),
+        "index" => Ok(Command::Index {
+            out: matches.get_str("output"),
+        }),
+        "at" => {
+            let (path, line) = target_of(matches)?;
+            Ok(Command::At(CodeLine {
+                path,
+                line,
+                has_column: matches.get_flag("columns"),
+                has_range: matches.get_flag("range"),
+                is_json: matches.get_flag("json"),
+            }))
+        }
+        "source" => Ok(Command::Source(SourceChoice {
+            place: source_place_of(matches)?,
+            context: context_of(matches)?,
+            is_json: matches.get_flag("json"),
+        })),
+        "units" => Ok(Command::Units {
+            is_json: matches.get_flag("json"),
+        }),
+        "files" => Ok(Command::Files {
+            units: units_of(matches)?,
+            is_json: matches.get_flag("json"),
+        }),
+        "rows" => Ok(Command::Rows {
+            units: units_of(matches)?,
+            form: form_of(matches),
+        }),
+        "check" => Ok(Command::Check(CheckChoice {
+            denied: kinds_of(matches, "deny")?,
+            allowed: kinds_of(matches, "allow")?,
+            is_all: matches.get_flag("all"),
+            form: form_of(matches),
+        })),
+        "stat" => Ok(Command::Stat {
+            is_json: matches.get_flag("json"),
+        }),
+        "diff" => Ok(Command::Diff {
+            new: matches.get_str("NEW").unwrap_or(""),
+            is_json: matches.get_flag("json"),
+        }),
+        _ => Err(Mistake::Word(name, "a command")),
+    }
+}
+
+/// The command `where`, by what it asks.
+fn where_of<'w>(alloc: Global, matches: &ArgMatches<'w>) -> Result<Command<'w>, Mistake<'w>> {
+    let form = place_form_of(matches)?;
+    if let Some(index) = matches.get_str("index") {
+        let addresses = addresses_of(alloc, matches)?;
+        return Ok(Command::Ask {
+            index,
+            addresses,
+            form,
+        });
+    }
+    if let Some(folder) = matches.get_str("maps") {
+        let names = LineNames::BuildIds(folder);
+        return Ok(Command::AskLines { names, form });
+    }
+    if matches.get_flag("files") {
+        let names = LineNames::Files;
+        return Ok(Command::AskLines { names, form });
+    }
+    let addresses = addresses_of(alloc, matches)?;
+    Ok(Command::Where { addresses, form })
+}
+
+/// The file; empty where none is named. Beside an index the first word may be an address.
+fn file_of<'w>(matches: &ArgMatches<'w>) -> &'w str {
+    match first_address(matches) {
+        Some(_) => "",
+        None => matches.get_str("FILE").unwrap_or(""),
+    }
+}
+
+/// The address that stands in the place of the file, beside an index.
+fn first_address(matches: &ArgMatches<'_>) -> Option<u64> {
+    matches.get_str("index")?;
+    parse_address(matches.get_str("FILE")?)
+}
+
+/// The addresses that are named; beside an index the first word may be one.
+fn addresses_of<'w>(
+    alloc: Global,
+    matches: &ArgMatches<'w>,
+) -> Result<Vec<CodeAddress<'w>>, Mistake<'w>> {
+    let mut addresses = Vec::new(alloc);
+    if let Some(first) = first_address(matches) {
+        let first = CodeAddress::Linked(first);
+        addresses.push(first).map_err(AllocError::from)?;
+    }
+    for word in matches.get_strs("ADDRESS").unwrap_or(&[]) {
+        match parse_code_address(word) {
+            Some(address) => addresses.push(address).map_err(AllocError::from)?,
+            None => {
+                return Err(Mistake::Word(
+                    word,
+                    "an address, up to 16 hexadecimal digits with or without 0x, or SECTION+OFFSET",
+                ));
+            }
+        }
+    }
+    Ok(addresses)
+}
+
+/// The kinds of findings that the words of an option name.
+fn kinds_of<'w>(matches: &ArgMatches<'w>, option: &str) -> Result<KindSet, Mistake<'w>> {
+    let mut kinds = KindSet::new();
+    for word in matches.get_strs(option).unwrap_or(&[]) {
+        if !kinds.add(word) {
+            return Err(Mistake::Word(word, "a kind of findings, or fault, lost, odd or usual"));
+        }
+    }
+    Ok(kinds)
+}
+
+/// The line of a path that is named.
+fn target_of<'w>(matches: &ArgMatches<'w>) -> Result<(&'w str, u64), Mistake<'w>>
+    ensures named { IfOk result (λ target. (word : List ℕ)
+        × (first_value (found_of matches.now) (codes "PATH:LINE") ≡ Some word)
+        × NamesTarget word target.0.now target.1) }
+    ensures found { (word path : List ℕ) (line : ℕ)
+        → first_value (found_of matches.now) (codes "PATH:LINE") ≡ Some word
+        → NamesTarget word path line → IsOk result }
+{
+    let wanted = "a path, a colon and a line";
+    let Some(word) = matches.get_str("PATH:LINE") else {
+        return Err(Mistake::Word("", wanted));
+    };
+    match parse_target(word) {
+        Some(target) => Ok(target),
+        None => Err(Mistake::Word(word, wanted)),
+    }
+}
+
+/// The line of a path that is named, or else the function of a name.
+fn source_place_of<'w>(matches: &ArgMatches<'w>) -> Result<SourcePlace<'w>, Mistake<'w>> {
+    let word = matches.get_str("PLACE").unwrap_or("");
+    if word.is_empty() {
+        return Err(Mistake::Word(
+            word,
+            "a path, a colon and a line, or the name of a function",
+        ));
+    }
+    match parse_target(word) {
+        Some((path, line)) => Ok(SourcePlace::Line { path, line }),
+        None => Ok(SourcePlace::Function(word)),
+    }
+}
+
+/// How many lines are printed before a place and after it.
+fn context_of<'w>(matches: &ArgMatches<'w>) -> Result<u64, Mistake<'w>> {
+    let Some(word) = matches.get_str("context") else {
+        return Ok(CONTEXT);
+    };
+    match parse_digits(word, 10) {
+        Some(context) if context <= MOST_CONTEXT => Ok(context),
+        _ => Err(Mistake::Word(word, "a number of lines up to 100000")),
+    }
+}
+
+/// The unit that is named, or all of them.
+fn units_of<'w>(matches: &ArgMatches<'w>) -> Result<UnitChoice, Mistake<'w>>
+    ensures named { IfOk result (ChoosesUnits (first_value (found_of matches.now) (codes "UNIT"))) }
+    ensures found { (word : List ℕ) (offset : ℕ)
+        → first_value (found_of matches.now) (codes "UNIT") ≡ Some word
+        → NamesOffset word offset → IsOk result }
+{
+    let Some(word) = matches.get_str("UNIT") else {
+        return Ok(UnitChoice::All);
+    };
+    match parse_offset(word) {
+        Some(offset) => Ok(UnitChoice::At(offset)),
+        None => Err(Mistake::Word(word, "an offset, decimal or hexadecimal after 0x")),
+    }
+}
+
+/// How places are printed.
+fn place_form_of<'w>(matches: &ArgMatches<'w>) -> Result<PlaceForm<'w>, Mistake<'w>> {
+    let paths = match matches.get_str("relative-to") {
+        Some(directory) => PathForm::From(directory.trim_end_matches('/')),
+        None if matches.get_flag("basenames") => PathForm::LastPart,
+        None => PathForm::Whole,
+    };
+    Ok(PlaceForm {
+        is_json: matches.get_flag("json"),
+        has_function: matches.get_flag("functions"),
+        has_source: matches.get_flag("pretty"),
+        paths,
+        bias: bias_of(matches)?,
+    })
+}
+
+/// What is subtracted from each address, 0 where nothing is named.
+fn bias_of<'w>(matches: &ArgMatches<'w>) -> Result<u64, Mistake<'w>>
+    ensures named { IfOk result (NamesBias (first_value (found_of matches.now) (codes "bias"))) }
+    ensures found { (word : List ℕ) (address : ℕ)
+        → first_value (found_of matches.now) (codes "bias") ≡ Some word
+        → NamesAddress word address → IsOk result }
+{
+    let Some(word) = matches.get_str("bias") else {
+        return Ok(0);
+    };
+    match parse_address(word) {
+        Some(bias) => Ok(bias),
+        None => Err(Mistake::Word(
+            word,
+            "an address, up to 16 hexadecimal digits with or without 0x",
+        )),
+    }
+}
+
+/// How the output is written. Only the command `rows` has whole paths.
+fn form_of(matches: &ArgMatches<'_>) -> Form {
+    if matches.get_flag("json") {
+        Form::Json
+    } else if matches.get_flag("whole-paths") {
+        Form::WholePaths
+    } else {
+        Form::Text
+    }
+}
