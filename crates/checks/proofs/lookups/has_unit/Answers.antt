@@ -1,6 +1,6 @@
 use Rattle.std.proofs.Common.{rules, length, ap, ◌∙◌, ◌≡◌}
 use Rattle.std.proofs.lemmas.List.{length-map}
-use Rattle.checks_reading.proofs.many.has_unit.Goals as goal
+use Rattle.checks.proofs.lookups.has_unit.Goals as goal
 
 pub returns : goal.returns
 returns g c =

@@ -1,0 +1,216 @@
+//! Lookups over a reader of one's own, and over many files, sequences, and rows of a sequence. Memory
+//! for them is there, so a refusal by `OutOfMemory` would be wrong, which no contract tells.
+
+ghost use Rattle.std.specs.Prelude.{◌<◌, IsTrue, length};
+
+use crate::narrow::NarrowReader;
+use crate::units::{HEADER, program, slice, unit};
+use gimli_core::{
+    EndianSlice, Endianity, Error, LineEncoding, Reader, ReaderOffset, Result, RunTimeEndian,
+};
+use gimli_line::{
+    CompleteLineProgram, DebugLine, IncompleteLineProgram, LineProgramHeader, LineSequence,
+};
+use gimli_lookup::{Addresses, Lookup, SectionLookup, StringSections, find_in_run};
+use std::alloc::{AllocError, Global};
+
+// ---- a unit over a reader of one's own
+
+/// A program of the rows 0x1000, of line 1, and 0x1004, of line 3, and an end at 0x1008.
+const PROGRAM: &[u8] = b"\0\x05\x02\0\x10\0\0\x01\x4c\x02\x04\0\x01\x01";
+
+/// Whether the parts of a header are those of `HEADER`.
+fn has_parts<R: Reader>(header: &LineProgramHeader<R>) -> bool {
+    for file in header.file_names() {
+        let times = (file.timestamp(), file.last_modification());
+        let sizes = (file.size(), file.length());
+        if (times, sizes) != ((7, 7), (9, 9)) || file.directory(header).is_some() {
+            return false;
+        }
+    }
+    header.line_encoding() == LineEncoding::default()
+        && header.raw_program_buf().len().into_u64() == 14
+}
+
+/// Whether each sequence begins at 0x1000.
+fn begin_there<R: Reader>(program: &CompleteLineProgram<R>, sequences: &[LineSequence<R>]) -> bool {
+    for sequence in sequences {
+        match program.resume_from(sequence).next_row() {
+            Ok(Some((_, row))) if row.address() == 0x1000 => {}
+            _ => return false,
+        }
+    }
+    sequences.len() == 1
+}
+
+/// The address of the first row that covers 0x1005, by each way to it in a program.
+fn covering<R: Reader>(program: IncompleteLineProgram<R>) -> Result<[Option<u64>; 3]> {
+    let copy = program.clone()?;
+    let in_run = find_in_run(program.clone()?, 0x1005)?.map(|(row, _)| row.address());
+    let lookup = Lookup::new(program)?;
+    let found = lookup.find(0x1005).map(|(row, _)| row.address());
+    let (complete, sequences) = copy.sequences()?;
+    let begun = begin_there(&complete, &sequences).then_some(0x1004);
+    Ok([in_run, found, begun])
+}
+
+/// Whether a section has this one unit, in which the row at 0x1004 covers 0x1005.
+fn is_found<R: Reader>(alloc: Global, section: &DebugLine<R>) -> Result<bool> {
+    let found = SectionLookup::new(section, alloc, 4, 0)?.find(0x1005);
+    if found.map(|found| found.row.address()) != Some(0x1004) {
+        return Ok(false);
+    }
+    match section.units(alloc, 4).next()? {
+        Some(unit) => {
+            let program = unit.program?;
+            Ok(has_parts(program.header()) && covering(program)? == [Some(0x1004); 3])
+        }
+        None => Ok(false),
+    }
+}
+
+/// The unit over offsets of 32 bits.
+pub fn narrow_unit(alloc: Global) -> bool {
+    let Ok(unit) = unit(alloc, HEADER, PROGRAM) else {
+        return false;
+    };
+    let owned = DebugLine::from(unit);
+    let section = owned.borrow(|bytes| NarrowReader::new(alloc, bytes, RunTimeEndian::Little));
+    is_found(alloc, &section) == Ok(true)
+}
+
+// ---- copies of many files
+
+/// Past each power of two that a length could stop at.
+const MANY: usize = 70_000;
+
+/// The bytes of a unit of version 5 with many directories and many files, whose paths are empty; it
+/// has no program.
+fn bytes_of_tables(alloc: Global) -> std::result::Result<Vec<u8>, AllocError> {
+    let header = b"\xfa\x22\x02\0\x05\0\x08\0\xf2\x22\x02\0\x01\x01\x01\xfb\x0e\x01";
+    let format = b"\x01\x01\x08\xf0\xa2\x04";
+    let mut unit = Vec::from_slice(alloc, header)?;
+    for _ in 0..2 {
+        unit.extend_from_slice(format)?;
+        unit.resize(unit.len().saturating_add(MANY), 0)?;
+    }
+    Ok(unit)
+}
+
+/// How many directories and files copies of a program, of a run, of a complete program and of its
+/// header have.
+fn copied<R: Reader>(program: IncompleteLineProgram<R>) -> Result<[usize; 4]> {
+    let copy = program.clone()?;
+    let directories = copy.header().include_directories().len();
+    let rows = copy.rows().clone()?;
+    let (complete, _) = program.sequences()?;
+    let header = complete.header().clone()?;
+    let complete = complete.clone()?;
+    Ok([
+        directories,
+        rows.header().file_names().len(),
+        complete.header().file_names().len(),
+        header.file_names().len(),
+    ])
+}
+
+/// Whether copies have many of each.
+pub fn copies(alloc: Global) -> bool {
+    let Ok(unit) = bytes_of_tables(alloc) else {
+        return false;
+    };
+    match program(alloc, slice(&unit), None) {
+        Ok(program) => copied(program) == Ok([MANY; 4]),
+        Err(_) => false,
+    }
+}
+
+// ---- many rows and sequences
+
+/// How many sequences there are beside the one of many rows.
+const SEQUENCES: usize = 3000;
+
+/// The last address of the sequence of many rows.
+const LAST: u64 = 70_016;
+
+/// A program of a sequence of many rows, at 0x11 and each address after it, by turns of line 2 and
+/// of line 1, and an end; then sequences of a row of line 1 at 0 and an end at 1.
+fn bytes_of_sequences(alloc: Global) -> std::result::Result<Vec<u8>, AllocError> {
+    let mut program = Vec::from_slice(alloc, b"\0\x05\x02\x10\0\0\0")?;
+    for _ in 0..MANY / 2 {
+        program.extend_from_slice(b"\x21\x1f")?;
+    }
+    program.extend_from_slice(b"\x02\x01\0\x01\x01")?;
+    for _ in 0..SEQUENCES {
+        program.extend_from_slice(b"\x01\x02\x01\0\x01\x01")?;
+    }
+    Ok(program)
+}
+
+/// The unit of this program.
+fn unit_of_sequences(alloc: Global) -> Result<Vec<u8>> {
+    let program = bytes_of_sequences(alloc).map_err(|_| Error::OutOfMemory)?;
+    unit(alloc, HEADER, &program)
+}
+
+/// Whether line 1 begins at each second row of the first sequence, and at the row of each other.
+fn are_all(found: Option<Addresses>) -> bool {
+    match found {
+        Some(found) => found.line == 1 && found.addresses.len() == MANY / 2 + SEQUENCES,
+        None => false,
+    }
+}
+
+/// Whether a lookup of one program has all.
+fn has_all<R: Reader>(program: IncompleteLineProgram<R>) -> Result<bool> {
+    let lookup = Lookup::new(program)?;
+    let found = lookup.find(LAST).map(|(row, _)| row.address());
+    let addresses = lookup.addresses_of_file(1, 1)?;
+    let count = lookup.sequences().len();
+    Ok(are_all(addresses) && (count, found) == (SEQUENCES + 1, Some(LAST)))
+}
+
+/// Whether a lookup has a unit.
+fn has_unit<R: Reader>(lookup: &SectionLookup<R>) -> bool
+    ensures { IsTrue result → 0 < length lookup.now }
+{
+    let count = lookup.units().len();
+    0 < count
+}
+
+/// Whether a lookup of a section has all, from a line to addresses.
+fn section_has_all<R: Reader>(lookup: &SectionLookup<R>, nothing: R) -> Result<bool> {
+    let sections = StringSections {
+        debug_line_str: nothing,
+        debug_str: nothing,
+    };
+    if !has_unit(lookup) || !are_all(lookup.addresses_of_file(0, 1, 1)?) {
+        return Ok(false);
+    }
+    Ok(are_all(lookup.addresses_of(&sections, b"a.c", 1)?))
+}
+
+/// Whether a lookup of a section finds the last row without its headers too.
+fn finds_without_headers<E: Endianity>(lookup: SectionLookup<EndianSlice<'_, E>>) -> Result<bool> {
+    let bare = lookup.without_headers()?;
+    Ok(bare.find(LAST).map(|found| found.row.address()) == Some(LAST))
+}
+
+/// What both lookups have.
+fn lookups(alloc: Global, unit: &[u8]) -> Result<[bool; 3]> {
+    let in_program = has_all(program(alloc, slice(unit), None)?)?;
+    let lookup = SectionLookup::new(&DebugLine::from(slice(unit)), alloc, 4, 0)?;
+    let in_section = section_has_all(&lookup, slice(b""))?;
+    Ok([in_program, in_section, finds_without_headers(lookup)?])
+}
+
+/// The first of three that fails: of a program, of a section, and of one without headers.
+pub fn many(alloc: Global) -> Option<usize> {
+    match unit_of_sequences(alloc) {
+        Ok(unit) => match lookups(alloc, &unit) {
+            Ok(found) => found.into_iter().position(|it| !it),
+            Err(_) => Some(0),
+        },
+        Err(_) => Some(0),
+    }
+}
