@@ -4,11 +4,16 @@
 //! They use public names alone.
 #![tactic(auto)]
 
+mod builder;
 mod compilations;
+mod conversions;
+mod converted;
 mod elf_files;
+mod errors;
 mod headers;
 mod lookups;
 mod machine;
+mod many;
 mod narrow;
 mod numbers;
 mod own_writer;
@@ -21,7 +26,7 @@ use std::alloc::Global;
 use std::io;
 
 /// Each check, and the number of the first case that fails.
-fn checks(alloc: Global) -> [(&'static str, Option<usize>); 27] {
+fn checks(alloc: Global) -> [(&'static str, Option<usize>); 39] {
     [
         ("readers::calls", readers::calls(alloc)),
         ("numbers::sums", numbers::sums()),
@@ -56,6 +61,27 @@ fn checks(alloc: Global) -> [(&'static str, Option<usize>); 27] {
         ("writers::pointers", writers::pointers(alloc)),
         ("writers::own_calls", whole(writers::own_calls(alloc))),
         ("tables::texts", whole(tables::texts(alloc))),
+        ("builder::current_rows", builder::current_rows(alloc)),
+        ("builder::file", whole(builder::file(alloc))),
+        ("builder::none", whole(builder::none(alloc))),
+        ("conversions::calls", conversions::calls(alloc)),
+        ("converted::own_writer", whole(converted::own_writer(alloc))),
+        (
+            "converted::relocated_units",
+            whole(converted::relocated_units(alloc)),
+        ),
+        ("converted::places", whole(converted::places(alloc))),
+        ("many::writers_and_tables", many::writers_and_tables(alloc)),
+        ("many::conversions", many::conversions(alloc)),
+        ("errors::texts_of_writing", errors::texts_of_writing(alloc)),
+        (
+            "errors::texts_of_conversion",
+            errors::texts_of_conversion(alloc),
+        ),
+        (
+            "errors::turned_into_others",
+            whole(errors::turned_into_others()),
+        ),
     ]
 }
 
