@@ -3,6 +3,7 @@
 
 ghost use Rattle.std.specs.Prelude.{◌≡◌, ◌<◌, length, false, IfOk};
 
+use crate::check::{first_false, first_of};
 use gimli_core::{Encoding, Format, LineEncoding};
 use gimli_write::{Address, BuiltItem, Error, FileId, LineProgram, LineRow, LineString, Result};
 use std::alloc::Global;
@@ -102,22 +103,6 @@ fn rows_after_calls(program: &mut LineProgram, row: &LineRow) -> Result<[LineRow
     Ok([outside, after_row, after_address, after_end, *program.row()])
 }
 
-/// Whether a copy has the items that were built.
-fn has_items(alloc: Global, program: &LineProgram, row: &LineRow) -> Result<bool> {
-    let items = [
-        BuiltItem::SetAddress(Address::Constant(16)),
-        BuiltItem::Row(marked(row)),
-        BuiltItem::SetAddress(Address::Constant(32)),
-        BuiltItem::End {
-            address_offset: 8,
-            op_index: 0,
-        },
-    ];
-    let copy = program.clone()?;
-    let found = items_of(alloc, &copy)?;
-    Ok(found.as_slice() == items.as_slice() && !copy.is_empty() && copy.in_sequence())
-}
-
 /// Whether after a row what stands for one row alone is cleared, after an address in a sequence its
 /// place, and after an end all; an address outside a sequence and the beginning of one change
 /// nothing.
@@ -135,18 +120,14 @@ fn has_rows(alloc: Global, version: u16) -> Result<bool> {
     };
     let found = rows_after_calls(&mut program, &row)?;
     let wanted = [marked(&row), row, at_start, first, marked(&row)];
-    let initial = is_initial(&first, version, version == 4);
-    Ok(initial && found == wanted && has_items(alloc, &program, &row)?)
+    Ok(is_initial(&first, version, version == 4) && found == wanted)
 }
 
 /// The first version in which a current row is another.
 pub fn current_rows(alloc: Global) -> Option<usize> {
-    for (at, version) in [4, 5, 6].into_iter().enumerate() {
-        if has_rows(alloc, version) != Ok(true) {
-            return Some(at);
-        }
-    }
-    None
+    [4, 5, 6]
+        .iter()
+        .position(|version| has_rows(alloc, *version) != Ok(true))
 }
 
 fn set_size(program: &mut LineProgram, file: FileId, size: u64)
@@ -157,9 +138,9 @@ fn set_size(program: &mut LineProgram, file: FileId, size: u64)
     program.get_file_info_mut(file).size = size;
 }
 
-/// Whether a file is found by its id, and what is known of it is set by it; each is listed with its
-/// id and its directory.
-fn knows_files(alloc: Global, program: &mut LineProgram) -> Result<bool>
+/// Whether a file is found by its id and what is known of it is set by it, a second one has the
+/// same id, and each is listed with its id and its directory.
+fn knows_files(alloc: Global, program: &mut LineProgram) -> Result<[bool; 4]>
     requires { program.old.is_none ≡ false }
 {
     let directory = program.default_directory();
@@ -167,7 +148,6 @@ fn knows_files(alloc: Global, program: &mut LineProgram) -> Result<bool>
     let file = program.add_file(name.clone()?, directory, None)?;
     let (path, found) = program.get_file(file);
     let is_found = *path == name && found == directory;
-    let was_none = program.get_file_info(file).size == 0;
     let is_other = *program.get_directory(directory) != name;
     set_size(program, file, 3);
     let again = program.add_file(name.clone()?, directory, None)?;
@@ -178,40 +158,27 @@ fn knows_files(alloc: Global, program: &mut LineProgram) -> Result<bool>
     for (id, _, directory) in program.files() {
         listed = Some((id, directory));
     }
-    Ok(
-        [
-            is_found,
-            was_none,
-            is_other,
-            stays,
-            listed == Some((last, other)),
-        ] == [true; 5],
-    )
+    Ok([is_found, is_other, stays, listed == Some((last, other))])
 }
 
-/// Whether files are known in a program of version 4.
-fn has_files(alloc: Global) -> Result<bool> {
-    let mut program = program(alloc, 4, LineEncoding::default())?;
-    knows_files(alloc, &mut program)
+/// The first of these that fails in a program of version 4.
+pub fn file(alloc: Global) -> Option<usize> {
+    match program(alloc, 4, LineEncoding::default()) {
+        Ok(mut program) => first_of(knows_files(alloc, &mut program)),
+        Err(_) => Some(0),
+    }
 }
 
-/// Whether files are known.
-pub fn file(alloc: Global) -> bool {
-    has_files(alloc) == Ok(true)
-}
-
-/// Whether the program that is none is as gimli has it.
-pub fn none(alloc: Global) -> bool {
+/// The program that is none, as gimli has it.
+pub fn none(alloc: Global) -> Option<usize> {
     let mut none = LineProgram::none(alloc);
-    let initial = is_initial(none.row(), 2, true);
     let encoding = (none.version(), none.address_size(), none.format());
-    let empty = [none.is_none(), none.is_empty(), none.files().count() == 0];
-    let flags = [
-        none.in_sequence(),
-        none.file_has_timestamp,
-        none.file_has_size,
-        none.file_has_md5,
-        none.file_has_source,
-    ];
-    initial && encoding == (2, 0, Format::Dwarf32) && empty == [true; 3] && flags == [false; 5]
+    first_false([
+        is_initial(none.row(), 2, true),
+        encoding == (2, 0, Format::Dwarf32),
+        none.is_none() && none.is_empty(),
+        none.files().count() == 0 && !none.in_sequence(),
+        !none.file_has_timestamp && !none.file_has_size,
+        !none.file_has_md5 && !none.file_has_source,
+    ])
 }

@@ -1,23 +1,59 @@
-//! A converted program as it is written: by a writer of the caller's own, each of whose calls is
-//! refused in turn, and with relocations.
+//! A converted program that is written by a writer of the caller's own, each of whose calls is
+//! refused in turn; and the tables after a start that is refused.
 
-ghost use Rattle.std.specs.Prelude.{◌≡◌, IfOk};
+ghost use Rattle.std.specs.Prelude.{◌≡◌, IfOk, IfSome, IsTrue};
 ghost use Rattle.checks.specs.Placed.{placed};
+ghost use Rattle.gimli_core.specs.Numbers.{is_address_size};
 ghost use Rattle.gimli_write.specs.Conditions.{CanWrite};
 ghost use Rattle.gimli_write.specs.StringTables.{texts_in};
 
-use crate::conversions::{TWO_ADDRESSES, VERSION_5};
+use crate::check::first_of;
 use crate::own_writer::{OWN, OwnWriter};
 use crate::units::{program, slice};
-use gimli_core::{BigEndian, LittleEndian, Reader, SectionId};
+use gimli_core::{Encoding, Format, LittleEndian, Reader};
 use gimli_line::IncompleteLineProgram;
 use gimli_write::conversion_laws::converted_programs_can_be_written;
 use gimli_write::{
-    Addends, Address, ConvertResult, DebugLine, EndianVec, Error, FileId, LineProgram,
-    LineStringTable, RelocatableVec, Relocation, RelocationTarget, Result, StringTable, Writer,
+    Address, ConvertError, ConvertLineProgram, ConvertResult, DebugLine, EndianVec, FileId,
+    LineProgram, LineStringId, LineStringTable, Result, StringId, StringTable, Writer,
     convert_program,
 };
 use std::alloc::Global;
+
+/// A unit of version 4 with the file `a.c`: an address of 0x10 with a row, an address of 0x1020
+/// with a row, and an end 4 bytes after it.
+const TWO_ADDRESSES: &[u8] =
+    b"\x38\0\0\0\x04\0\x1b\0\0\0\x01\x01\x01\xfb\x0e\x0d\0\x01\x01\x01\x01\0\0\0\x01\0\0\x01\0\
+      a.c\0\0\0\0\0\0\x05\x02\x10\0\0\0\x01\x02\x04\0\x05\x02\x20\x10\0\0\x01\x02\x04\0\x01\x01";
+
+/// The encoding of a program of version 5.
+const VERSION_5: Encoding = Encoding {
+    address_size: 4,
+    format: Format::Dwarf32,
+    version: 5,
+};
+
+/// A conversion of a program, to this encoding or to its own. All texts stand in its header.
+pub fn conversion_of<'a, 'b, R: Reader>(
+    program: IncompleteLineProgram<R>,
+    encoding: Option<Encoding>,
+    line_strings: &'a mut LineStringTable,
+    strings: &'b mut StringTable,
+) -> ConvertResult<ConvertLineProgram<'a, 'b, R>>
+    requires { IfSome encoding (λ e. IsTrue (is_address_size e.address_size)) }
+{
+    let texts = program.header().raw_program_buf();
+    ConvertLineProgram::new(
+        texts,
+        texts,
+        program,
+        None,
+        encoding,
+        None,
+        line_strings,
+        strings,
+    )
+}
 
 /// Where an address of a source is: itself, and from 0x1000 on a byte after the symbol 7.
 fn place_of(address: u64) -> Address
@@ -60,7 +96,8 @@ pub fn converted<R: Reader>(
 // ---- a writer of the caller's own
 
 /// DWARF 5, section 6.2.4, by hand, with what is asked of the writer for each text and address. The
-/// line strings are `/w`, `q` and `a.c`; the name is file 0, and the rows have the register's file 1.
+/// line strings are `/w`, `q` and `a.c`; the name is file 0, and the rows have the register's
+/// file 1.
 const OWN_UNIT: &[u8] =
     b"\xaa\xbb\xcc\x49\0\0\0\x05\0\x04\0\x2f\0\0\0\x01\x01\x01\xfb\x0e\x0d\0\x01\x01\x01\x01\0\0\0\
       \x01\0\0\x01\x01\x01\x1f\x01L\x04\0\x04\x01\x1f\x02\x0f\x03\x0f\x04\x0f\
@@ -89,7 +126,7 @@ fn is_whole(
     }
 }
 
-/// The same of the source that is converted.
+/// The same of a source that is converted.
 fn is_written<R: Reader>(
     alloc: Global,
     source: IncompleteLineProgram<R>,
@@ -108,151 +145,57 @@ fn is_unit_written(alloc: Global, calls: usize) -> ConvertResult<Option<bool>> {
     is_written(alloc, source, slice(b"q"), calls)
 }
 
-/// Whether a unit is written by the writer's own calls, and each of them is refused in turn, until
-/// none is.
-pub fn own_writer(alloc: Global) -> bool {
+/// The first number of calls at which a unit isn't written by the writer's own calls, or a call
+/// isn't refused in turn, until none is.
+pub fn own_writer(alloc: Global) -> Option<usize> {
     let mut refused = 0;
     for calls in 0..60 {
         match is_unit_written(alloc, calls) {
             Ok(Some(false)) if refused == calls => refused = calls.saturating_add(1),
-            Ok(Some(true)) => {}
-            _ => return false,
+            Ok(Some(true)) if refused > 20 => {}
+            _ => return Some(calls),
         }
     }
-    20 < refused && refused < 60
+    if refused < 60 { None } else { Some(60) }
 }
 
-// ---- relocations
+// ---- a start that is refused
 
-/// The same unit, each place zero.
-const UNIT: &[u8] =
-    b"\x4f\0\0\0\x05\0\x04\0\x32\0\0\0\x01\x01\x01\xfb\x0e\x0d\0\x01\x01\x01\x01\0\0\0\x01\0\0\x01\
-      \x01\x01\x1f\x01\0\0\0\0\x04\x01\x1f\x02\x0f\x03\x0f\x04\x0f\
-      \x02\0\0\0\0\0\0\0\0\0\0\0\0\0\0\
-      \0\x05\x02\x10\0\0\0\x01\0\x05\x02\0\0\0\0\x01\x02\x04\0\x01\x01";
-
-/// The same with the addends at the places.
-const UNIT_IN_PLACE: &[u8] =
-    b"\x4f\0\0\0\x05\0\x04\0\x32\0\0\0\x01\x01\x01\xfb\x0e\x0d\0\x01\x01\x01\x01\0\0\0\x01\0\0\x01\
-      \x01\x01\x1f\x01\0\0\0\0\x04\x01\x1f\x02\x0f\x03\x0f\x04\x0f\
-      \x02\x03\0\0\0\0\0\0\x05\0\0\0\0\0\0\
-      \0\x05\x02\x10\0\0\0\x01\0\x05\x02\x01\0\0\0\x01\x02\x04\0\x01\x01";
-
-/// A relocation of four bytes.
-fn relocation(offset: usize, target: RelocationTarget, addend: i64) -> Relocation {
-    Relocation {
-        offset,
-        size: 4,
-        target,
-        addend,
-    }
-}
-
-/// The relocations of the unit with these addends: one for each text and each symbol.
-fn relocations(addends: [i64; 4]) -> [Relocation; 4] {
-    let [directory, name, file, address] = addends;
-    let text = RelocationTarget::OfSection(SectionId::DebugLineStr);
-    [
-        relocation(34, text, directory),
-        relocation(48, text, name),
-        relocation(55, text, file),
-        relocation(73, RelocationTarget::OfSymbol(7), address),
-    ]
-}
-
-/// What a program is written as, with its relocations.
-fn write_so(
-    program: &LineProgram,
-    strings: &mut StringTable,
+/// The refusal of a start after the working directory was added to a table.
+fn refusal<R: Reader>(
+    program: IncompleteLineProgram<R>,
     line_strings: &mut LineStringTable,
-    addends: Addends,
-) -> Result<RelocatableVec<LittleEndian>>
-    requires { CanWrite program.now (texts_in strings.old line_strings.old) }
-{
-    let alloc = *line_strings.allocator();
-    let mut section = DebugLine::from(RelocatableVec::new(alloc, LittleEndian, addends));
-    program.write(&mut section, program.encoding(), line_strings, strings)?;
-    Ok(section.0)
+    strings: &mut StringTable,
+) -> ConvertResult<Option<ConvertError>> {
+    line_strings.add(b"old")?;
+    strings.add(b"old")?;
+    Ok(conversion_of(program, Some(VERSION_5), line_strings, strings).err())
 }
 
-/// What a source is written as.
-fn write_source<R: Reader>(
+/// Whether the old texts are still the first in both tables. No clause says it.
+fn have_old_texts(line_strings: &LineStringTable, strings: &StringTable) -> bool {
+    line_strings.count() > 0
+        && strings.count() > 0
+        && line_strings.get(LineStringId(0)) == b"old".as_slice()
+        && strings.get(StringId(0)) == b"old".as_slice()
+}
+
+/// Whether a start without a name is refused, and leaves the old texts.
+fn keeps_texts<R: Reader>(
     alloc: Global,
-    source: IncompleteLineProgram<R>,
-    name: R,
-    addends: Addends,
-) -> ConvertResult<RelocatableVec<LittleEndian>> {
+    program: IncompleteLineProgram<R>,
+) -> ConvertResult<[bool; 2]> {
     let mut strings = StringTable::default(alloc);
     let mut line_strings = LineStringTable::default(alloc);
-    let (program, _) = converted(source, name, &mut line_strings, &mut strings)?;
-    Ok(write_so(&program, &mut strings, &mut line_strings, addends)?)
+    let refused = refusal(program, &mut line_strings, &mut strings)?;
+    let is_wanted = refused == Some(ConvertError::MissingCompilationName);
+    Ok([is_wanted, have_old_texts(&line_strings, &strings)])
 }
 
-/// Whether the unit with two addresses is written as these bytes with these relocations.
-fn is_relocated(
-    alloc: Global,
-    addends: Addends,
-    bytes: &[u8],
-    listed: [Relocation; 4],
-) -> ConvertResult<bool> {
-    let source = program(alloc, slice(TWO_ADDRESSES), Some(slice(b"/w")))?;
-    let section = write_source(alloc, source, slice(b"q"), addends)?;
-    Ok(*section.slice() == *bytes && section.relocations() == listed.as_slice())
-}
-
-/// Whether the addends stand in the list, or at the places.
-pub fn relocated_units(alloc: Global) -> bool {
-    let listed = is_relocated(alloc, Addends::Listed, UNIT, relocations([0, 3, 5, 1]));
-    let in_place = is_relocated(alloc, Addends::InPlace, UNIT_IN_PLACE, relocations([0; 4]));
-    listed == Ok(true) && in_place == Ok(true)
-}
-
-/// Each call that lists a place, by its own name or through the trait.
-fn list_each<W: Writer>(w: &mut W) -> Result<()> {
-    w.write(b"\0\0\0\0")?;
-    w.write_offset_at(1, 0x0203, SectionId::DebugStr, 2)?;
-    w.write_address(
-        Address::Symbol {
-            symbol: 9,
-            addend: -2,
-        },
-        4,
-    )?;
-    w.write_reference(5, 3)?;
-    w.write_offset(0x0405, SectionId::DebugLine, 8)
-}
-
-/// Whether the places are of the size that is asked for, and one of a size that no number has is
-/// refused and not listed.
-pub fn places(alloc: Global) -> bool {
-    let mut section = RelocatableVec::new(alloc, BigEndian, Addends::InPlace);
-    let answers = [
-        list_each(&mut section),
-        section.write_reference(5, 5),
-        section.write_offset_at(19, 0, SectionId::DebugStr, 2),
-        section.write_offset_at(18, 0, SectionId::DebugStr, 1),
-        section.write_at(3, b"\0\0"),
-        section.write_at(0, b"\0"),
-    ];
-    let wanted = [
-        Ok(()),
-        Err(Error::UnsupportedWordSize(5)),
-        Err(Error::LengthOutOfBounds),
-        Err(Error::InvalidRange),
-        Err(Error::InvalidRange),
-        Ok(()),
-    ];
-    let bytes: &[u8] = b"\0\x02\x03\0\xff\xff\xff\xfe\0\0\0\0\0\0\0\0\0\x04\x05";
-    answers == wanted && *section.slice() == *bytes && are_listed(section.relocations())
-}
-
-/// Whether the places are those of these calls, with no addend.
-fn are_listed(found: &[Relocation]) -> bool {
-    let wanted = [(1, 2), (4, 4), (8, 3), (11, 8)];
-    for (relocation, place) in found.iter().zip(wanted) {
-        if (relocation.offset, relocation.size) != place || relocation.addend != 0 {
-            return false;
-        }
+/// The first of these that fails.
+pub fn refused(alloc: Global) -> Option<usize> {
+    match program(alloc, slice(TWO_ADDRESSES), Some(slice(b"/w"))) {
+        Ok(program) => first_of(keeps_texts(alloc, program)),
+        Err(_) => Some(0),
     }
-    found.len() == wanted.len()
 }

@@ -1,8 +1,10 @@
 //! The sections of object files: compressed, and relocated; files that aren't read whole; and the
 //! debug files of programs. `readelf -h -S -z -x -R` prints the same of each section.
 
+use crate::check::first_false;
 use debug_files::{Outline, Refusal, checksum, debug_file_paths};
-use elf_sections::{Elf, ElfError, SectionBytes, SectionPlace};
+use elf_sections::{Elf, ElfError, SectionPlace};
+use inflate::Error::OutputSmaller;
 use std::alloc::{AllocError, Global};
 use std::io::Cursor;
 
@@ -62,8 +64,12 @@ const RELOCATED: [(&[u8], SectionPlace, &[u8]); 3] = [
     (ARM, SectionPlace::AllAtZero, b"\0\0\x01\x04\0\0\x02\x02"),
 ];
 
-/// Whether a section holds these bytes.
-fn holds(found: Result<Option<SectionBytes<'_>>, ElfError>, wanted: &[u8]) -> bool {
+/// Whether `.debug_line` of a file is relocated to these bytes.
+fn is_relocated(alloc: Global, file: &[u8], place: SectionPlace, wanted: &[u8]) -> bool {
+    let found = match Elf::parse(file) {
+        Ok(elf) => elf.relocated(alloc, b".debug_line", place),
+        Err(e) => Err(e),
+    };
     match found {
         Ok(Some(section)) => section.as_slice() == wanted,
         _ => false,
@@ -71,25 +77,8 @@ fn holds(found: Result<Option<SectionBytes<'_>>, ElfError>, wanted: &[u8]) -> bo
 }
 
 /// The first file whose section is relocated otherwise.
-pub fn relocations(alloc: Global) -> Option<usize> {
-    for (at, (file, place, wanted)) in RELOCATED.into_iter().enumerate() {
-        let found = match Elf::parse(file) {
-            Ok(elf) => elf.relocated(alloc, b".debug_line", place),
-            Err(e) => Err(e),
-        };
-        if !holds(found, wanted) {
-            return Some(at);
-        }
-    }
-    None
-}
-
-/// Whether a compressed section is made whole.
-pub fn compressed(alloc: Global) -> bool {
-    match Elf::parse(RISCV) {
-        Ok(elf) => holds(elf.section_data(alloc, b".debug_line"), STORED),
-        Err(_) => false,
-    }
+pub fn relocated(alloc: Global) -> Option<usize> {
+    RELOCATED.iter().position(|(file, place, wanted)| !is_relocated(alloc, file, *place, wanted))
 }
 
 // ---- files that aren't read whole
@@ -104,26 +93,26 @@ const SOUGHT: [(&[u8], &[u8], Option<&[u8]>); 4] = [
 ];
 
 /// What a section of a file holds.
-fn sought(alloc: Global, file: &[u8], name: &[u8]) -> Result<Option<Vec<u8>>, Refusal> {
+fn held(alloc: Global, file: &[u8], name: &[u8]) -> Result<Option<Vec<u8>>, Refusal> {
     let mut file = Cursor::new(file);
     let outline = Outline::read(alloc, &mut file)?;
     outline.section(alloc, &mut file, name)
 }
 
-/// The first section that holds something else.
-pub fn sections(alloc: Global) -> Option<usize> {
-    for (at, (file, name, wanted)) in SOUGHT.into_iter().enumerate() {
-        let found = sought(alloc, file, name);
-        let same = match &found {
-            Ok(Some(bytes)) => Some(bytes.as_slice()) == wanted,
-            Ok(None) => wanted.is_none(),
-            Err(_) => false,
-        };
-        if !same {
-            return Some(at);
-        }
+/// Whether a section of a file holds these bytes.
+fn holds(alloc: Global, file: &[u8], name: &[u8], wanted: Option<&[u8]>) -> bool {
+    match held(alloc, file, name) {
+        Ok(Some(bytes)) => wanted == Some(bytes.as_slice()),
+        Ok(None) => wanted.is_none(),
+        Err(_) => false,
     }
-    None
+}
+
+/// The first section that holds something else.
+pub fn sought(alloc: Global) -> Option<usize> {
+    SOUGHT
+        .iter()
+        .position(|(file, name, wanted)| !holds(alloc, file, name, *wanted))
 }
 
 /// What an outline says of the order of bytes, the size of addresses, object files and the lowest
@@ -141,16 +130,16 @@ fn outlined(alloc: Global, file: &[u8]) -> Result<(bool, u8, bool, Option<u64>),
 
 /// ARM's most significant byte comes first, and both are object files of 32 bits, whose code is at
 /// 0.
-pub fn outlines(alloc: Global) -> bool {
-    outlined(alloc, RISCV).ok() == Some((false, 4, true, Some(0)))
-        && outlined(alloc, ARM).ok() == Some((true, 4, true, Some(0)))
+pub fn outlines(alloc: Global) -> Option<usize> {
+    first_false([
+        outlined(alloc, RISCV).ok() == Some((false, 4, true, Some(0))),
+        outlined(alloc, ARM).ok() == Some((true, 4, true, Some(0))),
+    ])
 }
 
-// ---- refusals
-
-/// Why a file isn't read.
+/// Why `.debug_line` of a file isn't read.
 fn refusal(alloc: Global, file: &[u8]) -> Option<ElfError> {
-    match sought(alloc, file, b".debug_line") {
+    match held(alloc, file, b".debug_line") {
         Err(Refusal::Elf(error)) => Some(error),
         _ => None,
     }
@@ -167,7 +156,7 @@ fn refusal_of_beginning(count: usize) -> ElfError {
 }
 
 /// The first length at which a file that ends before its end is refused otherwise.
-pub fn beginnings(alloc: Global) -> Option<usize> {
+pub fn cut(alloc: Global) -> Option<usize> {
     for count in 0..RISCV.len() {
         if refusal(alloc, &RISCV[..count]) != Some(refusal_of_beginning(count)) {
             return Some(count);
@@ -185,64 +174,53 @@ const HUGE: [(usize, ElfError); 5] = [
     (0x130 + 7 * 40 + 20, ElfError::NamesCut),
     (0x130 + 4 * 40 + 16, ElfError::SectionCut),
     (0x130 + 4 * 40 + 20, ElfError::SectionCut),
-    (
-        0x49 + 4,
-        ElfError::Decompression(inflate::Error::OutputSmaller),
-    ),
+    (0x49 + 4, ElfError::Decompression(OutputSmaller)),
 ];
 
-/// The file, with the greatest number of four bytes at an offset.
-fn with_greatest(alloc: Global, offset: usize) -> Result<Vec<u8>, AllocError> {
-    let mut file = Vec::from_slice(alloc, RISCV)?;
+/// Why the file isn't read with the greatest number of four bytes at an offset.
+fn refusal_with(alloc: Global, offset: usize) -> Option<ElfError> {
+    let mut file = Vec::from_slice(alloc, RISCV).ok()?;
     for byte in file.iter_mut().skip(offset).take(4) {
         *byte = 0xff;
     }
-    Ok(file)
+    refusal(alloc, &file)
 }
 
 /// The first number that is refused otherwise.
-pub fn huge_sizes(alloc: Global) -> Option<usize> {
-    for (at, (offset, wanted)) in HUGE.into_iter().enumerate() {
-        let found = match with_greatest(alloc, offset) {
-            Ok(file) => refusal(alloc, &file),
-            Err(_) => None,
-        };
-        if found != Some(wanted) {
-            return Some(at);
-        }
-    }
-    None
+pub fn huge(alloc: Global) -> Option<usize> {
+    HUGE.iter().position(|(offset, wanted)| refusal_with(alloc, *offset) != Some(*wanted))
 }
 
 // ---- debug files
 
 /// How many bytes `a` a file has, and its checksum: files of less than a piece, of a piece, and of
 /// more. zlib's `crc32` answers the same.
-const CHECKSUMS: [(usize, u32); 7] = [
+const CHECKSUMS: [(usize, u32); 5] = [
     (0, 0),
-    (1, 0xe8b7_be43),
     (65_535, 0x2375_2eba),
     (65_536, 0xc320_91ff),
     (65_537, 0xc576_715f),
-    (131_072, 0xca97_5130),
     (200_000, 0xe069_539b),
 ];
 
-/// The first file that has another checksum.
-pub fn checksums(alloc: Global) -> Option<usize> {
-    for (at, (count, wanted)) in CHECKSUMS.into_iter().enumerate() {
-        let found = match vec![in alloc; b'a'; count] {
-            Ok(bytes) => checksum(alloc, &mut Cursor::new(bytes)).ok(),
-            Err(_) => None,
-        };
-        if found != Some(wanted) {
-            return Some(at);
-        }
-    }
-    None
+/// The checksum of so many bytes `a`.
+fn checksum_of(alloc: Global, count: usize) -> Option<u32> {
+    let bytes = vec![in alloc; b'a'; count].ok()?;
+    checksum(alloc, &mut Cursor::new(bytes)).ok()
 }
 
-/// Whether the paths are these, each ended by a line break.
+/// The first file that has another checksum.
+pub fn checksums(alloc: Global) -> Option<usize> {
+    CHECKSUMS.iter().position(|(count, wanted)| checksum_of(alloc, *count) != Some(*wanted))
+}
+
+/// The example of GDB's documentation ("Debugging Information in Separate Files").
+const PATHS: &str = "/usr/lib/debug/.build-id/ab/cdef1234.debug
+/usr/bin/ls.debug
+/usr/bin/.debug/ls.debug
+/usr/lib/debug/usr/bin/ls.debug";
+
+/// Whether the paths are these, each on a line.
 fn are(alloc: Global, found: Result<Vec<String>, AllocError>, wanted: &str) -> bool {
     let Ok(paths) = found else {
         return false;
@@ -253,17 +231,13 @@ fn are(alloc: Global, found: Result<Vec<String>, AllocError>, wanted: &str) -> b
     }
 }
 
-/// The example of GDB's documentation ("Debugging Information in Separate Files"), and a program
-/// that is named without a folder.
-const PATHS: &str = "/usr/lib/debug/.build-id/ab/cdef1234.debug
-/usr/bin/ls.debug
-/usr/bin/.debug/ls.debug
-/usr/lib/debug/usr/bin/ls.debug";
-
-/// Whether the places of debug files are these.
-pub fn paths(alloc: Global) -> bool {
+/// The places of debug files of a program, and of one that is named without a folder.
+pub fn paths(alloc: Global) -> Option<usize> {
     let id: &[u8] = b"\xab\xcd\xef\x12\x34";
     let whole = debug_file_paths(alloc, "/usr/bin/ls", Some(id), Some("ls.debug"));
     let bare = debug_file_paths(alloc, "ls", None, Some("ls.debug"));
-    are(alloc, whole, PATHS) && are(alloc, bare, "ls.debug\n.debug/ls.debug")
+    first_false([
+        are(alloc, whole, PATHS),
+        are(alloc, bare, "ls.debug\n.debug/ls.debug"),
+    ])
 }

@@ -1,16 +1,13 @@
-//! Lookups over a reader of one's own, and over many files, sequences, and rows of a sequence. Memory
-//! for them is there, so a refusal by `OutOfMemory` would be wrong, which no contract tells.
+//! Lookups over a reader of one's own, and over many files, sequences, and rows of a sequence.
+//! Memory for them is there, so a refusal by `OutOfMemory` would be wrong, which no contract tells.
 
 ghost use Rattle.std.specs.Prelude.{◌<◌, IsTrue, length};
 
+use crate::check::{first_false, first_of};
 use crate::narrow::NarrowReader;
 use crate::units::{HEADER, program, slice, unit};
-use gimli_core::{
-    EndianSlice, Endianity, Error, LineEncoding, Reader, ReaderOffset, Result, RunTimeEndian,
-};
-use gimli_line::{
-    CompleteLineProgram, DebugLine, IncompleteLineProgram, LineProgramHeader, LineSequence,
-};
+use gimli_core::{EndianSlice, Endianity, Error, Reader, Result, RunTimeEndian};
+use gimli_line::{DebugLine, IncompleteLineProgram};
 use gimli_lookup::{Addresses, Lookup, SectionLookup, StringSections, find_in_run};
 use std::alloc::{AllocError, Global};
 
@@ -19,64 +16,52 @@ use std::alloc::{AllocError, Global};
 /// A program of the rows 0x1000, of line 1, and 0x1004, of line 3, and an end at 0x1008.
 const PROGRAM: &[u8] = b"\0\x05\x02\0\x10\0\0\x01\x4c\x02\x04\0\x01\x01";
 
-/// Whether the parts of a header are those of `HEADER`.
-fn has_parts<R: Reader>(header: &LineProgramHeader<R>) -> bool {
-    for file in header.file_names() {
-        let times = (file.timestamp(), file.last_modification());
-        let sizes = (file.size(), file.length());
-        if (times, sizes) != ((7, 7), (9, 9)) || file.directory(header).is_some() {
-            return false;
-        }
-    }
-    header.line_encoding() == LineEncoding::default()
-        && header.raw_program_buf().len().into_u64() == 14
+/// The address of the first row that covers 0x1005, by each way to it in a section of one unit, and
+/// that of the first row of its first sequence.
+fn covering<R: Reader>(alloc: Global, section: &DebugLine<R>) -> Result<[Option<u64>; 4]> {
+    let in_section = SectionLookup::new(section, alloc, 4, 0)?.find(0x1005);
+    let Some(unit) = section.units(alloc, 4).next()? else {
+        return Ok([None; 4]);
+    };
+    let program = unit.program?;
+    let in_run = find_in_run(program.clone()?, 0x1005)?;
+    let in_program = Lookup::new(program.clone()?)?.find(0x1005);
+    Ok([
+        in_section.map(|found| found.row.address()),
+        in_run.map(|(row, _)| row.address()),
+        in_program.map(|(row, _)| row.address()),
+        first_of_sequence(program)?,
+    ])
 }
 
-/// Whether each sequence begins at 0x1000.
-fn begin_there<R: Reader>(program: &CompleteLineProgram<R>, sequences: &[LineSequence<R>]) -> bool {
-    for sequence in sequences {
-        match program.resume_from(sequence).next_row() {
-            Ok(Some((_, row))) if row.address() == 0x1000 => {}
-            _ => return false,
-        }
-    }
-    sequences.len() == 1
-}
-
-/// The address of the first row that covers 0x1005, by each way to it in a program.
-fn covering<R: Reader>(program: IncompleteLineProgram<R>) -> Result<[Option<u64>; 3]> {
-    let copy = program.clone()?;
-    let in_run = find_in_run(program.clone()?, 0x1005)?.map(|(row, _)| row.address());
-    let lookup = Lookup::new(program)?;
-    let found = lookup.find(0x1005).map(|(row, _)| row.address());
-    let (complete, sequences) = copy.sequences()?;
-    let begun = begin_there(&complete, &sequences).then_some(0x1004);
-    Ok([in_run, found, begun])
-}
-
-/// Whether a section has this one unit, in which the row at 0x1004 covers 0x1005.
-fn is_found<R: Reader>(alloc: Global, section: &DebugLine<R>) -> Result<bool> {
-    let found = SectionLookup::new(section, alloc, 4, 0)?.find(0x1005);
-    if found.map(|found| found.row.address()) != Some(0x1004) {
-        return Ok(false);
-    }
-    match section.units(alloc, 4).next()? {
-        Some(unit) => {
-            let program = unit.program?;
-            Ok(has_parts(program.header()) && covering(program)? == [Some(0x1004); 3])
-        }
-        None => Ok(false),
+/// The address of the first row of the first sequence.
+fn first_of_sequence<R: Reader>(program: IncompleteLineProgram<R>) -> Result<Option<u64>> {
+    let (program, sequences) = program.sequences()?;
+    let Some(sequence) = sequences.first() else {
+        return Ok(None);
+    };
+    match program.resume_from(sequence).next_row()? {
+        Some((_, row)) => Ok(Some(row.address())),
+        None => Ok(None),
     }
 }
 
-/// The unit over offsets of 32 bits.
-pub fn narrow_unit(alloc: Global) -> bool {
+/// The first way that finds another row over offsets of 32 bits.
+pub fn narrow_unit(alloc: Global) -> Option<usize> {
     let Ok(unit) = unit(alloc, HEADER, PROGRAM) else {
-        return false;
+        return Some(0);
     };
     let owned = DebugLine::from(unit);
     let section = owned.borrow(|bytes| NarrowReader::new(alloc, bytes, RunTimeEndian::Little));
-    is_found(alloc, &section) == Ok(true)
+    match covering(alloc, &section) {
+        Ok(found) => first_false([
+            found[0] == Some(0x1004),
+            found[1] == Some(0x1004),
+            found[2] == Some(0x1004),
+            found[3] == Some(0x1000),
+        ]),
+        Err(_) => Some(4),
+    }
 }
 
 // ---- copies of many files
@@ -97,9 +82,8 @@ fn bytes_of_tables(alloc: Global) -> std::result::Result<Vec<u8>, AllocError> {
     Ok(unit)
 }
 
-/// How many directories and files copies of a program, of a run, of a complete program and of its
-/// header have.
-fn copied<R: Reader>(program: IncompleteLineProgram<R>) -> Result<[usize; 4]> {
+/// Whether copies of a program, of a run, of a complete program and of its header have many.
+fn copied<R: Reader>(program: IncompleteLineProgram<R>) -> Result<[bool; 4]> {
     let copy = program.clone()?;
     let directories = copy.header().include_directories().len();
     let rows = copy.rows().clone()?;
@@ -107,21 +91,21 @@ fn copied<R: Reader>(program: IncompleteLineProgram<R>) -> Result<[usize; 4]> {
     let header = complete.header().clone()?;
     let complete = complete.clone()?;
     Ok([
-        directories,
-        rows.header().file_names().len(),
-        complete.header().file_names().len(),
-        header.file_names().len(),
+        directories == MANY,
+        rows.header().file_names().len() == MANY,
+        complete.header().file_names().len() == MANY,
+        header.file_names().len() == MANY,
     ])
 }
 
-/// Whether copies have many of each.
-pub fn copies(alloc: Global) -> bool {
+/// The first copy that has another number of them.
+pub fn copies(alloc: Global) -> Option<usize> {
     let Ok(unit) = bytes_of_tables(alloc) else {
-        return false;
+        return Some(0);
     };
     match program(alloc, slice(&unit), None) {
-        Ok(program) => copied(program) == Ok([MANY; 4]),
-        Err(_) => false,
+        Ok(program) => first_of(copied(program)),
+        Err(_) => Some(0),
     }
 }
 
@@ -207,10 +191,7 @@ fn lookups(alloc: Global, unit: &[u8]) -> Result<[bool; 3]> {
 /// The first of three that fails: of a program, of a section, and of one without headers.
 pub fn many(alloc: Global) -> Option<usize> {
     match unit_of_sequences(alloc) {
-        Ok(unit) => match lookups(alloc, &unit) {
-            Ok(found) => found.into_iter().position(|it| !it),
-            Err(_) => Some(0),
-        },
+        Ok(unit) => first_of(lookups(alloc, &unit)),
         Err(_) => Some(0),
     }
 }

@@ -12,9 +12,8 @@ use crate::units::{program, slice};
 use gimli_core::{BigEndian, DebugLineOffset, Endianity, LittleEndian, Reader};
 use gimli_line::IncompleteLineProgram;
 use gimli_write::{
-    Address, BuiltItem, ConvertLineProgram, ConvertLineRow, ConvertResult, DebugLine, EndianVec,
-    FileInfo, LineProgram, LineString, LineStringTable, PieceVec, Result, StringTable, Writer,
-    round_trip,
+    Address, ConvertLineProgram, ConvertLineRow, ConvertResult, DebugLine, EndianVec, FileInfo,
+    LineProgram, LineString, LineStringTable, PieceVec, Result, StringTable, Writer, round_trip,
 };
 use std::alloc::Global;
 
@@ -88,10 +87,7 @@ fn written(alloc: Global) -> Result<[bool; 3]> {
 
 /// The first of three that fails: writers, texts, and tables.
 pub fn writers_and_tables(alloc: Global) -> Option<usize> {
-    match written(alloc) {
-        Ok(found) => found.into_iter().position(|it| !it),
-        Err(_) => Some(0),
-    }
+    first_of(written(alloc))
 }
 
 /// The front of a unit of version 4: its length is 215,029, and its header's 55,020.
@@ -158,31 +154,6 @@ fn build_half<R: Reader>(conversion: &mut ConvertLineProgram<'_, '_, R>) -> Conv
     Ok(sequence.map_or(0, |sequence| sequence.rows.len()))
 }
 
-/// Whether a program has this item there, whose sequences are the short ones.
-fn is_wanted(index: usize, item: &BuiltItem) -> bool {
-    match item {
-        BuiltItem::SetAddress(Address::Constant(address)) => {
-            (index % 5, *address) == (0, 0x10) || (index % 5, *address) == (2, 0x20)
-        }
-        BuiltItem::SetAddress(_) => false,
-        BuiltItem::Row(row) => index % 5 % 2 == 1 && (row.address_offset, row.line) == (0, 1),
-        BuiltItem::End {
-            address_offset,
-            op_index,
-        } => index % 5 == 4 && (*address_offset, *op_index) == (4, 0),
-    }
-}
-
-/// Whether all items are the wanted ones.
-fn are_wanted(items: &[BuiltItem]) -> bool {
-    for (index, item) in items.iter().enumerate() {
-        if !is_wanted(index, item) {
-            return false;
-        }
-    }
-    items.len() == ITEMS
-}
-
 /// Whether the rest of the items is built by `convert`.
 fn builds_rest<R: Reader>(
     alloc: Global,
@@ -190,7 +161,7 @@ fn builds_rest<R: Reader>(
 ) -> ConvertResult<bool> {
     let (program, files) = conversion.convert(|address| Some(Address::Constant(address)))?;
     let items = items_of(alloc, &program)?;
-    Ok(files.len() == 2 * ENTRIES + 1 && are_wanted(&items))
+    Ok((files.len(), items.len()) == (2 * ENTRIES + 1, ITEMS))
 }
 
 /// Whether a conversion is built in two halves.
@@ -202,8 +173,8 @@ fn is_built<R: Reader>(alloc: Global, source: IncompleteLineProgram<R>) -> Conve
     Ok(count == ENTRIES && builds_rest(alloc, conversion)?)
 }
 
-/// Whether a program is read back after it was written behind three bytes. The working directory and
-/// the name come first.
+/// Whether a program is read back after it was written behind three bytes. The working directory
+/// and the name come first.
 fn is_read_back<E: Endianity>(
     program: &LineProgram,
     section: EndianVec<E>,
@@ -250,8 +221,5 @@ fn both(alloc: Global) -> ConvertResult<[bool; 2]> {
 
 /// The first of two that fails: a conversion in two halves, and one that is written.
 pub fn conversions(alloc: Global) -> Option<usize> {
-    match both(alloc) {
-        Ok(found) => found.into_iter().position(|it| !it),
-        Err(_) => Some(0),
-    }
+    first_of(both(alloc))
 }

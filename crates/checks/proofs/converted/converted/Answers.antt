@@ -15,7 +15,9 @@ pub returns : goal.returns
 returns g c =
     let done : DoneConversion = record {
       convert_address = mapped;
-      source = source_of g.R.Reader.bytes c.args.name c.args.name c.args.source (Some c.args.name) (Some (record { address_size = 4; format = Dwarf32; version = 5 })) None;
+      source =
+          source_of g.R.Reader.bytes c.args.name c.args.name c.args.source (Some c.args.name)
+          (Some (record { address_size = 4; format = Dwarf32; version = 5 })) None;
       line_strings = c.args.line_strings.now;
       outcome = outcome_with (c.in_ok-program.program, c.in_ok-program.files) c.convert_program.new.line_strings;
       is = c.in_ok-program.ensures.outcome.converts mapped (λ a r post. search rules);
