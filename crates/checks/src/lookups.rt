@@ -3,12 +3,12 @@
 
 ghost use Rattle.std.specs.Prelude.{◌<◌, IsTrue, length};
 
-use crate::check::{first_false, first_of};
+use crate::check::first_of;
 use crate::narrow::NarrowReader;
 use crate::units::{HEADER, program, slice, unit};
 use gimli_core::{EndianSlice, Endianity, Error, Reader, Result, RunTimeEndian};
 use gimli_line::{DebugLine, IncompleteLineProgram};
-use gimli_lookup::{Addresses, Lookup, SectionLookup, StringSections, find_in_run};
+use gimli_lookup::{Addresses, Lookup, SectionLookup, StringSections};
 use std::alloc::{AllocError, Global};
 
 // ---- a unit over a reader of one's own
@@ -16,52 +16,20 @@ use std::alloc::{AllocError, Global};
 /// A program of the rows 0x1000, of line 1, and 0x1004, of line 3, and an end at 0x1008.
 const PROGRAM: &[u8] = b"\0\x05\x02\0\x10\0\0\x01\x4c\x02\x04\0\x01\x01";
 
-/// The address of the first row that covers 0x1005, by each way to it in a section of one unit, and
-/// that of the first row of its first sequence.
-fn covering<R: Reader>(alloc: Global, section: &DebugLine<R>) -> Result<[Option<u64>; 4]> {
-    let in_section = SectionLookup::new(section, alloc, 4, 0)?.find(0x1005);
-    let Some(unit) = section.units(alloc, 4).next()? else {
-        return Ok([None; 4]);
-    };
-    let program = unit.program?;
-    let in_run = find_in_run(program.clone()?, 0x1005)?;
-    let in_program = Lookup::new(program.clone()?)?.find(0x1005);
-    Ok([
-        in_section.map(|found| found.row.address()),
-        in_run.map(|(row, _)| row.address()),
-        in_program.map(|(row, _)| row.address()),
-        first_of_sequence(program)?,
-    ])
+/// Whether the row at 0x1004 covers 0x1005 in a section.
+fn is_covered<R: Reader>(alloc: Global, section: &DebugLine<R>) -> Result<[bool; 1]> {
+    let found = SectionLookup::new(section, alloc, 4, 0)?.find(0x1005);
+    Ok([found.map(|found| found.row.address()) == Some(0x1004)])
 }
 
-/// The address of the first row of the first sequence.
-fn first_of_sequence<R: Reader>(program: IncompleteLineProgram<R>) -> Result<Option<u64>> {
-    let (program, sequences) = program.sequences()?;
-    let Some(sequence) = sequences.first() else {
-        return Ok(None);
-    };
-    match program.resume_from(sequence).next_row()? {
-        Some((_, row)) => Ok(Some(row.address())),
-        None => Ok(None),
-    }
-}
-
-/// The first way that finds another row over offsets of 32 bits.
+/// Whether it does over offsets of 32 bits.
 pub fn narrow_unit(alloc: Global) -> Option<usize> {
     let Ok(unit) = unit(alloc, HEADER, PROGRAM) else {
         return Some(0);
     };
     let owned = DebugLine::from(unit);
     let section = owned.borrow(|bytes| NarrowReader::new(alloc, bytes, RunTimeEndian::Little));
-    match covering(alloc, &section) {
-        Ok(found) => first_false([
-            found[0] == Some(0x1004),
-            found[1] == Some(0x1004),
-            found[2] == Some(0x1004),
-            found[3] == Some(0x1000),
-        ]),
-        Err(_) => Some(4),
-    }
+    first_of(is_covered(alloc, &section))
 }
 
 // ---- copies of many files

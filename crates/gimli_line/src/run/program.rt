@@ -163,10 +163,8 @@ impl<R: Reader> LineProgram<R> for IncompleteLineProgram<R> {
 ///
 /// <!-- part of crates/checks/src/lookups.rt -->
 /// ```rust
-/// match program.resume_from(sequence).next_row()? {
-///     Some((_, row)) => Ok(Some(row.address())),
-///     None => Ok(None),
-/// }
+/// let (complete, _) = program.sequences()?;
+/// let header = complete.header().clone()?;
 /// ```
 #[derive(Clone, Debug, PartialEq, Eq, Drop)]
 pub struct CompleteLineProgram<R, Offset = <R as Reader>::Offset>
