@@ -16,7 +16,7 @@ const PIECE: usize = 65536;
 
 /// What the sections of a file are known by: its section table, and their names.
 ///
-/// <!-- part of crates/checks_reading/src/sought.rt -->
+/// <!-- part of crates/checks/src/elf_files.rt -->
 /// ```rust
 /// let mut file = Cursor::new(file);
 /// let outline = Outline::read(alloc, &mut file)?;

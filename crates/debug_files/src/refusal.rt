@@ -6,9 +6,9 @@ use std::{fmt, io};
 
 /// Why the sections of a file aren't read.
 ///
-/// <!-- part of crates/checks_reading/src/sought.rt -->
+/// <!-- part of crates/checks/src/elf_files.rt -->
 /// ```rust
-/// match sought(alloc, file, name) {
+/// match held(alloc, file, b".debug_line") {
 ///     Err(Refusal::Elf(error)) => Some(error),
 ///     _ => None,
 /// }

@@ -9,7 +9,7 @@ use std::fmt;
 
 /// Why a file isn't read as an ELF file, or a section of it isn't answered.
 ///
-/// <!-- part of crates/checks_reading/src/sought.rt -->
+/// <!-- part of crates/checks/src/elf_files.rt -->
 /// ```rust
 /// fn refusal_of_beginning(count: usize) -> ElfError {
 ///     match count {

@@ -3,12 +3,9 @@
 /// Which addresses count where the sections of an object file are relocated, whose places in memory
 /// aren't known yet.
 ///
-/// <!-- part of crates/checks_reading/src/sections.rt -->
+/// <!-- part of crates/checks/src/elf_files.rt -->
 /// ```rust
-/// fn addresses_of_one_section(rt: HostRuntime) {
-///     let found = relocated(rt.alloc(), RISCV, SectionPlace::Only(1));
-///     check_bytes(&rt, found, b"\xff\xff\xff\xff\x16\0\x2c\x05\0\0\0\x07");
-/// }
+/// (ARM, SectionPlace::AllAtZero, b"\0\0\x01\x04\0\0\x02\x02"),
 /// ```
 #[derive(Clone, Copy, Debug, PartialEq, Eq)]
 pub enum SectionPlace {

@@ -8,12 +8,12 @@ use std::alloc::Global;
 
 /// The bytes of a section: lent by the file, or made anew.
 ///
-/// <!-- part of crates/checks_reading/src/sections.rt -->
+/// <!-- part of crates/checks/src/elf_files.rt -->
 /// ```rust
-/// let same = match found {
+/// match found {
 ///     Ok(Some(section)) => section.as_slice() == wanted,
 ///     _ => false,
-/// };
+/// }
 /// ```
 #[derive(Debug, Drop)]
 pub enum SectionBytes<'a> {

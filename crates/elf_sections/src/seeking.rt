@@ -74,7 +74,7 @@ pub struct FileTable {
 
 /// The sections of a file, by its section table and their names.
 ///
-/// <!-- part of crates/checks_reading/src/sought.rt -->
+/// <!-- part of crates/checks/src/elf_files.rt -->
 /// ```rust
 /// let sections = outline.sections()?;
 /// Ok((

@@ -8,13 +8,12 @@ use std::alloc::{AllocError, AllocFailed};
 
 /// Why something isn't written.
 ///
-/// <!-- part of crates/checks_writing/src/own_writer.rt -->
+/// <!-- part of crates/checks/src/builder.rt -->
 /// ```rust
 /// if !program.can_generate_row() {
 ///     return Err(Error::InvalidRange);
 /// }
 /// program.generate_row()?;
-/// Ok(())
 /// ```
 #[derive(Clone, Copy, Debug, PartialEq, Eq, thiserror::Error)]
 pub enum Error {

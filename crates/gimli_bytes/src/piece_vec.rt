@@ -93,12 +93,11 @@ fn put(pieces: &mut Vec<Piece>, size: usize, at: usize, bytes: &[u8])
 /// exactly its bytes and fails for memory alone, where a length past the greatest `usize` counts as
 /// a refused growth. A refused `write` changes nothing.
 ///
-/// <!-- part of crates/checks_writing/src/many.rt -->
+/// <!-- part of crates/checks/src/many.rt -->
 /// ```rust
-/// let mut section: PieceVec<BigEndian, 16> = PieceVec::new(alloc, BigEndian);
-/// fill(&mut section)?;
-/// check(rt, section.into_vec()?.as_slice() == wanted);
-/// Ok(())
+/// let mut pieces: PieceVec<BigEndian, 16> = PieceVec::new(alloc, BigEndian);
+/// fill(&mut pieces)?;
+/// let joined = pieces.into_vec()?;
 /// ```
 #[derive(Debug, Drop)]
 pub struct PieceVec<E: Endianity, const N: usize> {

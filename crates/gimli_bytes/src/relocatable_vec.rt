@@ -22,11 +22,9 @@ use std::marker::Model;
 /// A section in one vector, and its relocations: a symbol that is written, and an offset into a
 /// section, is a place that a linker fills in.
 ///
-/// <!-- part of crates/checks_writing/src/relocations.rt -->
+/// <!-- part of crates/checks/src/writers.rt -->
 /// ```rust
-/// let texts = add_texts(strings, line_strings)?;
-/// let program = with_sequence(alloc, strings, line_strings, texts)?;
-/// let mut section = DebugLine::from(RelocatableVec::new(alloc, LittleEndian, addends));
+/// let mut section = RelocatableVec::new(alloc, BigEndian, Addends::InPlace);
 /// ```
 #[derive(Debug, Drop)]
 pub struct RelocatableVec<E: Endianity> {

@@ -4,9 +4,9 @@ use gimli_core::SectionId;
 
 /// What the value of a place is counted from.
 ///
-/// <!-- part of crates/checks_writing/src/relocations.rt -->
+/// <!-- part of crates/checks/src/writers.rt -->
 /// ```rust
-/// RelocationTarget::OfSection(SectionId::DebugLineStr),
+/// (4, 4, RelocationTarget::OfSymbol(9)),
 /// ```
 #[derive(Clone, Copy, Debug, PartialEq, Eq)]
 pub enum RelocationTarget {
@@ -18,9 +18,9 @@ pub enum RelocationTarget {
 
 /// Where the addends of relocations stand (System V ABI, chapter 4, "Relocation").
 ///
-/// <!-- part of crates/checks_writing/src/relocations.rt -->
+/// <!-- part of crates/checks/src/writers.rt -->
 /// ```rust
-/// let mut section = DebugLine::from(RelocatableVec::new(alloc, LittleEndian, addends));
+/// let mut section = RelocatableVec::new(alloc, BigEndian, Addends::InPlace);
 /// ```
 #[derive(Clone, Copy, Debug, PartialEq, Eq)]
 pub enum Addends {
@@ -32,14 +32,14 @@ pub enum Addends {
 
 /// A place that a linker fills in: with what the target's address is then, and the addend.
 ///
-/// <!-- part of crates/checks_writing/src/relocations.rt -->
+/// <!-- part of crates/checks/src/writers.rt -->
 /// ```rust
-/// Relocation {
+/// let wanted = wanted.map(|(offset, size, target)| Relocation {
 ///     offset,
-///     size: 4,
+///     size,
 ///     target,
-///     addend,
-/// }
+///     addend: 0,
+/// });
 /// ```
 #[derive(Clone, Copy, Debug, PartialEq, Eq)]
 pub struct Relocation {

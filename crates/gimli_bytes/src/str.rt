@@ -113,24 +113,20 @@ impl Texts {
 
 /// The index of a text in its [`StringTable`].
 ///
-/// <!-- part of crates/checks_writing/src/own_writer.rt -->
+/// <!-- part of crates/checks/src/tables.rt -->
 /// ```rust
-/// strings.add(b"pp")?;
-/// line_strings.add(b"q")?;
-/// let file = strings.add(b"a.c")?;
-/// Ok((line_strings.add(b"/w")?, file))
+/// table.offset(StringId(2)) == DebugStrOffset(8),
+/// table.get(StringId(1)) == b"two".as_slice(),
 /// ```
 #[derive(Clone, Copy, Debug, PartialEq, Eq, Hash)]
 pub struct StringId(pub usize);
 
 /// A table of distinct texts that is written to a section `.debug_str`.
 ///
-/// <!-- part of crates/checks_writing/src/own_writer.rt -->
+/// <!-- part of crates/checks/src/tables.rt -->
 /// ```rust
-/// strings.add(b"pp")?;
-/// line_strings.add(b"q")?;
-/// let file = strings.add(b"a.c")?;
-/// Ok((line_strings.add(b"/w")?, file))
+/// let mut table = StringTable::default(alloc);
+/// let ids = [table.add(b"one")?.0, table.add(b"two")?.0];
 /// ```
 #[derive(Debug, Drop)]
 pub struct StringTable {
@@ -211,11 +207,10 @@ impl StringTable {
 
 /// The index of a text in its [`LineStringTable`].
 ///
-/// <!-- part of crates/checks_writing/src/own_writer.rt -->
+/// <!-- part of crates/checks/src/tables.rt -->
 /// ```rust
-/// let working_dir = LineString::LineStringRef(directory);
-/// let source_file = LineString::StringRef(file);
-/// let lines = LineEncoding::default();
+/// table.offset(LineStringId(2)) == DebugLineStrOffset(8),
+/// table.get(LineStringId(1)) == b"two".as_slice(),
 /// ```
 #[derive(Clone, Copy, Debug, PartialEq, Eq, Hash)]
 pub struct LineStringId(pub usize);

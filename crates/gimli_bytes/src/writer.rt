@@ -24,12 +24,10 @@ use gimli_core::{DwEhPe, Endianity, Format, SectionId, constants};
 /// append leaves the old bytes as a beginning, a refused `_at` call changes no byte, and no `_at`
 /// call changes the length.
 ///
-/// <!-- part of crates/checks_writing/src/own_writer.rt -->
+/// <!-- part of crates/checks/src/writers.rt -->
 /// ```rust
-/// w.write_u8(0x01)?;
-/// w.write_u16(0x0203)?;
-/// w.write_u32(0x0405_0607)?;
-/// w.write_u64(0x0809_0a0b_0c0d_0e0f)?;
+/// w.write(b"\0\0\0\0")?;
+/// w.write_offset_at(1, 0x0203, DebugStr, 2)?;
 /// ```
 pub trait Writer: Sink {
     /// The order of bytes.
@@ -375,11 +373,9 @@ pub trait Writer: Sink {
 
 /// Where the word of an initial length stands.
 ///
-/// <!-- part of crates/checks_writing/src/own_writer.rt -->
+/// <!-- part of crates/checks/src/writers.rt -->
 /// ```rust
-/// w.write_eh_pointer_data(0x2324, DW_EH_PE_udata2, 4)?;
-/// let length = w.write_initial_length(Format::Dwarf64)?;
-/// Ok(length.0)
+/// let found = w.write_initial_length(format)?;
 /// ```
 #[derive(Clone, Copy, Debug)]
 pub struct InitialLengthOffset(pub usize);

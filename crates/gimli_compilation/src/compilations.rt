@@ -18,11 +18,12 @@ use std::marker::Model;
 /// The directories of the compilations of a program, by the offsets of their line programs in
 /// `.debug_line`.
 ///
-/// <!-- part of crates/checks_reading/src/compilations.rt -->
+/// <!-- part of crates/checks/src/compilations.rt -->
 /// ```rust
-/// let sections = sections(Little, UNITS, DECLARATIONS);
-/// let compilations = Compilations::new(alloc, &sections)?;
-/// Ok(compilations.directory_of(line).map(|text| text.slice()))
+/// let Ok(compilations) = Compilations::new(alloc, &sections) else {
+///     return Some(0);
+/// };
+/// let [first, other, none] = [0x2a, 0x80, 0x81].map(|line| compilations.directory_of(line));
 /// ```
 #[derive(Drop)]
 pub struct Compilations<R: Reader> {

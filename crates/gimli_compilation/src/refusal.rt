@@ -5,12 +5,11 @@ use std::fmt;
 
 /// Why the first entry of a unit can't be read.
 ///
-/// <!-- part of crates/checks_reading/src/compilations.rt -->
+/// <!-- part of crates/checks/src/compilations.rt -->
 /// ```rust
-/// check_refusal(&rt, unknown_type, Refusal::UnknownUnitType(7));
-/// check_refusal(&rt, missing_code, Refusal::MissingAbbreviation(2));
-/// let unknown = Refusal::Bytes(Error::UnknownForm(DwForm(2)));
-/// check_refusal(&rt, unknown_form, unknown);
+/// (175, Err(Refusal::UnknownUnitType(7))),
+/// (188, Err(Refusal::MissingAbbreviation(2))),
+/// (201, Err(Refusal::Bytes(Error::UnknownForm(DwForm(2))))),
 /// ```
 #[derive(Clone, Copy, Debug, PartialEq, Eq)]
 pub enum Refusal {

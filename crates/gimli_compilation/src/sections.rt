@@ -43,14 +43,11 @@ pub struct CompilationSections<R> {
 
 /// What the first entry of a unit says of its compilation.
 ///
-/// <!-- part of crates/checks_reading/src/compilations.rt -->
+/// <!-- part of crates/checks/src/compilations.rt -->
 /// ```rust
-/// let wanted = Ok(Compilation {
-///     version: 4,
-///     stmt_list: None,
-///     comp_dir: Some(EndianSlice::new(b"/u", Little)),
-///     name: Some(EndianSlice::new(b"a.c", Little)),
-/// });
+/// let directory = unit.comp_dir.map(|text| text.slice());
+/// let name = unit.name.map(|text| text.slice());
+/// Ok((unit.version, unit.stmt_list, directory, name))
 /// ```
 #[derive(Clone, Copy, Debug, PartialEq, Eq)]
 pub struct Compilation<R> {

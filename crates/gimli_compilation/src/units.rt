@@ -23,12 +23,11 @@ fn skip_unit<R: Reader>(input: &mut R)
 
 /// A unit of `.debug_info`.
 ///
-/// <!-- part of crates/checks_reading/src/compilations.rt -->
+/// <!-- part of crates/checks/src/compilations.rt -->
 /// ```rust
-/// for (offset, answer) in wanted {
-///     let found = units.next().map(|unit| (unit.offset, unit.compilation));
-///     check_equal(&rt, found, Some((offset, answer)));
-/// }
+/// let found = units
+///     .next()
+///     .map(|unit| (unit.offset, said(unit.compilation)));
 /// ```
 #[derive(Clone, Copy, Debug)]
 pub struct CompilationUnit<R> {
@@ -40,13 +39,13 @@ pub struct CompilationUnit<R> {
 
 /// The units of `.debug_info` that are still to come, in order.
 ///
-/// <!-- part of crates/checks_reading/src/compilations.rt -->
+/// <!-- part of crates/checks/src/compilations.rt -->
 /// ```rust
-/// for (offset, answer) in wanted {
-///     let found = units.next().map(|unit| (unit.offset, unit.compilation));
-///     check_equal(&rt, found, Some((offset, answer)));
-/// }
-/// check_equal(&rt, units.next().is_none(), true);
+/// let mut units = sections.units();
+/// for (at, (offset, wanted)) in wanted.iter().enumerate() {
+///     let found = units
+///         .next()
+///         .map(|unit| (unit.offset, said(unit.compilation)));
 /// ```
 #[derive(Drop)]
 pub struct CompilationUnits<R: Reader> {

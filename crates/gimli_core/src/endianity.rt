@@ -144,23 +144,22 @@ pub struct LittleEndian;
 
 /// The most significant byte first.
 ///
-/// <!-- part of crates/checks_writing/src/many.rt -->
+/// <!-- part of crates/checks/src/many.rt -->
 /// ```rust
-/// let mut section: PieceVec<BigEndian, 16> = PieceVec::new(alloc, BigEndian);
-/// fill(&mut section)?;
-/// check(rt, section.into_vec()?.as_slice() == wanted);
-/// Ok(())
+/// let mut pieces: PieceVec<BigEndian, 16> = PieceVec::new(alloc, BigEndian);
+/// fill(&mut pieces)?;
+/// let joined = pieces.into_vec()?;
 /// ```
 #[derive(Clone, Copy, Debug, PartialEq, Eq, Default)]
 pub struct BigEndian;
 
 /// An order that is known when the program runs.
 ///
-/// <!-- part of crates/checks_reading/src/compilations.rt -->
+/// <!-- part of crates/checks/src/compilations.rt -->
 /// ```rust
-/// let offsets: &[u8] = match order {
-///     Little => b"\x0c\0\0\0\x05\0\0\0\x01\0\0\0\x04\0\0\0",
-///     Big => b"\0\0\0\x0c\0\x05\0\0\0\0\0\x01\0\0\0\x04",
+/// let (info, offsets): (&[u8], &[u8]) = match order {
+///     Little => (LITTLE, b"\x0c\0\0\0\x05\0\0\0\x01\0\0\0\x04\0\0\0"),
+///     Big => (BIG, b"\0\0\0\x0c\0\x05\0\0\0\0\0\x01\0\0\0\x04"),
 /// };
 /// ```
 #[derive(Clone, Copy, Debug, PartialEq, Eq)]

@@ -5,12 +5,9 @@ use std::fmt;
 
 /// Where a reader refused: the number of bytes that were left in it.
 ///
-/// <!-- part of crates/checks_reading/src/headers.rt -->
+/// <!-- part of crates/checks/src/readers.rt -->
 /// ```rust
-/// for (unit, left) in LEFT {
-///     let refused = Some(UnexpectedEof(ReaderOffsetId(left)));
-///     check_equal_at(&rt, refusal(rt.alloc(), slice(unit)), refused, unit);
-/// }
+/// const EOF_2: Error = UnexpectedEof(ReaderOffsetId(2));
 /// ```
 #[derive(Clone, Copy, Debug, PartialEq, Eq)]
 pub struct ReaderOffsetId(pub u64);

@@ -6,11 +6,10 @@ use crate::common::SectionId;
 
 /// A section over a reader of its bytes.
 ///
-/// <!-- part of crates/checks_reading/src/headers.rt -->
+/// <!-- part of crates/checks/src/lookups.rt -->
 /// ```rust
-/// let owned = DebugLine::from(unit(alloc, HEADER, [PROGRAM, b""])?);
+/// let owned = DebugLine::from(unit);
 /// let section = owned.borrow(|bytes| NarrowReader::new(alloc, bytes, RunTimeEndian::Little));
-/// check_lookups(rt, alloc, &section)
 /// ```
 pub trait Section<R>: From<R> {
     ghost use Rattle.gimli_core.specs.declared.common.SectionId.{SectionId};

@@ -16,12 +16,9 @@ use std::alloc::Global;
 
 /// A line, and the addresses at which its code begins.
 ///
-/// <!-- part of crates/checks_reading/src/many.rt -->
+/// <!-- part of crates/checks/src/lookups.rt -->
 /// ```rust
-/// Some(found) => {
-///     check_equal(rt, found.line, 1);
-///     check_equal(rt, found.addresses.len(), MANY / 2 + SEQUENCES);
-/// }
+/// Some(found) => found.line == 1 && found.addresses.len() == MANY / 2 + SEQUENCES,
 /// ```
 #[derive(Debug, Drop)]
 pub struct Addresses {

@@ -13,7 +13,7 @@ use std::marker::Model;
 
 /// The index of a directory in its line program, from 0 on.
 ///
-/// <!-- part of crates/checks_writing/src/builder.rt -->
+/// <!-- part of crates/checks/src/builder.rt -->
 /// ```rust
 /// let other = program.add_directory(LineString::String(b"/i".to_vec(alloc)?))?;
 /// let last = program.add_file(name, other, None)?;

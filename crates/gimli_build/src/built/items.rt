@@ -7,7 +7,7 @@ use std::marker::Model;
 
 /// What was built in a line program, as it was given.
 ///
-/// <!-- part of crates/checks_writing/src/builder.rt -->
+/// <!-- part of crates/checks/src/builder.rt -->
 /// ```rust
 /// let mut items = Vec::new(alloc);
 /// for item in program.items() {
@@ -129,7 +129,7 @@ impl Clone for ItemList {
 
 /// The items of a line program, in the order in which they were built.
 ///
-/// <!-- part of crates/checks_writing/src/builder.rt -->
+/// <!-- part of crates/checks/src/builder.rt -->
 /// ```rust
 /// let mut items = Vec::new(alloc);
 /// for item in program.items() {

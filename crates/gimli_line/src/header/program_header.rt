@@ -19,13 +19,10 @@ use std::marker::Model;
 
 /// The header of a line program. Texts, blocks and the program are readers over the section.
 ///
-/// <!-- part of crates/checks_reading/src/headers.rt -->
+/// <!-- part of crates/checks/src/lookups.rt -->
 /// ```rust
-/// for file in header.file_names() {
-///     check_equal(rt, (file.timestamp(), file.last_modification()), (7, 7));
-///     check_equal(rt, (file.size(), file.length()), (9, 9));
-///     check_equal(rt, file.directory(header).is_none(), true);
-/// }
+/// let copy = program.clone()?;
+/// let directories = copy.header().include_directories().len();
 /// ```
 #[derive(Debug, PartialEq, Eq, Drop)]
 pub struct LineProgramHeader<R, Offset = <R as Reader>::Offset>

@@ -154,14 +154,10 @@ impl<R: Reader> LineProgram<R> for IncompleteLineProgram<R> {
 
 /// A line program of which all files are known, so that its sequences can be run one by one.
 ///
-/// <!-- part of crates/checks_reading/src/headers.rt -->
+/// <!-- part of crates/checks/src/lookups.rt -->
 /// ```rust
-/// for sequence in sequences {
-///     match program.resume_from(sequence).next_row() {
-///         Ok(Some((_, row))) => check_equal(rt, row.address(), 0x1000),
-///         _ => check_equal(rt, true, false),
-///     }
-/// }
+/// let (complete, _) = program.sequences()?;
+/// let header = complete.header().clone()?;
 /// ```
 #[derive(Clone, Debug, PartialEq, Eq, Drop)]
 pub struct CompleteLineProgram<R, Offset = <R as Reader>::Offset>

@@ -34,12 +34,10 @@ use std::marker::Model;
 
 /// A source, as far as it was read, and the program that is built of it.
 ///
-/// <!-- part of crates/checks_writing/src/conversions.rt -->
+/// <!-- part of crates/checks/src/many.rt -->
 /// ```rust
-/// let mut conversion = conversion_of(program, None, &mut line_strings, &mut strings)?;
-/// check_first_reads(rt, &mut conversion)?;
-/// check_last_reads(rt, &mut conversion)?;
-/// check_built(rt, conversion);
+/// let mut conversion = conversion_of(source, None, &mut line_strings, &mut strings)?;
+/// let count = build_half(&mut conversion)?;
 /// ```
 #[derive(Drop)]
 #[derive_where(Debug; R, R::Offset)]

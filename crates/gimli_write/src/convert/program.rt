@@ -36,11 +36,14 @@ use std::marker::{Model, PhantomData};
 /// It holds the tables of strings until it is dropped. What owns memory stands at the last type
 /// parameter, which is never written.
 ///
-/// <!-- part of crates/checks_writing/src/conversions.rt -->
+/// <!-- part of crates/checks/src/many.rt -->
 /// ```rust
-/// check_equal(rt, conversion.read_row()?, FIRST);
 /// let sequence = conversion.read_sequence()?;
-/// let found = sequence.map(|sequence| (sequence.start, sequence.rows.len(), sequence.end));
+/// for _ in 0..ITEMS / 2 {
+///     if let Some(item) = conversion.read_row()? {
+///         build_item(conversion, item)?;
+///     }
+/// }
 /// ```
 #[derive(Debug)]
 pub struct ConvertLineProgram<'a, 'b, R: Reader, P = Conversion<R>> {

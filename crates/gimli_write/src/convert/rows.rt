@@ -5,11 +5,10 @@ use std::marker::Model;
 
 /// What is read of a source, one by one.
 ///
-/// <!-- part of crates/checks_writing/src/conversions.rt -->
+/// <!-- part of crates/checks/src/many.rt -->
 /// ```rust
-/// if let Some(ConvertLineRow::Row(row)) = conversion.read_row()? {
-///     check_refused_calls(rt, conversion, row)?;
-/// }
+/// ConvertLineRow::Row(row) => conversion.generate_row(row),
+/// ConvertLineRow::EndSequence(length) => conversion.end_sequence(length),
 /// ```
 #[derive(Clone, Copy, Debug, PartialEq, Eq)]
 pub enum ConvertLineRow {
