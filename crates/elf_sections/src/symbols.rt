@@ -12,14 +12,6 @@ use crate::symbol::Symbol;
 use gimli_core::RunTimeEndian;
 
 /// A symbol of a program.
-///
-/// <!-- part of crates/lines_commands/src/functions.rt -->
-/// ```rust
-/// let is_there = match section {
-///     Some(section) => symbol.section == section,
-///     None => symbol.section != 0,
-/// };
-/// ```
 #[derive(Clone, Copy, Debug, PartialEq, Eq)]
 pub struct CodeSymbol {
     /// The offset of its name in the section of names (`st_name`).
@@ -35,16 +27,6 @@ pub struct CodeSymbol {
 }
 
 /// A symbol table (`.symtab`, `.dynsym`), and the section of its names (`.strtab`, `.dynstr`).
-///
-/// <!-- part of crates/lines_commands/src/functions.rt -->
-/// ```rust
-/// SymbolTable::new(
-///     is_big_endian,
-///     address_size,
-///     self.symbols.as_slice(),
-///     self.names.as_slice(),
-/// )
-/// ```
 #[derive(Clone, Copy, Debug)]
 pub struct SymbolTable<'a> {
     layout: Layout,

@@ -27,14 +27,6 @@ impl<W: Writer> From<W> for DebugLine<W> {
 }
 
 /// A section `.debug_str` that is written.
-///
-/// <!-- part of crates/rows_calls/src/tables.rt -->
-/// ```rust
-/// let mut section = DebugStr(w);
-/// let answer = self.strings.write(&mut section);
-/// let DebugStr(w) = section;
-/// (w, answer)
-/// ```
 #[derive(Debug, Drop)]
 pub struct DebugStr<W: Writer>(pub W);
 

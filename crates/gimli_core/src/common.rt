@@ -136,24 +136,9 @@ pub struct DebugLineOffset<T = usize>(pub T);
 pub struct DebugStrOffset<T = usize>(pub T);
 
 /// An offset into the section `.debug_line_str`, in bytes.
-///
-/// <!-- part of crates/rows_calls/src/numbers.rt -->
-/// ```rust
-/// "DebugStrRef" => Ok(AttributeValue::DebugStrRef(DebugStrOffset(offset))),
-/// "DebugStrRefSup" => Ok(AttributeValue::DebugStrRefSup(DebugStrOffset(offset))),
-/// "DebugLineStrRef" => Ok(AttributeValue::DebugLineStrRef(DebugLineStrOffset(offset))),
-/// ```
 #[derive(Clone, Copy, Debug, PartialEq, Eq)]
 pub struct DebugLineStrOffset<T = usize>(pub T);
 
 /// An index into the string offsets of a unit.
-///
-/// <!-- part of crates/rows_calls/src/numbers.rt -->
-/// ```rust
-/// "DebugStrOffsetsIndex" => {
-///     let index = DebugStrOffsetsIndex(offset);
-///     Ok(AttributeValue::DebugStrOffsetsIndex(index))
-/// }
-/// ```
 #[derive(Clone, Copy, Debug, PartialEq, Eq)]
 pub struct DebugStrOffsetsIndex<T = usize>(pub T);

@@ -108,18 +108,6 @@ fn without_headers<E: Endianity>(
 }
 
 /// The rows that cover an address, and their unit.
-///
-/// <!-- part of crates/rows_reading/src/covering_rows.rt -->
-/// ```rust
-/// match lookup.find(address) {
-///     Some(found) => {
-///         let unit = found.unit;
-///         lines.put(format_args!("{address:016x} unit {unit}"));
-///         lines.put(RowLine(found.row));
-///         lines.put(RowLine(found.next));
-///     }
-///     None => lines.put(format_args!("{address:016x} none")),
-/// ```
 #[derive(Clone, Copy, Debug)]
 pub struct CoveringRows {
     /// The index of the unit, from 0 on.

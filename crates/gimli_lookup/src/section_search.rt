@@ -14,14 +14,6 @@ use gimli_line::DebugLine;
 use std::alloc::Global;
 
 /// What [`find_in_section`] finds.
-///
-/// <!-- part of crates/lines_commands/src/lookup.rt -->
-/// ```rust
-/// Covering::Found { addresses, found } => {
-///     let index = addresses.iter().position(|asked| *asked == address)?;
-///     *found.rows.get(index)?
-/// }
-/// ```
 #[derive(Drop)]
 #[derive_where(Debug; R, R::Offset)]
 pub struct FoundRows<R: Reader> {

@@ -6,16 +6,6 @@ use gimli_core::Error as ReadError;
 use std::alloc::{AllocError, AllocFailed};
 
 /// Why a program isn't converted, or not read again.
-///
-/// <!-- part of crates/rows_writing/src/output.rt -->
-/// ```rust
-/// ConvertError::Read(error) => {
-///     let refusal = ErrorText(error);
-///     write!(f, "refused Read {refusal}")
-/// }
-/// ConvertError::Write(error) => write!(f, "refused Write {error:?}"),
-/// error => write!(f, "refused {error:?}"),
-/// ```
 #[derive(Clone, Copy, Debug, PartialEq, Eq, thiserror::Error)]
 pub enum ConvertError {
     /// A refusal of reading.

@@ -45,15 +45,6 @@ pub struct RoundTrip {
 }
 
 /// What is read of a file.
-///
-/// <!-- part of crates/rows_writing/src/output.rt -->
-/// ```rust
-/// path: Text(file.path.as_slice()),
-/// directory: file.directory_index,
-/// timestamp: file.timestamp,
-/// size: file.size,
-/// md5: Digits(&file.md5),
-/// ```
 #[derive(Debug, Drop)]
 pub struct RoundTripFile {
     /// The path.

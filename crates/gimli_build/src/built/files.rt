@@ -88,16 +88,6 @@ impl FileId {
 }
 
 /// What is known of a file beside its path and its directory.
-///
-/// <!-- part of crates/rows_writing/src/builder.rt -->
-/// ```rust
-/// Ok(Some(FileInfo {
-///     timestamp: details.timestamp,
-///     size: details.size,
-///     md5: details.md5,
-///     source: self.optional_text(&details.source, encoding)?,
-/// }))
-/// ```
 #[derive(Debug, PartialEq, Eq, Drop)]
 pub struct FileInfo {
     /// When the file was last changed, in the producer's own way to count time; 0 where it isn't

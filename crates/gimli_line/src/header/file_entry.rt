@@ -11,15 +11,6 @@ use gimli_core::{AttributeValue, DwForm, DwLnct, Reader, ReaderOffset, Result, c
 use std::alloc::AllocError;
 
 /// What a table of version 5 holds of each entry: a kind of value, and the form that it has.
-///
-/// <!-- part of crates/rows_reading/src/header_text.rt -->
-/// ```rust
-/// for format in formats {
-///     let content = format.content_type.0;
-///     let form = format.form.0;
-///     lines.put(format_args!("{word} {content:x} {form:x}"));
-/// }
-/// ```
 #[derive(Clone, Copy, Debug, PartialEq, Eq)]
 pub struct FileEntryFormat {
     /// The kind of value.

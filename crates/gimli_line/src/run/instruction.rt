@@ -13,13 +13,6 @@ use std::alloc::AllocError;
 use std::marker::Model;
 
 /// An instruction of a line program.
-///
-/// <!-- part of crates/rows_reading/src/instruction_text.rt -->
-/// ```rust
-/// if let LineInstruction::DefineFile(file) = instruction {
-///     return print_definition(file, lines);
-/// }
-/// ```
 #[derive(Copy, Debug, PartialEq, Eq)]
 pub enum LineInstruction<R, Offset = <R as Reader>::Offset>
 where
@@ -289,18 +282,6 @@ fn skip_operands<R: Reader>(input: &mut R, count: u8) -> Result<()>
 }
 
 /// The instructions of a program that are still to come.
-///
-/// <!-- part of crates/rows_reading/src/instruction_text.rt -->
-/// ```rust
-/// let mut instructions = header.instructions();
-/// 'instructions: loop {
-///     match instructions.next_instruction(header) {
-///         Ok(Some(instruction)) => print_instruction(&instruction, lines),
-///         Ok(None) => return,
-///         Err(e) => return lines.put_refusal(e),
-///     }
-/// }
-/// ```
 #[derive(Clone, Debug, Drop)]
 pub struct LineInstructions<R: Reader> {
     pub(super) input: R,

@@ -22,18 +22,6 @@ pub enum ConvertLineRow {
 }
 
 /// Rows of a source whose offsets count from one address, and how they end.
-///
-/// <!-- part of crates/rows_writing/src/reading.rt -->
-/// ```rust
-/// lines.put(format_args!("sequence {start}"));
-/// for row in sequence.rows.as_slice() {
-///     lines.put(Row(*row));
-/// }
-/// match sequence.end {
-///     ConvertLineSequenceEnd::Length(length) => lines.put(format_args!("length {length}")),
-///     ConvertLineSequenceEnd::Address(address) => lines.put(format_args!("address {address}")),
-/// }
-/// ```
 #[derive(Debug, Drop, PartialEq, Eq)]
 pub struct ConvertLineSequence {
     /// The address that is set before the rows, if one is.
@@ -45,14 +33,6 @@ pub struct ConvertLineSequence {
 }
 
 /// How the rows of a sequence end.
-///
-/// <!-- part of crates/rows_writing/src/reading.rt -->
-/// ```rust
-/// match sequence.end {
-///     ConvertLineSequenceEnd::Length(length) => lines.put(format_args!("length {length}")),
-///     ConvertLineSequenceEnd::Address(address) => lines.put(format_args!("address {address}")),
-/// }
-/// ```
 #[derive(Clone, Copy, Debug, PartialEq, Eq)]
 pub enum ConvertLineSequenceEnd {
     /// The sequence ends, so many bytes after the address that was last set in it.
