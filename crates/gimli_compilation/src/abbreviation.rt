@@ -11,7 +11,7 @@ use crate::constants::{self, DwAt};
 use gimli_core::{DwForm, Reader, Result};
 
 /// The name and the form of an attribute.
-#[derive(Clone, Copy, Debug, PartialEq, Eq)]
+#[derive(Clone, Copy)]
 pub(crate) struct Specification {
     pub name: DwAt,
     pub form: DwForm,

@@ -16,7 +16,7 @@ use crate::form::{Value, parse_form};
 use gimli_core::{Encoding, Reader, Result};
 
 /// The values of the attributes that are asked for; `Passed` where there is none.
-#[derive(Clone, Copy, Debug)]
+#[derive(Clone, Copy)]
 pub(crate) struct Attributes<R> {
     pub stmt_list: Value<R>,
     pub comp_dir: Value<R>,

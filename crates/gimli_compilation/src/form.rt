@@ -14,7 +14,7 @@ use crate::constants;
 use gimli_core::{DwForm, Encoding, Error, Reader, ReaderOffset, Result, constants as shared};
 
 /// What the number of an attribute is.
-#[derive(Clone, Copy, Debug, PartialEq, Eq)]
+#[derive(Clone, Copy)]
 pub(crate) enum Kind {
     /// An offset into a section that the attribute names.
     SectionOffset,
@@ -29,7 +29,7 @@ pub(crate) enum Kind {
 }
 
 /// The value of an attribute.
-#[derive(Clone, Copy, Debug, PartialEq, Eq)]
+#[derive(Clone, Copy)]
 pub(crate) enum Value<R> {
     /// A number.
     Number(Kind, u64),
@@ -40,7 +40,7 @@ pub(crate) enum Value<R> {
 }
 
 /// How a value lies in the bytes.
-#[derive(Clone, Copy, Debug, PartialEq, Eq)]
+#[derive(Clone, Copy)]
 pub(crate) enum Shape {
     /// A number of so many bytes.
     Fixed(u8, Kind),

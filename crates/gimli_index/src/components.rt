@@ -5,7 +5,7 @@ ghost use Rattle.std.specs.Prelude.{◌+◌, ◌<◌, ◌^◌, length};
 /// The components that are left of a path, the last one first: `/` and backslashes part them; an
 /// empty one and `.` are dropped; `..` drops the one before it, but nothing above the root. Where
 /// it has none before it, it stays. The root is a component without bytes.
-#[derive(Clone, Copy, Debug)]
+#[derive(Clone, Copy)]
 pub(crate) struct Components<'p> {
     /// What is left of the text.
     pub(crate) text: &'p [u8],

@@ -88,16 +88,17 @@ impl<T: Drop> From<AllocFailed<T>> for MakeError {
 
 impl fmt::Display for MakeError {
     fn fmt<W: fmt::Write>(&self, f: &mut fmt::Formatter<W>) -> fmt::Result {
-        match self {
-            MakeError::NotAscending => write!(f, "the entries do not ascend"),
-            MakeError::TooManyEntries => write!(f, "there are too many entries for an index"),
-            MakeError::TooManySources => write!(f, "there are too many sources for an index"),
-            MakeError::PathsTooLarge => write!(f, "the paths are too large for an index"),
-            MakeError::IdentityTooLarge => write!(f, "the identity is too large for an index"),
-            MakeError::LineTooLarge => write!(f, "a line is too large for an index"),
-            MakeError::ColumnTooLarge => write!(f, "a column is too large for an index"),
-            MakeError::OutOfMemory => write!(f, "out of memory"),
-        }
+        let description = match self {
+            MakeError::NotAscending => "the entries do not ascend",
+            MakeError::TooManyEntries => "there are too many entries for an index",
+            MakeError::TooManySources => "there are too many sources for an index",
+            MakeError::PathsTooLarge => "the paths are too large for an index",
+            MakeError::IdentityTooLarge => "the identity is too large for an index",
+            MakeError::LineTooLarge => "a line is too large for an index",
+            MakeError::ColumnTooLarge => "a column is too large for an index",
+            MakeError::OutOfMemory => "out of memory",
+        };
+        f.write_str(description)
     }
 }
 

@@ -17,14 +17,14 @@ pub(crate) const VERSION: u32 = 1;
 pub(crate) const HEADER_SIZE: usize = 40;
 
 /// The bytes of a start.
-#[derive(Clone, Copy, Debug, PartialEq, Eq)]
+#[derive(Clone, Copy, Debug)]
 pub(crate) enum StartSize {
     Four,
     Eight,
 }
 
 /// The header of an index.
-#[derive(Clone, Copy, Debug)]
+#[derive(Clone, Copy)]
 pub(crate) struct Header {
     pub(crate) address_size: u16,
     pub(crate) start_size: StartSize,

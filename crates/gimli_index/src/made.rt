@@ -114,6 +114,42 @@ fn entries_of<R: Reader>(
     Ok(entries)
 }
 
+/// Appends the bytes of the index of a lookup, whose sources a table takes in.
+fn write_entries<R: Reader>(
+    origin: &Origin<'_, R>,
+    table: &mut SourceTable,
+    address_size: u16,
+    identity: &[u8],
+    out: &mut Vec<u8>,
+) -> Result<(), MakeError>
+    requires size { IsTrue (is_address_size address_size) }
+    requires sources { AreSources
+        (texts_of R.bytes origin.now.strings.now origin.now.compilations.now)
+        origin.now.lookup.now table.old }
+    ensures bytes { OnOk result (IsAppended (record {
+      texts = texts_of R.bytes origin.now.strings.now origin.now.compilations.now;
+      units = origin.now.lookup.now;
+      size = address_size;
+      name = identity.now;
+    }) out.old.items out.new.items) }
+    ensures err { IfErr result (IsIndexFault (record {
+      texts = texts_of R.bytes origin.now.strings.now origin.now.compilations.now;
+      units = origin.now.lookup.now;
+      size = address_size;
+      name = identity.now;
+    })) }
+{
+    let entries = entries_of(origin, table)?;
+    Contents {
+        address_size,
+        sources: table.sources(),
+        entries: entries.as_slice(),
+        paths: table.paths(),
+        identity,
+    }
+    .write(out)
+}
+
 /// Appends the bytes of the index of a lookup: what [`SectionLookup::find`] says of each address,
 /// with the whole path of the row's file by [`Paths::of_row`](gimli_lookup::Paths::of_row), over
 /// these sections of strings and the directory of its compilation. The identity names what the
@@ -160,13 +196,5 @@ pub fn write_index<R: Reader>(
         compilations,
     };
     let mut table = SourceTable::new(alloc, lookup)?;
-    let entries = entries_of(&origin, &mut table)?;
-    Contents {
-        address_size,
-        sources: table.sources(),
-        entries: entries.as_slice(),
-        paths: table.paths(),
-        identity,
-    }
-    .write(out)
+    write_entries(&origin, &mut table, address_size, identity, out)
 }

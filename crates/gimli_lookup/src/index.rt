@@ -26,7 +26,7 @@ use gimli_line::LineRow;
 use std::alloc::Global;
 
 /// Rows that cover an address, and the index of their sequence.
-#[derive(Clone, Copy, Debug)]
+#[derive(Clone, Copy)]
 pub(crate) struct Found {
     pub(crate) sequence: usize,
     pub(crate) row: LineRow,
@@ -35,7 +35,7 @@ pub(crate) struct Found {
 
 /// What is found among the sequences whose addresses go down, from an address on, and up to where
 /// nothing changes among them; None where nothing does.
-#[derive(Clone, Copy, Debug)]
+#[derive(Clone, Copy)]
 pub(crate) struct Aside {
     pub(crate) found: Option<Found>,
     pub(crate) end: Option<u64>,

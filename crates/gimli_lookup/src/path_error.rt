@@ -28,25 +28,43 @@ pub enum PathError {
     OutOfMemory,
 }
 
-impl fmt::Display for PathError {
-    fn fmt<W: fmt::Write>(&self, f: &mut fmt::Formatter<W>) -> fmt::Result {
+impl PathError {
+    /// The text of an error, without the index that it may hold.
+    fn description(&self) -> &'static str {
         match self {
             PathError::UnsupportedStringIndex => {
-                write!(f, "a string is given by an index into the string offsets")
+                "a string is given by an index into the string offsets"
             }
             PathError::UnsupportedSupplementaryString => {
-                write!(f, "a string stands in the supplementary file")
+                "a string stands in the supplementary file"
             }
             PathError::StringOffsetOutOfBounds => {
-                write!(f, "the offset of a string is past the end of its section")
+                "the offset of a string is past the end of its section"
             }
-            PathError::UnterminatedString => { write!(f, "a string has no zero byte at its end") }
-            PathError::ExpectedStringAttributeValue => write!(f, "the value is not a string"),
-            PathError::InvalidDirectoryIndex(index) => {
-                write!(f, "the header has no directory {index}")
-            }
-            PathError::InvalidFileIndex(index) => write!(f, "the header has no file {index}"),
-            PathError::OutOfMemory => write!(f, "not enough memory"),
+            PathError::UnterminatedString => "a string has no zero byte at its end",
+            PathError::ExpectedStringAttributeValue => "the value is not a string",
+            PathError::InvalidDirectoryIndex(_) => "the header has no directory",
+            PathError::InvalidFileIndex(_) => "the header has no file",
+            PathError::OutOfMemory => "not enough memory",
+        }
+    }
+
+    /// The index that it holds.
+    fn index(&self) -> Option<u64> {
+        match *self {
+            PathError::InvalidDirectoryIndex(index) => Some(index),
+            PathError::InvalidFileIndex(index) => Some(index),
+            _ => None,
+        }
+    }
+}
+
+impl fmt::Display for PathError {
+    fn fmt<W: fmt::Write>(&self, f: &mut fmt::Formatter<W>) -> fmt::Result {
+        let description = self.description();
+        match self.index() {
+            Some(index) => write!(f, "{description} {index}"),
+            None => f.write_str(description),
         }
     }
 }

@@ -93,11 +93,11 @@ pub(crate) fn push<R: Reader>(units: &mut Vec<UnitLookup<R>>, unit: UnitLookup<R
 }
 
 /// The units without their headers. Fails only with `OutOfMemory`.
-fn without_headers<E: Endianity>(
+fn without_headers<R: Reader<Offset = usize>, S: Reader<Offset = usize>>(
     alloc: Global,
-    units: Vec<UnitLookup<EndianSlice<'_, E>>>,
-) -> Result<Vec<UnitLookup<EndianSlice<'static, E>>>>
-    ensures ok { IfOk result (λ bare. bare.items ≡ map without_header units.entry.items) }
+    units: &[UnitLookup<R>],
+) -> Result<Vec<UnitLookup<S>>>
+    ensures ok { IfOk result (λ bare. bare.items ≡ map without_header units.now) }
     ensures err { IfErr result (λ e. e ≡ Error.OutOfMemory) }
 {
     let mut bare = Vec::new(alloc);
@@ -305,7 +305,7 @@ impl<'i, E: Endianity> SectionLookup<EndianSlice<'i, E>> {
             index,
         } = self;
         Ok(SectionLookup {
-            units: without_headers(alloc, units)?,
+            units: without_headers(alloc, units.as_slice())?,
             sequences,
             index,
         })

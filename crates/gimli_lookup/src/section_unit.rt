@@ -8,7 +8,7 @@ use crate::kept_rows::KeptRows;
 use crate::section_lookup::CoveringRows;
 use crate::unit_run::run_unit;
 use crate::unit_search::search_unit;
-use gimli_core::{DebugLineOffset, EndianSlice, Endianity, Error, Reader, ReaderOffset, Result};
+use gimli_core::{DebugLineOffset, Error, Reader, ReaderOffset, Result};
 use gimli_line::{IncompleteLineProgram, LineProgramHeader, OneShotLineRows};
 use std::alloc::Global;
 use std::marker::Model;
@@ -186,27 +186,20 @@ impl<R: Reader> UnitLookup<R> {
     }
 }
 
-impl<'i, E: Endianity> UnitLookup<EndianSlice<'i, E>> {
+impl<R: Reader<Offset = usize>> UnitLookup<R> {
     ghost use Rattle.gimli_lookup.specs.Section.{without_header};
 
-    /// The unit without its header, which is what lends bytes of the section.
-    pub(crate) fn without_header(self) -> UnitLookup<EndianSlice<'static, E>>
-        ensures { result ≡ without_header self.entry }
+    /// The unit without its header, which is what lends bytes of the section, as one of another
+    /// reader.
+    pub(crate) fn without_header<S: Reader<Offset = usize>>(&self) -> UnitLookup<S>
+        ensures { result ≡ without_header self.now }
     {
-        let UnitLookup {
-            offset,
-            run,
-            fault,
-            first,
-            end,
-        } = self;
-        drop(run);
         UnitLookup {
-            offset,
+            offset: self.offset,
             run: None,
-            fault,
-            first,
-            end,
+            fault: self.fault,
+            first: self.first,
+            end: self.end,
         }
     }
 }

@@ -15,7 +15,7 @@ use gimli_line::LineRow;
 
 /// Where a walk stands: what it found at the address before. It is only where the search begins, so
 /// what is found doesn't hang on it.
-#[derive(Clone, Copy, Debug, Default)]
+#[derive(Clone, Copy, Default)]
 pub(crate) struct Stand {
     /// How many steps have an address that is at most the one before.
     pub(crate) steps: usize,

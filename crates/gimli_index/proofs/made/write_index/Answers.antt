@@ -1,66 +1,23 @@
-use Rattle.std.proofs.Common.{◌≡◌, ◌++◌, refl, sym, subst}
-use Rattle.gimli_index.specs.Contents.{Fits, index_bytes}
+use Rattle.std.proofs.Common.{sym, subst}
 use Rattle.gimli_index.specs.Found.{Given, texts_of, IsAppended, IsIndexAppended}
-use Rattle.gimli_index.specs.Made.{EntriesAscend, IsMakeFault, contents_of}
-use Rattle.gimli_index.specs.Refused.{IsIndexFault}
-use Rattle.gimli_index.specs.declared.contents.Contents.{Contents as Parts}
 use Rattle.gimli_index.specs.inside.Table.{AreSources}
 use Rattle.gimli_index.proofs.Sources.{none_are_sources}
-use Rattle.gimli_index.proofs.WrittenIndex.{contents_are, contents_fault, index_appended, on_fault, with_ok}
+use Rattle.gimli_index.proofs.WrittenIndex.{index_appended, with_ok}
 use Rattle.gimli_index.proofs.made.write_index.Goals as goal
 
-pub entries_of-requires : goal.entries_of-requires
-entries_of-requires g c =
+pub write_entries-requires-clause-sources : goal.write_entries-requires-clause-sources
+write_entries-requires-clause-sources g c =
     let t = texts_of g.R.Reader.bytes c.args.strings.now c.args.compilations.now in
     subst (AreSources t c.args.lookup.now) (sym c.in_ok-table.ensures) (none_are_sources t c.args.lookup.now)
-
-pub returns-clause-bytes : goal.returns-clause-bytes
-returns-clause-bytes g c =
-    let t = texts_of g.R.Reader.bytes c.args.strings.now c.args.compilations.now in
-    let given : Given = record { texts = t; units = c.args.lookup.now; size = c.args.address_size; name = c.args.identity.now } in
-    let parts : Parts = record {
-      address_size = c.args.address_size;
-      sources = c.sources.result;
-      entries = c.as_slice.result;
-      paths = c.paths.result;
-      identity = c.args.identity;
-    } in
-    let contents = contents_of parts in
-    let old = c.args.out.now.items in
-    let new = c.write.new.out.items in
-    with_ok c.write.result (new ≡ old ++ index_bytes contents) (Fits contents) (EntriesAscend contents.entries) (IsAppended given old new)
-    c.write.ensures.bytes c.write.ensures.fits c.write.ensures.ascending
-    (λ bytes fits ascending. record {
-      contents = contents;
-      bytes = bytes;
-      are =
-          contents_are given c.entries_of.new.table c.in_ok-entries.entries.items contents c.in_ok-entries.ensures.entered c.sources.ensures
-          c.as_slice.ensures.value c.paths.ensures fits refl refl;
-    })
 
 pub returns-clause-index : goal.returns-clause-index
 returns-clause-index g c =
     let t = texts_of g.R.Reader.bytes c.args.strings.now c.args.compilations.now in
     let given : Given = record { texts = t; units = c.args.lookup.now; size = c.args.address_size; name = c.args.identity.now } in
     let old = c.args.out.now.items in
-    let new = c.write.new.out.items in
-    let appended = returns-clause-bytes g c in
-    with_ok c.write.result (IsAppended given old new) (IsAppended given old new) (IsAppended given old new) (IsIndexAppended given old new) appended appended
+    let new = c.write_entries.new.out.items in
+    let appended = c.write_entries.ensures.bytes in
+    with_ok c.write_entries.result (IsAppended given old new) (IsAppended given old new) (IsAppended given old new) (IsIndexAppended given old new) appended
+    appended
     appended
     (λ a b d. index_appended given old new a)
-
-pub returns-clause-err : goal.returns-clause-err
-returns-clause-err g c =
-    let t = texts_of g.R.Reader.bytes c.args.strings.now c.args.compilations.now in
-    let given : Given = record { texts = t; units = c.args.lookup.now; size = c.args.address_size; name = c.args.identity.now } in
-    let parts : Parts = record {
-      address_size = c.args.address_size;
-      sources = c.sources.result;
-      entries = c.as_slice.result;
-      paths = c.paths.result;
-      identity = c.args.identity;
-    } in
-    let contents = contents_of parts in
-    on_fault c.write.result (IsMakeFault contents) (IsIndexFault given) (λ e fault.
-    contents_fault given c.entries_of.new.table c.in_ok-entries.entries.items contents c.in_ok-entries.ensures.entered c.sources.ensures
-    c.as_slice.ensures.value c.paths.ensures e refl fault) c.write.ensures.err

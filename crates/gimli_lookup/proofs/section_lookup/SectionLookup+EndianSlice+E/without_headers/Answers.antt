@@ -6,11 +6,13 @@ use Rattle.gimli_lookup.proofs.section_lookup.SectionLookup+EndianSlice+E.withou
 pub invariant_of-result : goal.invariant_of-result
 invariant_of-result g c =
     let a = c.self.inside in
-    (rw c.in_ok-without_headers.ensures.ok (headless_adjacent 0 a.units.items (length a.sequences.items) c.self.invariant.0), c.self.invariant.1)
+    let bare = rw c.as_slice.ensures.value at c.in_ok-without_headers.ensures.ok in
+    (rw bare (headless_adjacent 0 a.units.items (length a.sequences.items) c.self.invariant.0), c.self.invariant.1)
 
 pub returns-clause-ok : goal.returns-clause-ok
 returns-clause-ok g c =
     let a = c.self.inside in
-    ap (λ (us : List ListedUnit). map (with_sequences a.sequences.items) us) c.in_ok-without_headers.ensures.ok
+    let bare = rw c.as_slice.ensures.value at c.in_ok-without_headers.ensures.ok in
+    ap (λ (us : List ListedUnit). map (with_sequences a.sequences.items) us) bare
     ∙ headless_kept a.sequences.items a.units.items
     ∙ ap (λ (ks : List KeptUnit). map unit_without_header ks) c.self.view_is

@@ -1,0 +1,50 @@
+use Rattle.std.proofs.Common.{◌≡◌, ◌++◌, refl}
+use Rattle.gimli_index.specs.Contents.{Fits, index_bytes}
+use Rattle.gimli_index.specs.Found.{Given, texts_of, IsAppended}
+use Rattle.gimli_index.specs.Made.{EntriesAscend, IsMakeFault, contents_of}
+use Rattle.gimli_index.specs.Refused.{IsIndexFault}
+use Rattle.gimli_index.specs.declared.contents.Contents.{Contents as Parts}
+use Rattle.gimli_index.proofs.WrittenIndex.{contents_are, contents_fault, on_fault, with_ok}
+use Rattle.gimli_index.proofs.made.write_entries.Goals as goal
+
+pub returns-clause-bytes : goal.returns-clause-bytes
+returns-clause-bytes g c =
+    let units = c.args.origin.now.lookup.now in
+    let t = texts_of g.R.Reader.bytes c.args.origin.now.strings.now c.args.origin.now.compilations.now in
+    let given : Given = record { texts = t; units = units; size = c.args.address_size; name = c.args.identity.now } in
+    let parts : Parts = record {
+      address_size = c.args.address_size;
+      sources = c.sources.result;
+      entries = c.as_slice.result;
+      paths = c.paths.result;
+      identity = c.args.identity;
+    } in
+    let contents = contents_of parts in
+    let old = c.args.out.now.items in
+    let new = c.write.new.out.items in
+    with_ok c.write.result (new ≡ old ++ index_bytes contents) (Fits contents) (EntriesAscend contents.entries) (IsAppended given old new)
+    c.write.ensures.bytes c.write.ensures.fits c.write.ensures.ascending
+    (λ bytes fits ascending. record {
+      contents = contents;
+      bytes = bytes;
+      are =
+          contents_are given c.entries_of.new.table c.in_ok-entries.entries.items contents c.in_ok-entries.ensures.entered c.sources.ensures
+          c.as_slice.ensures.value c.paths.ensures fits refl refl;
+    })
+
+pub returns-clause-err : goal.returns-clause-err
+returns-clause-err g c =
+    let units = c.args.origin.now.lookup.now in
+    let t = texts_of g.R.Reader.bytes c.args.origin.now.strings.now c.args.origin.now.compilations.now in
+    let given : Given = record { texts = t; units = units; size = c.args.address_size; name = c.args.identity.now } in
+    let parts : Parts = record {
+      address_size = c.args.address_size;
+      sources = c.sources.result;
+      entries = c.as_slice.result;
+      paths = c.paths.result;
+      identity = c.args.identity;
+    } in
+    let contents = contents_of parts in
+    on_fault c.write.result (IsMakeFault contents) (IsIndexFault given) (λ e fault.
+    contents_fault given c.entries_of.new.table c.in_ok-entries.entries.items contents c.in_ok-entries.ensures.entered c.sources.ensures
+    c.as_slice.ensures.value c.paths.ensures e refl fault) c.write.ensures.err
