@@ -282,7 +282,7 @@ count_of_bytes = refl
 
 -- all are full but the last
 pub pieces_of_four : ArePieces 4 five ((1 ∷ 2 ∷ 3 ∷ 4 ∷ []) ∷ (5 ∷ []) ∷ [])
-pieces_of_four = record { joined = refl; sizes = (refl, omega arith, omega arith) }
+pieces_of_four = record { joined = refl; sizes = (refl, (omega arith, omega arith)) }
 
 pub pieces_in_use : in_use 5 ((1 ∷ 2 ∷ 3 ∷ 4 ∷ []) ∷ (5 ∷ 0 ∷ 0 ∷ 0 ∷ []) ∷ []) ≡ (1 ∷ 2 ∷ 3 ∷ 4 ∷ []) ∷ (5 ∷ []) ∷ []
 pieces_in_use = refl
