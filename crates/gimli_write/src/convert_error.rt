@@ -4,6 +4,7 @@ ghost use Rattle.gimli_write.specs.declared.convert_error.ConvertError.TheVarian
 use gimli_bytes::Error;
 use gimli_core::Error as ReadError;
 use std::alloc::{AllocError, AllocFailed};
+use std::fmt;
 
 /// Why a program isn't converted, or not read again.
 ///
@@ -16,80 +17,133 @@ use std::alloc::{AllocError, AllocFailed};
 /// ConvertError::Write(error) => write!(f, "refused Write {error:?}"),
 /// error => write!(f, "refused {error:?}"),
 /// ```
-#[derive(Clone, Copy, Debug, PartialEq, Eq, thiserror::Error)]
+#[derive(Clone, Copy, Debug, PartialEq, Eq)]
 pub enum ConvertError {
     /// A refusal of reading.
-    #[error(transparent)]
-    Read(#[from] ReadError),
+    Read(ReadError),
     /// A refusal of writing.
-    #[error(transparent)]
-    Write(#[from] Error),
+    Write(Error),
     /// An attribute value that isn't written.
-    #[error("Writing of this attribute value is not implemented yet.")]
     UnsupportedAttributeValue,
     /// An attribute value that its name or its form can't have.
-    #[error("This attribute value is an invalid name/form combination.")]
     InvalidAttributeValue,
     /// An offset in the section `.debug_info` where no entry begins.
-    #[error("A `.debug_info` reference does not refer to a valid entry.")]
     InvalidDebugInfoOffset,
     /// An address for which there is no other.
-    #[error("An address could not be converted.")]
     InvalidAddress,
     /// An instruction that can't be built.
-    #[error("Writing this line number instruction is not implemented yet.")]
     UnsupportedLineInstruction,
     /// A text in a form that isn't written.
-    #[error("Writing this form of line string is not implemented yet.")]
     UnsupportedLineStringForm,
     /// A sequence without its end.
-    #[error("A `DW_LNE_end_sequence` instruction was missing at the end of a sequence.")]
     MissingLineEndSequence,
     /// A unit without a name.
-    #[error("The name of the compilation unit is missing.")]
     MissingCompilationName,
     /// A unit without a working directory.
-    #[error("The path of the compilation directory is missing.")]
     MissingCompilationDirectory,
     /// A file index that no file has.
-    #[error("A `.debug_line` file index is invalid.")]
     InvalidFileIndex,
     /// A directory index that no directory has.
-    #[error("A `.debug_line` directory index is invalid.")]
     InvalidDirectoryIndex,
     /// A line base by which rows can't be encoded.
-    #[error("A `.debug_line` line base is invalid.")]
     InvalidLineBase,
     /// A reference to no line program.
-    #[error("A `.debug_line` reference is invalid.")]
     InvalidLineRef,
     /// A reference to no entry of its unit.
-    #[error("A `.debug_info` unit entry reference is invalid.")]
     InvalidUnitRef,
     /// A reference to no entry.
-    #[error("A `.debug_info` reference is invalid.")]
     InvalidDebugInfoRef,
     /// An address of a range that counts from none.
-    #[error("Invalid relative address in a range list.")]
     InvalidRangeRelativeAddress,
     /// An instruction for frames that isn't written.
-    #[error("Writing this CFI instruction is not implemented yet.")]
     UnsupportedCfiInstruction,
     /// A pointer to a pointer.
-    #[error("Writing indirect pointers is not implemented yet.")]
     UnsupportedIndirectAddress,
     /// An operation that isn't written.
-    #[error("Writing this expression operation is not implemented yet.")]
     UnsupportedOperation,
     /// A branch to no operation.
-    #[error("Operation branch target is invalid.")]
     InvalidBranchTarget,
     /// A unit of a kind that isn't written.
-    #[error("Writing this unit type is not supported yet.")]
     UnsupportedUnitType,
     /// A growth of memory was refused.
-    #[error("Not enough memory.")]
     OutOfMemory,
+}
+
+impl ConvertError {
+    /// What an error says that holds no other one. Those that hold one say nothing here.
+    fn text(self) -> &'static str {
+        match self {
+            ConvertError::UnsupportedAttributeValue => {
+                "Writing of this attribute value is not implemented yet."
+            }
+            ConvertError::InvalidAttributeValue => {
+                "This attribute value is an invalid name/form combination."
+            }
+            ConvertError::InvalidDebugInfoOffset => {
+                "A `.debug_info` reference does not refer to a valid entry."
+            }
+            ConvertError::InvalidAddress => "An address could not be converted.",
+            ConvertError::UnsupportedLineInstruction => {
+                "Writing this line number instruction is not implemented yet."
+            }
+            ConvertError::UnsupportedLineStringForm => {
+                "Writing this form of line string is not implemented yet."
+            }
+            ConvertError::MissingLineEndSequence => {
+                "A `DW_LNE_end_sequence` instruction was missing at the end of a sequence."
+            }
+            ConvertError::MissingCompilationName => "The name of the compilation unit is missing.",
+            ConvertError::MissingCompilationDirectory => {
+                "The path of the compilation directory is missing."
+            }
+            ConvertError::InvalidFileIndex => "A `.debug_line` file index is invalid.",
+            ConvertError::InvalidDirectoryIndex => "A `.debug_line` directory index is invalid.",
+            ConvertError::InvalidLineBase => "A `.debug_line` line base is invalid.",
+            ConvertError::InvalidLineRef => "A `.debug_line` reference is invalid.",
+            ConvertError::InvalidUnitRef => "A `.debug_info` unit entry reference is invalid.",
+            ConvertError::InvalidDebugInfoRef => "A `.debug_info` reference is invalid.",
+            ConvertError::InvalidRangeRelativeAddress => {
+                "Invalid relative address in a range list."
+            }
+            ConvertError::UnsupportedCfiInstruction => {
+                "Writing this CFI instruction is not implemented yet."
+            }
+            ConvertError::UnsupportedIndirectAddress => {
+                "Writing indirect pointers is not implemented yet."
+            }
+            ConvertError::UnsupportedOperation => {
+                "Writing this expression operation is not implemented yet."
+            }
+            ConvertError::InvalidBranchTarget => "Operation branch target is invalid.",
+            ConvertError::UnsupportedUnitType => "Writing this unit type is not supported yet.",
+            ConvertError::OutOfMemory => "Not enough memory.",
+            _ => "",
+        }
+    }
+}
+
+impl fmt::Display for ConvertError {
+    fn fmt<W: fmt::Write>(&self, f: &mut fmt::Formatter<W>) -> fmt::Result {
+        match self {
+            ConvertError::Read(error) => write!(f, "{error}"),
+            ConvertError::Write(error) => write!(f, "{error}"),
+            _ => write!(f, "{}", self.text()),
+        }
+    }
+}
+
+impl std::error::Error for ConvertError {}
+
+impl From<ReadError> for ConvertError {
+    fn from(error: ReadError) -> ConvertError {
+        ConvertError::Read(error)
+    }
+}
+
+impl From<Error> for ConvertError {
+    fn from(error: Error) -> ConvertError {
+        ConvertError::Write(error)
+    }
 }
 
 impl<T: Drop> From<AllocFailed<T>> for ConvertError {
