@@ -93,49 +93,83 @@ impl From<AllocError> for ElfError {
     }
 }
 
-impl fmt::Display for ElfError {
-    fn fmt<W: fmt::Write>(&self, f: &mut fmt::Formatter<W>) -> fmt::Result {
+impl ElfError {
+    /// What the error says before the number that it holds, or all of it where it holds none.
+    fn text(self) -> &'static str {
         match self {
-            ElfError::NotElf => write!(f, "the file is no ELF file"),
-            ElfError::Class(class) => write!(f, "the ELF class {class} is unknown"),
-            ElfError::ByteOrder(order) => write!(f, "the ELF byte order {order} is unknown"),
-            ElfError::Version(version) => write!(f, "the ELF version {version} is unknown"),
-            ElfError::HeaderCut => write!(f, "the file ends before its ELF header does"),
-            ElfError::SectionHeaderSize(size) => {
-                write!(f, "the entries of the section table have only {size} bytes")
-            }
-            ElfError::SectionTableCut => write!(f, "the file ends before its section table does"),
-            ElfError::NamesCut => write!(f, "the file does not hold the names of its sections"),
-            ElfError::SectionCut => write!(f, "the file ends before the section does"),
-            ElfError::Compressed => write!(f, "the section is compressed"),
+            ElfError::NotElf => "the file is no ELF file",
+            ElfError::Class(_) => "the ELF class ",
+            ElfError::ByteOrder(_) => "the ELF byte order ",
+            ElfError::Version(_) => "the ELF version ",
+            ElfError::HeaderCut => "the file ends before its ELF header does",
+            ElfError::SectionHeaderSize(_) => "the entries of the section table have only ",
+            ElfError::SectionTableCut => "the file ends before its section table does",
+            ElfError::NamesCut => "the file does not hold the names of its sections",
+            ElfError::SectionCut => "the file ends before the section does",
+            ElfError::Compressed => "the section is compressed",
             ElfError::CompressionHeaderCut => {
-                write!(f, "the section ends before its header of compression does")
+                "the section ends before its header of compression does"
             }
-            ElfError::UnknownCompression(kind) => {
-                write!(f, "the section is compressed in an unknown way, {kind}")
-            }
-            ElfError::Zstd => write!(
-                f,
+            ElfError::UnknownCompression(_) => "the section is compressed in an unknown way, ",
+            ElfError::Zstd => {
                 "the section is compressed by Zstandard; decompress it first: \
                  objcopy --decompress-debug-sections FILE"
-            ),
-            ElfError::NotZlib => write!(f, "the compressed section does not begin with ZLIB"),
-            ElfError::Decompression(fault) => write!(f, "{fault}"),
-            ElfError::OutOfMemory => write!(f, "out of memory"),
-            ElfError::UnknownMachine(machine) => {
-                write!(f, "the relocations of the machine {machine} are unknown")
             }
-            ElfError::UnknownRelocation(kind) => write!(f, "the relocation type {kind} is unknown"),
-            ElfError::EntrySize(size) => {
-                write!(
-                    f,
-                    "the entries of a section of relocations or symbols have only {size} bytes"
-                )
+            ElfError::NotZlib => "the compressed section does not begin with ZLIB",
+            ElfError::Decompression(_) => "the section cannot be decompressed",
+            ElfError::OutOfMemory => "out of memory",
+            ElfError::UnknownMachine(_) => "the relocations of the machine ",
+            ElfError::UnknownRelocation(_) => "the relocation type ",
+            ElfError::EntrySize(_) => {
+                "the entries of a section of relocations or symbols have only "
             }
-            ElfError::NoSymbols => write!(f, "a section of relocations has no symbol table"),
-            ElfError::SymbolOutside(index) => write!(f, "there is no symbol {index}"),
-            ElfError::SymbolSection => write!(f, "the section of a symbol is noted elsewhere"),
-            ElfError::RelocationOutside => write!(f, "a relocation is not in its section"),
+            ElfError::NoSymbols => "a section of relocations has no symbol table",
+            ElfError::SymbolOutside(_) => "there is no symbol ",
+            ElfError::SymbolSection => "the section of a symbol is noted elsewhere",
+            ElfError::RelocationOutside => "a relocation is not in its section",
+        }
+    }
+
+    /// What the error says after that number.
+    fn rest(self) -> &'static str {
+        match self {
+            ElfError::Class(_) => " is unknown",
+            ElfError::ByteOrder(_) => " is unknown",
+            ElfError::Version(_) => " is unknown",
+            ElfError::SectionHeaderSize(_) => " bytes",
+            ElfError::UnknownMachine(_) => " are unknown",
+            ElfError::UnknownRelocation(_) => " is unknown",
+            ElfError::EntrySize(_) => " bytes",
+            _ => "",
+        }
+    }
+
+    /// The number that the error holds.
+    fn number(self) -> Option<u64> {
+        match self {
+            ElfError::Class(class) => Some(u64::from(class)),
+            ElfError::ByteOrder(order) => Some(u64::from(order)),
+            ElfError::Version(version) => Some(u64::from(version)),
+            ElfError::SectionHeaderSize(size) => Some(u64::from(size)),
+            ElfError::UnknownCompression(kind) => Some(u64::from(kind)),
+            ElfError::UnknownMachine(machine) => Some(u64::from(machine)),
+            ElfError::UnknownRelocation(kind) => Some(u64::from(kind)),
+            ElfError::EntrySize(size) => Some(size),
+            ElfError::SymbolOutside(index) => Some(u64::from(index)),
+            _ => None,
+        }
+    }
+}
+
+impl fmt::Display for ElfError {
+    fn fmt<W: fmt::Write>(&self, f: &mut fmt::Formatter<W>) -> fmt::Result {
+        if let ElfError::Decompression(fault) = self {
+            return write!(f, "{fault}");
+        }
+        let text = self.text();
+        match self.number() {
+            Some(number) => write!(f, "{text}{number}{}", self.rest()),
+            None => write!(f, "{text}"),
         }
     }
 }

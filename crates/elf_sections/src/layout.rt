@@ -14,14 +14,14 @@ use gimli_core::{Endianity, RunTimeEndian};
 const MAGIC: [u8; 4] = [0x7f, b'E', b'L', b'F'];
 
 /// The class of a file, which the sizes of addresses and offsets depend on.
-#[derive(Clone, Copy, Debug, PartialEq, Eq)]
+#[derive(Clone, Copy, Debug)]
 pub(crate) enum Class {
     Elf32,
     Elf64,
 }
 
 /// How a file notes its numbers.
-#[derive(Clone, Copy, Debug, PartialEq, Eq)]
+#[derive(Clone, Copy, Debug)]
 pub(crate) struct Layout {
     pub(crate) class: Class,
     pub(crate) order: RunTimeEndian,

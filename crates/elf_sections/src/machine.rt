@@ -23,7 +23,7 @@ const PPC64: u16 = 21;
 const S390: u16 = 22;
 
 /// The bytes of a number.
-#[derive(Clone, Copy, Debug, PartialEq, Eq)]
+#[derive(Clone, Copy)]
 pub(crate) enum Width {
     One,
     Two,
@@ -46,7 +46,7 @@ impl Width {
 }
 
 /// How the number at a relocation's place is changed.
-#[derive(Clone, Copy, Debug, PartialEq, Eq)]
+#[derive(Clone, Copy)]
 pub(crate) enum Operation {
     /// It becomes the value, which is an address.
     Address,
@@ -85,7 +85,7 @@ fn with_six(number: u64, six: u64) -> u64
 }
 
 /// What a kind of relocations does.
-#[derive(Clone, Copy, Debug, PartialEq, Eq)]
+#[derive(Clone, Copy)]
 pub(crate) enum Change {
     /// It does nothing.
     Nothing,

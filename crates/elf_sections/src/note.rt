@@ -11,7 +11,7 @@ use crate::layout::Layout;
 const BUILD_ID: u32 = 3;
 
 /// A note, and what comes after it.
-#[derive(Clone, Copy, Debug)]
+#[derive(Clone, Copy)]
 pub(crate) struct Note<'a> {
     /// What the descriptor is, for who has the name (`type`).
     pub(crate) kind: u32,

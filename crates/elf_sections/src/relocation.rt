@@ -8,7 +8,7 @@ ghost use Rattle.elf_sections.specs.Relocation.{addend_of, info_of, relocation};
 use crate::layout::{Class, Layout};
 
 /// How the entries of a section are noted.
-#[derive(Clone, Copy, Debug, PartialEq, Eq)]
+#[derive(Clone, Copy)]
 pub(crate) enum Form {
     /// The addend stands at the place (`SHT_REL`).
     Rel,
@@ -17,7 +17,7 @@ pub(crate) enum Form {
 }
 
 /// An entry of a relocation section.
-#[derive(Clone, Copy, Debug)]
+#[derive(Clone, Copy)]
 pub(crate) struct Relocation {
     /// The offset of the place in its section (`r_offset`).
     pub(crate) offset: u64,

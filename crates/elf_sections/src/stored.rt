@@ -20,7 +20,7 @@ use std::alloc::Global;
 const DEBUG: &[u8] = b".debug_";
 
 /// How what a section holds is stored.
-#[derive(Clone, Copy, Debug, PartialEq, Eq)]
+#[derive(Clone, Copy, Debug)]
 pub(crate) enum StoredForm {
     /// As it is.
     Plain,

@@ -8,7 +8,7 @@ use crate::error::ElfError;
 use crate::layout::{Class, Layout};
 
 /// A symbol.
-#[derive(Clone, Copy, Debug)]
+#[derive(Clone, Copy)]
 pub(crate) struct Symbol {
     /// Its offset in its section (`st_value`).
     pub(crate) value: u64,

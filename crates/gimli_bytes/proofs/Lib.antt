@@ -6,6 +6,7 @@ pub mod Equality
 pub mod PieceLemmas
 pub mod Parts
 pub mod WrittenAs
+mod UnsignedAs
 pub mod SectionWords
 pub mod InitialLengths
 pub mod TablesWritten

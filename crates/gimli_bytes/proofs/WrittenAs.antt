@@ -35,6 +35,26 @@ refused_at_once {sink = sink} old is = rw is (record {
   none = λ all_or_none. refl;
 })
 
+-- the same over bytes that are there
+pub over_as : {W X : Type 0} {sink : Ghosts W} {old new : W} {result : Result X Error} {at : ℕ} {wanted other : Result (List ℕ) Error} → wanted ≡ other
+    → IsOverwrite sink old new result at other → IsOverwrite sink old new result at wanted
+over_as is over = rw is over
+
+pub refused_over : {W X : Type 0} {sink : Ghosts W} {wanted : Result (List ℕ) Error} {e : Error} (old : W) (at : ℕ) → wanted ≡ Err e
+    → IsOverwrite {X = X} sink old old (Err e) at wanted
+refused_over {sink = sink} old at is = rw is (record {
+  len = refl;
+  before = refl;
+  ordered = refl;
+  stays = λ completes. completes;
+  refused = refl;
+  ok = λ keeps_bytes. tt;
+  completed = λ places completes. tt;
+  err = λ memory_alone. refl;
+  own = inr refl;
+  completed_own = λ places completes. inr refl;
+})
+
 -- ---- a writer that no linker completes
 
 pub no_truth : IsTrue false → ⊥

@@ -1,6 +1,6 @@
 //! What a writer of a section does: appends, and writes over bytes that are there.
 
-ghost use Rattle.std.specs.Prelude.{◌≡◌, ◌+◌, ◌≤◌, Bool, true, false, IsTrue, IfOk, Ok, Err};
+ghost use Rattle.std.specs.Prelude.{◌≡◌, ◌+◌, ◌≤◌, ◌<◌, Bool, true, false, IsTrue, IfOk, Ok, Err};
 ghost use Rattle.std.specs.Prelude.{length};
 ghost use Rattle.gimli_core.specs.Numbers.{number_bytes, word_size};
 ghost use Rattle.gimli_core.specs.Numbers.{SpellsUleb128, SpellsSleb128, IsShortest};
@@ -228,12 +228,7 @@ pub trait Writer: Sink {
                 if val > 0xff_ffff {
                     return Err(Error::ValueTooLarge);
                 }
-                let bytes = bytes_of_u32(self.endian(), val as u32);
-                if self.endian().is_big_endian() {
-                    self.write(&bytes[1..])
-                } else {
-                    self.write(&bytes[..3])
-                }
+                self.write(&bytes_of_u24(self.endian(), val as u32))
             }
             4 => {
                 if val > 0xffff_ffff {
@@ -284,12 +279,7 @@ pub trait Writer: Sink {
                 if val > 0xff_ffff {
                     return Err(Error::ValueTooLarge);
                 }
-                let bytes = bytes_of_u32(self.endian(), val as u32);
-                if self.endian().is_big_endian() {
-                    self.write_at(offset, &bytes[1..])
-                } else {
-                    self.write_at(offset, &bytes[..3])
-                }
+                self.write_at(offset, &bytes_of_u24(self.endian(), val as u32))
             }
             4 => {
                 if val > 0xffff_ffff {
@@ -397,6 +387,19 @@ fn bytes_of_u16<E: Endianity>(endian: E, val: u16) -> [u8; 2]
     let mut bytes = [0; 2];
     endian.write_u16(&mut bytes, val);
     bytes
+}
+
+/// The three bytes of a number in an order.
+fn bytes_of_u24<E: Endianity>(endian: E, val: u32) -> [u8; 3]
+    requires { val < 0x100_0000 }
+    ensures { result ≡ number_bytes (E.big endian) 3 val }
+{
+    let bytes = bytes_of_u32(endian, val);
+    if endian.is_big_endian() {
+        [bytes[1], bytes[2], bytes[3]]
+    } else {
+        [bytes[0], bytes[1], bytes[2]]
+    }
 }
 
 /// The four bytes of a number in an order.

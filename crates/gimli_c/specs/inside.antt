@@ -4,3 +4,4 @@ pub mod Handed
 pub mod Run
 pub mod Unit
 pub mod KeptUnits
+pub mod Told

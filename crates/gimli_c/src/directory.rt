@@ -1,13 +1,17 @@
 //! The directories of a unit.
 
-ghost use Rattle.std.specs.Prelude.{◌≡◌, ◌≢◌, false};
+ghost use Rattle.std.specs.Prelude.{◌≡◌, ◌≢◌, IfNone, IfSome, None, false, option_map};
 ghost use Rattle.gimli_core.specs.Numbers.{is_address_size};
+ghost use Rattle.gimli_line.specs.header.Header.{directory_of};
 ghost use Rattle.gimli_c.specs.FileSeen.{GivesDirectory, GivesNoDirectory};
+ghost use Rattle.gimli_c.specs.inside.Told.{TellsDirectory};
 ghost use Rattle.gimli_c.specs.Location.{location, HasNoUnit};
 
-use crate::file::{GimliText, copy_bytes, text_here};
+use crate::file::{GimliText, copy_text, text_here};
 use crate::location::program_at;
 use crate::status::{NO_SUCH_DIRECTORY, OK, OUT_OF_MEMORY, UNSUPPORTED_ADDRESS_SIZE};
+use gimli_core::Reader;
+use gimli_line::LineProgramHeader;
 use std::alloc::Global;
 
 /// Reads the directory of a number, as files have it: up to version 4 from 1 on, in version 5 from
@@ -39,13 +43,25 @@ pub extern "C" fn gimli_line_directory(
         Ok(program) => program,
         Err(status) => return status,
     };
-    let value = match program.header().directory(number) {
-        Some(value) => value,
+    let (told, text) = match directory_told(program.header(), number) {
+        Some(told) => told,
         None => return NO_SUCH_DIRECTORY,
     };
-    *directory = GimliText::new(Some(value));
-    if let Some(text) = text_here(Some(value)) {
-        copy_bytes(text.slice(), bytes);
-    }
+    *directory = told;
+    copy_text(text, bytes);
     OK
+}
+
+/// Where the directory of a number of a header stands, and its text where that is the section
+/// itself.
+fn directory_told<R: Reader>(
+    header: &LineProgramHeader<R>,
+    number: u64,
+) -> Option<(GimliText, Option<R>)>
+    ensures some { IfSome result (λ told.
+        TellsDirectory header.now.meaning number told.0 (option_map R.bytes told.1)) }
+    ensures none { IfNone result (directory_of header.now.meaning number ≡ None) }
+{
+    let value = header.directory(number)?;
+    Some((GimliText::new(Some(value)), text_here(Some(value))))
 }

@@ -1,11 +1,14 @@
 //! The files of a unit.
 
-ghost use Rattle.std.specs.Prelude.{◌≡◌, ◌≢◌, false, option_map};
+ghost use Rattle.std.specs.Prelude.{◌≡◌, ◌≢◌, [], IfNone, IfSome, None, false, option_map};
+ghost use Rattle.std.specs.Prelude.{unwrap_or};
 ghost use Rattle.gimli_core.specs.Numbers.{is_address_size};
 ghost use Rattle.gimli_core.specs.Values.{value_seen};
 ghost use Rattle.gimli_line.specs.header.File.{file_seen};
 ghost use Rattle.gimli_c.specs.FileSeen.{details_of, file_seen_by_c, optional_text_seen, text_here};
+ghost use Rattle.gimli_line.specs.header.Header.{file_of};
 ghost use Rattle.gimli_c.specs.FileSeen.{GivesFile, GivesNoFile};
+ghost use Rattle.gimli_c.specs.inside.Told.{TellsFile};
 ghost use Rattle.gimli_c.specs.Location.{location, HasNoUnit};
 ghost use Rattle.gimli_c.specs.Written.{slots_with};
 
@@ -13,7 +16,7 @@ use crate::location::program_at;
 use crate::row::flag;
 use crate::run::run_to_file;
 use crate::status::{NO_SUCH_FILE, OK, OUT_OF_MEMORY, UNSUPPORTED_ADDRESS_SIZE, error_status};
-use gimli_core::{AttributeValue, Reader, ReaderOffset};
+use gimli_core::{AttributeValue, EndianSlice, Reader, ReaderOffset, RunTimeEndian};
 use gimli_line::{FileEntry, LineProgramHeader};
 use std::alloc::Global;
 
@@ -113,19 +116,32 @@ pub extern "C" fn gimli_line_file(
         Ok(()) => {}
         Err(e) => return error_status(e),
     }
-    let header = rows.header();
-    let entry = match header.file(number) {
-        Some(entry) => entry,
+    let (told, path_text, directory_text) = match file_told(rows.header(), number) {
+        Some(told) => told,
         None => return NO_SUCH_FILE,
     };
-    *file = GimliFile::new(header, entry);
-    if let Some(text) = text_here(Some(entry.path_name())) {
-        copy_bytes(text.slice(), path);
-    }
-    if let Some(text) = text_here(entry.directory(header)) {
-        copy_bytes(text.slice(), directory);
-    }
+    *file = told;
+    copy_text(path_text, path);
+    copy_text(directory_text, directory);
     OK
+}
+
+/// What is said of the file of a number of a header, and its path and its directory, each where it
+/// stands in the section itself.
+fn file_told<R: Reader>(
+    header: &LineProgramHeader<R>,
+    number: u64,
+) -> Option<(GimliFile, Option<R>, Option<R>)>
+    ensures some { IfSome result (λ told. TellsFile header.now.meaning number told.0
+        (option_map R.bytes told.1) (option_map R.bytes told.2)) }
+    ensures none { IfNone result (file_of header.now.meaning number ≡ None) }
+{
+    let entry = header.file(number)?;
+    Some((
+        GimliFile::new(header, entry),
+        text_here(Some(entry.path_name())),
+        text_here(entry.directory(header)),
+    ))
 }
 
 impl GimliFile {
@@ -191,6 +207,18 @@ pub(crate) fn text_here<R: Reader>(value: Option<AttributeValue<R>>) -> Option<R
     match value {
         Some(AttributeValue::String(text)) => Some(text),
         _ => None,
+    }
+}
+
+/// Puts a text, if there is one, into an array, as far as there is room.
+#[tactic(auto, using(crate::proofs::Arrays::written_none))]
+pub(crate) fn copy_text(text: Option<EndianSlice<'_, RunTimeEndian>>, room: &mut [u8])
+    ensures { room.new
+        ≡ slots_with (unwrap_or (option_map (λ s. s.slice.now) text.entry) []) room.old }
+{
+    match text {
+        Some(text) => copy_bytes(text.slice(), room),
+        None => {}
     }
 }
 

@@ -1,7 +1,7 @@
 //! What is made of the header of a source, before its program is read.
 
 ghost use Rattle.std.specs.Prelude.{◌≡◌, ◌≢◌, All, IfOk, IfErr, IfSome, IsTrue, OnOk};
-ghost use Rattle.std.specs.Prelude.{Ok, None, Some, false, option_map};
+ghost use Rattle.std.specs.Prelude.{[], Ok, None, Some, false, option_map};
 ghost use Rattle.gimli_core.specs.Numbers.{is_address_size};
 ghost use Rattle.gimli_core.specs.Values.{value_seen};
 ghost use Rattle.gimli_line.specs.header.File.{file_seen};
@@ -297,17 +297,31 @@ fn first_tables(
     ensures files { IfOk result (λ tables. tables.file_ids ≡ first_ids source_version) }
     ensures memory { IfErr result (λ e. e ≡ ConvertError.OutOfMemory) }
 {
-    let mut directories = Vec::new(alloc);
-    let mut files = Vec::new(alloc);
-    if source_version <= 4 {
-        directories.push(program.default_directory())?;
-        files.push(unused_file(alloc))?;
-    }
-    Ok(SourceTables {
+    let mut tables = SourceTables {
         program,
-        directories,
-        files,
-    })
+        directories: Vec::new(alloc),
+        files: Vec::new(alloc),
+    };
+    add_first(alloc, &mut tables, source_version)?;
+    Ok(tables)
+}
+
+/// Adds what stands at number 0 up to version 4. Requires tables of no directory or file. Refused
+/// by `OutOfMemory` alone.
+fn add_first(alloc: Global, tables: &mut SourceTables, source_version: u16) -> ConvertResult<()>
+    requires program { tables.old.program.is_none ≡ false }
+    requires directories { tables.old.directory_ids ≡ [] }
+    requires files { tables.old.file_ids ≡ [] }
+    ensures program { OnOk result (tables.new.program ≡ tables.old.program) }
+    ensures directories { OnOk result (tables.new.directory_ids ≡ first_ids source_version) }
+    ensures files { OnOk result (tables.new.file_ids ≡ first_ids source_version) }
+    ensures memory { IfErr result (λ e. e ≡ ConvertError.OutOfMemory) }
+{
+    if source_version <= 4 {
+        tables.directories.push(tables.program.default_directory())?;
+        tables.files.push(unused_file(alloc))?;
+    }
+    Ok(())
 }
 
 /// The tables of a header before its directories and files are added, with the texts of the first
