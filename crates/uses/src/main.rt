@@ -1,9 +1,5 @@
 //! The programs that the CALLING pages quote, each in a file of its own, which says what it does.
-//! All is proved; the proof files hold the measures and invariants of loops, and what the search
-//! doesn't find.
-//!
-//! After the word `then` another command may follow. A command that is refused says why, and the
-//! next one is run.
+//! After the word `then` another command may follow; the next one is run where one is refused too.
 #![tactic(auto)]
 
 mod line_map;

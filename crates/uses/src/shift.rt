@@ -24,19 +24,10 @@ pub fn start(rt: &HostRuntime, words: &[String]) -> Result<()> {
     let [lines, offset, by, known @ ..] = words else {
         bail!("usage: shift LINES OFFSET BY [DIRECTORY [NAME]]");
     };
-    let offset = DebugLineOffset(offset.parse::<usize>()?);
+    let offset = offset.parse::<usize>()?;
     let by = u64::from_str_radix(by.as_str(), 16)?;
-    let bytes = fs::read(rt, lines.as_str())?;
-    let section = DebugLine::new(&bytes, LittleEndian);
-    let directory = known
-        .first()
-        .map(|word| EndianSlice::new(word.as_bytes(), LittleEndian));
-    let name = known
-        .get(1)
-        .map(|word| EndianSlice::new(word.as_bytes(), LittleEndian));
-    let no_texts = EndianSlice::new(b"", LittleEndian);
-    let source = section.program(rt.alloc(), offset, 8, directory, None)?;
-    let shifted = shift(rt.alloc(), source, name, no_texts, by)?;
+    let section = fs::read(rt, lines.as_str())?;
+    let shifted = shift(rt.alloc(), &section, offset, known, by)?;
     let mut text = String::new(rt.alloc());
     for row in &shifted.rows {
         print_row(row, &mut text)?;
@@ -45,12 +36,28 @@ pub fn start(rt: &HostRuntime, words: &[String]) -> Result<()> {
     Ok(())
 }
 
-/// What is read of a program, by any reader, after it was moved and written. From version 5 on the
-/// tables of a unit have its directory and its source file: without a directory it is refused by
-/// `MissingCompilationDirectory`, and without a name by `MissingCompilationName`. An address that
-/// can't be moved so far is refused by `InvalidAddress`, and a row that lies too far after one by
-/// `AddressOverflow`, when it is read.
-fn shift<R: Reader>(
+/// What is read of the unit at an offset after it was moved and written.
+fn shift<'i>(
+    alloc: Global,
+    section: &'i [u8],
+    offset: usize,
+    known: &'i [String],
+    by: u64,
+) -> ConvertResult<RoundTrip> {
+    let directory = known
+        .first()
+        .map(|word| EndianSlice::new(word.as_bytes(), LittleEndian));
+    let name = known
+        .get(1)
+        .map(|word| EndianSlice::new(word.as_bytes(), LittleEndian));
+    let section = DebugLine::new(section, LittleEndian);
+    let source = section.program(alloc, DebugLineOffset(offset), 8, directory, None)?;
+    shift_program(alloc, source, name, EndianSlice::new(b"", LittleEndian), by)
+}
+
+/// The same of a program, by any reader. Refused without a directory and a name, which tables from
+/// version 5 on have, by an address that can't be moved so far, and by a row that lies too far on.
+fn shift_program<R: Reader>(
     alloc: Global,
     source: IncompleteLineProgram<R>,
     name: Option<R>,
@@ -61,14 +68,8 @@ fn shift<R: Reader>(
     let mut line_strings = LineStringTable::default(alloc);
     let mut lines = gimli_write::DebugLine::from(EndianVec::new(alloc, LittleEndian));
     let program = shifted_program(source, name, no_texts, by, &mut line_strings, &mut strings)?;
-    let encoding = program.encoding();
-    round_trip(
-        &program,
-        &mut lines,
-        encoding,
-        &mut line_strings,
-        &mut strings,
-    )
+    let of = program.encoding();
+    round_trip(&program, &mut lines, of, &mut line_strings, &mut strings)
 }
 
 /// A program in version 5, with each address moved.
@@ -96,6 +97,17 @@ fn shifted_program<R: Reader>(
         line_strings,
         strings,
     )?;
+    conversion_of(conversion, by)
+}
+
+/// What a conversion builds, with each address moved.
+fn conversion_of<R: Reader>(
+    conversion: ConvertLineProgram<'_, '_, R>,
+    by: u64,
+) -> ConvertResult<LineProgram>
+    requires { HasWritable (progress conversion) }
+    ensures { IfOk result (λ program. IsWritable program conversion.exit.0.now) }
+{
     let (program, _files) = conversion.convert(|address| address_after(address, by))?;
     Ok(program)
 }
