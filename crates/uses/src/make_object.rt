@@ -123,9 +123,8 @@ fn write_object(
     w.write(NAMES)
 }
 
-/// The headers of sections, of which an empty one is the first, by what each says beside its place:
-/// where its name stands, its kind, its flags, the sections or the symbol that belong to it, and the
-/// size of an entry. Their bytes come after all headers.
+/// The headers of sections whose bytes come after all, the first one empty; by what each says beside
+/// its place: its name's place, kind, flags, link and info, and the size of an entry.
 fn write_headers(w: &mut EndianVec<LittleEndian>, sections: &[([u64; 6], usize)]) -> Result<()> {
     let mut offset = 704u64;
     for (header, size) in sections {

@@ -41,8 +41,7 @@ pub struct Program<R: Reader> {
     pub compilations: Compilations<R>,
 }
 
-/// What is kept of the program of an ELF file whose addresses have 8 bytes. Below the lowest
-/// address of its code a linker leaves what it dropped.
+/// The same, of an ELF file. Below the lowest address of its code a linker leaves what it dropped.
 pub fn program_of<'a>(
     alloc: Global,
     file: &'a [u8],
@@ -125,10 +124,8 @@ pub fn source_at<R: Reader>(
         return Err(PathError::InvalidFileIndex(found.row.file_index()));
     };
     let path = path_of(alloc, program, header, &found.row)?;
-    Ok(Some(Source {
-        path,
-        row: found.row,
-    }))
+    let row = found.row;
+    Ok(Some(Source { path, row }))
 }
 
 /// The whole path of a row's file.

@@ -1,8 +1,7 @@
-//! A unit up to version 4, written in version 5 with each address moved.
+//! A unit up to version 4, written in version 5.
 #![tactic(auto)]
 
-ghost use Rattle.std.specs.Prelude.{◌+◌, ◌<◌, ◌^◌, IfOk};
-ghost use Rattle.std.specs.Option.{SomeIff};
+ghost use Rattle.std.specs.Prelude.{IfOk};
 ghost use Rattle.gimli_write.specs.convert.KeptTables.{IsWritable, HasWritable};
 ghost use Rattle.gimli_write.specs.convert.Converter.{progress};
 
@@ -17,32 +16,30 @@ use gimli_write::{
 use std::alloc::Global;
 use std::fs;
 
-/// Reads a section from a file, and prints the rows that are read of a unit after it was moved. The
-/// directory is `DW_AT_comp_dir` of its entry in `.debug_info`, and the name `DW_AT_name`. Up to
-/// version 4 all texts of a unit stand in its header, so the sections of texts have no bytes.
+/// Reads a section from a file, and prints the rows that are read of a unit after it was converted.
+/// The directory is `DW_AT_comp_dir` of its entry in `.debug_info`, and the name `DW_AT_name`.
 pub fn start(rt: &HostRuntime, words: &[String]) -> Result<()> {
-    let [lines, offset, by, known @ ..] = words else {
-        bail!("usage: shift LINES OFFSET BY [DIRECTORY [NAME]]");
+    let [lines, offset, known @ ..] = words else {
+        bail!("usage: convert LINES OFFSET [DIRECTORY [NAME]]");
     };
     let offset = offset.parse::<usize>()?;
-    let by = u64::from_str_radix(by.as_str(), 16)?;
     let section = fs::read(rt, lines.as_str())?;
-    let shifted = shift(rt.alloc(), &section, offset, known, by)?;
+    let converted = convert(rt.alloc(), &section, offset, known)?;
     let mut text = String::new(rt.alloc());
-    for row in &shifted.rows {
+    for row in &converted.rows {
         print_row(row, &mut text)?;
     }
     print!(rt; "{text}")?;
     Ok(())
 }
 
-/// What is read of the unit at an offset after it was moved and written.
-fn shift<'i>(
+/// What is read of the unit at an offset after it was converted and written. Up to version 4 all
+/// texts of a unit stand in its header, so the sections of texts have no bytes.
+fn convert<'i>(
     alloc: Global,
     section: &'i [u8],
     offset: usize,
     known: &'i [String],
-    by: u64,
 ) -> ConvertResult<RoundTrip> {
     let directory = known
         .first()
@@ -52,32 +49,30 @@ fn shift<'i>(
         .map(|word| EndianSlice::new(word.as_bytes(), LittleEndian));
     let section = DebugLine::new(section, LittleEndian);
     let source = section.program(alloc, DebugLineOffset(offset), 8, directory, None)?;
-    shift_program(alloc, source, name, EndianSlice::new(b"", LittleEndian), by)
+    convert_by(alloc, source, name, EndianSlice::new(b"", LittleEndian))
 }
 
 /// The same of a program, by any reader. Refused without a directory and a name, which tables from
-/// version 5 on have, by an address that can't be moved so far, and by a row that lies too far on.
-fn shift_program<R: Reader>(
+/// version 5 on have.
+fn convert_by<R: Reader>(
     alloc: Global,
     source: IncompleteLineProgram<R>,
     name: Option<R>,
     no_texts: R,
-    by: u64,
 ) -> ConvertResult<RoundTrip> {
     let mut strings = StringTable::default(alloc);
     let mut line_strings = LineStringTable::default(alloc);
     let mut lines = gimli_write::DebugLine::from(EndianVec::new(alloc, LittleEndian));
-    let program = shifted_program(source, name, no_texts, by, &mut line_strings, &mut strings)?;
+    let program = program_5(source, name, no_texts, &mut line_strings, &mut strings)?;
     let of = program.encoding();
     round_trip(&program, &mut lines, of, &mut line_strings, &mut strings)
 }
 
-/// A program in version 5, with each address moved.
-fn shifted_program<R: Reader>(
+/// A program in version 5.
+fn program_5<R: Reader>(
     source: IncompleteLineProgram<R>,
     name: Option<R>,
     no_texts: R,
-    by: u64,
     line_strings: &mut LineStringTable,
     strings: &mut StringTable,
 ) -> ConvertResult<LineProgram>
@@ -97,29 +92,14 @@ fn shifted_program<R: Reader>(
         line_strings,
         strings,
     )?;
-    conversion_of(conversion, by)
+    program_of(conversion)
 }
 
-/// What a conversion builds, with each address moved.
-fn conversion_of<R: Reader>(
-    conversion: ConvertLineProgram<'_, '_, R>,
-    by: u64,
-) -> ConvertResult<LineProgram>
+/// What a conversion builds, with each address as it is.
+fn program_of<R: Reader>(conversion: ConvertLineProgram<'_, '_, R>) -> ConvertResult<LineProgram>
     requires { HasWritable (progress conversion) }
     ensures { IfOk result (λ program. IsWritable program conversion.exit.0.now) }
 {
-    let (program, _files) = conversion.convert(|address| address_after(address, by))?;
+    let (program, _files) = conversion.convert(|address| Some(Address::Constant(address)))?;
     Ok(program)
-}
-
-/// The address so many bytes further on. None from the two greatest on: they stand for code that
-/// a linker dropped, so that no reader would show the rows.
-fn address_after(address: u64, by: u64) -> Option<Address>
-    ensures { SomeIff result (address + by + 2 < 2 ^ 64) (Address.Constant (address + by)) }
-{
-    let moved = address.checked_add(by)?;
-    if moved >= u64::MAX - 1 {
-        return None;
-    }
-    Some(Address::Constant(moved))
 }
