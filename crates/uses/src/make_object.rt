@@ -123,8 +123,8 @@ fn write_object(
     w.write(NAMES)
 }
 
-/// The headers of sections whose bytes come after all, the first one empty; by what each says beside
-/// its place: its name's place, kind, flags, link and info, and the size of an entry.
+/// The headers of sections, the first one empty; each says beside its place where its name stands,
+/// its kind, its flags, its link, its info, and the size of an entry. Their bytes come after all.
 fn write_headers(w: &mut EndianVec<LittleEndian>, sections: &[([u64; 6], usize)]) -> Result<()> {
     let mut offset = 704u64;
     for (header, size) in sections {
