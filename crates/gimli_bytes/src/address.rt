@@ -1,15 +1,6 @@
 //! Addresses that are written: numbers, or symbols to which a linker gives numbers.
 
 /// An address, or what is to become one.
-///
-/// <!-- part of crates/uses/src/shift.rt -->
-/// ```rust
-/// let moved = address.checked_add(by)?;
-/// if moved >= u64::MAX - 1 {
-///     return None;
-/// }
-/// Some(Address::Constant(moved))
-/// ```
 #[derive(Clone, Copy, Debug, PartialEq, Eq, Hash)]
 pub enum Address {
     /// An address that is known.

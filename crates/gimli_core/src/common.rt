@@ -46,14 +46,6 @@ impl Format {
 }
 
 /// What the numbers of a unit are encoded by.
-///
-/// <!-- part of crates/uses/src/shift.rt -->
-/// ```rust
-/// let encoding = Encoding {
-///     version: 5,
-///     ..source.header().encoding()
-/// };
-/// ```
 #[derive(Clone, Copy, Debug, PartialEq, Eq)]
 pub struct Encoding {
     /// The number of bytes of an address.

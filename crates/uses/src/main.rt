@@ -1,17 +1,13 @@
 //! The programs that the CALLING pages quote, each in a file of its own, which says what it does.
-//! All is proved; the proof files hold the measures and invariants of loops, and what the search
-//! doesn't find.
-//!
-//! After the word `then` another command may follow. A command that is refused says why, and the
-//! next one is run.
+//! After the word `then` another command may follow; the next one is run where one is refused too.
 #![tactic(auto)]
 
+mod convert;
 mod line_map;
 mod make_object;
 mod make_unit;
 mod own;
 mod rows;
-mod shift;
 mod where_is;
 
 use anyhow::{Result, bail};
@@ -42,7 +38,7 @@ fn run(rt: &HostRuntime, command: &[String]) -> Result<()> {
         "line_map" => line_map::start(rt, words),
         "make_unit" => make_unit::start(rt),
         "make_object" => make_object::start(rt),
-        "shift" => shift::start(rt, words),
+        "convert" => convert::start(rt, words),
         "own" => own::start(rt),
         _ => bail!("no command {program}"),
     }

@@ -91,10 +91,6 @@ fn write_relocations(w: &mut EndianVec<LittleEndian>, list: &[Relocation]) -> Re
     Ok(())
 }
 
-/// What the header of a section says beside its place: where its name stands, its kind, its flags,
-/// the sections or the symbol that belong to it (`link`, `info`), and the size of an entry.
-type Header = [u64; 6];
-
 /// The object file: two functions, their lines, and a unit that leads to the lines.
 fn write_object(
     w: &mut EndianVec<LittleEndian>,
@@ -127,8 +123,9 @@ fn write_object(
     w.write(NAMES)
 }
 
-/// The headers of sections, of which an empty one is the first. Their bytes come after all headers.
-fn write_headers(w: &mut EndianVec<LittleEndian>, sections: &[(Header, usize)]) -> Result<()> {
+/// The headers of sections, the first one empty; each says beside its place where its name stands,
+/// its kind, its flags, its link, its info, and the size of an entry. Their bytes come after all.
+fn write_headers(w: &mut EndianVec<LittleEndian>, sections: &[([u64; 6], usize)]) -> Result<()> {
     let mut offset = 704u64;
     for (header, size) in sections {
         let [name, kind, flags, link, info, entry_size] = *header;

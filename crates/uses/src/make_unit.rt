@@ -51,7 +51,11 @@ pub fn write_unit<W: Writer>(
     section: &mut DebugLine<W>,
     line_strings: &mut LineStringTable,
 ) -> Result<()> {
-    let (mut program, source, header) = with_files(line_strings)?;
+    let mut program = with_source(line_strings)?;
+    let Some((source, _, _)) = program.files().next() else {
+        return Err(Error::InvalidRange);
+    };
+    let header = add_header(&mut program, line_strings)?;
     add_function(&mut program, line_strings, source, functions[0], [3, 4])?;
     add_function(&mut program, line_strings, header, functions[1], [8, 9])?;
     let mut strings = StringTable::default(*line_strings.allocator());
@@ -59,19 +63,17 @@ pub fn write_unit<W: Writer>(
     Ok(())
 }
 
-/// A program of two files, and their ids.
-fn with_files(line_strings: &mut LineStringTable) -> Result<(LineProgram, FileId, FileId)>
-    ensures { IfOk result (λ made. CanWrite made.0 (texts_in [] line_strings.new)) }
+/// A program of one file.
+fn with_source(line_strings: &mut LineStringTable) -> Result<LineProgram>
+    ensures { IfOk result (λ program. CanWrite program (texts_in [] line_strings.new)) }
 {
     let encoding = Encoding {
         address_size: 8,
         format: Format::Dwarf32,
         version: 5,
     };
-    let working = line_strings.add(b"/made")?;
+    let directory = line_strings.add(b"/made")?;
     let path = line_strings.add(b"two.c")?;
-    let include = line_strings.add(b"inc")?;
-    let other = line_strings.add(b"two.h")?;
     let info = FileInfo {
         md5: NO_BYTES,
         ..FileInfo::default()
@@ -80,18 +82,25 @@ fn with_files(line_strings: &mut LineStringTable) -> Result<(LineProgram, FileId
         *line_strings.allocator(),
         encoding,
         LineEncoding::default(),
-        LineString::LineStringRef(working),
+        LineString::LineStringRef(directory),
         None,
         LineString::LineStringRef(path),
         Some(info),
     )?;
     program.file_has_md5 = true;
+    Ok(program)
+}
+
+/// Adds a file in another directory.
+fn add_header(program: &mut LineProgram, line_strings: &mut LineStringTable) -> Result<FileId>
+    requires { CanWrite program.old (texts_in [] line_strings.old) }
+    ensures { OnOk result (CanWrite program.new (texts_in [] line_strings.new)) }
+{
+    let include = line_strings.add(b"inc")?;
+    let path = line_strings.add(b"two.h")?;
     let directory = program.add_directory(LineString::LineStringRef(include))?;
-    let header = program.add_file(LineString::LineStringRef(other), directory, None)?;
-    let Some((source, _, _)) = program.files().next() else {
-        return Err(Error::InvalidRange);
-    };
-    Ok((program, source, header))
+    let file = program.add_file(LineString::LineStringRef(path), directory, None)?;
+    Ok(file)
 }
 
 /// Adds a function of six bytes: a line of a file, and another one for its last byte.

@@ -15,8 +15,7 @@ use std::alloc::Global;
 use std::fmt::Write;
 use std::fs;
 
-/// Reads an ELF file, and prints a line for each address, which has hexadecimal digits. Refused
-/// where a word is no address, where a file has no path, and where memory is missing.
+/// Reads an ELF file, and prints a line for each address, which has hexadecimal digits.
 pub fn start(rt: &HostRuntime, words: &[String]) -> Result<()> {
     let [file, addresses @ ..] = words else {
         bail!("usage: where_is FILE ADDRESS..");
@@ -42,8 +41,7 @@ pub struct Program<R: Reader> {
     pub compilations: Compilations<R>,
 }
 
-/// What is kept of the program of an ELF file whose addresses have 8 bytes. Below the lowest
-/// address of its code a linker leaves what it dropped.
+/// The same, of an ELF file. Below the lowest address of its code a linker leaves what it dropped.
 pub fn program_of<'a>(
     alloc: Global,
     file: &'a [u8],
@@ -83,8 +81,13 @@ fn print_place<R: Reader>(
 ) -> Result<()> {
     let address = u64::from_str_radix(address.strip_prefix("0x").unwrap_or(address), 16)?;
     match source_at(alloc, program, address)? {
-        Some(Source { path, line, column }) => {
+        Some(Source { path, row }) => {
             let path = String::from_utf8_lossy(alloc, &path)?;
+            let line = row.line().map_or(0, |line| line.get());
+            let column = match row.column() {
+                ColumnType::LeftEdge => 0,
+                ColumnType::Column(column) => column.get(),
+            };
             writeln!(text, "{address:#x} {path}:{line}:{column}")?;
         }
         None => writeln!(text, "{address:#x} ??")?,
@@ -92,15 +95,13 @@ fn print_place<R: Reader>(
     Ok(())
 }
 
-/// Where code comes from.
+/// Where code comes from: the whole path of a file, and a row of it.
 #[derive(Debug, Drop)]
 pub struct Source {
-    /// The whole path of the file.
+    /// The whole path.
     pub path: Vec<u8>,
-    /// The line, 0 where none is known.
-    pub line: u64,
-    /// The column, 0 for the left edge.
-    pub column: u64,
+    /// The row.
+    pub row: LineRow,
 }
 
 /// Where the code at an address comes from: what the row says that covers it. None where no row
@@ -112,9 +113,8 @@ pub fn source_at<R: Reader>(
 ) -> std::result::Result<Option<Source>, PathError>
     ensures none { IfOk result (λ source. source ≡ None
         → All (HasNoPair address) (all_sequences program.now.lookup)) }
-    ensures row { IfOk result (λ source. IfSome source (λ source. (row next : _)
-        × IsFirstPair address (all_sequences program.now.lookup) row next
-        × (source.line ≡ row.line) × (source.column ≡ row.column))) }
+    ensures row { IfOk result (λ source. IfSome source (λ source. (next : _)
+        × IsFirstPair address (all_sequences program.now.lookup) source.row next)) }
 {
     let Some(found) = program.lookup.find(address) else {
         return Ok(None);
@@ -124,12 +124,8 @@ pub fn source_at<R: Reader>(
         return Err(PathError::InvalidFileIndex(found.row.file_index()));
     };
     let path = path_of(alloc, program, header, &found.row)?;
-    let line = found.row.line().map_or(0, |line| line.get());
-    let column = match found.row.column() {
-        ColumnType::LeftEdge => 0,
-        ColumnType::Column(column) => column.get(),
-    };
-    Ok(Some(Source { path, line, column }))
+    let row = found.row;
+    Ok(Some(Source { path, row }))
 }
 
 /// The whole path of a row's file.
