@@ -55,7 +55,7 @@ fn lookup_of(alloc: Global, section: &[u8]) -> Result<SectionLookup<Slice<'_>>, 
 fn do_work(alloc: Global, section: &[u8], work: &str, times: u64) -> Result<Tally, MakeError> {
     let lookup = lookup_of(alloc, section)?;
     let mut tally = Tally::default();
-    if let "open" | "find" = work {
+    if work == "open" || work == "find" {
         let mut bytes = index_of(alloc, &lookup)?;
         bytes.extend_from_slice(&[0; 8])?;
         return Ok(match work {

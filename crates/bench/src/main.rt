@@ -39,8 +39,9 @@ fn start(rt: &HostRuntime) -> io::Result<()> {
     for word in arguments.iter().skip(1) {
         words.push(word.as_str())?;
     }
-    if words.as_slice() != ["stored"].as_slice() {
-        return perform(rt, &words);
+    match words.as_slice() {
+        ["stored"] => {}
+        words => return perform(rt, words),
     }
     perform(rt, &["read", "two_units.section", "2"])?;
     perform(rt, &["write", "2"])?;

@@ -111,21 +111,12 @@ fn print_part<R: Reader, O: Write>(
     part: Part,
     out: &mut O,
 ) -> Result<(), Refusal> {
-    let outcome = print_lines(program, part, out);
-    finish(outcome, out)
-}
-
-/// Prints the lines of a part of a program.
-fn print_lines<R: Reader, O: Write>(
-    program: IncompleteLineProgram<R>,
-    part: Part,
-    out: &mut O,
-) -> Result<(), Refusal> {
-    match part {
+    let outcome = match part {
         Part::Rows => print_program(program, out),
         Part::Sequences => print_sequences(program, out),
         Part::Pair(address) => print_pair(program, address, out),
-    }
+    };
+    finish(outcome, out)
 }
 
 /// Prints the sequences of a program. Nothing is printed where it can't be cut.

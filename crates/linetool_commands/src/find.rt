@@ -1,10 +1,11 @@
 //! The rows that cover an address.
 
-use crate::print::{print_line, print_row};
+use crate::print::print_line;
 use crate::refusal::Refusal;
 use gimli_core::Reader;
-use gimli_line::{IncompleteLineProgram, LineRow};
+use gimli_line::IncompleteLineProgram;
 use gimli_lookup::find_in_run;
+use line_text::RowLine;
 use std::io::Write;
 
 /// Prints the two rows that cover an address of a unit, or that none do. The unit is run once, and
@@ -15,14 +16,11 @@ pub(crate) fn print_pair<R: Reader, O: Write>(
     out: &mut O,
 ) -> Result<(), Refusal> {
     match find_in_run(program, address) {
-        Ok(Some((first, second))) => print_both(first, second, out),
+        Ok(Some((first, second))) => {
+            print_line(RowLine(first), out)?;
+            print_line(RowLine(second), out)
+        }
         Ok(None) => print_line("none", out),
         Err(e) => Err(Refusal::of_unit(e, Refusal::Rows)),
     }
-}
-
-/// Prints two rows.
-fn print_both<O: Write>(first: LineRow, second: LineRow, out: &mut O) -> Result<(), Refusal> {
-    print_row(first, out)?;
-    print_row(second, out)
 }

@@ -4,7 +4,7 @@ ghost use Rattle.std.specs.Prelude.{◌≡◌, IfErr};
 
 use crate::refusal::Refusal;
 use gimli_core::Reader;
-use gimli_line::{IncompleteLineProgram, LineProgram, LineRow, LineRows};
+use gimli_line::{IncompleteLineProgram, LineProgram, LineRows};
 use line_text::RowLine;
 use std::fmt;
 use std::io::Write;
@@ -29,15 +29,8 @@ pub(crate) fn print_rows<R: Reader, P: LineProgram<R> + Drop, O: Write>(
             Ok(None) => return Ok(()),
             Err(e) => return Err(Refusal::of_unit(e, Refusal::Rows)),
         };
-        print_row(row, out)?;
+        print_line(RowLine(row), out)?;
     }
-}
-
-/// Prints the line of a row.
-pub(crate) fn print_row<O: Write>(row: LineRow, out: &mut O) -> Result<(), Refusal>
-    ensures refusal { IfErr result (λ r. r ≡ Refusal.Output) }
-{
-    print_line(RowLine(row), out)
 }
 
 /// Prints a line of text.

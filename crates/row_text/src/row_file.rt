@@ -40,7 +40,7 @@ pub enum Input {
 }
 
 /// Why a file of rows can't be read.
-#[derive(Clone, Copy, Debug, PartialEq, Eq)]
+#[derive(Clone, Copy, PartialEq, Eq)]
 pub enum Fault {
     /// Memory was refused.
     Memory,

@@ -4,7 +4,7 @@ use gimli_bytes::Error;
 use std::alloc::{AllocError, AllocFailed};
 
 /// Whether a library call that returns `OutOfMemory` is made once more.
-#[derive(Clone, Copy, Debug, PartialEq, Eq)]
+#[derive(Clone, Copy, PartialEq, Eq)]
 pub enum Attempts {
     /// Each call is made once.
     One,
@@ -13,7 +13,7 @@ pub enum Attempts {
 }
 
 /// Why a command, or a call of a script, isn't done.
-#[derive(Clone, Copy, Debug, PartialEq, Eq)]
+#[derive(Clone, Copy, PartialEq, Eq)]
 pub enum Stop {
     /// Its words are no such command or call.
     Bad,

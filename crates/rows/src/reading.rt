@@ -10,7 +10,7 @@ use gimli_write::{
 use row_text::Lines;
 
 /// What a conversion is read by.
-#[derive(Clone, Copy, Debug, PartialEq, Eq)]
+#[derive(Clone, Copy, PartialEq, Eq)]
 pub enum Kind {
     /// By items.
     Items,
@@ -19,7 +19,7 @@ pub enum Kind {
 }
 
 /// How reading a conversion ends.
-#[derive(Clone, Copy, Debug, PartialEq, Eq)]
+#[derive(Clone, Copy, PartialEq, Eq)]
 pub(crate) enum Ending {
     /// It isn't begun.
     NotBegun,

@@ -6,7 +6,7 @@ use row_text::{Arguments, Stop};
 use std::alloc::Global;
 
 /// The encodings of the program that is built; where none is handed in it is that of the source.
-#[derive(Clone, Copy, Debug)]
+#[derive(Clone, Copy)]
 pub(crate) struct Target {
     pub encoding: Option<Encoding>,
     pub line_encoding: Option<LineEncoding>,

@@ -30,12 +30,12 @@ impl Read for RowFile<'_> {
 
 /// An output that has room for so many bytes more.
 #[derive(Drop)]
-struct Room<'o> {
-    out: &'o mut Vec<u8>,
+struct Room {
+    out: Vec<u8>,
     left: usize,
 }
 
-impl Write for Room<'_> {
+impl Write for Room {
     fn write(&mut self, bytes: &[u8]) -> io::Result<usize> {
         let count = bytes.len().min(self.left);
         self.out.extend_from_slice(&bytes[..count])?;
@@ -59,7 +59,7 @@ pub fn run_linetool(
 ) -> Result<u8, Stop> {
     let mut file = Some(RowFile {
         bytes: section,
-        breaks: words.first() == Some(&"broken"),
+        breaks: false,
     });
     let mut left = usize::MAX;
     let words = match words {
@@ -71,7 +71,13 @@ pub fn run_linetool(
             file = None;
             words
         }
-        ["broken", words @ ..] => words,
+        ["broken", words @ ..] => {
+            file = Some(RowFile {
+                bytes: section,
+                breaks: true,
+            });
+            words
+        }
         words => words,
     };
     let mut own = Vec::new(request.alloc);
@@ -82,23 +88,39 @@ pub fn run_linetool(
             own.push("FILE")?;
         }
     }
-    let start = out.len();
-    let mut err = Vec::new(request.alloc);
-    let mut room = Room { out, left };
-    let mut status = linetool_commands::run(request.alloc, &own, file, &mut room, &mut err);
-    if request.attempts == Attempts::Two && err.as_slice() == b"refused: memory\n".as_slice() {
-        room.out.truncate(start);
-        err.clear();
-        status = linetool_commands::run(request.alloc, &own, file, &mut room, &mut err);
-    }
-    // An output with room takes no more only where memory is refused.
-    if status != 0 && err.is_empty() && room.left != 0 {
-        return Err(Stop::Memory);
-    }
-    print_errors(&err, out)?;
+    let status = run_words(request, &own, file, left, out)?;
     if request.attempts == Attempts::Two {
         watch_command(request, &own, section, out)?;
     }
+    Ok(status)
+}
+
+/// Runs the words of `linetool` over a file, and prints what stands on its outputs.
+fn run_words(
+    request: Request<'_>,
+    words: &[&str],
+    file: Option<RowFile<'_>>,
+    left: usize,
+    out: &mut Vec<u8>,
+) -> Result<u8, Stop> {
+    let alloc = request.alloc;
+    let mut err = Vec::new(alloc);
+    let mut printed = Room {
+        out: Vec::new(alloc),
+        left,
+    };
+    let mut status = linetool_commands::run(alloc, words, file, &mut printed, &mut err);
+    if request.attempts == Attempts::Two && err.as_slice() == b"refused: memory\n".as_slice() {
+        printed.out.clear();
+        err.clear();
+        status = linetool_commands::run(alloc, words, file, &mut printed, &mut err);
+    }
+    // An output with room takes no more only where memory is refused.
+    if status != 0 && err.is_empty() && printed.left != 0 {
+        return Err(Stop::Memory);
+    }
+    out.extend_from_slice(&printed.out)?;
+    print_errors(&err, out)?;
     Ok(status)
 }
 
