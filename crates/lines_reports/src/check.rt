@@ -65,7 +65,7 @@ impl<R: Reader> Check<R> {
             };
             match self.sources.of_file(self.alloc, header, file) {
                 Ok(path) => {
-                    let digest = Sha256::digest(&path);
+                    let digest = Sha256::digest(path.as_slice());
                     files.push(DigestedFile { digest, index })?;
                 }
                 Err(PathError::OutOfMemory) => return Err(AllocError),
