@@ -95,7 +95,6 @@ fn perform<R: Reader, S: SourceFiles, I: BufRead, O: Write, E: Write>(
     match command {
         Command::Where { addresses, form } => {
             let functions = Functions::new(alloc, symbols, None)?;
-            let mut questions = Questions::new(alloc, addresses, input)?;
             let form = *form;
             let is_told = show_reading(sections.length(), output);
             output.hand_on(out, err)?;
@@ -103,6 +102,7 @@ fn perform<R: Reader, S: SourceFiles, I: BufRead, O: Write, E: Write>(
             if is_told {
                 output.clear();
             }
+            let mut questions = Questions::new(alloc, addresses, input)?;
             answer_all(alloc, &places, &mut questions, sources, output, out, err)
         }
         Command::At(_) | Command::Source(_) if !sections.is_linked => {

@@ -157,7 +157,7 @@ fn print_overlap(
         None,
         format_args!(
             "the sequence from 0x{start:x} to 0x{end:x} overlaps that from 0x{other_start:x} to \
-         0x{other_end:x} in the unit at 0x{other_unit:x}"
+             0x{other_end:x} in the unit at 0x{other_unit:x}"
         ),
         output,
     );

@@ -210,8 +210,8 @@ impl RowCheck {
                 FindingKind::Dropped,
                 None,
                 format_args!(
-                    "after {rows}: the address 0x{address:x} stands for dropped code, and what follows \
-                 is left out"
+                    "after {rows}: the address 0x{address:x} stands for dropped code, and what \
+                     follows is left out"
                 ),
                 output,
             );
@@ -221,8 +221,8 @@ impl RowCheck {
                 FindingKind::GoesDown,
                 None,
                 format_args!(
-                    "after {rows}: the address goes down from 0x{before:x} to 0x{address:x}, and what \
-                 follows is left out"
+                    "after {rows}: the address goes down from 0x{before:x} to 0x{address:x}, and \
+                     what follows is left out"
                 ),
                 output,
             );
@@ -285,7 +285,7 @@ impl RowCheck {
                 None,
                 format_args!(
                     "row {number}: a sequence begins at 0x{address:x}, below the lowest address of \
-                 code, 0x{lowest:x}"
+                     code, 0x{lowest:x}"
                 ),
                 output,
             );
