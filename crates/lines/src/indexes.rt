@@ -40,7 +40,7 @@ fn index_of<E: Write>(
 /// The build id of a program by its name, where it is a file that is an ELF file; None where it has
 /// none, and where it can't be read, which its reader reports.
 fn build_id_of(rt: &HostRuntime, request: &Request<'_>, name: &str) -> io::Result<Option<Vec<u8>>> {
-    if request.kind != Kind::Elf || name == STANDARD_INPUT {
+    if !matches!(request.kind, Kind::Elf) || name == STANDARD_INPUT {
         return Ok(None);
     }
     match read_build_id(rt, name) {

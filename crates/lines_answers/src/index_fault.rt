@@ -6,7 +6,7 @@ use gimli_index::{IndexError, NoPath};
 use std::fmt;
 
 /// Why an index isn't asked.
-#[derive(Clone, Copy, Debug, PartialEq, Eq)]
+#[derive(Clone, Copy)]
 pub enum IndexFault {
     /// The bytes are no index, or one that isn't sound.
     Index(IndexError),

@@ -4,36 +4,11 @@ use crate::perform::print_all;
 use crate::questions::Questions;
 use gimli_core::Reader;
 use lines_answers::{Answered, Asked, PlacePrinter, Places, SourceRows, print_below, print_lines};
-use lines_inputs::{Functions, Program, show_reading, tell_refusal};
+use lines_inputs::{Functions, Input, Program, tell_refusal};
 use lines_words::{CodeAddress, Files, Output, PathText, PlaceForm, SourceChoice, SourceFiles};
 use std::alloc::Global;
 use std::io;
 use std::io::{BufRead, Write};
-
-/// Prints the place of each address of a linked program, or of those that a reader has where none
-/// is given.
-pub(crate) fn locate<S: SourceFiles, I: BufRead, O: Write, E: Write>(
-    alloc: Global,
-    program: &Program<'_>,
-    addresses: &[CodeAddress<'_>],
-    form: PlaceForm<'_>,
-    sources: &S,
-    input: &mut I,
-    output: &mut Output<'_>,
-    out: &mut O,
-    err: &mut E,
-) -> io::Result<()> {
-    let functions = Functions::new(alloc, program.symbols(), None)?;
-    let sections = &program.input();
-    let is_told = show_reading(sections.length(), output);
-    output.hand_on(out, err)?;
-    let places = Places::new(alloc, sections, functions, addresses, form, None, output)?;
-    if is_told {
-        output.clear();
-    }
-    let mut questions = Questions::new(alloc, addresses, input)?;
-    answer_all(alloc, &places, &mut questions, sources, output, out, err)
-}
 
 /// Prints the place of each address in an object file. Each section has rows of its own, which are
 /// kept until another section is asked for.
@@ -97,8 +72,10 @@ fn locate_in_section<S: SourceFiles, I: BufRead, O: Write, E: Write>(
         Ok(Some(program)) => {
             let functions = Functions::new(alloc, program.symbols(), program.section())?;
             let sections = &program.input();
-            let places = Places::new(alloc, sections, functions, &[], form, Some(name), output)?;
-            answer_all(alloc, &places, questions, sources, output, out, err)?;
+            let name = Some(name);
+            locate_by(
+                alloc, sections, functions, form, name, sources, questions, output, out, err,
+            )?;
             return Ok(true);
         }
         Ok(None) => {
@@ -110,8 +87,25 @@ fn locate_in_section<S: SourceFiles, I: BufRead, O: Write, E: Write>(
     Ok(false)
 }
 
+/// Prints the places of the addresses that follow each other in a section, by its rows.
+fn locate_by<R: Reader, S: SourceFiles, I: BufRead, O: Write, E: Write>(
+    alloc: Global,
+    sections: &Input<R>,
+    functions: Functions<'_>,
+    form: PlaceForm<'_>,
+    name: Option<&[u8]>,
+    sources: &S,
+    questions: &mut Questions<'_, I>,
+    output: &mut Output<'_>,
+    out: &mut O,
+    err: &mut E,
+) -> io::Result<()> {
+    let places = Places::new(alloc, sections, functions, &[], form, name, output)?;
+    answer_all(alloc, &places, questions, sources, output, out, err)
+}
+
 /// Answers questions up to the first that is asked of another section.
-fn answer_all<R: Reader, S: SourceFiles, I: BufRead, O: Write, E: Write>(
+pub(crate) fn answer_all<R: Reader, S: SourceFiles, I: BufRead, O: Write, E: Write>(
     alloc: Global,
     places: &Places<'_, '_, R>,
     questions: &mut Questions<'_, I>,
@@ -140,17 +134,17 @@ fn answer_all<R: Reader, S: SourceFiles, I: BufRead, O: Write, E: Write>(
 }
 
 /// Prints the lines of a place or of a function, with the addresses of their rows.
-pub(crate) fn print_source<S: SourceFiles, O: Write, E: Write>(
+pub(crate) fn print_source<R: Reader, S: SourceFiles, O: Write, E: Write>(
     alloc: Global,
-    program: &Program<'_>,
+    sections: &Input<R>,
+    functions: &Functions<'_>,
     choice: SourceChoice<'_>,
     sources: &S,
     output: &mut Output<'_>,
     out: &mut O,
     err: &mut E,
 ) -> io::Result<()> {
-    let functions = Functions::new(alloc, program.symbols(), None)?;
-    let found = SourceRows::new(alloc, &program.input(), &functions, choice, output)?;
+    let found = SourceRows::new(alloc, sections, functions, choice, output)?;
     let Some(mut found) = found else {
         return Ok(());
     };

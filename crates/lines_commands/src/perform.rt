@@ -5,10 +5,12 @@ ghost use Rattle.std.specs.Prelude.{◌≡◌, ◌≤◌, IfOk, IfErr};
 ghost use Rattle.std.specs.IoError.{error_kind};
 ghost use Rattle.lines_inputs.specs.Lines.{HasLines};
 
-use crate::answering::{locate, locate_in_sections, print_source};
-use elf_sections::ElfError;
-use lines_answers::print_addresses;
-use lines_inputs::{InputError, NOT_LINKED, Program, show_reading, tell_refusal};
+use crate::answering::{answer_all, locate_in_sections, print_source};
+use crate::questions::Questions;
+use elf_sections::{ElfError, SymbolTable};
+use gimli_core::Reader;
+use lines_answers::{Places, print_addresses};
+use lines_inputs::{Functions, Input, InputError, NOT_LINKED, Program, show_reading, tell_refusal};
 use lines_reports::{Check, Diff, FileList, RowList, Stat, UnitList};
 use lines_words::{Command, Files, Kind, Output, Pieces, Request, Screen, SourceFiles, Verdict};
 use std::alloc::Global;
@@ -49,42 +51,65 @@ pub fn run<S: SourceFiles, I: BufRead, O: Write, E: Write>(
             return Ok(Verdict::Faulty.status());
         }
     };
-    let command = &request.command;
-    perform(
-        alloc,
-        command,
-        &program,
-        files,
-        sources,
-        input,
-        &mut output,
-        out,
-        err,
-    )?;
+    let sections = &program.input();
+    let symbols = program.symbols();
+    match &request.command {
+        Command::Where { addresses, form } if !sections.is_linked => locate_in_sections(
+            alloc,
+            files,
+            addresses,
+            *form,
+            sources,
+            input,
+            &mut output,
+            out,
+            err,
+        )?,
+        command => perform(
+            alloc,
+            command,
+            sections,
+            symbols,
+            sources,
+            input,
+            &mut output,
+            out,
+            err,
+        )?,
+    }
     output.finish(out, err)
 }
 
-/// Does what a command asks for.
-fn perform<S: SourceFiles, I: BufRead, O: Write, E: Write>(
+/// Does what a command asks for, but for `where` over an object file.
+fn perform<R: Reader, S: SourceFiles, I: BufRead, O: Write, E: Write>(
     alloc: Global,
     command: &Command<'_>,
-    program: &Program<'_>,
-    files: Files<'_>,
+    sections: &Input<R>,
+    symbols: SymbolTable<'_>,
     sources: &S,
     input: &mut I,
     output: &mut Output<'_>,
     out: &mut O,
     err: &mut E,
 ) -> io::Result<()> {
-    let sections = &program.input();
     match command {
-        Command::Where { addresses, form } if sections.is_linked => locate(
-            alloc, program, addresses, *form, sources, input, output, out, err,
-        ),
-        Command::Where { addresses, form } => locate_in_sections(
-            alloc, files, addresses, *form, sources, input, output, out, err,
-        ),
-        Command::At(line) if sections.is_linked => {
+        Command::Where { addresses, form } => {
+            let functions = Functions::new(alloc, symbols, None)?;
+            let form = *form;
+            let is_told = show_reading(sections.length(), output);
+            output.hand_on(out, err)?;
+            let places = Places::new(alloc, sections, functions, addresses, form, None, output)?;
+            if is_told {
+                output.clear();
+            }
+            let mut questions = Questions::new(alloc, addresses, input)?;
+            answer_all(alloc, &places, &mut questions, sources, output, out, err)
+        }
+        Command::At(_) | Command::Source(_) if !sections.is_linked => {
+            output.tell(NOT_LINKED);
+            Ok(())
+        }
+        Command::At(line) => {
             let is_told = show_reading(sections.length(), output);
             output.hand_on(out, err)?;
             print_addresses(alloc, sections, *line, output)?;
@@ -93,27 +118,25 @@ fn perform<S: SourceFiles, I: BufRead, O: Write, E: Write>(
             }
             Ok(())
         }
-        Command::Source(choice) if sections.is_linked => {
-            print_source(alloc, program, *choice, sources, output, out, err)
+        Command::Source(choice) => {
+            let functions = Functions::new(alloc, symbols, None)?;
+            print_source(
+                alloc, sections, &functions, *choice, sources, output, out, err,
+            )
         }
-        Command::At(_) | Command::Source(_) => {
-            output.tell(NOT_LINKED);
-            Ok(())
-        }
-        command => report(alloc, command, program, output, out, err),
+        command => report(alloc, command, sections, output, out, err),
     }
 }
 
 /// Prints what line programs hold.
-fn report<O: Write, E: Write>(
+fn report<R: Reader, O: Write, E: Write>(
     alloc: Global,
     command: &Command<'_>,
-    program: &Program<'_>,
+    sections: &Input<R>,
     output: &mut Output<'_>,
     out: &mut O,
     err: &mut E,
 ) -> io::Result<()> {
-    let sections = &program.input();
     match command {
         Command::Units { is_json } => {
             let mut list = UnitList::new(alloc, sections, *is_json, output);
@@ -194,12 +217,36 @@ pub fn run_diff<O: Write, E: Write>(
         return output.finish(out, err);
     };
     output.rename(request.file);
-    let mut diff = Diff::new(alloc, &old.input(), &new.input(), *is_json, &mut output)?;
-    print_all(&mut diff, &mut output, out, err)?;
-    output.rename(*new_name);
-    diff.begin_new();
-    print_all(&mut diff, &mut output, out, err)?;
+    let old = &old.input();
+    compare(
+        alloc,
+        old,
+        &new.input(),
+        *is_json,
+        *new_name,
+        &mut output,
+        out,
+        err,
+    )?;
     output.finish(out, err)
+}
+
+/// Prints how a program differs from a new one of a name.
+fn compare<'o, R: Reader, O: Write, E: Write>(
+    alloc: Global,
+    old: &Input<R>,
+    new: &Input<R>,
+    is_json: bool,
+    new_name: &'o str,
+    output: &mut Output<'o>,
+    out: &mut O,
+    err: &mut E,
+) -> io::Result<()> {
+    let mut diff = Diff::new(alloc, old, new, is_json, output)?;
+    print_all(&mut diff, output, out, err)?;
+    output.rename(new_name);
+    diff.begin_new();
+    print_all(&mut diff, output, out, err)
 }
 
 /// The sections of a program. None where they can't be read, which is reported.

@@ -55,7 +55,7 @@ impl<'i> SymbolSections<'i> {
 
 /// The code of a function. Of several that begin at one address the greatest counts, and of these
 /// the first in the table.
-#[derive(Clone, Copy, Debug, PartialEq, Eq, PartialOrd, Ord)]
+#[derive(Clone, Copy, PartialEq, Eq, PartialOrd, Ord)]
 struct CodeRange {
     start: u64,
     size: u64,

@@ -6,7 +6,7 @@ use std::alloc::AllocError;
 use std::fmt;
 
 /// Why the sections of a file can't be read.
-#[derive(Clone, Copy, Debug, PartialEq, Eq)]
+#[derive(Clone, Copy)]
 pub enum InputError {
     /// The file isn't an ELF file that can be read, or a section can't be. Of these, `OutOfMemory`
     /// is no fault of the file.

@@ -142,7 +142,7 @@ impl<R: Reader> PathSources<R> {
 }
 
 /// Why a path can't be told, as it is printed.
-#[derive(Clone, Copy, Debug, PartialEq, Eq)]
+#[derive(Clone, Copy)]
 pub struct PathFault {
     /// Why.
     pub error: PathError,

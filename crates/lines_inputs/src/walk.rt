@@ -11,7 +11,7 @@ use std::alloc::{AllocError, Global};
 const LONG: u64 = 1 << 25;
 
 /// Where a command prints its lines while it runs.
-#[derive(Clone, Copy, Debug, PartialEq, Eq)]
+#[derive(Clone, Copy)]
 pub enum Printing {
     /// On standard output all along, so that what is printed shows how far the command is, where
     /// that is a terminal.
@@ -55,12 +55,12 @@ impl<R: Reader> Walk<R> {
         output: &mut Output<'_>,
     ) -> Walk<R> {
         let screen = output.screen();
-        let is_seen = printing == Printing::Steady && screen.is_out;
+        let is_seen = matches!(printing, Printing::Steady) && screen.is_out;
         let length = input.length();
         let mut walk = Walk {
             units: input.lines.units(alloc, input.address_size.bytes()),
             choice,
-            is_found: choice == UnitChoice::All,
+            is_found: matches!(choice, UnitChoice::All),
             length,
             is_told: screen.is_err && length >= LONG && !is_seen,
             told: None,

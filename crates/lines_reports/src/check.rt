@@ -1,12 +1,12 @@
 //! The command `check`: what is wrong, lost, odd or usual in a section.
 
-use crate::findings::{Finding, Findings};
+use crate::findings::Findings;
 use crate::unit_check::{Sequence, UnitCheck};
 use gimli_core::{Reader, ReaderOffset};
 use gimli_line::LineProgramHeader;
 use gimli_lookup::PathError;
 use lines_inputs::{Input, PathSources, Printing, Walk};
-use lines_words::{CheckChoice, Output, Pieces, UnitChoice};
+use lines_words::{CheckChoice, FindingKind, Output, Pieces, UnitChoice};
 use sha2::{Digest, Sha256};
 use std::alloc::{AllocError, Global};
 
@@ -65,14 +65,19 @@ impl<R: Reader> Check<R> {
             };
             match self.sources.of_file(self.alloc, header, file) {
                 Ok(path) => {
-                    let digest = Sha256::digest(&path);
+                    let digest = Sha256::digest(path.as_slice());
                     files.push(DigestedFile { digest, index })?;
                 }
                 Err(PathError::OutOfMemory) => return Err(AllocError),
                 Err(error) => {
                     let error = self.sources.fault(error);
-                    let finding = Finding::NoPath { file: index, error };
-                    self.findings.print(unit, finding, output);
+                    self.findings.print(
+                        unit,
+                        FindingKind::NoPath,
+                        None,
+                        format_args!("file {index}: {error}"),
+                        output,
+                    );
                 }
             }
         }
@@ -88,11 +93,21 @@ impl<R: Reader> Check<R> {
         for file in files {
             if let Some(other) = before {
                 if other.digest == file.digest {
-                    let finding = Finding::SamePath {
-                        first: other.index,
-                        second: file.index,
+                    let first = other.index;
+                    let second = file.index;
+                    // File 0 is the file of the compilation, and may be in the table once more.
+                    let kind = if first == 0 {
+                        FindingKind::FileZero
+                    } else {
+                        FindingKind::SamePath
                     };
-                    self.findings.print(unit, finding, output);
+                    self.findings.print(
+                        unit,
+                        kind,
+                        None,
+                        format_args!("files {first} and {second} have the same path"),
+                        output,
+                    );
                 }
             }
             before = Some(*file);
@@ -106,14 +121,7 @@ impl<R: Reader> Check<R> {
         for sequence in self.sequences.iter() {
             match furthest {
                 Some(other) if sequence.start < other.end => {
-                    let finding = Finding::Overlap {
-                        start: sequence.start,
-                        end: sequence.end,
-                        other_unit: other.unit,
-                        other_start: other.start,
-                        other_end: other.end,
-                    };
-                    self.findings.print(sequence.unit, finding, output);
+                    print_overlap(*sequence, other, &mut self.findings, output);
                     if sequence.end > other.end {
                         furthest = Some(*sequence);
                     }
@@ -125,9 +133,39 @@ impl<R: Reader> Check<R> {
     }
 }
 
+/// Prints that a sequence overlaps another.
+fn print_overlap(
+    sequence: Sequence,
+    other: Sequence,
+    findings: &mut Findings,
+    output: &mut Output<'_>,
+) {
+    let Sequence { start, end, unit } = sequence;
+    let Sequence {
+        start: other_start,
+        end: other_end,
+        unit: other_unit,
+    } = other;
+    let kind = if start == other_start && end == other_end {
+        FindingKind::Merged
+    } else {
+        FindingKind::Overlap
+    };
+    findings.print(
+        unit,
+        kind,
+        None,
+        format_args!(
+            "the sequence from 0x{start:x} to 0x{end:x} overlaps that from 0x{other_start:x} to \
+             0x{other_end:x} in the unit at 0x{other_unit:x}"
+        ),
+        output,
+    );
+}
+
 /// A file, by the digest of its whole path, so that it takes no more memory than the file does, and
 /// its index in the header.
-#[derive(Clone, Copy, Debug, PartialEq, Eq, PartialOrd, Ord)]
+#[derive(Clone, Copy, PartialEq, Eq, PartialOrd, Ord)]
 struct DigestedFile {
     digest: [u8; 32],
     index: u64,

@@ -10,7 +10,7 @@ use std::collections::BTreeMap;
 use std::marker::Model;
 
 /// A line of a file, by the number of its path.
-#[derive(Clone, Copy, Debug, PartialEq, Eq, PartialOrd, Ord)]
+#[derive(Clone, Copy, PartialEq, Eq, PartialOrd, Ord)]
 pub struct Place {
     /// The number of the path.
     pub path: usize,
@@ -34,7 +34,7 @@ impl Model for Coverage {
 }
 
 /// How the code of a place differs in a new program from that in an old one.
-#[derive(Clone, Copy, Debug, PartialEq, Eq)]
+#[derive(Clone, Copy)]
 pub struct Change {
     /// How many bytes it has in the old program; None where it has no row there.
     pub old: Option<u64>,

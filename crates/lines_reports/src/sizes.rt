@@ -20,7 +20,7 @@ use gimli_core::{Reader, ReaderOffset, Result};
 use gimli_line::LineInstruction;
 
 /// The bytes of an instruction.
-#[derive(Clone, Copy, Debug, PartialEq, Eq)]
+#[derive(Clone, Copy)]
 pub struct InstructionBytes {
     /// Those that say which one it is: one, or of an extended instruction the zero, the length and
     /// the opcode (DWARF 5, section 6.2.3).

@@ -8,7 +8,7 @@ use gimli_core::Reader;
 use gimli_line::LineInstruction;
 
 /// What bytes of a section are spent on; instructions by DWARF 5, sections 6.2.5.1 to 6.2.5.3.
-#[derive(Clone, Copy, Debug, PartialEq, Eq)]
+#[derive(Clone, Copy)]
 pub enum Spent {
     /// The header of a unit, without its tables.
     Header,

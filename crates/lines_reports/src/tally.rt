@@ -14,7 +14,7 @@ use gimli_core::{Error, Format, Reader, ReaderOffset, Result};
 use gimli_line::{LineInstructions, LineProgramHeader};
 
 /// What was spent on one thing.
-#[derive(Clone, Copy, Debug, PartialEq, Eq)]
+#[derive(Clone, Copy)]
 pub struct Share {
     /// How many there are of it.
     pub times: u64,
@@ -53,7 +53,7 @@ impl Share {
 }
 
 /// What the bytes of units are spent on.
-#[derive(Clone, Copy, Debug, PartialEq, Eq)]
+#[derive(Clone, Copy)]
 pub struct Tally {
     shares: [Share; 22],
 }

@@ -1,19 +1,20 @@
 //! What is found in the rows of one unit.
 
-use crate::findings::{Finding, Findings};
+use crate::findings::Findings;
 use crate::sizes::instruction_bytes;
 use gimli_core::{Error, Reader, ReaderOffset};
 use gimli_line::{
     IncompleteLineProgram, LineInstruction, LineInstructions, LineProgramHeader, LineRow,
 };
-use lines_words::Output;
+use lines_inputs::RowCount;
+use lines_words::{FindingKind, Output};
 use std::alloc::AllocError;
 
 /// How many instructions are looked at before findings are handed on.
 const SOME: u64 = 4096;
 
 /// The addresses of a sequence, by its rows that are not left out.
-#[derive(Clone, Copy, Debug, PartialEq, Eq, PartialOrd, Ord)]
+#[derive(Clone, Copy, PartialEq, Eq, PartialOrd, Ord)]
 pub(crate) struct Sequence {
     /// The least address of its rows.
     pub(crate) start: u64,
@@ -133,8 +134,14 @@ impl<R: Reader> UnitCheck<R> {
         }
         let unit = self.rows.unit;
         let byte = instruction_start(self.program.header(), self.executed).unwrap_or(unit);
-        let rows = self.rows.rows;
-        findings.print(unit, Finding::Program { byte, rows, error }, output);
+        let rows = RowCount(self.rows.rows);
+        findings.print(
+            unit,
+            FindingKind::Program,
+            Some(byte),
+            format_args!("at byte 0x{byte:x}, after {rows}: {error}"),
+            output,
+        );
         Ok(false)
     }
 }
@@ -195,17 +202,30 @@ impl RowCheck {
             return;
         };
         self.is_left_out = address != after;
-        let rows = self.rows;
+        let rows = RowCount(self.rows);
         let is_dropped = address >= before || address == 0 && self.lowest > 0;
         if self.is_left_out && is_dropped {
-            findings.print(self.unit, Finding::Tombstone { rows, address }, output);
+            findings.print(
+                self.unit,
+                FindingKind::Dropped,
+                None,
+                format_args!(
+                    "after {rows}: the address 0x{address:x} stands for dropped code, and what \
+                     follows is left out"
+                ),
+                output,
+            );
         } else if self.is_left_out && self.is_linked {
-            let finding = Finding::AddressGoesDown {
-                rows,
-                from: before,
-                to: address,
-            };
-            findings.print(self.unit, finding, output);
+            findings.print(
+                self.unit,
+                FindingKind::GoesDown,
+                None,
+                format_args!(
+                    "after {rows}: the address goes down from 0x{before:x} to 0x{address:x}, and \
+                     what follows is left out"
+                ),
+                output,
+            );
         }
     }
 
@@ -249,31 +269,51 @@ impl RowCheck {
         output: &mut Output<'_>,
     ) {
         self.rows_since_end = self.rows_since_end.saturating_add(1);
+        let number = self.rows;
         let address = row.address();
-        if self.start.is_none() && address < self.lowest {
-            let finding = Finding::BelowCode {
-                row: self.rows,
-                address,
-                lowest: self.lowest,
+        let lowest = self.lowest;
+        if self.start.is_none() && address < lowest {
+            // Code that is dropped is at address 0 too.
+            let kind = if address == 0 {
+                FindingKind::Dropped
+            } else {
+                FindingKind::BelowCode
             };
-            findings.print(self.unit, finding, output);
+            findings.print(
+                self.unit,
+                kind,
+                None,
+                format_args!(
+                    "row {number}: a sequence begins at 0x{address:x}, below the lowest address of \
+                     code, 0x{lowest:x}"
+                ),
+                output,
+            );
         }
         self.start = Some(self.start.unwrap_or(address).min(address));
         if !has_file {
-            let finding = Finding::NoFile {
-                row: self.rows,
-                address,
-                file: row.file_index(),
-            };
-            findings.print(self.unit, finding, output);
+            let file = row.file_index();
+            findings.print(
+                self.unit,
+                FindingKind::NoFile,
+                None,
+                format_args!("row {number} at 0x{address:x}: the header has no file {file}"),
+                output,
+            );
         }
     }
 
     /// Looks at the end of the program.
     fn finish(&self, findings: &mut Findings, output: &mut Output<'_>) {
-        match self.rows_since_end {
-            0 => {}
-            rows => findings.print(self.unit, Finding::NoEnd { rows }, output),
+        if self.rows_since_end > 0 {
+            let rows = RowCount(self.rows_since_end);
+            findings.print(
+                self.unit,
+                FindingKind::NoEnd,
+                None,
+                format_args!("no sequence ends after the last {rows}"),
+                output,
+            );
         }
     }
 }

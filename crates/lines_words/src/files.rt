@@ -4,7 +4,7 @@ use gimli_core::RunTimeEndian;
 use line_text::AddressSize;
 
 /// How the bytes of a file are read.
-#[derive(Clone, Copy, Debug, PartialEq, Eq)]
+#[derive(Clone, Copy)]
 pub enum Kind {
     /// An ELF file, which says its order of bytes and its address size.
     Elf,
@@ -13,7 +13,7 @@ pub enum Kind {
 }
 
 /// How the numbers of a section are read.
-#[derive(Clone, Copy, Debug, PartialEq, Eq)]
+#[derive(Clone, Copy)]
 pub struct Notation {
     /// The order of bytes.
     pub order: RunTimeEndian,

@@ -6,7 +6,7 @@ ghost use Rattle.lines_words.specs.Findings.{is_denied, is_grave, is_in, number,
 use crate::request::Form;
 
 /// How grave a finding is.
-#[derive(Clone, Copy, Debug, PartialEq, Eq)]
+#[derive(Clone, Copy)]
 pub enum Severity {
     /// A rule of DWARF is broken: what is read means nothing.
     Fault,
@@ -19,7 +19,7 @@ pub enum Severity {
 }
 
 /// What kind a finding is of.
-#[derive(Clone, Copy, Debug, PartialEq, Eq)]
+#[derive(Clone, Copy)]
 pub enum FindingKind {
     /// The header is refused.
     Header,
@@ -112,7 +112,7 @@ impl Severity {
 }
 
 /// Some kinds of findings.
-#[derive(Clone, Copy, Debug, PartialEq, Eq)]
+#[derive(Clone, Copy)]
 pub struct KindSet([bool; 12]);
 
 impl KindSet {
@@ -143,7 +143,7 @@ impl KindSet {
 }
 
 /// What a check tells, and what makes its status 1.
-#[derive(Clone, Copy, Debug, PartialEq, Eq)]
+#[derive(Clone, Copy)]
 pub struct CheckChoice {
     /// What makes it 1 beside faults and lost rows.
     pub denied: KindSet,
@@ -175,7 +175,7 @@ impl CheckChoice {
 
     /// Whether it counts as something to look at.
     pub fn counts(self, kind: FindingKind) -> bool {
-        let is_odd = kind.entry().2 == Severity::Odd;
+        let is_odd = matches!(kind.entry().2, Severity::Odd);
         self.denies(kind) || is_odd && !self.allowed.holds(kind)
     }
 }

@@ -11,7 +11,7 @@ use std::io::{ErrorKind, Write};
 use std::{fmt, io};
 
 /// Whether something was refused, or found that is denied.
-#[derive(Clone, Copy, Debug, PartialEq, Eq)]
+#[derive(Clone, Copy)]
 pub enum Verdict {
     /// Nothing.
     Clean,

@@ -110,7 +110,7 @@ impl<'w> Command<'w> {
 }
 
 /// What a line names before an address.
-#[derive(Clone, Copy, Debug, PartialEq, Eq)]
+#[derive(Clone, Copy)]
 pub enum LineNames<'w> {
     /// A build id; the indexes are in this folder.
     BuildIds(&'w str),
@@ -119,7 +119,7 @@ pub enum LineNames<'w> {
 }
 
 /// Where code stands.
-#[derive(Clone, Copy, Debug, PartialEq, Eq)]
+#[derive(Clone, Copy)]
 pub enum CodeAddress<'w> {
     /// At an address of a program that is linked.
     Linked(u64),
@@ -128,7 +128,7 @@ pub enum CodeAddress<'w> {
 }
 
 /// A line of the files whose whole path ends with the components of another.
-#[derive(Clone, Copy, Debug, PartialEq, Eq)]
+#[derive(Clone, Copy)]
 pub struct CodeLine<'w> {
     /// The end of the paths.
     pub path: &'w str,
@@ -143,7 +143,7 @@ pub struct CodeLine<'w> {
 }
 
 /// Which lines of source are printed, and how.
-#[derive(Clone, Copy, Debug, PartialEq, Eq)]
+#[derive(Clone, Copy)]
 pub struct SourceChoice<'w> {
     /// The place.
     pub place: SourcePlace<'w>,
@@ -154,7 +154,7 @@ pub struct SourceChoice<'w> {
 }
 
 /// A place in the source.
-#[derive(Clone, Copy, Debug, PartialEq, Eq)]
+#[derive(Clone, Copy)]
 pub enum SourcePlace<'w> {
     /// A line of the files whose whole path ends with the components of another.
     Line { path: &'w str, line: u64 },
@@ -173,7 +173,7 @@ impl<'w> SourcePlace<'w> {
 }
 
 /// How places are printed.
-#[derive(Clone, Copy, Debug, PartialEq, Eq)]
+#[derive(Clone, Copy)]
 pub struct PlaceForm<'w> {
     /// Whether each is a JSON object.
     pub is_json: bool,
@@ -188,7 +188,7 @@ pub struct PlaceForm<'w> {
 }
 
 /// How much of a path is printed.
-#[derive(Clone, Copy, Debug, PartialEq, Eq)]
+#[derive(Clone, Copy)]
 pub enum PathForm<'w> {
     /// The whole path.
     Whole,
@@ -199,7 +199,7 @@ pub enum PathForm<'w> {
 }
 
 /// How rows are printed.
-#[derive(Clone, Copy, Debug, PartialEq, Eq)]
+#[derive(Clone, Copy, PartialEq, Eq)]
 pub enum Form {
     /// For people, with the last part of each path in rows.
     Text,
@@ -210,7 +210,7 @@ pub enum Form {
 }
 
 /// Which units of a section are meant.
-#[derive(Clone, Copy, Debug, PartialEq, Eq)]
+#[derive(Clone, Copy)]
 pub enum UnitChoice {
     /// Each unit.
     All,

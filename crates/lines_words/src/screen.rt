@@ -1,7 +1,7 @@
 //! What the outputs are shown on: terminals, and their colours.
 
 /// Which of the outputs are terminals.
-#[derive(Clone, Copy, Debug, PartialEq, Eq)]
+#[derive(Clone, Copy)]
 pub struct Screen {
     /// Whether standard output is a terminal.
     pub is_out: bool,
