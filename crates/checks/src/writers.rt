@@ -346,7 +346,7 @@ pub fn unknown(alloc: Global) -> Option<usize> {
 }
 
 /// A vector's own calls, and nine bytes in pieces of four.
-fn own_calls(alloc: Global) -> Result<[bool; 5]> {
+fn own_calls(alloc: Global) -> Result<[bool; 4]> {
     let mut section = DebugLine::from(EndianVec::new(alloc, LittleEndian));
     section.0.write(b"abc")?;
     let mut copy = section.0.clone()?;
