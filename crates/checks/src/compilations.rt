@@ -98,9 +98,13 @@ const SAID_BIG: [(usize, Said); 3] = [
 /// The sections of a program in an order of bytes. `.debug_str_offsets` has unit_length 12, version
 /// 5 and padding, and at 8 the offsets 1 and 4, all in this order.
 fn sections(order: RunTimeEndian) -> CompilationSections<Slice> {
-    let (info, offsets): (&[u8], &[u8]) = match order {
-        Little => (LITTLE, b"\x0c\0\0\0\x05\0\0\0\x01\0\0\0\x04\0\0\0"),
-        Big => (BIG, b"\0\0\0\x0c\0\x05\0\0\0\0\0\x01\0\0\0\x04"),
+    let info: &[u8] = match order {
+        Little => LITTLE,
+        Big => BIG,
+    };
+    let offsets: &[u8] = match order {
+        Little => b"\x0c\0\0\0\x05\0\0\0\x01\0\0\0\x04\0\0\0",
+        Big => b"\0\0\0\x0c\0\x05\0\0\0\0\0\x01\0\0\0\x04",
     };
     CompilationSections {
         debug_info: EndianSlice::new(info, order),

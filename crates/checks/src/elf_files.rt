@@ -78,7 +78,7 @@ fn is_relocated(alloc: Global, file: &[u8], place: SectionPlace, wanted: &[u8]) 
 
 /// The first file whose section is relocated otherwise.
 pub fn relocated(alloc: Global) -> Option<usize> {
-    RELOCATED.iter().position(|(file, place, wanted)| !is_relocated(alloc, file, *place, wanted))
+    RELOCATED.iter().position(|(file, place, wanted)| !is_relocated(alloc, *file, *place, *wanted))
 }
 
 // ---- files that aren't read whole
@@ -110,9 +110,7 @@ fn holds(alloc: Global, file: &[u8], name: &[u8], wanted: Option<&[u8]>) -> bool
 
 /// The first section that holds something else.
 pub fn sought(alloc: Global) -> Option<usize> {
-    SOUGHT
-        .iter()
-        .position(|(file, name, wanted)| !holds(alloc, file, name, *wanted))
+    SOUGHT.iter().position(|(file, name, wanted)| !holds(alloc, *file, *name, *wanted))
 }
 
 /// What an outline says of the order of bytes, the size of addresses, object files and the lowest

@@ -40,6 +40,6 @@ fn refusal(alloc: Global, unit: &[u8]) -> Option<Error> {
 /// The first unit that is refused otherwise.
 pub fn wide_numbers(alloc: Global) -> Option<usize> {
     WIDE.iter().position(|(unit, fits)| {
-        refusal(alloc, unit) != (!*fits).then_some(Error::UnsupportedOffset)
+        refusal(alloc, *unit) != (!*fits).then_some(Error::UnsupportedOffset)
     })
 }

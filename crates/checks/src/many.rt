@@ -6,8 +6,8 @@ ghost use Rattle.gimli_write.specs.Conditions.{CanWrite};
 ghost use Rattle.gimli_write.specs.StringTables.{texts_in};
 
 use crate::builder::items_of;
-use crate::conversions::conversion_of;
-use crate::converted::converted;
+use crate::check::first_of;
+use crate::converted::{conversion_of, converted};
 use crate::units::{program, slice};
 use gimli_core::{BigEndian, DebugLineOffset, Endianity, LittleEndian, Reader};
 use gimli_line::IncompleteLineProgram;

@@ -30,12 +30,16 @@ pub fn sums() -> Option<usize> {
     })
 }
 
+/// A value of bytes that stay.
+type Value = AttributeValue<EndianSlice<'static, LittleEndian>>;
+
 /// Offsets, sizes, parts of pointer encodings, least tombstones, spellings, and values as numbers:
 /// the first that is another.
 pub fn parts() -> Option<usize> {
     let (offset, wide) = (<usize as ReaderOffset>::from_u16(0xffff), Format::Dwarf64);
     let encoding = DwEhPe(0x9b);
     let text = EndianSlice::new(b"a", LittleEndian);
+    let [five, negative]: [Value; 2] = [AttributeValue::Sdata(5), AttributeValue::Sdata(-1)];
     first_false([
         offset == 0xffff && <usize as ReaderOffset>::from_u32(0xffff_ffff) == 0xffff_ffff,
         <usize as ReaderOffset>::from_u64(u64::MAX) == Ok(usize::MAX),
@@ -45,10 +49,7 @@ pub fn parts() -> Option<usize> {
         Leb128::unsigned(12857).bytes() == b"\xb9\x64".as_slice(),
         Leb128::signed(-129).bytes() == b"\xff\x7e".as_slice(),
         AttributeValue::String(text).udata_value().is_none(),
-        AttributeValue::<EndianSlice<'static, LittleEndian>>::Sdata(5).udata_value() == Some(5),
-        AttributeValue::<EndianSlice<'static, LittleEndian>>::Sdata(-1)
-            .udata_value()
-            .is_none(),
+        (five.udata_value(), negative.udata_value()) == (Some(5), None),
         text.slice() == b"a".as_slice(),
     ])
 }

@@ -2,12 +2,12 @@
 //! bodies alone: what it answers, and how many bytes are left. Numbers are worked out by hand,
 //! LEB128 numbers are the examples of DWARF 5, section 7.6, and lengths those of section 7.4.
 
-use self::Call::{
+use crate::narrow::NarrowReader;
+use crate::readers::Call::{
     Address, AddressSize, Distance, Empty, Find, I8, InitialLength, Length, Offset, Order, Signed,
     Sixteen, Skip, Slice, Split, Text, Three, Truncate, U8, U16, U32, U64, Uint, Unsigned,
     Unsigned16,
 };
-use crate::narrow::NarrowReader;
 use gimli_core::Error::{
     self, BadSignedLeb128, BadUnsignedLeb128, UnexpectedEof, UnknownReservedLength,
     UnsupportedAddressSize,
@@ -144,20 +144,20 @@ fn number<O: ReaderOffset>(found: Result<O>) -> Result<u64> {
 }
 
 /// How many bytes stand before those that are left after a skip.
-fn distance<R: Reader>(reader: R, len: R::Offset) -> Result<u64> {
+fn skipped<R: Reader>(reader: R, len: R::Offset) -> Result<u64> {
     let mut after = reader;
     after.skip(len)?;
     Ok(after.offset_from(&reader).into_u64())
 }
 
 /// A number and a format.
-fn length<R: Reader>(reader: &mut R) -> Result<(u64, Format)> {
+fn length_of<R: Reader>(reader: &mut R) -> Result<(u64, Format)> {
     let (length, format) = reader.read_initial_length()?;
     Ok((length.into_u64(), format))
 }
 
 /// Three bytes over others.
-fn three<R: Reader>(reader: &mut R) -> (Result<()>, [u8; 3]) {
+fn filled<R: Reader>(reader: &mut R) -> (Result<()>, [u8; 3]) {
     let mut buf = [7; 3];
     let answer = reader.read_slice(&mut buf);
     (answer, buf)
@@ -191,7 +191,7 @@ fn takes<R: Reader>(reader: &mut R, call: Call) -> bool {
             reader.read_address(size) == wanted
         }
         AddressSize(wanted) => reader.read_address_size() == wanted,
-        InitialLength(wanted) => length(reader) == wanted,
+        InitialLength(wanted) => length_of(reader) == wanted,
         Length(format, wanted) => number(reader.read_length(format)) == wanted,
         Offset(format, wanted) => number(reader.read_offset(format)) == wanted,
         Sixteen(wanted) => reader.read_u8_array_16() == wanted,
@@ -204,13 +204,13 @@ fn answers<R: Reader>(reader: &mut R, call: Call) -> bool {
     let offset = R::Offset::from_u8;
     match call {
         Order(big) => reader.endian().is_big_endian() == big,
-        Three(wanted, buf) => three(reader) == (wanted, buf),
+        Three(wanted, buf) => filled(reader) == (wanted, buf),
         Empty => {
             reader.empty();
             reader.is_empty()
         }
         Find(byte, wanted) => number(reader.find(byte)) == wanted,
-        Distance(len, wanted) => distance(*reader, offset(len)) == wanted,
+        Distance(len, wanted) => skipped(*reader, offset(len)) == wanted,
         Skip(len, wanted) => reader.skip(offset(len)) == wanted,
         Truncate(len, wanted) => reader.truncate(offset(len)) == wanted,
         Split(len, wanted) => has(reader.split(offset(len)), wanted),

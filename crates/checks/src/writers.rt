@@ -3,13 +3,13 @@
 //! by hand; LEB128 is that of DWARF 5, section 7.6, lengths those of section 7.4, and pointers
 //! those of the Linux Standard Base ("DWARF Extensions").
 
-use self::Call::{
+use crate::check::{first_false, first_of};
+use crate::own_writer::{OWN, OwnWriter};
+use crate::writers::Call::{
     Address, Bytes, BytesAt, Data, Length, LengthAt, Offset, OffsetAt, Pointer, Reference, Sdata,
     Signed, Symbol, SymbolPointer, U8, U8At, U16, U16At, U32, U32At, U64, U64At, U128, U128At,
     Udata, UdataAt, Unsigned,
 };
-use crate::check::{first_false, first_of};
-use crate::own_writer::{OWN, OwnWriter};
 use gimli_core::Format::{Dwarf32, Dwarf64};
 use gimli_core::RunTimeEndian::{self, Big, Little};
 use gimli_core::SectionId::{self, DebugInfo, DebugStr};
@@ -346,7 +346,7 @@ pub fn unknown(alloc: Global) -> Option<usize> {
 }
 
 /// A vector's own calls, and nine bytes in pieces of four.
-fn own_calls(alloc: Global) -> Result<[bool; 5]> {
+fn own_calls(alloc: Global) -> Result<[bool; 4]> {
     let mut section = DebugLine::from(EndianVec::new(alloc, LittleEndian));
     section.0.write(b"abc")?;
     let mut copy = section.0.clone()?;

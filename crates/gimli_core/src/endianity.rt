@@ -150,9 +150,9 @@ pub struct BigEndian;
 ///
 /// <!-- part of crates/checks/src/compilations.rt -->
 /// ```rust
-/// let (info, offsets): (&[u8], &[u8]) = match order {
-///     Little => (LITTLE, b"\x0c\0\0\0\x05\0\0\0\x01\0\0\0\x04\0\0\0"),
-///     Big => (BIG, b"\0\0\0\x0c\0\x05\0\0\0\0\0\x01\0\0\0\x04"),
+/// let offsets: &[u8] = match order {
+///     Little => b"\x0c\0\0\0\x05\0\0\0\x01\0\0\0\x04\0\0\0",
+///     Big => b"\0\0\0\x0c\0\x05\0\0\0\0\0\x01\0\0\0\x04",
 /// };
 /// ```
 #[derive(Clone, Copy, Debug, PartialEq, Eq)]
