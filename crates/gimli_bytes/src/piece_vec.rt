@@ -267,13 +267,6 @@ impl<E: Endianity, const N: usize> Writer for PieceVec<E, N> {
 }
 
 /// The pieces of a [`PieceVec`], in order.
-///
-/// <!-- part of crates/linetool_commands/src/demo.rt -->
-/// ```rust
-/// for piece in section.pieces() {
-///     if print_bytes(piece, out).is_err() {
-///         return Err(Refusal::Output);
-/// ```
 #[derive(Debug, Drop)]
 pub struct Pieces<'a> {
     pieces: &'a [Piece],

@@ -1,10 +1,9 @@
 -- The files of a unit, and the bytes of their texts.
 use Rattle.std.proofs.Common.{◌≡◌, ℕ, zero, suc, Bool, true, false, List, [], ◌∷◌, ◌++◌, refl, ap, sym, subst, ◌∙◌, append_assoc}
-use Rattle.std.specs.Prelude.{Option, Some, None, unwrap_or, nat_le, if◌then◌else◌, slice_get}
+use Rattle.std.specs.Prelude.{Option, Some, nat_le, if◌then◌else◌, slice_get}
 use Rattle.std.proofs.lemmas.List.{append-nil}
 use Rattle.std.proofs.lemmas.Option.{none-some}
 use Rattle.gimli_core.specs.Notation.{Notation}
-use Rattle.gimli_core.specs.Values.{Value}
 use Rattle.gimli_line.specs.header.File.{File}
 use Rattle.gimli_line.specs.declared.run.instruction.LineInstruction.TheVariants.{Special, Copy, AdvancePc, AdvanceLine, SetFile, SetColumn, NegateStatement}
 use Rattle.gimli_line.specs.declared.run.instruction.LineInstruction.TheVariants.{SetBasicBlock, ConstAddPc, FixedAddPc, SetPrologueEnd, SetEpilogueBegin}
@@ -18,10 +17,8 @@ use Rattle.gimli_line.specs.run.Rows.{files_at_end}
 use Rattle.gimli_line.specs.run.RunState.{RunState}
 use Rattle.gimli_line.specs.run.EventsWithFiles.{FilesAtEnd}
 use Rattle.gimli_c.specs.Location.{Location, notation_at, HasUnit}
-use Rattle.gimli_c.specs.FileSeen.{HasFiles, file_seen_by_c, text_here, bytes_here}
+use Rattle.gimli_c.specs.FileSeen.{HasFiles, file_seen_by_c}
 use Rattle.gimli_c.specs.inside.Run.{header_with}
-use Rattle.gimli_c.specs.Written.{slots_with}
-use Rattle.gimli_c.proofs.Arrays.{written_none}
 
 -- a header that is another one but for its files
 pub has_files : (p : Location) (notation : Notation) (h complete : Header) (files : List File) → HasUnit p h → notation ≡ notation_at p
@@ -33,14 +30,6 @@ has_files p notation h complete files unit n at_end same are = record {
   at_end = subst (λ (m : Notation). FilesAtEnd m true h h.program files) n at_end;
   complete_is = ap (λ (k : Header). record k { files = complete.files }) same ∙ ap (λ (fs : List File). record h { files = fs }) are;
 }
-
-pub some_text : (v : Option Value) (text slice old new : List ℕ) → Some text ≡ text_here v → slice ≡ text → new ≡ slots_with slice old
-    → new ≡ slots_with (bytes_here v) old
-some_text v text slice old new t s n =
-    n ∙ ap (λ (xs : List ℕ). slots_with xs old) (s ∙ ap (λ (o : Option (List ℕ)). unwrap_or o []) t)
-
-pub no_text : (v : Option Value) (old new : List ℕ) → None ≡ text_here v → new ≡ old → new ≡ slots_with (bytes_here v) old
-no_text v old new t n = n ∙ sym (written_none old) ∙ ap (λ (o : Option (List ℕ)). slots_with (unwrap_or o []) old) t
 
 -- ---- files that a program defines stand after the others
 

@@ -1,7 +1,6 @@
 -- The components of a path from the last one on.
-use Rattle.std.proofs.Common.{arith, ◌≡◌, ◌+◌, ◌≤◌, ℕ, zero, suc, true, cond, List, [], ◌∷◌, ◌++◌, length, get_or, refl, ap, ◌∙◌, codes}
-use Rattle.gimli_lookup.specs.Paths.{is_separator}
-use Rattle.gimli_lookup.specs.Components.{up, with_component, resolved, start_of}
+use Rattle.std.proofs.Common.{arith, ◌≡◌, ◌+◌, ℕ, zero, suc, List, [], ◌∷◌, ◌++◌, refl, ap, ◌∙◌, codes}
+use Rattle.gimli_lookup.specs.Components.{up, with_component, resolved}
 use Rattle.gimli_lookup.specs.inside.Components.{up_by}
 
 pub resolved_last : (before cs : List (List ℕ)) (c : List ℕ) → resolved before (cs ++ c ∷ []) ≡ with_component (resolved before cs) c
@@ -27,7 +26,3 @@ up_by_dots (suc n) m = ap (up_by n) (up_dots m) ∙ up_by_dots n (suc m) ∙ ap 
 
 pub up_by_nothing : (n : ℕ) → up_by n [] ≡ dots n
 up_by_nothing n = up_by_dots n 0 ∙ ap dots (omega arith)
-
-pub at_root : (path : List ℕ) → 1 ≤ length path → is_separator (get_or path 0 0) ≡ true → start_of path ≡ [] ∷ []
-at_root [] l e = absurd (omega (arith, l))
-at_root (b ∷ path) l e = ap (λ v. cond v ([] ∷ []) []) e

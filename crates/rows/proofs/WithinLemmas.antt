@@ -1,33 +1,22 @@
 -- Texts stay in tables that grow, and so do directories that are added.
 use Rattle.std.proofs.Common.{◌≡◌, ◌≤◌, ◌⊎◌, inl, inr, sym, subst, ℕ, Bool, true, false, ◌&&◌, List, [], ◌∷◌, ◌++◌, length, Option, Some, None, option_map}
 use Rattle.std.proofs.Common.{if◌then◌else◌, arith, length-append}
-use Rattle.std.proofs.lemmas.List.Elements.{All-push, All-weaker, All-nil, All-cons}
+use Rattle.std.proofs.lemmas.List.Elements.{All-push, All-nil, All-cons}
 use Rattle.std.specs.Prelude.{IfSome, nat_le, nat_eq, bytes_eq}
 use Rattle.std.specs.List.{list_any}
 use Rattle.std.specs.Option.{option_map_or}
 use Rattle.gimli_core.specs.declared.common.Encoding.{Encoding}
 use Rattle.gimli_bytes.specs.Texts.{with_text, StringTables}
-use Rattle.gimli_write.specs.LineText.{LineText, Inline, InStrings, InLineStrings, line_text, line_text_eq, made_table, IsWithin}
+use Rattle.gimli_write.specs.LineText.{LineText, line_text, line_text_eq, IsWithin}
 use Rattle.gimli_build.specs.declared.built.line_string.LineString.{LineString}
 use Rattle.gimli_write.specs.Tables.{with_directory}
 use Rattle.gimli_write.specs.FirstTables.{first_directories}
 use Rattle.gimli_write.specs.Built.{Built}
 use Rattle.gimli_write.specs.Version5Tables.{texts_after, needs_empty, first_form, sources}
 use Rattle.gimli_write.specs.WrittenTables.{KeepTables}
-use Rattle.rows.specs.Within.{AreWithin, AreIds}
+use Rattle.rows.specs.Within.{AreWithin}
 
 -- ---- tables that grow
-
-text_more : (texts more : StringTables) (t : LineText) → length texts.strings ≤ length more.strings → length texts.line_strings ≤ length more.line_strings
-    → IsWithin texts t → IsWithin more t
-text_more texts more (Inline bytes) h k w = tt
-text_more texts more (InStrings i) h k w = omega arith
-text_more texts more (InLineStrings i) h k w = omega arith
-
-pub within_more : (texts more : StringTables) (ts : List LineText) → length texts.strings ≤ length more.strings
-    → length texts.line_strings ≤ length more.line_strings
-    → AreWithin ts texts → AreWithin ts more
-within_more texts more ts h k all = All-weaker (IsWithin texts) (IsWithin more) (λ t w. text_more texts more t h k w) ts all
 
 pub with_text-longer : (texts : List (List ℕ)) (t : List ℕ) → length texts ≤ length (with_text texts t)
 with_text-longer texts t = by (list_any (bytes_eq t) texts)
@@ -35,13 +24,6 @@ with_text-longer texts t = by (list_any (bytes_eq t) texts)
     by : (b : Bool) → length texts ≤ length (if b then texts else texts ++ t ∷ [])
     by true = omega arith
     by false = omega (arith, length-append texts (t ∷ []))
-
-pub made_table-longer : (version : ℕ) (texts : List (List ℕ)) (t : List ℕ) → length texts ≤ length (made_table version texts t)
-made_table-longer version texts t = by (nat_le version 4)
-  where
-    by : (b : Bool) → length texts ≤ length (if b then texts else with_text texts t)
-    by true = omega arith
-    by false = with_text-longer texts t
 
 with_empty-longer : (b : Bool) (texts : List (List ℕ)) → length texts ≤ length (if b then with_text texts [] else texts)
 with_empty-longer true texts = with_text-longer texts []
@@ -75,11 +57,6 @@ within_first texts version w d there so = by (nat_le version 4) d so
     by true d so = one
     by false (Some t) so = within_added texts (w ∷ []) (line_text t) one so
     by false None so = one
-
--- ---- both
-
-pub ids_more : (ids : List ℕ) (old new : List LineText) → length old ≤ length new → AreIds ids old → AreIds ids new
-ids_more ids old new h are = λ k d short. let below = are k d short in omega (arith, below, h)
 
 -- ---- tables after a unit
 

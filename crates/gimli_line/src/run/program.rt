@@ -6,18 +6,6 @@ use gimli_core::{Error, Reader, ReaderOffset, Result};
 use std::marker::Model;
 
 /// What has the header of a line program, and takes the files that the program defines.
-///
-/// <!-- part of crates/linetool_commands/src/print.rt -->
-/// ```rust
-/// let mut rows = rows;
-/// 'rows: loop {
-///     let row = match rows.next_row() {
-///         Ok(Some((_, row))) => *row,
-///         Ok(None) => return Ok(()),
-///         Err(e) => return Err(Refusal::of_unit(e, Refusal::Rows)),
-///     };
-///     print_row(row, out)?;
-/// ```
 pub trait LineProgram<R: Reader> {
     ghost use Rattle.std.specs.Prelude.{◌≡◌, ℕ, Bool, true, OnOk, OnErr, IfErr};
     ghost use Rattle.gimli_core.specs.Notation.{Notation};
