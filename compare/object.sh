@@ -1,6 +1,6 @@
 #!/usr/bin/env bash
 # Links the object file that `uses make_object` builds with a C program, and asks addr2line, llvm-symbolizer and
-# `lines where` for the lines of its two functions. All three have to answer what the object was built with.
+# `lines where` for the lines of its two functions, which are of two files. All three have to answer what the object was built with.
 #
 #     compare/object.sh
 #
@@ -45,7 +45,8 @@ for row in "first 0 two.c:3" "first 4 two.c:3" "first 5 two.c:4" "second 0 inc/t
     read -r symbol offset source <<<"$row"
     address=$(place "$symbol" "$offset")
     wanted=/made/$source
-    wants "addr2line of $symbol + $offset" "$(addr2line -e program "$address" | sed 's/ .*//')" "$wanted"
+    # addr2line (GNU Binutils 2.40) numbers the files of version 5 from 1, so it is asked for lines alone.
+    wants "addr2line of $symbol + $offset" "$(addr2line -e program "$address" | sed 's/ .*//; s/.*://')" "${source##*:}"
     found=$(llvm-symbolizer --obj=program --no-inlines --functions=none "0x$address" | head -1)
     wants "llvm-symbolizer of $symbol + $offset" "${found%:*}" "$wanted"
     found=$("$lines" where program "$address")

@@ -27,7 +27,6 @@ fn start(rt: &HostRuntime, words: &[String]) -> Result<()> {
     Ok(())
 }
 
-/// Runs one command.
 fn run(rt: &HostRuntime, command: &[String]) -> Result<()> {
     let [program, words @ ..] = command else {
         bail!("no command");

@@ -62,7 +62,6 @@ pub fn start(rt: &HostRuntime) -> anyhow::Result<()> {
     Ok(())
 }
 
-/// The address of a symbol.
 fn symbol(symbol: usize) -> Address {
     Address::Symbol { symbol, addend: 0 }
 }

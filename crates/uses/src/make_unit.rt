@@ -75,8 +75,10 @@ fn with_source(line_strings: &mut LineStringTable) -> Result<LineProgram>
     let directory = line_strings.add(b"/made")?;
     let path = line_strings.add(b"two.c")?;
     let info = FileInfo {
+        timestamp: 0,
+        size: 0,
         md5: NO_BYTES,
-        ..FileInfo::default()
+        source: None,
     };
     let mut program = LineProgram::new(
         *line_strings.allocator(),
