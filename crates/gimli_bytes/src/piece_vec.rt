@@ -269,11 +269,11 @@ impl<E: Endianity, const N: usize> Writer for PieceVec<E, N> {
 
 /// The pieces of a [`PieceVec`], in order.
 ///
-/// <!-- part of crates/linetool_commands/src/demo.rt -->
+/// <!-- part of crates/rows/src/section.rt -->
 /// ```rust
-/// for piece in section.pieces() {
-///     if print_bytes(piece, out).is_err() {
-///         return Err(Refusal::Output);
+/// for piece in self.pieces() {
+///     bytes.extend_from_slice(piece)?;
+/// }
 /// ```
 #[derive(Debug, Drop)]
 pub struct Pieces<'a> {

@@ -36,12 +36,12 @@ impl<W: Writer> From<W> for DebugLine<W> {
 
 /// A section `.debug_str` that is written.
 ///
-/// <!-- part of crates/rows_calls/src/tables.rt -->
+/// <!-- part of crates/rows/src/tables.rt -->
 /// ```rust
-/// let mut section = DebugStr(w);
-/// let answer = self.strings.write(&mut section);
-/// let DebugStr(w) = section;
-/// (w, answer)
+/// let mut strings = DebugStr::from(EndianVec::new(alloc, LittleEndian));
+/// let mut line_strings = DebugLineStr::from(EndianVec::new(alloc, LittleEndian));
+/// self.strings.write(&mut strings)?;
+/// self.line_strings.write(&mut line_strings)?;
 /// ```
 #[derive(Debug, Drop)]
 pub struct DebugStr<W: Writer>(pub W);

@@ -153,22 +153,21 @@ pub struct DebugStrOffset<T = usize>(pub T);
 
 /// An offset into the section `.debug_line_str`, in bytes.
 ///
-/// <!-- part of crates/rows_calls/src/numbers.rt -->
+/// <!-- part of crates/rows/src/value_text.rt -->
 /// ```rust
-/// "DebugStrRef" => Ok(AttributeValue::DebugStrRef(DebugStrOffset(offset))),
-/// "DebugStrRefSup" => Ok(AttributeValue::DebugStrRefSup(DebugStrOffset(offset))),
-/// "DebugLineStrRef" => Ok(AttributeValue::DebugLineStrRef(DebugLineStrOffset(offset))),
+/// AttributeValue::DebugLineStrRef(n) => {
+///     ("DebugLineStrRef", Held::Number(n.0.into_u64() as i128))
+/// }
 /// ```
 #[derive(Clone, Copy, Debug, PartialEq, Eq)]
 pub struct DebugLineStrOffset<T = usize>(pub T);
 
 /// An index into the string offsets of a unit.
 ///
-/// <!-- part of crates/rows_calls/src/numbers.rt -->
+/// <!-- part of crates/rows/src/value_text.rt -->
 /// ```rust
-/// "DebugStrOffsetsIndex" => {
-///     let index = DebugStrOffsetsIndex(offset);
-///     Ok(AttributeValue::DebugStrOffsetsIndex(index))
+/// AttributeValue::DebugStrOffsetsIndex(n) => {
+///     ("DebugStrOffsetsIndex", Held::Number(n.0.into_u64() as i128))
 /// }
 /// ```
 #[derive(Clone, Copy, Debug, PartialEq, Eq)]

@@ -5,11 +5,15 @@ ghost use Rattle.gimli_core.specs.Numbers.{value_of, number_bytes};
 
 /// An order of bytes.
 ///
-/// <!-- part of crates/rows_calls/src/order_calls.rt -->
+/// <!-- part of crates/bench/src/order.rt -->
 /// ```rust
-/// "is_big_endian" => Ok(Answer::truth(order.is_big_endian())),
-/// "is_little_endian" => Ok(Answer::truth(order.is_little_endian())),
-/// "read_u16" if bytes.len() >= 2 => Ok(Answer::of_number("u16", Ok(order.read_u16(bytes)))),
+/// impl<const WORK: u8> Endianity for OrderOf<WORK> {
+///     ghost big = { λ _. false };
+///
+///     fn is_big_endian(self) -> bool {
+///         false
+///     }
+/// }
 /// ```
 pub trait Endianity: Copy + Eq {
     /// Whether the most significant byte comes first.

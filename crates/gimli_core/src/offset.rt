@@ -78,14 +78,9 @@ impl ReaderOffset for usize {
 
 /// An address of a machine, whose size is given in bytes: 1, 2, 4 or 8.
 ///
-/// <!-- part of crates/rows_calls/src/numbers.rt -->
+/// <!-- part of crates/gimli_line/src/run/row.rt -->
 /// ```rust
-/// fn add_sized(address: u64, length: u64, size: u8) -> Result<Answer<'static>, Stop> {
-///     match size {
-///         1 | 2 | 4 | 8 => Ok(Answer::of_number("u64", address.add_sized(length, size))),
-///         _ => Err(Stop::Condition),
-///     }
-/// }
+/// address.add_sized(length, size)
 /// ```
 pub trait ReaderAddress: Copy {
     /// The number that it stands for.

@@ -109,7 +109,7 @@ fn without_headers<E: Endianity>(
 
 /// The rows that cover an address, and their unit.
 ///
-/// <!-- part of crates/rows_reading/src/covering_rows.rt -->
+/// <!-- part of crates/rows/src/covering_rows.rt -->
 /// ```rust
 /// match lookup.find(address) {
 ///     Some(found) => {

@@ -7,14 +7,11 @@ use std::alloc::{AllocError, AllocFailed};
 
 /// Why a program isn't converted, or not read again.
 ///
-/// <!-- part of crates/rows_writing/src/output.rt -->
+/// <!-- part of crates/rows/src/output.rt -->
 /// ```rust
-/// ConvertError::Read(error) => {
-///     let refusal = ErrorText(error);
-///     write!(f, "refused Read {refusal}")
-/// }
-/// ConvertError::Write(error) => write!(f, "refused Write {error:?}"),
-/// error => write!(f, "refused {error:?}"),
+/// ConvertError::Read(error) => lines.put_refusal("refused Read ", error),
+/// ConvertError::Write(error) => lines.put(format_args!("refused Write {error:?}")),
+/// error => lines.put(format_args!("refused {error:?}")),
 /// ```
 #[derive(Clone, Copy, Debug, PartialEq, Eq, thiserror::Error)]
 pub enum ConvertError {

@@ -53,13 +53,13 @@ pub struct RoundTrip {
 
 /// What is read of a file.
 ///
-/// <!-- part of crates/rows_writing/src/output.rt -->
+/// <!-- part of crates/rows/src/output.rt -->
 /// ```rust
-/// path: Text(file.path.as_slice()),
-/// directory: file.directory_index,
-/// timestamp: file.timestamp,
-/// size: file.size,
-/// md5: Digits(&file.md5),
+/// let path = Text(file.path.as_slice());
+/// let directory = file.directory_index;
+/// let timestamp = file.timestamp;
+/// let size = file.size;
+/// let md5 = Digits(&file.md5);
 /// ```
 #[derive(Debug, Drop)]
 pub struct RoundTripFile {

@@ -101,14 +101,14 @@ impl FileId {
 
 /// What is known of a file beside its path and its directory.
 ///
-/// <!-- part of crates/rows_writing/src/builder.rt -->
+/// <!-- part of crates/rows/src/builder.rt -->
 /// ```rust
-/// Ok(Some(FileInfo {
+/// Some(details) => Some(FileInfo {
 ///     timestamp: details.timestamp,
 ///     size: details.size,
 ///     md5: details.md5,
-///     source: self.optional_text(&details.source, encoding)?,
-/// }))
+///     source: self.optional_text(details.source, encoding),
+/// }),
 /// ```
 #[derive(Debug, PartialEq, Eq, Drop)]
 pub struct FileInfo {

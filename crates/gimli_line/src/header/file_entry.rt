@@ -12,7 +12,7 @@ use std::alloc::AllocError;
 
 /// What a table of version 5 holds of each entry: a kind of value, and the form that it has.
 ///
-/// <!-- part of crates/rows_reading/src/header_text.rt -->
+/// <!-- part of crates/rows/src/header_text.rt -->
 /// ```rust
 /// for format in formats {
 ///     let content = format.content_type.0;

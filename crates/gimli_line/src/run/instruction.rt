@@ -14,11 +14,12 @@ use std::marker::Model;
 
 /// An instruction of a line program.
 ///
-/// <!-- part of crates/rows_reading/src/instruction_text.rt -->
+/// <!-- part of crates/rows/src/instruction_text.rt -->
 /// ```rust
 /// if let LineInstruction::DefineFile(file) = instruction {
-///     return print_definition(file, lines);
-/// }
+///     let directory = file.directory_index();
+///     let timestamp = file.timestamp();
+///     let size = file.size();
 /// ```
 #[derive(Copy, Debug, PartialEq, Eq)]
 pub enum LineInstruction<R, Offset = <R as Reader>::Offset>
@@ -290,14 +291,14 @@ fn skip_operands<R: Reader>(input: &mut R, count: u8) -> Result<()>
 
 /// The instructions of a program that are still to come.
 ///
-/// <!-- part of crates/rows_reading/src/instruction_text.rt -->
+/// <!-- part of crates/rows/src/instruction_text.rt -->
 /// ```rust
 /// let mut instructions = header.instructions();
 /// 'instructions: loop {
 ///     match instructions.next_instruction(header) {
 ///         Ok(Some(instruction)) => print_instruction(&instruction, lines),
 ///         Ok(None) => return,
-///         Err(e) => return lines.put_refusal(e),
+///         Err(e) => return lines.put_refusal("error ", e),
 ///     }
 /// }
 /// ```

@@ -16,7 +16,7 @@ use std::marker::Model;
 ///         Ok(None) => return Ok(()),
 ///         Err(e) => return Err(Refusal::of_unit(e, Refusal::Rows)),
 ///     };
-///     print_row(row, out)?;
+///     print_line(RowLine(row), out)?;
 /// ```
 pub trait LineProgram<R: Reader> {
     ghost use Rattle.std.specs.Prelude.{◌≡◌, ℕ, Bool, true, OnOk, OnErr, IfErr};

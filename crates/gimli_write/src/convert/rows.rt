@@ -24,9 +24,8 @@ pub enum ConvertLineRow {
 
 /// Rows of a source whose offsets count from one address, and how they end.
 ///
-/// <!-- part of crates/rows_writing/src/reading.rt -->
+/// <!-- part of crates/rows/src/reading.rt -->
 /// ```rust
-/// lines.put(format_args!("sequence {start}"));
 /// for row in sequence.rows.as_slice() {
 ///     lines.put(Row(*row));
 /// }
@@ -47,7 +46,7 @@ pub struct ConvertLineSequence {
 
 /// How the rows of a sequence end.
 ///
-/// <!-- part of crates/rows_writing/src/reading.rt -->
+/// <!-- part of crates/rows/src/reading.rt -->
 /// ```rust
 /// match sequence.end {
 ///     ConvertLineSequenceEnd::Length(length) => lines.put(format_args!("length {length}")),
