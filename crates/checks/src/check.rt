@@ -6,7 +6,7 @@ pub fn first_false<const N: usize>(found: [bool; N]) -> Option<usize> {
 }
 
 /// The same, where the parts may be refused.
-pub fn first_of<E: Drop, const N: usize>(found: Result<[bool; N], E>) -> Option<usize> {
+pub fn first_of<E: Copy, const N: usize>(found: Result<[bool; N], E>) -> Option<usize> {
     match found {
         Ok(found) => first_false(found),
         Err(_) => Some(N),
