@@ -5,7 +5,8 @@
   .ci/pages.py --wrap PAGE..   wraps the prose of pages anew
 
 Refused are, on the pages of NARROW, a line of prose above 100 characters (what stands in a block of code or in a table is
-none) and a cell of a table above 300; and on every page a link to a file of the tree, or to a heading, that isn't there.
+none) and a cell of a table above 300; on every page a link to a file of the tree, or to a heading, that isn't there; and in
+ARCHITECTURE.md a line `A <- B, C` from which, with what B and C stand on, A doesn't stand on what crates.txt says.
 """
 import glob
 import os
@@ -82,6 +83,33 @@ def lost(page):
                 yield f"{page}:{number}: a link to {target}, a heading that isn't there"
 
 
+def reach(names, below):
+    """These crates, and all that they stand on."""
+    found = list(names)
+    for name in found:
+        found += [it for it in below.get(name, ()) if it not in found]
+    return set(found)
+
+
+def misdrawn():
+    """The lines of the picture of the crates that crates.txt doesn't have so, and the crates that no line has."""
+    page = "ARCHITECTURE.md"
+    listed = [line.partition(":") for line in open(os.path.join(TOP, "crates.txt"), encoding="utf8") if line[:1] not in "#\n"]
+    below = {head.split()[0]: named.split() for head, _, named in listed}
+    below = {name: [it for it in named if it in below] for name, named in below.items()}
+    drawn = {}
+    for number, line, is_code in lines_of(page):
+        arrow = re.fullmatch(r" *(\w+) +<- (.*)", line) if is_code else None
+        if arrow:
+            drawn[arrow[1]] = number, re.findall(r"\w+", arrow[2])
+    for name, (number, named) in drawn.items():
+        if name not in below or reach(named, below) != reach([name], below) - {name}:
+            yield f"{page}:{number}: {name} doesn't stand on these crates, or on more"
+    for name in below:
+        if below[name] and name not in drawn:
+            yield f"{page}: no line says what {name} stands on"
+
+
 # ---- wrapping
 
 
@@ -138,6 +166,7 @@ def main(words):
         return
     narrow = [it for it in found(NARROW) if it not in STILL_WIDE]
     told = [it for page in narrow for it in wide(page)] + [it for page in found(PAGES) for it in lost(page)]
+    told += misdrawn()
     print("\n".join(told), end="\n" if told else "")
     sys.exit(1 if told else 0)
 
