@@ -49,7 +49,7 @@ const CONFLICTS: [(&str, &[&str]); 7] = [
 ];
 
 /// What stands in the place of the file of the command `where`.
-const INSTEAD_OF_FILE: [&str; 3] = ["index", "maps", "files"];
+const INSTEAD_OF_FILE: &[&str] = &["index", "maps", "files"];
 
 /// How the file of each command is read.
 const OF_FILE: [Argument; 4] = [
@@ -293,7 +293,7 @@ impl Entry {
             "An ELF file, or with --raw a section .debug_line; - is standard input",
         );
         if self.name == "where" {
-            return without_others(file.required_unless_present_any(&INSTEAD_OF_FILE)?, "FILE");
+            return without_others(file.required_unless_present_any(INSTEAD_OF_FILE)?, "FILE");
         }
         Ok(file.required(true))
     }
