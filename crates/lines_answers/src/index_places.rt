@@ -43,8 +43,8 @@ pub(crate) fn print_place(
         address,
         function: None,
         path: place.path.ok(),
-        line: place.line,
-        column: place.column,
+        line: u64::from(place.line),
+        column: u64::from(place.column),
     };
     printer.print_found(found, "", output);
     if let Err(fault) = place.path {

@@ -31,6 +31,11 @@ pub fn show_reading(length: u64, output: &mut Output<'_>) -> bool {
     is_told
 }
 
+/// The offset of a unit in its section.
+fn offset_of<R: Reader>(unit: &LineUnit<R>) -> u64 {
+    unit.offset.0.into_u64()
+}
+
 /// The chosen units of a section, one after the other.
 #[derive(Drop)]
 pub struct Walk<R: Reader> {
@@ -77,7 +82,7 @@ impl<R: Reader> Walk<R> {
         for _ in 0..u64::MAX {
             match self.units.next() {
                 Ok(Some(unit)) => {
-                    let offset = unit.offset.0.into_u64();
+                    let offset = offset_of(&unit);
                     self.show(offset, output);
                     if self.choice.includes(offset) {
                         self.is_found = true;
@@ -101,7 +106,7 @@ impl<R: Reader> Walk<R> {
             let Some(unit) = self.next_unit(output)? else {
                 break;
             };
-            let offset = unit.offset.0.into_u64();
+            let offset = offset_of(&unit);
             match unit.program {
                 Ok(program) => return Ok(Some(UnitRows::new(offset, program))),
                 Err(refusal) => output.tell_of_unit(offset, refusal),

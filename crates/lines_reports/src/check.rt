@@ -191,9 +191,10 @@ impl<R: Reader> Pieces for Check<R> {
                     let unit = UnitCheck::new(offset, self.lowest, self.is_linked, program);
                     self.unit = Some(unit);
                 }
-                Err(refusal) => self
-                    .findings
-                    .print(offset, Finding::Header(refusal), output),
+                Err(refusal) => {
+                    let kind = FindingKind::Header;
+                    self.findings.print(offset, kind, Some(offset), refusal, output);
+                }
             }
             return Ok(true);
         }

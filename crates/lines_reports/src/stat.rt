@@ -198,7 +198,7 @@ impl<R: Reader> Stat<R> {
             let path = self.paths.path(*number);
             if !self.is_json {
                 let path = PathText(path);
-                let percent = Percent(*count, self.all);
+                let percent = Percent(*count, all);
                 output.print(format_args!("{count:>9}  {path}  {percent}"));
                 continue;
             }

@@ -15,112 +15,132 @@ struct Entry {
     arguments: &'static [Argument],
 }
 
-/// What commands take: the name and the help of each, and of an option with a value the name of
-/// that.
+/// What commands take: its name, how it is written, and its help.
 #[derive(Clone, Copy)]
-enum Argument {
+struct Argument(&'static str, Shape, &'static str);
+
+/// How an argument is written.
+#[derive(Clone, Copy)]
+enum Shape {
     /// A word that may be left out.
-    Word(&'static str, &'static str),
+    Word,
     /// A word that has to be there.
-    Needed(&'static str, &'static str),
+    Needed,
     /// Any number of words.
-    Words(&'static str, &'static str),
+    Words,
     /// An option without a value.
-    Flag(&'static str, &'static str),
+    Flag,
     /// One that may be written as a letter.
-    LetterFlag(char, &'static str, &'static str),
-    /// An option with a value.
-    Option(&'static str, &'static str, &'static str),
+    LetterFlag(char),
+    /// An option with a value of this name.
+    Option(&'static str),
     /// One that may be written as a letter.
-    LetterOption(char, &'static str, &'static str, &'static str),
+    LetterOption(char, &'static str),
     /// One that may come several times.
-    Options(&'static str, &'static str, &'static str),
+    Options(&'static str),
+    /// One that stands beside the option `raw`.
+    RawOption(&'static str),
 }
 
-/// What has no place beside what.
-const CONFLICTS: [(&str, &[&str]); 7] = [
-    ("pretty", &["json"]),
-    ("whole-paths", &["json"]),
-    ("basenames", &["relative-to"]),
-    ("index", &["functions"]),
-    ("maps", &["index", "functions", "raw", "line-str", "str"]),
-    ("files", &["index", "maps", "functions"]),
-    ("FILE", &["maps", "files"]),
-];
+/// What has no place beside an argument.
+fn conflicts_of(name: &str) -> &'static [&'static str] {
+    match name {
+        "FILE" => &["maps", "files"],
+        "pretty" => &["json"],
+        "whole-paths" => &["json"],
+        "basenames" => &["relative-to"],
+        "index" => &["functions"],
+        "maps" => &["index", "functions", "raw", "line-str", "str"],
+        "files" => &["index", "maps", "functions"],
+        _ => &[],
+    }
+}
 
 /// What stands in the place of the file of the command `where`.
 const INSTEAD_OF_FILE: [&str; 3] = ["index", "maps", "files"];
 
 /// How the file of each command is read.
 const OF_FILE: [Argument; 4] = [
-    Argument::Option(
+    Argument(
         "raw",
-        "little|big",
+        Shape::Option("little|big"),
         "FILE is a section .debug_line alone, in this order of bytes",
     ),
-    Argument::Option(
+    Argument(
         "address-size",
-        "N",
+        Shape::RawOption("N"),
         "With --raw: the bytes of an address up to version 4: 1, 2, 4 or 8 (8 if unsaid)",
     ),
-    Argument::Option("line-str", "FILE", "The section .debug_line_str"),
-    Argument::Option("str", "FILE", "The section .debug_str"),
+    Argument(
+        "line-str",
+        Shape::Option("FILE"),
+        "The section .debug_line_str",
+    ),
+    Argument("str", Shape::Option("FILE"), "The section .debug_str"),
 ];
 
-const JSON: Argument = Argument::Flag("json", "Prints a JSON object a line");
+const JSON: Argument = Argument("json", Shape::Flag, "Prints a JSON object a line");
 
-const SOURCE: Argument = Argument::Option(
+const SOURCE: Argument = Argument(
     "source",
-    "SOURCE",
+    Shape::Option("SOURCE"),
     "Reads this source file in the place of those that paths name",
 );
 
-const UNIT: Argument = Argument::Word(
+const UNIT: Argument = Argument(
     "UNIT",
+    Shape::Word,
     "The offset of a unit, as the command units prints it",
 );
 
 /// What the command `where` takes.
 const OF_WHERE: [Argument; 11] = [
-    Argument::Words(
+    Argument(
         "ADDRESS",
+        Shape::Words,
         "An address in hexadecimal digits, or in an object file SECTION+OFFSET; without one they \
          are read from standard input",
     ),
-    Argument::LetterFlag(
-        'f',
+    Argument(
         "functions",
+        Shape::LetterFlag('f'),
         "Prints the name of the function that holds the address, before the path",
     ),
-    Argument::Flag(
+    Argument(
         "pretty",
+        Shape::Flag,
         "Prints the line of source below each answer, with a mark at the column",
     ),
     SOURCE,
-    Argument::Flag("basenames", "Prints the last component of each path"),
-    Argument::Option(
+    Argument(
+        "basenames",
+        Shape::Flag,
+        "Prints the last component of each path",
+    ),
+    Argument(
         "relative-to",
-        "DIR",
+        Shape::Option("DIR"),
         "Prints paths that begin with this directory without it",
     ),
-    Argument::Option(
+    Argument(
         "bias",
-        "ADDRESS",
+        Shape::Option("ADDRESS"),
         "Subtracts this from each address, for a program that was loaded elsewhere",
     ),
-    Argument::Option(
+    Argument(
         "index",
-        "INDEX",
+        Shape::Option("INDEX"),
         "Asks an index in the place of FILE, which may be left out; where it is named, the index \
          has to be its own",
     ),
-    Argument::Option(
+    Argument(
         "maps",
-        "DIR",
+        Shape::Option("DIR"),
         "Reads lines of a build id and an address, and asks DIR/xx/rest.lines of each",
     ),
-    Argument::Flag(
+    Argument(
         "files",
+        Shape::Flag,
         "Reads lines of a file and an address, in the place of FILE",
     ),
     JSON,
@@ -138,10 +158,9 @@ const COMMANDS: [Entry; 10] = [
         name: "index",
         about: "Writes an index of the lines, for where --index and where --maps",
         example: "Example: lines index a.out -o a.out.lines",
-        arguments: &[Argument::LetterOption(
-            'o',
+        arguments: &[Argument(
             "output",
-            "OUT",
+            Shape::LetterOption('o', "OUT"),
             "Where the index goes; without it to FILE with .lines after it, and - is standard \
              output",
         )],
@@ -151,13 +170,15 @@ const COMMANDS: [Entry; 10] = [
         about: "Prints the addresses to break at for a line, or for the next one that has code",
         example: "Example: lines at a.out src/main.c:12",
         arguments: &[
-            Argument::Needed(
+            Argument(
                 "PATH:LINE",
+                Shape::Needed,
                 "A line of each file whose path ends so, by whole parts",
             ),
-            Argument::Flag("columns", "Prints the column after the line"),
-            Argument::Flag(
+            Argument("columns", Shape::Flag, "Prints the column after the line"),
+            Argument(
                 "range",
+                Shape::Flag,
                 "Prints where the row of each address ends, after its beginning",
             ),
             JSON,
@@ -168,15 +189,15 @@ const COMMANDS: [Entry; 10] = [
         about: "Prints the source of a line or of a function, with the addresses of each line",
         example: "Example: lines source -C 5 a.out src/main.c:12",
         arguments: &[
-            Argument::Needed(
+            Argument(
                 "PLACE",
+                Shape::Needed,
                 "A line of each file whose path ends so, PATH:LINE, or else the name of a \
                  function, as its symbol has it",
             ),
-            Argument::LetterOption(
-                'C',
+            Argument(
                 "context",
-                "N",
+                Shape::LetterOption('C', "N"),
                 "Prints so many lines before it and after it (3 if unsaid)",
             ),
             SOURCE,
@@ -201,7 +222,7 @@ const COMMANDS: [Entry; 10] = [
         example: "Example: lines rows --whole-paths a.out 0x8d",
         arguments: &[
             UNIT,
-            Argument::Flag("whole-paths", "Prints whole paths"),
+            Argument("whole-paths", Shape::Flag, "Prints whole paths"),
             JSON,
         ],
     },
@@ -212,17 +233,17 @@ const COMMANDS: [Entry; 10] = [
                   (lost); same-path, overlap (odd); file-0, merged, dropped (usual)\n\
                   Example: lines check --deny odd --allow overlap a.out",
         arguments: &[
-            Argument::Options(
+            Argument(
                 "deny",
-                "KIND",
+                Shape::Options("KIND"),
                 "Makes the status 1 for these too: a kind, or fault, lost, odd or usual",
             ),
-            Argument::Options(
+            Argument(
                 "allow",
-                "KIND",
+                Shape::Options("KIND"),
                 "Only counts these, whatever --deny says: a kind, or fault, lost or odd",
             ),
-            Argument::Flag("all", "Tells what is usual or allowed too"),
+            Argument("all", Shape::Flag, "Tells what is usual or allowed too"),
             JSON,
         ],
     },
@@ -237,7 +258,7 @@ const COMMANDS: [Entry; 10] = [
         about: "Prints the lines that have other code in a new program; the status is 1 for any",
         example: "Example: lines diff a.out.old a.out",
         arguments: &[
-            Argument::Needed("NEW", "The new program; FILE is the old one"),
+            Argument("NEW", Shape::Needed, "The new program; FILE is the old one"),
             JSON,
         ],
     },
@@ -276,80 +297,68 @@ pub(crate) fn command<'a>(alloc: Global, name: &str) -> Result<Command<'a>, Allo
 impl Entry {
     /// The command.
     fn command<'a>(&self, alloc: Global) -> Result<Command<'a>, AllocError> {
-        let mut command = Command::new(alloc, self.name)
+        let command = Command::new(alloc, self.name)
             .about(self.about)
             .after_help(self.example)
             .arg(self.file(alloc)?)?;
-        for argument in OF_FILE.iter().chain(self.arguments) {
-            command = command.arg(argument.argument(alloc)?)?;
-        }
-        Ok(command)
+        let command = with_arguments(alloc, command, &OF_FILE)?;
+        with_arguments(alloc, command, self.arguments)
     }
 
     /// The file. That of the command `where` may be left out where an index is named, and has no
     /// place beside lines that say what they ask.
     fn file<'a>(&self, alloc: Global) -> Result<Arg<'a>, AllocError> {
-        let file = Arg::new(alloc, "FILE").help(
+        let mut file = Arg::new(alloc, "FILE").help(
             "An ELF file, or with --raw a section .debug_line; - is standard input",
         );
         if self.name == "where" {
-            return without_others(file.required_unless_present_any(&INSTEAD_OF_FILE)?, "FILE");
+            for other in &INSTEAD_OF_FILE {
+                file = file.required_unless_present(other)?;
+            }
+            return file.conflicts_with_all(conflicts_of("FILE"));
         }
         Ok(file.required(true))
     }
 }
 
+/// A command that takes these too.
+fn with_arguments<'a>(
+    alloc: Global,
+    command: Command<'a>,
+    arguments: &[Argument],
+) -> Result<Command<'a>, AllocError> {
+    let mut command = command;
+    for argument in arguments {
+        let argument = argument.argument(alloc)?;
+        command = command.arg(argument)?;
+    }
+    Ok(command)
+}
+
 impl Argument {
     /// The argument.
     fn argument<'a>(self, alloc: Global) -> Result<Arg<'a>, AllocError> {
-        match self {
-            Argument::Word(name, help) => Ok(Arg::new(alloc, name).help(help)),
-            Argument::Needed(name, help) => Ok(Arg::new(alloc, name).help(help).required(true)),
-            Argument::Words(name, help) => {
-                let words = Arg::new(alloc, name).help(help);
-                Ok(words.action(ArgAction::Append).num_args(0..))
+        let Argument(name, shape, help) = self;
+        let word = Arg::new(alloc, name).help(help);
+        let argument = match shape {
+            Shape::Word => word,
+            Shape::Needed => word.required(true),
+            Shape::Words => word.action(ArgAction::Append).num_args(0..),
+            Shape::Flag => word.long(name).action(ArgAction::SetTrue),
+            Shape::LetterFlag(letter) => word.long(name).action(ArgAction::SetTrue).short(letter),
+            Shape::Option(value) => word.long(name).action(ArgAction::Set).value_name(value),
+            Shape::LetterOption(letter, value) => {
+                word.long(name)
+                    .short(letter)
+                    .action(ArgAction::Set)
+                    .value_name(value)
             }
-            Argument::Flag(name, help) => { without_others(flag(alloc, name, help), name) }
-            Argument::LetterFlag(letter, name, help) => Ok(flag(alloc, name, help).short(letter)),
-            Argument::Option("address-size", value, help) => {
-                option(alloc, "address-size", value, help).requires_arg("raw")
+            Shape::Options(value) => word.long(name).action(ArgAction::Append).value_name(value),
+            Shape::RawOption(value) => {
+                let option = word.long(name).action(ArgAction::Set).value_name(value);
+                return option.requires_arg("raw");
             }
-            Argument::Option(name, value, help) => {
-                without_others(option(alloc, name, value, help), name)
-            }
-            Argument::LetterOption(letter, name, value, help) => {
-                Ok(option(alloc, name, value, help).short(letter))
-            }
-            Argument::Options(name, value, help) => {
-                Ok(option(alloc, name, value, help).action(ArgAction::Append))
-            }
-        }
+        };
+        argument.conflicts_with_all(conflicts_of(name))
     }
-}
-
-/// An option without a value.
-fn flag<'a>(alloc: Global, name: &'a str, help: &'a str) -> Arg<'a> {
-    Arg::new(alloc, name)
-        .long(name)
-        .action(ArgAction::SetTrue)
-        .help(help)
-}
-
-/// An option with a value.
-fn option<'a>(alloc: Global, name: &'a str, value: &'a str, help: &'a str) -> Arg<'a> {
-    Arg::new(alloc, name)
-        .long(name)
-        .value_name(value)
-        .action(ArgAction::Set)
-        .help(help)
-}
-
-/// An argument of a name, that has no place beside some others.
-fn without_others<'a>(argument: Arg<'a>, name: &str) -> Result<Arg<'a>, AllocError> {
-    for (own, others) in CONFLICTS {
-        if own == name {
-            return argument.conflicts_with_all(others);
-        }
-    }
-    Ok(argument)
 }
