@@ -191,9 +191,9 @@ impl Builder {
         let mut words = words;
         let text = words.text(Form::Usual);
         words.finish()?;
-        self.directories.reserve(1)?;
         let text = self.text(text, self.encoding());
         self.made()?;
+        self.directories.reserve(1)?;
         let id = programs::add_directory(&mut self.program, &self.tables, text)?;
         self.directories.push_reserved(id);
         Ok(())

@@ -106,7 +106,7 @@ pub(crate) fn begin_program(
     {
         return Err(Stop::Condition);
     }
-    Ok(LineProgram::new(
+    let program = LineProgram::new(
         alloc,
         encoding,
         line_encoding,
@@ -114,7 +114,8 @@ pub(crate) fn begin_program(
         source_dir,
         source_file,
         info,
-    )?)
+    )?;
+    Ok(program)
 }
 
 /// Whether a text has no zero byte, and is in these tables.

@@ -5,8 +5,8 @@ use Rattle.rows.specs.Within.{AreWithin, texts_of}
 use Rattle.rows.proofs.WithinLemmas.{within_first}
 use Rattle.rows.proofs.programs.begin_program.Goals as goal
 
-pub returns-clause-within : goal.returns-clause-within
-returns-clause-within c =
+pub returns : goal.returns
+returns c =
     let tables = c.args.tables.now in
     subst (λ (p : Built). AreWithin p.directories (texts_of tables)) (sym c.in_ok-program.ensures.ok)
     (within_first (texts_of tables) c.args.encoding.version (line_text c.args.names.working_dir) c.args.names.source_dir
