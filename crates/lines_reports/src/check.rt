@@ -193,7 +193,8 @@ impl<R: Reader> Pieces for Check<R> {
                 }
                 Err(refusal) => {
                     let kind = FindingKind::Header;
-                    self.findings.print(offset, kind, Some(offset), refusal, output);
+                    self.findings
+                        .print(offset, kind, Some(offset), refusal, output);
                 }
             }
             return Ok(true);
