@@ -1,5 +1,5 @@
 -- Instructions written one after the other.
-use Rattle.std.proofs.Common.{◌≡◌, ℕ, ◌+◌, ◌-◌, ◌*◌, Bool, true, false, if◌then◌else◌, List, [], ◌∷◌, ◌++◌, Some, None, nat_le, append_assoc, sym}
+use Rattle.std.proofs.Common.{◌≡◌, ℕ, ◌+◌, ◌-◌, ◌*◌, Bool, true, false, if◌then◌else◌, List, [], ◌∷◌, ◌++◌, Some, None, nat_le, sym}
 use Rattle.std.proofs.Common.{refl}
 use Rattle.std.proofs.lemmas.Option.{none-some}
 use Rattle.std.proofs.lemmas.List.Concat.{flat_map-append}
@@ -11,8 +11,6 @@ use Rattle.gimli_build.specs.InstructionBytes.{instruction_bytes, instructions_b
 
 pub bytes_append : (is js : List Ins) → instructions_bytes (is ++ js) ≡ instructions_bytes is ++ instructions_bytes js
 bytes_append is js = flat_map-append instruction_bytes is js
-
-pub ruleset joins = (then_bytes, bytes_append, append_assoc)
 
 -- where no byte has the special opcode, it is past 255
 pub past : (fits : Bool) (s : ℕ) → (if fits then Some s else None) ≡ None → fits ≡ false
