@@ -193,6 +193,11 @@ impl Builder {
         words.finish()?;
         let text = self.text(text, self.encoding());
         self.made()?;
+        self.push_directory(text)
+    }
+
+    /// Adds a directory of this text, and keeps its id.
+    fn push_directory(&mut self, text: LineString) -> Result<(), Stop> {
         self.directories.reserve(1)?;
         let id = programs::add_directory(&mut self.program, &self.tables, text)?;
         self.directories.push_reserved(id);

@@ -8,6 +8,8 @@ use Rattle.rows.proofs.programs.begin_program.Goals as goal
 pub returns : goal.returns
 returns c =
     let tables = c.args.tables.now in
-    subst (λ (p : Built). AreWithin p.directories (texts_of tables)) (sym c.in_ok-program.ensures.ok)
-    (within_first (texts_of tables) c.args.encoding.version (line_text c.args.names.working_dir) c.args.names.source_dir
-    (c.if-not-is_name.ensures.within refl) (c.if-not-is_optional_name.ensures.within refl))
+    record {
+      within = subst (λ (p : Built). AreWithin p.directories (texts_of tables)) (sym c.in_ok-program.ensures.ok)
+          (within_first (texts_of tables) c.args.encoding.version (line_text c.args.names.working_dir) c.args.names.source_dir
+          (c.if-not-is_name.ensures.within refl) (c.if-not-is_optional_name.ensures.within refl));
+    }
