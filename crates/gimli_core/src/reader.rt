@@ -20,14 +20,6 @@ use std::borrow::CowSlice;
 ///
 /// A copy reads on by itself. Where bytes are missing, the refusal is `UnexpectedEof`. What a
 /// refused call leaves is said at each; where nothing is said, the reader stays as it was.
-///
-/// <!-- part of crates/uses/src/own.rt -->
-/// ```rust
-/// fn skip(&mut self, len: usize) -> gimli_core::Result<()> {
-///     self.split(len)?;
-///     Ok(())
-/// }
-/// ```
 pub trait Reader: Copy {
     /// The order of bytes.
     type Endian: Endianity;

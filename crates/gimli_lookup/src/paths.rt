@@ -101,8 +101,8 @@ fn string_bytes<R: Reader>(
 ///
 /// <!-- part of crates/uses/src/where_is.rt -->
 /// ```rust
-/// let Some(directory) = program.compilations.directory_of(offset) else {
-///     return Paths::new(header, program.strings, None).of_row(alloc, row);
+/// let Some(directory) = self.compilations.directory_of(offset) else {
+///     return Paths::new(header, self.strings, None).of_row(alloc, row);
 /// };
 /// ```
 #[derive(Drop)]

@@ -22,14 +22,11 @@ use std::marker::Model;
 ///
 /// <!-- part of crates/uses/src/make_unit.rt -->
 /// ```rust
-/// let row = program.row();
-/// row.file = file;
-/// row.address_offset = offset;
-/// row.line = line;
-/// if !program.can_generate_row() {
-///     return Err(Error::InvalidRange);
-/// }
-/// program.generate_row()?;
+/// let directory = LineString::new(b"/w", encoding, line_strings)?;
+/// let path = LineString::new(b"a.c", encoding, line_strings)?;
+/// let lines = LineEncoding::default();
+/// let program = LineProgram::new(alloc, encoding, lines, directory, None, path, None)?;
+/// Ok(program)
 /// ```
 #[derive(Debug, Drop)]
 pub struct LineProgram {

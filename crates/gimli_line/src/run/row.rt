@@ -15,14 +15,6 @@ use gimli_core::{Error, Reader, ReaderAddress, ReaderOffset, Result};
 use std::num::NonZeroU64;
 
 /// A row, or the registers on the way to one (DWARF 5, 6.2.2).
-///
-/// <!-- part of crates/uses/src/rows.rt -->
-/// ```rust
-/// let address = row.address();
-/// let file = row.file_index();
-/// let line = row.line().map_or(0, |line| line.get());
-/// let end = if row.end_sequence() { " end" } else { "" };
-/// ```
 #[derive(Clone, Copy, Debug, PartialEq, Eq)]
 pub struct LineRow {
     /// The last set address is a tombstone.

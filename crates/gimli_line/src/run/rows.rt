@@ -19,14 +19,6 @@ enum Step {
 }
 
 /// The rows of a program that are still to come, in order.
-///
-/// <!-- part of crates/uses/src/rows.rt -->
-/// ```rust
-/// let row = match rows.next_row()? {
-///     Some((_header, row)) => *row,
-///     None => return Ok(()),
-/// };
-/// ```
 #[derive(Clone, Debug, Drop)]
 pub struct LineRows<R: Reader, P: LineProgram<R>> {
     program: P,

@@ -1,0 +1,3 @@
+pub mod KeptRows
+pub mod UnitRows
+pub mod SameHeaders
