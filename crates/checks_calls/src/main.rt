@@ -1,6 +1,6 @@
-//! Each call of a reader, of a writer and of a table of texts, as tables of cases: what it is called
-//! with, and what it answers, by hand. A line for each check says whether it passed, or which case
-//! failed first.
+//! Each call of a reader, of a writer and of a table of texts, as tables of cases: what it is
+//! called with, and what it answers, by hand. A line for each check says whether it passed, or
+//! which case failed first.
 //!
 //! They use public names alone.
 #![tactic(auto)]

@@ -15,13 +15,6 @@ use std::io::{Read, Seek, SeekFrom};
 const PIECE: usize = 65536;
 
 /// What the sections of a file are known by: its section table, and their names.
-///
-/// <!-- part of crates/checks/src/elf_files.rt -->
-/// ```rust
-/// let mut file = Cursor::new(file);
-/// let outline = Outline::read(alloc, &mut file)?;
-/// outline.section(alloc, &mut file, name)
-/// ```
 #[derive(Drop)]
 pub struct Outline {
     table: FileTable,

@@ -5,14 +5,6 @@ use std::alloc::AllocError;
 use std::{fmt, io};
 
 /// Why the sections of a file aren't read.
-///
-/// <!-- part of crates/checks/src/elf_files.rt -->
-/// ```rust
-/// match held(alloc, file, b".debug_line") {
-///     Err(Refusal::Elf(error)) => Some(error),
-///     _ => None,
-/// }
-/// ```
 #[derive(Debug, Drop)]
 pub enum Refusal {
     /// The file, or a section of it, isn't one that can be read.

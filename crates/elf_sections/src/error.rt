@@ -8,17 +8,6 @@ use std::alloc::AllocError;
 use std::fmt;
 
 /// Why a file isn't read as an ELF file, or a section of it isn't answered.
-///
-/// <!-- part of crates/checks/src/elf_files.rt -->
-/// ```rust
-/// fn refusal_of_beginning(count: usize) -> ElfError {
-///     match count {
-///         0..=3 => ElfError::NotElf,
-///         4..=51 => ElfError::HeaderCut,
-///         _ => ElfError::SectionTableCut,
-///     }
-/// }
-/// ```
 #[derive(Clone, Copy, Debug, PartialEq, Eq)]
 pub enum ElfError {
     /// The file doesn't begin with the bytes 7f 45 4c 46 (`EI_MAG0` to `EI_MAG3`).

@@ -2,11 +2,6 @@
 
 /// Which addresses count where the sections of an object file are relocated, whose places in memory
 /// aren't known yet.
-///
-/// <!-- part of crates/checks/src/elf_files.rt -->
-/// ```rust
-/// (ARM, SectionPlace::AllAtZero, b"\0\0\x01\x04\0\0\x02\x02"),
-/// ```
 #[derive(Clone, Copy, Debug, PartialEq, Eq)]
 pub enum SectionPlace {
     /// Each section stands at address 0, so an address is an offset in its section.

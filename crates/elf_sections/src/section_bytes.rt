@@ -7,14 +7,6 @@ use crate::error::ElfError;
 use std::alloc::Global;
 
 /// The bytes of a section: lent by the file, or made anew.
-///
-/// <!-- part of crates/checks/src/elf_files.rt -->
-/// ```rust
-/// match found {
-///     Ok(Some(section)) => section.as_slice() == wanted,
-///     _ => false,
-/// }
-/// ```
 #[derive(Debug, Drop)]
 pub enum SectionBytes<'a> {
     /// They stand in the file.

@@ -73,17 +73,6 @@ pub struct FileTable {
 }
 
 /// The sections of a file, by its section table and their names.
-///
-/// <!-- part of crates/checks/src/elf_files.rt -->
-/// ```rust
-/// let sections = outline.sections()?;
-/// Ok((
-///     sections.is_big_endian(),
-///     sections.address_size(),
-///     sections.is_relocatable(),
-///     sections.lowest_code_address(),
-/// ))
-/// ```
 #[derive(Clone, Copy, Debug)]
 pub struct SectionList<'a> {
     pub(crate) layout: Layout,

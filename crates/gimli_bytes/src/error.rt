@@ -7,14 +7,6 @@ use gimli_core::DwEhPe;
 use std::alloc::{AllocError, AllocFailed};
 
 /// Why something isn't written.
-///
-/// <!-- part of crates/checks/src/builder.rt -->
-/// ```rust
-/// if !program.can_generate_row() {
-///     return Err(Error::InvalidRange);
-/// }
-/// program.generate_row()?;
-/// ```
 #[derive(Clone, Copy, Debug, PartialEq, Eq, thiserror::Error)]
 pub enum Error {
     /// A place past the end of the section.

@@ -92,13 +92,6 @@ fn put(pieces: &mut Vec<Piece>, size: usize, at: usize, bytes: &[u8])
 /// A section in pieces of `N` bytes, all full but the last, and the order of its numbers. It keeps
 /// exactly its bytes and fails for memory alone, where a length past the greatest `usize` counts as
 /// a refused growth. A refused `write` changes nothing.
-///
-/// <!-- part of crates/checks/src/many.rt -->
-/// ```rust
-/// let mut pieces: PieceVec<BigEndian, 16> = PieceVec::new(alloc, BigEndian);
-/// fill(&mut pieces)?;
-/// let joined = pieces.into_vec()?;
-/// ```
 #[derive(Debug, Drop)]
 pub struct PieceVec<E: Endianity, const N: usize> {
     pieces: Vec<Piece>,

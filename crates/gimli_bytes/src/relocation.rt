@@ -4,7 +4,7 @@ use gimli_core::SectionId;
 
 /// What the value of a place is counted from.
 ///
-/// <!-- part of crates/checks/src/writers.rt -->
+/// <!-- part of crates/checks_calls/src/writers.rt -->
 /// ```rust
 /// (4, 4, RelocationTarget::OfSymbol(9)),
 /// ```
@@ -18,7 +18,7 @@ pub enum RelocationTarget {
 
 /// Where the addends of relocations stand (System V ABI, chapter 4, "Relocation").
 ///
-/// <!-- part of crates/checks/src/writers.rt -->
+/// <!-- part of crates/checks_calls/src/writers.rt -->
 /// ```rust
 /// let mut section = RelocatableVec::new(alloc, BigEndian, Addends::InPlace);
 /// ```
@@ -32,7 +32,7 @@ pub enum Addends {
 
 /// A place that a linker fills in: with what the target's address is then, and the addend.
 ///
-/// <!-- part of crates/checks/src/writers.rt -->
+/// <!-- part of crates/checks_calls/src/writers.rt -->
 /// ```rust
 /// let wanted = wanted.map(|(offset, size, target)| Relocation {
 ///     offset,

@@ -113,7 +113,7 @@ impl Texts {
 
 /// The index of a text in its [`StringTable`].
 ///
-/// <!-- part of crates/checks/src/tables.rt -->
+/// <!-- part of crates/checks_calls/src/tables.rt -->
 /// ```rust
 /// table.offset(StringId(2)) == DebugStrOffset(8),
 /// table.get(StringId(1)) == b"two".as_slice(),
@@ -123,7 +123,7 @@ pub struct StringId(pub usize);
 
 /// A table of distinct texts that is written to a section `.debug_str`.
 ///
-/// <!-- part of crates/checks/src/tables.rt -->
+/// <!-- part of crates/checks_calls/src/tables.rt -->
 /// ```rust
 /// let mut table = StringTable::default(alloc);
 /// let ids = [table.add(b"one")?.0, table.add(b"two")?.0];
@@ -207,7 +207,7 @@ impl StringTable {
 
 /// The index of a text in its [`LineStringTable`].
 ///
-/// <!-- part of crates/checks/src/tables.rt -->
+/// <!-- part of crates/checks_calls/src/tables.rt -->
 /// ```rust
 /// table.offset(LineStringId(2)) == DebugLineStrOffset(8),
 /// table.get(LineStringId(1)) == b"two".as_slice(),

@@ -24,7 +24,7 @@ use gimli_core::{DwEhPe, Endianity, Format, SectionId, constants};
 /// append leaves the old bytes as a beginning, a refused `_at` call changes no byte, and no `_at`
 /// call changes the length.
 ///
-/// <!-- part of crates/checks/src/writers.rt -->
+/// <!-- part of crates/checks_calls/src/writers.rt -->
 /// ```rust
 /// w.write(b"\0\0\0\0")?;
 /// w.write_offset_at(1, 0x0203, DebugStr, 2)?;
@@ -363,7 +363,7 @@ pub trait Writer: Sink {
 
 /// Where the word of an initial length stands.
 ///
-/// <!-- part of crates/checks/src/writers.rt -->
+/// <!-- part of crates/checks_calls/src/writers.rt -->
 /// ```rust
 /// let found = w.write_initial_length(format)?;
 /// ```

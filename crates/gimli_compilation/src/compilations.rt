@@ -17,14 +17,6 @@ use std::marker::Model;
 
 /// The directories of the compilations of a program, by the offsets of their line programs in
 /// `.debug_line`.
-///
-/// <!-- part of crates/checks/src/compilations.rt -->
-/// ```rust
-/// let Ok(compilations) = Compilations::new(alloc, &sections) else {
-///     return Some(0);
-/// };
-/// let [first, other, none] = [0x2a, 0x80, 0x81].map(|line| compilations.directory_of(line));
-/// ```
 #[derive(Drop)]
 pub struct Compilations<R: Reader> {
     directories: BTreeMap<u64, R>,

@@ -4,13 +4,6 @@ use gimli_core::Error;
 use std::fmt;
 
 /// Why the first entry of a unit can't be read.
-///
-/// <!-- part of crates/checks/src/compilations.rt -->
-/// ```rust
-/// (175, Err(Refusal::UnknownUnitType(7))),
-/// (188, Err(Refusal::MissingAbbreviation(2))),
-/// (201, Err(Refusal::Bytes(Error::UnknownForm(DwForm(2))))),
-/// ```
 #[derive(Clone, Copy, Debug, PartialEq, Eq)]
 pub enum Refusal {
     /// Bytes of the unit, of its declarations or of its texts could not be read. Never

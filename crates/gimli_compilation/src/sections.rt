@@ -42,13 +42,6 @@ pub struct CompilationSections<R> {
 }
 
 /// What the first entry of a unit says of its compilation.
-///
-/// <!-- part of crates/checks/src/compilations.rt -->
-/// ```rust
-/// let directory = unit.comp_dir.map(|text| text.slice());
-/// let name = unit.name.map(|text| text.slice());
-/// Ok((unit.version, unit.stmt_list, directory, name))
-/// ```
 #[derive(Clone, Copy, Debug, PartialEq, Eq)]
 pub struct Compilation<R> {
     /// The version of the unit.

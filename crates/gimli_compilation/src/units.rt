@@ -22,13 +22,6 @@ fn skip_unit<R: Reader>(input: &mut R)
 }
 
 /// A unit of `.debug_info`.
-///
-/// <!-- part of crates/checks/src/compilations.rt -->
-/// ```rust
-/// let found = units
-///     .next()
-///     .map(|unit| (unit.offset, said(unit.compilation)));
-/// ```
 #[derive(Clone, Copy, Debug)]
 pub struct CompilationUnit<R> {
     /// The offset of the unit in the section.
@@ -38,15 +31,6 @@ pub struct CompilationUnit<R> {
 }
 
 /// The units of `.debug_info` that are still to come, in order.
-///
-/// <!-- part of crates/checks/src/compilations.rt -->
-/// ```rust
-/// let mut units = sections.units();
-/// for (at, (offset, wanted)) in wanted.iter().enumerate() {
-///     let found = units
-///         .next()
-///         .map(|unit| (unit.offset, said(unit.compilation)));
-/// ```
 #[derive(Drop)]
 pub struct CompilationUnits<R: Reader> {
     sections: CompilationSections<R>,

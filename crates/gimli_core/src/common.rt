@@ -93,7 +93,7 @@ impl Default for LineEncoding {
 
 /// A section of debugging information.
 ///
-/// <!-- part of crates/checks/src/own_writer.rt -->
+/// <!-- part of crates/checks_calls/src/own_writer.rt -->
 /// ```rust
 /// fn write_offset(&mut self, val: usize, section: SectionId, size: u8) -> Result<()> {
 ///     let is_str = section == SectionId::DebugStr;
@@ -114,12 +114,6 @@ pub enum SectionId {
 }
 
 /// An offset into the section `.debug_line`, in bytes.
-///
-/// <!-- part of crates/checks/src/units.rt -->
-/// ```rust
-/// let offset = DebugLineOffset(R::Offset::from_u8(0));
-/// DebugLine::from(section).program(alloc, offset, 4, directory, None)
-/// ```
 #[derive(Clone, Copy, Debug, PartialEq, Eq)]
 pub struct DebugLineOffset<T = usize>(pub T);
 

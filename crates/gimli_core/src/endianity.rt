@@ -136,25 +136,10 @@ pub trait Endianity: Copy + Eq {
 pub struct LittleEndian;
 
 /// The most significant byte first.
-///
-/// <!-- part of crates/checks/src/many.rt -->
-/// ```rust
-/// let mut pieces: PieceVec<BigEndian, 16> = PieceVec::new(alloc, BigEndian);
-/// fill(&mut pieces)?;
-/// let joined = pieces.into_vec()?;
-/// ```
 #[derive(Clone, Copy, Debug, PartialEq, Eq, Default)]
 pub struct BigEndian;
 
 /// An order that is known when the program runs.
-///
-/// <!-- part of crates/checks/src/compilations.rt -->
-/// ```rust
-/// let offsets: &[u8] = match order {
-///     Little => b"\x0c\0\0\0\x05\0\0\0\x01\0\0\0\x04\0\0\0",
-///     Big => b"\0\0\0\x0c\0\x05\0\0\0\0\0\x01\0\0\0\x04",
-/// };
-/// ```
 #[derive(Clone, Copy, Debug, PartialEq, Eq)]
 pub enum RunTimeEndian {
     /// The least significant byte first.

@@ -5,7 +5,7 @@ use std::fmt;
 
 /// Where a reader refused: the number of bytes that were left in it.
 ///
-/// <!-- part of crates/checks/src/readers.rt -->
+/// <!-- part of crates/checks_calls/src/readers.rt -->
 /// ```rust
 /// const EOF_2: Error = UnexpectedEof(ReaderOffsetId(2));
 /// ```

@@ -5,12 +5,6 @@ ghost use Rattle.std.specs.Prelude.{◌≡◌};
 use crate::common::SectionId;
 
 /// A section over a reader of its bytes.
-///
-/// <!-- part of crates/checks/src/lookups.rt -->
-/// ```rust
-/// let owned = DebugLine::from(unit);
-/// let section = owned.borrow(|bytes| NarrowReader::new(alloc, bytes, RunTimeEndian::Little));
-/// ```
 pub trait Section<R>: From<R> {
     ghost use Rattle.gimli_core.specs.declared.common.SectionId.{SectionId};
 

@@ -15,11 +15,6 @@ use gimli_line::LineRow;
 use std::alloc::Global;
 
 /// A line, and the addresses at which its code begins.
-///
-/// <!-- part of crates/checks/src/lookups.rt -->
-/// ```rust
-/// Some(found) => found.line == 1 && found.addresses.len() == MANY / 2 + SEQUENCES,
-/// ```
 #[derive(Debug, Drop)]
 pub struct Addresses {
     /// The line.

@@ -12,13 +12,6 @@ use std::alloc::{AllocError, Global};
 use std::marker::Model;
 
 /// The index of a directory in its line program, from 0 on.
-///
-/// <!-- part of crates/checks/src/builder.rt -->
-/// ```rust
-/// let other = program.add_directory(LineString::String(b"/i".to_vec(alloc)?))?;
-/// let last = program.add_file(name, other, None)?;
-/// let mut listed = None;
-/// ```
 #[derive(Clone, Copy, Debug, PartialEq, Eq, Hash)]
 pub struct DirectoryId(usize);
 

@@ -6,15 +6,6 @@ use std::alloc::{AllocError, Global};
 use std::marker::Model;
 
 /// What was built in a line program, as it was given.
-///
-/// <!-- part of crates/checks/src/builder.rt -->
-/// ```rust
-/// let mut items = Vec::new(alloc);
-/// for item in program.items() {
-///     items.push(*item)?;
-/// }
-/// Ok(items)
-/// ```
 #[derive(Clone, Copy, Debug, PartialEq, Eq)]
 pub enum BuiltItem {
     /// An address that was set: offsets after it count from there.
@@ -128,15 +119,6 @@ impl Clone for ItemList {
 }
 
 /// The items of a line program, in the order in which they were built.
-///
-/// <!-- part of crates/checks/src/builder.rt -->
-/// ```rust
-/// let mut items = Vec::new(alloc);
-/// for item in program.items() {
-///     items.push(*item)?;
-/// }
-/// Ok(items)
-/// ```
 #[derive(Debug, Drop)]
 pub struct BuiltItems<'a>(&'a [BuiltItem]);
 

@@ -18,12 +18,6 @@ use std::alloc::AllocError;
 use std::marker::Model;
 
 /// The header of a line program. Texts, blocks and the program are readers over the section.
-///
-/// <!-- part of crates/checks/src/lookups.rt -->
-/// ```rust
-/// let copy = program.clone()?;
-/// let directories = copy.header().include_directories().len();
-/// ```
 #[derive(Debug, PartialEq, Eq, Drop)]
 pub struct LineProgramHeader<R, Offset = <R as Reader>::Offset>
 where

@@ -141,12 +141,6 @@ impl<R: Reader> LineProgram<R> for IncompleteLineProgram<R> {
 }
 
 /// A line program of which all files are known, so that its sequences can be run one by one.
-///
-/// <!-- part of crates/checks/src/lookups.rt -->
-/// ```rust
-/// let (complete, _) = program.sequences()?;
-/// let header = complete.header().clone()?;
-/// ```
 #[derive(Clone, Debug, PartialEq, Eq, Drop)]
 pub struct CompleteLineProgram<R, Offset = <R as Reader>::Offset>
 where

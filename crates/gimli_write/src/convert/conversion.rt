@@ -33,12 +33,6 @@ use gimli_line::IncompleteLineProgram;
 use std::marker::Model;
 
 /// A source, as far as it was read, and the program that is built of it.
-///
-/// <!-- part of crates/checks/src/many.rt -->
-/// ```rust
-/// let mut conversion = conversion_of(source, None, &mut line_strings, &mut strings)?;
-/// let count = build_half(&mut conversion)?;
-/// ```
 #[derive(Drop)]
 #[derive_where(Debug; R, R::Offset)]
 pub struct Conversion<R: Reader> {

@@ -35,16 +35,6 @@ use std::marker::{Model, PhantomData};
 ///
 /// It holds the tables of strings until it is dropped. What owns memory stands at the last type
 /// parameter, which is never written.
-///
-/// <!-- part of crates/checks/src/many.rt -->
-/// ```rust
-/// let sequence = conversion.read_sequence()?;
-/// for _ in 0..ITEMS / 2 {
-///     if let Some(item) = conversion.read_row()? {
-///         build_item(conversion, item)?;
-///     }
-/// }
-/// ```
 #[derive(Debug)]
 pub struct ConvertLineProgram<'a, 'b, R: Reader, P = Conversion<R>> {
     line_strings: &'a mut LineStringTable,

@@ -4,12 +4,6 @@ use gimli_build::LineRow;
 use std::marker::Model;
 
 /// What is read of a source, one by one.
-///
-/// <!-- part of crates/checks/src/many.rt -->
-/// ```rust
-/// ConvertLineRow::Row(row) => conversion.generate_row(row),
-/// ConvertLineRow::EndSequence(length) => conversion.end_sequence(length),
-/// ```
 #[derive(Clone, Copy, Debug, PartialEq, Eq)]
 pub enum ConvertLineRow {
     /// An address is set. The offsets of the rows and of the end that follow in the sequence count
