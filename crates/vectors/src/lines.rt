@@ -124,10 +124,15 @@ fn perform(
 ) -> io::Result<u8> {
     let alloc = row.alloc;
     let screen = Screen::none();
-    let mut row = row;
-    row.input.line_str = row.named(request.line_str.unwrap_or(""));
-    row.input.strings = row.named(request.strings.unwrap_or(""));
-    let files = row.input;
+    let files = Files {
+        line_str: row.named(request.line_str.unwrap_or("")),
+        strings: row.named(request.strings.unwrap_or("")),
+        ..row.input
+    };
+    let row = LinesRow {
+        input: files,
+        ..row
+    };
     match &request.command {
         Command::Index { .. } => print_index(row, request, out, err),
         Command::Ask { index, .. } => ask(row, request, *index, out, err),
