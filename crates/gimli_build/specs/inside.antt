@@ -6,4 +6,5 @@ pub mod LentDetails
 pub mod ReadAs
 pub mod Tables
 pub mod TableFields
+pub mod Writable
 pub mod Writes

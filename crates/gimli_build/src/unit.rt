@@ -20,6 +20,7 @@ ghost use Rattle.gimli_build.specs.WrittenTables.{HaveEmptySource, KeepTables};
 ghost use Rattle.gimli_build.specs.inside.Writes.{Writes, WritesBy};
 
 mod header;
+mod writable;
 
 use crate::built::line_program::LineProgram;
 use crate::built::line_string::LineString;

@@ -2,6 +2,7 @@
 //! `.debug_line_str`.
 
 ghost use Rattle.std.specs.Prelude.{◌≡◌, ◌≢◌, ℕ, List, IfOk, IfErr, OnOk, OnErr, All};
+ghost use Rattle.std.specs.Prelude.{IsTrue, ◌↔◌};
 
 use gimli_bytes::{Error, LineStringId, LineStringTable, Result, StringId, StringTable};
 use gimli_core::{DwForm, Encoding, constants};
@@ -66,6 +67,29 @@ impl LineString {
         }
     }
 
+    /// Whether the text is in the program itself, or in these tables.
+    pub fn is_within(&self, line_strings: &LineStringTable, strings: &StringTable) -> bool
+        ensures { IsTrue result
+            ↔ IsWithin (texts_in strings.now line_strings.now) (line_text self.now) }
+    {
+        match self {
+            LineString::String(_) => true,
+            LineString::StringRef(id) => id.0 < strings.count(),
+            LineString::LineStringRef(id) => id.0 < line_strings.count(),
+        }
+    }
+
+    /// Whether a text in the program itself has no zero byte, which would end it. A text of a table
+    /// has none.
+    pub fn has_no_zero(&self) -> bool
+        ensures { IsTrue result ↔ HasNoZero (line_text self.now) }
+    {
+        match self {
+            LineString::String(text) => has_no_zero(text.as_slice()),
+            _ => true,
+        }
+    }
+
     /// The bytes of the text. Requires tables that have it, if it isn't in the program itself.
     pub fn get<'a>(
         &'a self,
@@ -82,6 +106,13 @@ impl LineString {
             LineString::LineStringRef(id) => line_strings.get(*id),
         }
     }
+}
+
+/// Whether none of these bytes is zero.
+fn has_no_zero(bytes: &[u8]) -> bool
+    ensures { IsTrue result ↔ All (λ b. b ≢ 0) bytes.now }
+{
+    bytes.iter().all(|byte| *byte != 0)
 }
 
 impl Clone for LineString {

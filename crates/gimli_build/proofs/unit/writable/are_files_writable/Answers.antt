@@ -1,0 +1,21 @@
+use Rattle.std.proofs.Common.{refl}
+use Rattle.gimli_bytes.specs.Texts.{texts_in}
+use Rattle.gimli_build.specs.LineText.{line_text}
+use Rattle.gimli_build.specs.Tables.{File}
+use Rattle.gimli_build.specs.TableFields.{details}
+use Rattle.gimli_build.specs.inside.Writable.{IsFileWritable}
+use Rattle.gimli_build.proofs.writing.Joined.{next_at}
+use Rattle.gimli_build.proofs.building.AllLemmas.{all_passed}
+use Rattle.gimli_build.proofs.unit.writable.are_files_writable.Goals as goal
+
+pub loop-index-preserved : goal.loop-index-preserved
+loop-index-preserved c =
+    let texts = texts_in c.args.strings.now c.args.line_strings.now in
+    let files = c.args.tables.now.files in
+    let i = c.loop-index.index in
+    let file : File = ((line_text c.file.result.0.now, c.file.result.1), details c.file.result.2.now) in
+    record {
+      left =
+          all_passed (λ (f : File). IsFileWritable c.args.writes_sources texts f.0.0 f.1) files i file
+          (next_at files i file c.file.ensures) (c.if-not-is_file_writable.ensures.0 refl) c.loop-index.invariant.left;
+    }

@@ -1,0 +1,27 @@
+use Rattle.std.proofs.Common.{◌<◌, length, map, refl, arith}
+use Rattle.gimli_bytes.specs.Texts.{texts_in}
+use Rattle.gimli_build.specs.LineText.{line_text, IsWithin}
+use Rattle.gimli_build.proofs.writing.Joined.{next_seen, all_seen}
+use Rattle.gimli_build.proofs.building.AllLemmas.{all_passed}
+use Rattle.gimli_build.proofs.unit.writable.are_within.Goals as goal
+
+pub returns-then-not-is_within : goal.returns-then-not-is_within
+returns-then-not-is_within c =
+    let texts = c.args.texts.now in
+    let i = c.loop-text.text-index in
+    let lt : i < length texts = omega arith in (
+      λ no. absurd cc,
+      λ all. c.if-not-is_within.ensures.1
+          (all_seen (IsWithin (texts_in c.args.strings.now c.args.line_strings.now)) line_text texts i c.text-item.result lt c.text-item.is all),
+    )
+
+pub loop-text-preserved : goal.loop-text-preserved
+loop-text-preserved c =
+    let texts = c.args.texts.now in
+    let i = c.loop-text.text-index in
+    let lt : i < length texts = omega arith in
+    record {
+      left =
+          all_passed (IsWithin (texts_in c.args.strings.now c.args.line_strings.now)) (map line_text texts) i (line_text c.text-item.result)
+          (next_seen line_text texts i c.text-item.result lt c.text-item.is) (c.if-not-is_within.ensures.0 refl) c.loop-text.invariant.left;
+    }

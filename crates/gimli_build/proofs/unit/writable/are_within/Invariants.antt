@@ -1,0 +1,11 @@
+use Rattle.std.proofs.Common.{drop, map}
+use Rattle.std.specs.Prelude.{All}
+use Rattle.gimli_bytes.specs.Texts.{texts_in}
+use Rattle.gimli_build.specs.LineText.{line_text, IsWithin}
+use Rattle.gimli_build.proofs.unit.writable.are_within.Given as goal
+
+abbrev pub invariant-loop-text : goal.invariant-loop-text
+invariant-loop-text l = record {
+  left : All (IsWithin (texts_in l.strings l.line_strings)) (drop l.text-index (map line_text l.texts))
+      → All (IsWithin (texts_in l.strings l.line_strings)) (map line_text l.texts);
+}
