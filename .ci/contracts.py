@@ -102,12 +102,15 @@ def functions(crate):
 
 def of_signature(head):
     """The lines of a signature: where it is too long it is broken before an argument, or before the arrow."""
-    parts, depth = [""], 0
+    parts, opened = [""], ""
     for i, c in enumerate(head):
-        if c == " " and depth <= 1 and (head[i - 1] == "," or head[i + 1 : i + 3] == "->"):
+        if c == " " and (opened == "(" and head[i - 1] == "," or not opened and head[i + 1 : i + 3] == "->"):
             parts.append("")
             continue
-        depth += (c in "([<{") - (c in ")]}" or c == ">" and head[i - 1] != "-")
+        if c in "([<{":
+            opened += c
+        elif c in ")]}" or c == ">" and head[i - 1] != "-":
+            opened = opened[:-1]
         parts[-1] += c
     lines = [parts[0]]
     for part in parts[1:]:
