@@ -20,9 +20,9 @@ import contracts
 
 TOP = os.path.dirname(os.path.dirname(os.path.realpath(__file__)))
 PAGES = ("*.md", "docs/*.md", "crates/*/*.md", "crates/*/data/*.md", "tried/*.md", "tried/*/*.md", "bindings/*/*.md")
-# The pages whose width is looked at, and those among them that are still to be wrapped.
+# The pages whose width is looked at, and the one among them that is still to be wrapped.
 NARROW = ("*.md", "docs/*.md", "crates/*/CALLING.md")
-STILL_WIDE = ("docs/ROWS.md", "crates/debug_files/CALLING.md")
+STILL_WIDE = ("docs/ROWS.md",)
 WIDTH, CELL = 100, 300
 # What stands together on a line: a piece of code, a link, a name in quotes, a word.
 WORD = re.compile(r"(?:`[^`]*`|!?\[[^\]]*\]\([^)]*\)|\"[^\"]{1,70}\"|\S)+")
