@@ -5,24 +5,32 @@
   .ci/pages.py --wrap PAGE..   wraps the prose of pages anew
 
 Refused are, on the pages of NARROW, a line of prose above 100 characters (what stands in a block of code or in a table is
-none) and a cell of a table above 300; on every page a link to a file of the tree, or to a heading, that isn't there; and in
-ARCHITECTURE.md a line `A <- B, C` from which, with what B and C stand on, A doesn't stand on what crates.txt says.
+none) and a cell of a table above 300; on every page a link to a file of the tree, or to a heading, that isn't there, the name
+of a source or a script that no file has, and a clause that a call hasn't (`CALL`, clause `NAME`); in ARCHITECTURE.md a line
+`A <- B, C` from which, with what B and C stand on, A doesn't stand on what crates.txt says; and in CHANGELOG.md a version that
+neither the header for C nor `lines` has.
 """
 import glob
 import os
 import re
 import sys
 
+sys.dont_write_bytecode = True
+import contracts
+
 TOP = os.path.dirname(os.path.dirname(os.path.realpath(__file__)))
 PAGES = ("*.md", "docs/*.md", "crates/*/*.md", "crates/*/data/*.md", "tried/*.md", "tried/*/*.md", "bindings/*/*.md")
-# The pages whose width is looked at, and those among them that are still to be wrapped.
+# The pages whose width is looked at, and the one among them that is still to be wrapped.
 NARROW = ("*.md", "docs/*.md", "crates/*/CALLING.md")
-STILL_WIDE = ("docs/ROWS.md", "crates/debug_files/CALLING.md")
+STILL_WIDE = ("docs/ROWS.md",)
 WIDTH, CELL = 100, 300
 # What stands together on a line: a piece of code, a link, a name in quotes, a word.
 WORD = re.compile(r"(?:`[^`]*`|!?\[[^\]]*\]\([^)]*\)|\"[^\"]{1,70}\"|\S)+")
 ITEM = re.compile(r"(\s*)([-*+]|\d+[.)])( +)")
 LINK = re.compile(r"\]\(([^()\s]+)\)")
+# A source or a script that a page names; a word in capitals stands for any name. And calls with the clauses that are cited.
+FILE = re.compile(r"`((?![^`]*\b[A-Z]{4,}\b)[\w./-]+\.(?:antt|rt|sh|py|rows))`")
+CITED = re.compile(r"((?:`[\w:]+`, )*`[\w:]+`)(?:, | \()clauses? (`\w+`(?:(?:, | and )`\w+`)*)")
 
 
 def found(patterns):
@@ -81,6 +89,53 @@ def lost(page):
                 yield f"{page}:{number}: a link to {target}, which isn't there"
             elif heading and name.endswith(".md") and heading not in headings(name):
                 yield f"{page}:{number}: a link to {target}, a heading that isn't there"
+
+
+def files():
+    """The ends of the paths of all files."""
+    ends = set()
+    for folder, folders, names in os.walk(TOP):
+        folders[:] = [it for it in folders if it not in ("out", "build", "target", ".git")]
+        for path in (os.path.relpath(os.path.join(folder, name), TOP) for name in names):
+            ends |= {path[i:] for i in range(len(path)) if i == 0 or path[i - 1] == "/"}
+    return ends
+
+
+def unknown(page, ends):
+    """The names of files on a page that no file has."""
+    for number, line, is_code in lines_of(page):
+        for name in [] if is_code else FILE.findall(line):
+            if name.removeprefix("../") not in ends:
+                yield f"{page}:{number}: no file is {name}"
+
+
+def uncited(pages):
+    """The clauses that pages cite and that the call hasn't. A name without a type has the type of the one before it."""
+    crates = [os.path.basename(os.path.dirname(it)) for it in found(["crates/*/CALLING.md"])]
+    calls = [(it.name.split("::"), [word.split()[-1] for word, _ in it.clauses]) for crate in crates for it in contracts.functions(crate)]
+    for page in pages:
+        text = " ".join(line.strip() for _, line, is_code in lines_of(page) if not is_code)
+        for names, clauses in CITED.findall(text):
+            owner = []
+            for name in re.findall(r"[\w:]+", names):
+                owner = name.split("::")[:-1] or owner
+                own = [words for path, words in calls if path[-1] == name.split("::")[-1] and path[:-1] == (owner or path[:-1])]
+                for clause in re.findall(r"`(\w+)`", clauses):
+                    if not any(clause in words for words in own):
+                        yield f"{page}: {'::'.join(owner + [name.split('::')[-1]])} has no clause {clause}"
+
+
+def other_versions():
+    """The versions of CHANGELOG.md that aren't those of the header for C and of `lines`."""
+    page = open(os.path.join(TOP, "CHANGELOG.md"), encoding="utf8").read()
+    header = open(os.path.join(TOP, "crates/gimli_c/include/gimli_line.h"), encoding="utf8").read()
+    sources = [open(os.path.join(TOP, it), encoding="utf8").read() for it in found(["crates/lines_words/src/*.rt"])]
+    library = ".".join(re.findall(r"#define GIMLI_VERSION_(?:MAJOR|MINOR|PATCH) (\d+)", header))
+    program = re.search(r'const VERSION: &str = "(.*)"', "\n".join(sources))[1]
+    if re.search(r"^## ([\d.]+)", page, re.M)[1] != library:
+        yield f"CHANGELOG.md: the library for C has the version {library}"
+    if f"`lines --version` says {program}" not in page:
+        yield f"CHANGELOG.md: `lines --version` says {program}"
 
 
 def reach(names, below):
@@ -166,7 +221,9 @@ def main(words):
         return
     narrow = [it for it in found(NARROW) if it not in STILL_WIDE]
     told = [it for page in narrow for it in wide(page)] + [it for page in found(PAGES) for it in lost(page)]
-    told += misdrawn()
+    ends = files()
+    told += [it for page in found(NARROW) for it in unknown(page, ends)]
+    told += [*uncited(found(NARROW)), *misdrawn(), *other_versions()]
     print("\n".join(told), end="\n" if told else "")
     sys.exit(1 if told else 0)
 
