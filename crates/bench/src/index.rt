@@ -4,12 +4,12 @@
 //! | WORK | Does | Counts | Sums |
 //! |---|---|---|---|
 //! | `section` | makes a lookup of the section | units | |
-//! | `make` | makes the index of one lookup | starts | bytes |
+//! | `make` | makes the index of one lookup | units | bytes |
 //! | `open` | opens one index, with bytes after it | starts | |
 //! | `find` | finds 10,000 addresses at random | those found | lines and sizes of paths |
 
 use crate::order::{INDEX, OrderOf};
-use crate::words::parse_count;
+use crate::parse;
 use gimli_compilation::{CompilationSections, Compilations};
 use gimli_core::{EndianSlice, Error};
 use gimli_index::{LineIndex, MakeError, write_index};
@@ -34,22 +34,10 @@ struct Tally {
 
 /// Does some work so many times on a section, and prints what it counted.
 pub fn run(rt: &HostRuntime, path: &str, work: &str, times: &str) -> io::Result<()> {
-    let times = parse_count(times)?;
+    let times = parse(times)?;
     let section = fs::read(rt, path)?;
-    let tally = measure(rt.alloc(), &section, work, times)?;
-    let count = tally.count;
-    let sum = tally.sum;
-    println!(rt; "count {count} sum {sum}")
-}
-
-/// What the last time of the work counted.
-fn measure(alloc: Global, section: &[u8], work: &str, times: u64) -> io::Result<Tally> {
-    let told = match work {
-        "section" => lookups(alloc, section, times),
-        _ => works(alloc, section, work, times),
-    };
-    match told {
-        Ok(tally) => Ok(tally),
+    match do_work(rt.alloc(), &section, work, times) {
+        Ok(tally) => println!(rt; "count {} sum {}", tally.count, tally.sum),
         Err(_) => Err(io::Error::from(ErrorKind::InvalidData)),
     }
 }
@@ -63,26 +51,31 @@ fn lookup_of(alloc: Global, section: &[u8]) -> Result<SectionLookup<Slice<'_>>, 
     }
 }
 
-/// Makes a lookup so many times.
-fn lookups(alloc: Global, section: &[u8], times: u64) -> Result<Tally, MakeError> {
+/// Does the work so many times, and returns what the last time counted.
+fn do_work(alloc: Global, section: &[u8], work: &str, times: u64) -> Result<Tally, MakeError> {
+    let lookup = lookup_of(alloc, section)?;
     let mut tally = Tally::default();
+    if work == "open" || work == "find" {
+        let mut bytes = index_of(alloc, &lookup)?;
+        bytes.extend_from_slice(&[0; 8])?;
+        return Ok(match work {
+            "open" => open_times(&bytes, times),
+            _ => find_times(&bytes, times),
+        });
+    }
     for _ in 0..times {
-        let lookup = lookup_of(alloc, section)?;
-        tally.count = lookup.units().len() as u64;
+        tally = match work {
+            "section" => Tally {
+                count: lookup_of(alloc, section)?.units().len() as u64,
+                sum: 0,
+            },
+            _ => Tally {
+                count: lookup.units().len() as u64,
+                sum: index_of(alloc, &lookup)?.len() as u64,
+            },
+        };
     }
     Ok(tally)
-}
-
-/// Does the work so many times over one lookup.
-fn works(alloc: Global, section: &[u8], work: &str, times: u64) -> Result<Tally, MakeError> {
-    let lookup = lookup_of(alloc, section)?;
-    let mut bytes = index_of(alloc, &lookup)?;
-    bytes.extend_from_slice(&[0; 8])?;
-    match work {
-        "make" => indexes(alloc, &lookup, times),
-        "open" => Ok(openings(bytes.as_slice(), times)),
-        _ => Ok(findings(bytes.as_slice(), times)),
-    }
 }
 
 /// The index of a lookup. Its strings stand in its section.
@@ -107,23 +100,6 @@ fn index_of(alloc: Global, lookup: &SectionLookup<Slice<'_>>) -> Result<Vec<u8>,
     Ok(bytes)
 }
 
-/// Makes the index of a lookup so many times.
-fn indexes(
-    alloc: Global,
-    lookup: &SectionLookup<Slice<'_>>,
-    times: u64,
-) -> Result<Tally, MakeError> {
-    let mut tally = Tally::default();
-    for _ in 0..times {
-        let bytes = index_of(alloc, lookup)?;
-        tally.sum = bytes.len() as u64;
-        if let Ok(index) = LineIndex::open(bytes.as_slice()) {
-            tally.count = index.len() as u64;
-        }
-    }
-    Ok(tally)
-}
-
 /// Opens an index.
 #[inline(never)]
 fn opening(bytes: &[u8]) -> Option<LineIndex<'_>> {
@@ -131,7 +107,7 @@ fn opening(bytes: &[u8]) -> Option<LineIndex<'_>> {
 }
 
 /// Opens an index so many times, with one to eight bytes after it.
-fn openings(bytes: &[u8], times: u64) -> Tally {
+fn open_times(bytes: &[u8], times: u64) -> Tally {
     let mut tally = Tally::default();
     for time in 0..times {
         let end = bytes.len().saturating_sub((time % 8) as usize);
@@ -143,14 +119,12 @@ fn openings(bytes: &[u8], times: u64) -> Tally {
 }
 
 /// Finds addresses so many times.
-fn findings(bytes: &[u8], times: u64) -> Tally {
+fn find_times(bytes: &[u8], times: u64) -> Tally {
     let mut tally = Tally::default();
     let Ok(index) = LineIndex::open(bytes) else {
         return tally;
     };
-    let Some(last) = index.len().checked_sub(1) else {
-        return tally;
-    };
+    let last = index.len().saturating_sub(1);
     let (Some(first), Some(last)) = (index.get(0), index.get(last)) else {
         return tally;
     };
