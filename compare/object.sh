@@ -41,10 +41,10 @@ wants() {
 }
 # The address of a symbol, and an offset.
 place() { printf '%x' $((0x$(nm program | awk -v name="$1" '$3 == name { print $1 }') + $2)); }
-for row in "first 0 two.c:3" "first 4 two.c:3" "first 5 two.c:4" "second 0 inc/two.h:8" "second 5 inc/two.h:9"; do
+for row in "first 0 a.c:3" "first 4 a.c:3" "first 5 a.c:4" "second 0 inc/a.h:8" "second 5 inc/a.h:9"; do
     read -r symbol offset source <<<"$row"
     address=$(place "$symbol" "$offset")
-    wanted=/made/$source
+    wanted=/w/$source
     # addr2line (GNU Binutils 2.40) numbers the files of version 5 from 1, so it is asked for lines alone.
     wants "addr2line of $symbol + $offset" "$(addr2line -e program "$address" | sed 's/ .*//; s/.*://')" "${source##*:}"
     found=$(llvm-symbolizer --obj=program --no-inlines --functions=none "0x$address" | head -1)

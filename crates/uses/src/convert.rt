@@ -24,23 +24,21 @@ pub fn start(rt: &HostRuntime, words: &[String]) -> Result<()> {
     };
     let offset = offset.parse::<usize>()?;
     let section = fs::read(rt, lines.as_str())?;
-    let converted = convert(rt.alloc(), &section, offset, known)?;
     let mut text = String::new(rt.alloc());
-    for row in &converted.rows {
-        print_row(row, &mut text)?;
-    }
+    print_converted(rt.alloc(), &section, offset, known, &mut text)?;
     print!(rt; "{text}")?;
     Ok(())
 }
 
-/// What is read of the unit at an offset after it was converted and written. Up to version 4 all
-/// texts of a unit stand in its header, so the sections of texts have no bytes.
-fn convert<'i>(
+/// Adds a line for each row that is read of the unit at an offset after it was converted. Up to
+/// version 4 all texts of a unit stand in its header, so the sections of texts have no bytes.
+fn print_converted<'i>(
     alloc: Global,
     section: &'i [u8],
     offset: usize,
     known: &'i [String],
-) -> ConvertResult<RoundTrip> {
+    text: &mut String,
+) -> ConvertResult<()> {
     let directory = known
         .first()
         .map(|word| EndianSlice::new(word.as_bytes(), LittleEndian));
@@ -49,12 +47,21 @@ fn convert<'i>(
         .map(|word| EndianSlice::new(word.as_bytes(), LittleEndian));
     let section = DebugLine::new(section, LittleEndian);
     let source = section.program(alloc, DebugLineOffset(offset), 8, directory, None)?;
-    convert_by(alloc, source, name, EndianSlice::new(b"", LittleEndian))
+    let no_texts = EndianSlice::new(b"", LittleEndian);
+    print_rows(&convert(alloc, source, name, no_texts)?, text)
 }
 
-/// The same of a program, by any reader. Refused without a directory and a name, which tables from
-/// version 5 on have.
-fn convert_by<R: Reader>(
+/// Adds a line for each row that was read.
+fn print_rows(converted: &RoundTrip, text: &mut String) -> ConvertResult<()> {
+    for row in &converted.rows {
+        print_row(row, text)?;
+    }
+    Ok(())
+}
+
+/// What is read of a unit after it was converted and written. Refused without a directory and a
+/// name, which tables from version 5 on have.
+fn convert<R: Reader>(
     alloc: Global,
     source: IncompleteLineProgram<R>,
     name: Option<R>,

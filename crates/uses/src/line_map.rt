@@ -1,10 +1,11 @@
 //! The index of the lines of a program: made, opened, checked, and asked.
 #![tactic(auto)]
 
-use crate::where_is::program_of;
+use crate::where_is::{Program, program_of};
 use anyhow::{Result, bail};
-use gimli_index::{LineIndex, Place, write_index};
-use std::alloc::Global;
+use gimli_core::Reader;
+use gimli_index::{LineIndex, MakeError, Place, write_index};
+use std::alloc::{AllocError, Global};
 use std::fmt::Write;
 use std::fs;
 
@@ -14,22 +15,34 @@ pub fn start(rt: &HostRuntime, words: &[String]) -> Result<()> {
     let [file, path, line, address] = words else {
         bail!("usage: line_map FILE PATH LINE ADDRESS");
     };
-    let file = fs::read(rt, file.as_str())?;
-    let bytes = map_of(rt.alloc(), &file)?;
-    let index = LineIndex::open(&bytes)?;
-    index.check()?;
     let line = line.as_str().parse::<u64>()?;
     let address = u64::from_str_radix(address.as_str(), 16)?;
+    let file = fs::read(rt, file.as_str())?;
     let mut text = String::new(rt.alloc());
-    print_line(index, path.as_str(), line, &mut text)?;
-    print_place(rt.alloc(), index.find(address), &mut text)?;
+    print_answers(rt.alloc(), &file, (path.as_str(), line), address, &mut text)?;
     print!(rt; "{text}")?;
     Ok(())
 }
 
-/// The bytes of the index of an ELF file whose addresses have 8 bytes.
-fn map_of(alloc: Global, file: &[u8]) -> Result<Vec<u8>> {
+/// Adds what the index of an ELF file says of a line of a path, and of an address.
+fn print_answers(
+    alloc: Global,
+    file: &[u8],
+    of: (&str, u64),
+    address: u64,
+    text: &mut String,
+) -> Result<()> {
     let program = program_of(alloc, file)?;
+    let bytes = map_of(alloc, &program)?;
+    let index = LineIndex::open(&bytes)?;
+    index.check()?;
+    print_line(index, of.0, of.1, text)?;
+    print_place(alloc, index.find(address), text)?;
+    Ok(())
+}
+
+/// The bytes of the index of a program whose addresses have 8 bytes.
+fn map_of<R: Reader>(alloc: Global, program: &Program<R>) -> Result<Vec<u8>, MakeError> {
     let mut bytes = Vec::new(alloc);
     write_index(
         alloc,
@@ -44,10 +57,14 @@ fn map_of(alloc: Global, file: &[u8]) -> Result<Vec<u8>> {
 }
 
 /// Adds the addresses at which the code of a line begins, or of the next line that has any.
-fn print_line(index: LineIndex<'_>, path: &str, line: u64, text: &mut String) -> Result<()> {
+fn print_line(
+    index: LineIndex<'_>,
+    path: &str,
+    line: u64,
+    text: &mut String,
+) -> Result<(), AllocError> {
     let Some(found) = index.addresses_of(path.as_bytes(), line) else {
-        writeln!(text, "no code from line {line} on")?;
-        return Ok(());
+        return writeln!(text, "no code from line {line} on");
     };
     let line = found.line();
     for address in found {
@@ -57,15 +74,17 @@ fn print_line(index: LineIndex<'_>, path: &str, line: u64, text: &mut String) ->
 }
 
 /// Adds a place, and whether it is a statement.
-fn print_place(alloc: Global, place: Option<Place<'_>>, text: &mut String) -> Result<()> {
+fn print_place(
+    alloc: Global,
+    place: Option<Place<'_>>,
+    text: &mut String,
+) -> Result<(), AllocError> {
     let Some(place) = place else {
-        writeln!(text, "??")?;
-        return Ok(());
+        return writeln!(text, "??");
     };
     let path = String::from_utf8_lossy(alloc, place.path.unwrap_or(b"?"))?;
     let line = place.line;
     let column = place.column;
     let statement = if place.is_stmt { " statement" } else { "" };
-    writeln!(text, "{path}:{line}:{column}{statement}")?;
-    Ok(())
+    writeln!(text, "{path}:{line}:{column}{statement}")
 }

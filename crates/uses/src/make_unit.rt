@@ -11,16 +11,14 @@ use gimli_write::{
     Address, DebugLine, DebugLineStr, EndianVec, Error, FileId, FileInfo, LineProgram, LineString,
     LineStringTable, Result, StringTable, Writer,
 };
+use std::alloc::{AllocError, Global};
 use std::fmt::Write;
 
-/// Prints the bytes of a unit, and those of its texts. The texts are written last, since `write`
-/// may add one.
+/// Prints the bytes of a unit, and those of its texts.
 pub fn start(rt: &HostRuntime) -> anyhow::Result<()> {
-    let mut line_strings = LineStringTable::default(rt.alloc());
     let mut lines = DebugLine::from(EndianVec::new(rt.alloc(), LittleEndian));
     let mut texts = DebugLineStr::from(EndianVec::new(rt.alloc(), LittleEndian));
-    write_unit(AT_0X1000, &mut lines, &mut line_strings)?;
-    line_strings.write(&mut texts)?;
+    write_unit(rt.alloc(), AT_0X1000, &mut lines, &mut texts)?;
     let mut text = String::new(rt.alloc());
     print_bytes(".debug_line", lines.0.slice(), &mut text)?;
     print_bytes(".debug_line_str", texts.0.slice(), &mut text)?;
@@ -29,13 +27,16 @@ pub fn start(rt: &HostRuntime) -> anyhow::Result<()> {
 }
 
 /// Adds a line with the name of a section and its bytes, in hexadecimal digits.
-pub fn print_bytes(name: &str, bytes: &[u8], text: &mut String) -> anyhow::Result<()> {
+pub fn print_bytes(
+    name: &str,
+    bytes: &[u8],
+    text: &mut String,
+) -> std::result::Result<(), AllocError> {
     write!(text, "{name} ")?;
     for byte in bytes {
         write!(text, "{byte:02x}")?;
     }
-    writeln!(text)?;
-    Ok(())
+    writeln!(text)
 }
 
 /// Two functions of six bytes, one after the other.
@@ -44,27 +45,43 @@ pub const AT_0X1000: [Address; 2] = [Address::Constant(0x1000), Address::Constan
 /// The MD5 digest of an empty file.
 const NO_BYTES: [u8; 16] = *b"\xd4\x1d\x8c\xd9\x8f\0\xb2\x04\xe9\x80\x09\x98\xec\xf8\x42\x7e";
 
-/// Appends the unit of two functions of six bytes at these addresses: of the first the lines 3 and
-/// 4 of `two.c`, of the second the lines 8 and 9 of `inc/two.h`.
-pub fn write_unit<W: Writer>(
+/// Appends the unit of two functions of six bytes at these addresses, and its texts, which come last
+/// since `write` may add one.
+pub fn write_unit<W: Writer, T: Writer>(
+    alloc: Global,
     functions: [Address; 2],
-    section: &mut DebugLine<W>,
-    line_strings: &mut LineStringTable,
+    lines: &mut DebugLine<W>,
+    texts: &mut DebugLineStr<T>,
 ) -> Result<()> {
-    let mut program = with_source(line_strings)?;
+    let mut line_strings = LineStringTable::default(alloc);
+    let program = build(alloc, functions, &mut line_strings)?;
+    let mut strings = StringTable::default(alloc);
+    program.write(lines, program.encoding(), &mut line_strings, &mut strings)?;
+    line_strings.write(texts)?;
+    Ok(())
+}
+
+/// The program of two functions: of the first the lines 3 and 4 of `a.c`, of the second the lines 8
+/// and 9 of `inc/a.h`.
+fn build(
+    alloc: Global,
+    functions: [Address; 2],
+    line_strings: &mut LineStringTable,
+) -> Result<LineProgram>
+    ensures { IfOk result (λ program. CanWrite program (texts_in [] line_strings.new)) }
+{
+    let mut program = with_source(alloc, line_strings)?;
     let Some((source, _, _)) = program.files().next() else {
         return Err(Error::InvalidRange);
     };
     let header = add_header(&mut program, line_strings)?;
     add_function(&mut program, line_strings, source, functions[0], [3, 4])?;
     add_function(&mut program, line_strings, header, functions[1], [8, 9])?;
-    let mut strings = StringTable::default(*line_strings.allocator());
-    program.write(section, program.encoding(), line_strings, &mut strings)?;
-    Ok(())
+    Ok(program)
 }
 
-/// A program of one file.
-fn with_source(line_strings: &mut LineStringTable) -> Result<LineProgram>
+/// A program of the file `a.c` in the directory `/w`.
+fn with_source(alloc: Global, line_strings: &mut LineStringTable) -> Result<LineProgram>
     ensures { IfOk result (λ program. CanWrite program (texts_in [] line_strings.new)) }
 {
     let encoding = Encoding {
@@ -72,36 +89,29 @@ fn with_source(line_strings: &mut LineStringTable) -> Result<LineProgram>
         format: Format::Dwarf32,
         version: 5,
     };
-    let directory = line_strings.add(b"/made")?;
-    let path = line_strings.add(b"two.c")?;
+    let directory = LineString::new(b"/w", encoding, line_strings)?;
+    let path = LineString::new(b"a.c", encoding, line_strings)?;
+    let lines = LineEncoding::default();
+    let program = LineProgram::new(alloc, encoding, lines, directory, None, path, None)?;
+    Ok(program)
+}
+
+/// Adds the file `a.h` in the directory `inc`, with its digest.
+fn add_header(program: &mut LineProgram, line_strings: &mut LineStringTable) -> Result<FileId>
+    requires { CanWrite program.old (texts_in [] line_strings.old) }
+    ensures { OnOk result (CanWrite program.new (texts_in [] line_strings.new)) }
+{
     let info = FileInfo {
         timestamp: 0,
         size: 0,
         md5: NO_BYTES,
         source: None,
     };
-    let mut program = LineProgram::new(
-        *line_strings.allocator(),
-        encoding,
-        LineEncoding::default(),
-        LineString::LineStringRef(directory),
-        None,
-        LineString::LineStringRef(path),
-        Some(info),
-    )?;
-    program.file_has_md5 = true;
-    Ok(program)
-}
-
-/// Adds a file in another directory.
-fn add_header(program: &mut LineProgram, line_strings: &mut LineStringTable) -> Result<FileId>
-    requires { CanWrite program.old (texts_in [] line_strings.old) }
-    ensures { OnOk result (CanWrite program.new (texts_in [] line_strings.new)) }
-{
     let include = line_strings.add(b"inc")?;
-    let path = line_strings.add(b"two.h")?;
+    let path = line_strings.add(b"a.h")?;
     let directory = program.add_directory(LineString::LineStringRef(include))?;
-    let file = program.add_file(LineString::LineStringRef(path), directory, None)?;
+    let file = program.add_file(LineString::LineStringRef(path), directory, Some(info))?;
+    program.file_has_md5 = true;
     Ok(file)
 }
 

@@ -4,27 +4,19 @@
 ghost use Rattle.std.specs.Prelude.{◌≡◌, ◌≤◌, false, nat_eq, position};
 
 use crate::make_unit::{AT_0X1000, write_unit};
-use crate::rows::print_rows;
-use gimli_core::{
-    DebugLineOffset, Error as ReadError, LittleEndian, Reader, ReaderOffsetId, SectionId,
-};
-use gimli_line::DebugLine;
-use gimli_write::{Address, Error, LineStringTable, Result, Sink, Writer};
+use crate::rows::print_units;
+use gimli_core::{Error as ReadError, LittleEndian, Reader, ReaderOffsetId, SectionId};
+use gimli_write::{Address, DebugLine, DebugLineStr, Error, Result, Sink, Writer};
 use std::borrow::CowSlice;
 
 /// Writes a unit into an array, and prints the rows that are read there.
 pub fn start(rt: &HostRuntime) -> anyhow::Result<()> {
-    let mut line_strings = LineStringTable::default(rt.alloc());
-    let mut section = gimli_write::DebugLine::from(ArraySection {
-        bytes: [0; 256],
-        len: 0,
-    });
-    write_unit(AT_0X1000, &mut section, &mut line_strings)?;
-    let slice: &[u8] = &section.0.bytes;
-    let lines = DebugLine::from(OwnReader { slice });
-    let program = lines.program(rt.alloc(), DebugLineOffset(0), 8, None, None)?;
+    let mut lines = DebugLine::from(ArraySection::new());
+    let mut texts = DebugLineStr::from(ArraySection::new());
+    write_unit(rt.alloc(), AT_0X1000, &mut lines, &mut texts)?;
+    let slice = lines.0.slice();
     let mut text = String::new(rt.alloc());
-    print_rows(program.rows(), &mut text)?;
+    print_units(rt.alloc(), OwnReader { slice }, &mut text)?;
     print!(rt; "{text}")?;
     Ok(())
 }
@@ -113,6 +105,21 @@ struct ArraySection {
     bytes: [u8; 256],
     len: usize,
     ghost fits: { len ≤ 256 },
+}
+
+impl ArraySection {
+    /// An empty section.
+    fn new() -> ArraySection {
+        ArraySection {
+            bytes: [0; 256],
+            len: 0,
+        }
+    }
+
+    /// The bytes that were written.
+    fn slice(&self) -> &[u8] {
+        &self.bytes[..self.len]
+    }
 }
 
 impl Sink for ArraySection {
