@@ -1,17 +1,14 @@
 //! A unit up to version 4, written in version 5.
 #![tactic(auto)]
 
-ghost use Rattle.std.specs.Prelude.{IfOk};
-ghost use Rattle.gimli_write.specs.convert.KeptTables.{IsWritable, HasWritable};
-ghost use Rattle.gimli_write.specs.convert.Converter.{progress};
-
 use crate::rows::print_row;
 use anyhow::{Result, bail};
 use gimli_core::{DebugLineOffset, Encoding, EndianSlice, LittleEndian, Reader};
 use gimli_line::{DebugLine, IncompleteLineProgram};
+use gimli_write::conversion_laws::converted_programs_can_be_written;
 use gimli_write::{
-    Address, ConvertLineProgram, ConvertResult, EndianVec, LineProgram, LineStringTable, RoundTrip,
-    StringTable, round_trip,
+    Address, ConvertResult, EndianVec, LineStringTable, RoundTrip, StringTable, convert_program,
+    round_trip,
 };
 use std::alloc::Global;
 use std::fs;
@@ -59,54 +56,33 @@ fn print_rows(converted: &RoundTrip, text: &mut String) -> ConvertResult<()> {
     Ok(())
 }
 
-/// What is read of a unit after it was converted and written. Refused without a directory and a
-/// name, which tables from version 5 on have.
+/// What is read of a unit after it was converted and written, each address as it is. Refused
+/// without a directory and a name, which tables from version 5 on have.
 fn convert<R: Reader>(
     alloc: Global,
     source: IncompleteLineProgram<R>,
     name: Option<R>,
     no_texts: R,
 ) -> ConvertResult<RoundTrip> {
-    let mut strings = StringTable::default(alloc);
-    let mut line_strings = LineStringTable::default(alloc);
-    let mut lines = gimli_write::DebugLine::from(EndianVec::new(alloc, LittleEndian));
-    let program = program_5(source, name, no_texts, &mut line_strings, &mut strings)?;
-    let of = program.encoding();
-    round_trip(&program, &mut lines, of, &mut line_strings, &mut strings)
-}
-
-/// A program in version 5.
-fn program_5<R: Reader>(
-    source: IncompleteLineProgram<R>,
-    name: Option<R>,
-    no_texts: R,
-    line_strings: &mut LineStringTable,
-    strings: &mut StringTable,
-) -> ConvertResult<LineProgram>
-    ensures { IfOk result (λ program. IsWritable program line_strings.new) }
-{
+    converted_programs_can_be_written();
     let encoding = Encoding {
         version: 5,
         ..source.header().encoding()
     };
-    let conversion = ConvertLineProgram::new(
+    let mut strings = StringTable::default(alloc);
+    let mut line_strings = LineStringTable::default(alloc);
+    let (program, _files) = convert_program(
         no_texts,
         no_texts,
         source,
         name,
         Some(encoding),
         None,
-        line_strings,
-        strings,
+        &mut line_strings,
+        &mut strings,
+        |address| Some(Address::Constant(address)),
     )?;
-    program_of(conversion)
-}
-
-/// What a conversion builds, with each address as it is.
-fn program_of<R: Reader>(conversion: ConvertLineProgram<'_, '_, R>) -> ConvertResult<LineProgram>
-    requires { HasWritable (progress conversion) }
-    ensures { IfOk result (λ program. IsWritable program conversion.exit.0.now) }
-{
-    let (program, _files) = conversion.convert(|address| Some(Address::Constant(address)))?;
-    Ok(program)
+    let mut lines = gimli_write::DebugLine::from(EndianVec::new(alloc, LittleEndian));
+    let of = program.encoding();
+    round_trip(&program, &mut lines, of, &mut line_strings, &mut strings)
 }

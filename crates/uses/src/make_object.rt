@@ -54,9 +54,9 @@ pub fn start(rt: &HostRuntime) -> anyhow::Result<()> {
     Ok(())
 }
 
-/// Appends the object file: two functions, their lines, and a unit that leads to the lines. A
-/// section has beside its bytes where its name stands, its kind, its flags, its link, its info, and
-/// the size of an entry.
+/// Appends the object file: two functions, their lines, and a unit that leads to the lines. Beside
+/// the bytes of a section stand where its name is, with its kind; its flags; its link, with its
+/// info; and the size of an entry.
 fn make_object<W: Writer>(alloc: Global, object: &mut W) -> Result<()> {
     let section = RelocatableVec::new(alloc, LittleEndian, Addends::Listed);
     let mut lines = DebugLine::from(section);
@@ -65,15 +65,18 @@ fn make_object<W: Writer>(alloc: Global, object: &mut W) -> Result<()> {
     let mut relocations = EndianVec::new(alloc, LittleEndian);
     write_relocations(&mut relocations, lines.0.relocations())?;
     let sections = [
-        ([1, 1, 6, 0, 0, 0], CODE),
-        ([12, 1, 0, 0, 0, 0], lines.0.slice()),
-        ([7, 4, 0x40, 8, 2, 24], relocations.slice()),
-        ([24, 1, 0x30, 0, 0, 1], texts.0.slice()),
-        ([45, 1, 0, 0, 0, 0], UNIT),
-        ([40, 4, 0x40, 8, 5, 24], UNIT_RELOCATIONS),
-        ([57, 1, 0, 0, 0, 0], ABBREVIATION),
-        ([71, 2, 0, 9, 4, 24], SYMBOLS),
-        ([79, 3, 0, 0, 0, 0], NAMES),
+        ([0x1_0000_0001, 6, 0, 0], CODE),
+        ([0x1_0000_000c, 0, 0, 0], lines.0.slice()),
+        (
+            [0x4_0000_0007, 0x40, 0x2_0000_0008, 24],
+            relocations.slice(),
+        ),
+        ([0x1_0000_0018, 0x30, 0, 1], texts.0.slice()),
+        ([0x1_0000_002d, 0, 0, 0], UNIT),
+        ([0x4_0000_0028, 0x40, 0x5_0000_0008, 24], UNIT_RELOCATIONS),
+        ([0x1_0000_0039, 0, 0, 0], ABBREVIATION),
+        ([0x2_0000_0047, 0, 0x4_0000_0009, 24], SYMBOLS),
+        ([0x3_0000_004f, 0, 0, 0], NAMES),
     ];
     write_object(object, &sections)
 }
@@ -93,51 +96,32 @@ fn write_relocations<W: Writer>(w: &mut W, list: &[Relocation]) -> Result<()> {
         let kind = if relocation.size == 8 { 1 } else { 10 };
         let addend = relocation.addend.cast_unsigned();
         let offset = relocation.offset as u64;
-        write_numbers(w, &[(offset, 8), (kind, 4), (symbol, 4), (addend, 8)])?;
+        write_numbers(w, &[offset, symbol.rotate_left(32) | kind, addend])?;
     }
     Ok(())
 }
 
-/// Numbers, each with its size in bytes.
-fn write_numbers<W: Writer>(w: &mut W, numbers: &[(u64, u8)]) -> Result<()> {
-    for (number, size) in numbers {
-        w.write_udata(*number, *size)?;
+/// Numbers of eight bytes.
+fn write_numbers<W: Writer>(w: &mut W, numbers: &[u64]) -> Result<()> {
+    for number in numbers {
+        w.write_u64(*number)?;
     }
     Ok(())
 }
 
 /// The headers of the file and of its sections, the first of them empty, and the bytes of these.
-fn write_object<W: Writer>(w: &mut W, sections: &[([u64; 6], &[u8])]) -> Result<()> {
+fn write_object<W: Writer>(w: &mut W, sections: &[([u64; 4], &[u8])]) -> Result<()> {
     w.write(START)?;
     w.write(&[0; 64])?;
     let mut offset = 704u64;
     for (header, bytes) in sections {
+        let [name, flags, link, entry_size] = *header;
         let size = bytes.len() as u64;
-        write_header(w, header, offset, size)?;
+        write_numbers(w, &[name, flags, 0, offset, size, link, 1, entry_size])?;
         offset = offset.wrapping_add(size);
     }
     for (_, bytes) in sections {
         w.write(bytes)?;
     }
     Ok(())
-}
-
-/// The header of a section.
-fn write_header<W: Writer>(w: &mut W, header: &[u64; 6], offset: u64, size: u64) -> Result<()> {
-    let [name, kind, flags, link, info, entry_size] = *header;
-    write_numbers(
-        w,
-        &[
-            (name, 4),
-            (kind, 4),
-            (flags, 8),
-            (0, 8),
-            (offset, 8),
-            (size, 8),
-            (link, 4),
-            (info, 4),
-            (1, 8),
-            (entry_size, 8),
-        ],
-    )
 }

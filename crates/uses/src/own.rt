@@ -6,15 +6,18 @@ ghost use Rattle.std.specs.Prelude.{◌≡◌, ◌≤◌, false, nat_eq, positio
 use crate::make_unit::{AT_0X1000, write_unit};
 use crate::rows::print_units;
 use gimli_core::{Error as ReadError, LittleEndian, Reader, ReaderOffsetId, SectionId};
-use gimli_write::{Address, DebugLine, DebugLineStr, Error, Result, Sink, Writer};
+use gimli_write::{Address, DebugLine, DebugLineStr, EndianVec, Error, Result, Sink, Writer};
 use std::borrow::CowSlice;
 
 /// Writes a unit into an array, and prints the rows that are read there.
 pub fn start(rt: &HostRuntime) -> anyhow::Result<()> {
-    let mut lines = DebugLine::from(ArraySection::new());
-    let mut texts = DebugLineStr::from(ArraySection::new());
+    let mut lines = DebugLine::from(ArraySection {
+        bytes: [0; 256],
+        len: 0,
+    });
+    let mut texts = DebugLineStr::from(EndianVec::new(rt.alloc(), LittleEndian));
     write_unit(rt.alloc(), AT_0X1000, &mut lines, &mut texts)?;
-    let slice = lines.0.slice();
+    let slice = &lines.0.bytes[..lines.0.len];
     let mut text = String::new(rt.alloc());
     print_units(rt.alloc(), OwnReader { slice }, &mut text)?;
     print!(rt; "{text}")?;
@@ -105,21 +108,6 @@ struct ArraySection {
     bytes: [u8; 256],
     len: usize,
     ghost fits: { len ≤ 256 },
-}
-
-impl ArraySection {
-    /// An empty section.
-    fn new() -> ArraySection {
-        ArraySection {
-            bytes: [0; 256],
-            len: 0,
-        }
-    }
-
-    /// The bytes that were written.
-    fn slice(&self) -> &[u8] {
-        &self.bytes[..self.len]
-    }
 }
 
 impl Sink for ArraySection {

@@ -130,25 +130,13 @@ fn print_place<R: Reader>(
     address: u64,
     text: &mut String,
 ) -> Result<(), PathError> {
-    match source_at(alloc, program, address)? {
-        Some(source) => print_source(alloc, address, &source, text),
-        None => {
-            writeln!(text, "{address:#x} ??")?;
-            Ok(())
-        }
-    }
-}
-
-/// Adds the line of an address whose source is known.
-fn print_source(
-    alloc: Global,
-    address: u64,
-    source: &Source,
-    text: &mut String,
-) -> Result<(), PathError> {
-    let path = String::from_utf8_lossy(alloc, &source.path)?;
-    let line = source.row.line().map_or(0, |line| line.get());
-    let column = match source.row.column() {
+    let Some(Source { path, row }) = source_at(alloc, program, address)? else {
+        writeln!(text, "{address:#x} ??")?;
+        return Ok(());
+    };
+    let path = String::from_utf8_lossy(alloc, &path)?;
+    let line = row.line().map_or(0, |line| line.get());
+    let column = match row.column() {
         ColumnType::LeftEdge => 0,
         ColumnType::Column(column) => column.get(),
     };
