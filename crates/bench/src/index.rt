@@ -4,14 +4,14 @@
 //! | WORK | Does | Counts | Sums |
 //! |---|---|---|---|
 //! | `section` | makes a lookup of the section | units | |
-//! | `make` | makes the index of one lookup | units | bytes |
+//! | `make` | makes the index of one lookup | starts | bytes |
 //! | `open` | opens one index, with bytes after it | starts | |
 //! | `find` | finds 10,000 addresses at random | those found | lines and sizes of paths |
 
 use crate::order::{INDEX, OrderOf};
 use crate::parse;
 use gimli_compilation::{CompilationSections, Compilations};
-use gimli_core::{EndianSlice, Error};
+use gimli_core::{EndianSlice, Reader};
 use gimli_index::{LineIndex, MakeError, write_index};
 use gimli_line::DebugLine;
 use gimli_lookup::{SectionLookup, StringSections};
@@ -22,9 +22,6 @@ use std::{fs, io};
 /// How many addresses are found each time.
 const ADDRESSES: u64 = 10_000;
 
-/// Bytes in the order of this work.
-type Slice<'s> = EndianSlice<'s, OrderOf<INDEX>>;
-
 /// What was counted.
 #[derive(Clone, Copy, Default)]
 struct Tally {
@@ -32,55 +29,61 @@ struct Tally {
     sum: u64,
 }
 
-/// Does some work so many times on a section, and prints what it counted.
+/// Does some work so many times on a section, and prints what the last time counted.
 pub fn run(rt: &HostRuntime, path: &str, work: &str, times: &str) -> io::Result<()> {
     let times = parse(times)?;
     let section = fs::read(rt, path)?;
-    match do_work(rt.alloc(), &section, work, times) {
+    let line = DebugLine::new(&section, OrderOf::<INDEX>);
+    let none = EndianSlice::new(&[], OrderOf::<INDEX>);
+    match do_work(rt.alloc(), &line, none, work, times) {
         Ok(tally) => println!(rt; "count {} sum {}", tally.count, tally.sum),
         Err(_) => Err(io::Error::from(ErrorKind::InvalidData)),
     }
 }
 
+/// Does the work so many times. `none` is a reader of no bytes.
+fn do_work<R: Reader>(
+    alloc: Global,
+    section: &DebugLine<R>,
+    none: R,
+    work: &str,
+    times: u64,
+) -> Result<Tally, MakeError> {
+    let mut tally = Tally::default();
+    let mut lookup = lookup_of(alloc, section)?;
+    if work == "section" {
+        for _ in 0..times {
+            lookup = lookup_of(alloc, section)?;
+            tally.count = lookup.units().len() as u64;
+        }
+        return Ok(tally);
+    }
+    let mut bytes = index_of(alloc, &lookup, none)?;
+    bytes.extend_from_slice(&[0; 8])?;
+    match work {
+        "make" => indexes(alloc, &lookup, none, times),
+        "open" => Ok(openings(&bytes, times)),
+        _ => Ok(findings(&bytes, times)),
+    }
+}
+
 /// The lookup of a section.
-fn lookup_of(alloc: Global, section: &[u8]) -> Result<SectionLookup<Slice<'_>>, MakeError> {
-    let section = DebugLine::new(section, OrderOf::<INDEX>);
-    match SectionLookup::new(&section, alloc, 8, 0) {
+fn lookup_of<R: Reader>(
+    alloc: Global,
+    section: &DebugLine<R>,
+) -> Result<SectionLookup<R>, MakeError> {
+    match SectionLookup::new(section, alloc, 8, 0) {
         Ok(lookup) => Ok(lookup),
         Err(_) => Err(MakeError::OutOfMemory),
     }
 }
 
-/// Does the work so many times, and returns what the last time counted.
-fn do_work(alloc: Global, section: &[u8], work: &str, times: u64) -> Result<Tally, MakeError> {
-    let lookup = lookup_of(alloc, section)?;
-    let mut tally = Tally::default();
-    if work == "open" || work == "find" {
-        let mut bytes = index_of(alloc, &lookup)?;
-        bytes.extend_from_slice(&[0; 8])?;
-        return Ok(match work {
-            "open" => open_times(&bytes, times),
-            _ => find_times(&bytes, times),
-        });
-    }
-    for _ in 0..times {
-        tally = match work {
-            "section" => Tally {
-                count: lookup_of(alloc, section)?.units().len() as u64,
-                sum: 0,
-            },
-            _ => Tally {
-                count: lookup.units().len() as u64,
-                sum: index_of(alloc, &lookup)?.len() as u64,
-            },
-        };
-    }
-    Ok(tally)
-}
-
 /// The index of a lookup. Its strings stand in its section.
-fn index_of(alloc: Global, lookup: &SectionLookup<Slice<'_>>) -> Result<Vec<u8>, MakeError> {
-    let none = EndianSlice::new(&[], OrderOf::<INDEX>);
+fn index_of<R: Reader>(
+    alloc: Global,
+    lookup: &SectionLookup<R>,
+    none: R,
+) -> Result<Vec<u8>, MakeError> {
     let strings = StringSections {
         debug_line_str: none,
         debug_str: none,
@@ -100,6 +103,22 @@ fn index_of(alloc: Global, lookup: &SectionLookup<Slice<'_>>) -> Result<Vec<u8>,
     Ok(bytes)
 }
 
+/// Makes the index of a lookup so many times.
+fn indexes<R: Reader>(
+    alloc: Global,
+    lookup: &SectionLookup<R>,
+    none: R,
+    times: u64,
+) -> Result<Tally, MakeError> {
+    let mut tally = Tally::default();
+    for _ in 0..times {
+        let bytes = index_of(alloc, lookup, none)?;
+        tally.sum = bytes.len() as u64;
+        tally.count = opening(&bytes).map_or(0, |index| index.len() as u64);
+    }
+    Ok(tally)
+}
+
 /// Opens an index.
 #[inline(never)]
 fn opening(bytes: &[u8]) -> Option<LineIndex<'_>> {
@@ -107,7 +126,7 @@ fn opening(bytes: &[u8]) -> Option<LineIndex<'_>> {
 }
 
 /// Opens an index so many times, with one to eight bytes after it.
-fn open_times(bytes: &[u8], times: u64) -> Tally {
+fn openings(bytes: &[u8], times: u64) -> Tally {
     let mut tally = Tally::default();
     for time in 0..times {
         let end = bytes.len().saturating_sub((time % 8) as usize);
@@ -119,7 +138,7 @@ fn open_times(bytes: &[u8], times: u64) -> Tally {
 }
 
 /// Finds addresses so many times.
-fn find_times(bytes: &[u8], times: u64) -> Tally {
+fn findings(bytes: &[u8], times: u64) -> Tally {
     let mut tally = Tally::default();
     let Ok(index) = LineIndex::open(bytes) else {
         return tally;

@@ -3,17 +3,20 @@
 //!
 //! | WORK | Does | Counts | Sums |
 //! |---|---|---|---|
+//! | `rows` | runs the program | rows | their addresses |
 //! | `sequences` | cuts the program | sequences | where they end |
+//! | `resumed` | cuts it, and runs each sequence | rows | their addresses |
 //! | `new` | makes a lookup | sequences | where they end |
 //! | `find` | finds 10,000 addresses in one lookup | those found, probes | addresses of rows |
+//! | `find_in_run` | finds the address 0x1000 in one run | 1 or 0 | the address of its row |
 //! | `section` | makes a lookup of the whole section | units | their offsets |
 //! | `section_find` | as `find`, over the whole section | as `find` | as `find` |
 
 use crate::order::{LOOKUP, OrderOf};
 use crate::parse;
 use gimli_core::{DebugLineOffset, Error, Reader, ReaderOffset, Result};
-use gimli_line::{DebugLine, LineSequence};
-use gimli_lookup::{Lookup, SectionLookup};
+use gimli_line::{DebugLine, IncompleteLineProgram, LineProgram, LineRows, LineSequence};
+use gimli_lookup::{Lookup, SectionLookup, find_in_run};
 use std::alloc::Global;
 use std::io::ErrorKind;
 use std::{fs, io};
@@ -65,17 +68,14 @@ fn do_work<R: Reader>(
             let lookup = Lookup::new(section.program(alloc, offset, 8, None, None)?)?;
             return Ok(find_times(&lookup, times));
         }
-        "section_find" => {
-            let lookup = SectionLookup::new(section, alloc, 8, 0)?;
-            return Ok(find_times_in_section(&lookup, times));
-        }
+        "section_find" => return find_times_in_section(alloc, section, times),
         _ => {}
     }
     let mut tally = Tally::default();
     for _ in 0..times {
         tally = match work {
             "section" => tally_of_section(alloc, section)?,
-            _ => tally_of_unit(alloc, section, offset, work)?,
+            _ => tally_of(section.program(alloc, offset, 8, None, None)?, work)?,
         };
     }
     Ok(tally)
@@ -92,41 +92,66 @@ fn tally_of_section<R: Reader>(alloc: Global, section: &DebugLine<R>) -> Result<
     Ok(tally)
 }
 
-/// The sequences of a program, or those of a lookup that is made of it.
-fn tally_of_unit<R: Reader>(
-    alloc: Global,
-    section: &DebugLine<R>,
-    offset: DebugLineOffset<R::Offset>,
-    work: &str,
-) -> Result<Tally> {
-    let program = section.program(alloc, offset, 8, None, None)?;
+/// Does the work on a program once.
+fn tally_of<R: Reader>(program: IncompleteLineProgram<R>, work: &str) -> Result<Tally> {
+    let mut tally = Tally::default();
     match work {
+        "rows" => add_rows(program.rows(), &mut tally)?,
+        "resumed" => add_resumed(program, &mut tally)?,
         "sequences" => {
             let (_, sequences) = program.sequences()?;
-            Ok(tally_of_sequences(&sequences))
+            add_ends(&sequences, &mut tally);
         }
         "new" => {
             let lookup = Lookup::new(program)?;
-            Ok(tally_of_sequences(lookup.sequences()))
+            add_ends(lookup.sequences(), &mut tally);
         }
-        _ => Err(Error::UnsupportedOffset),
+        "find_in_run" => {
+            if let Some((row, _)) = find_in_run(program, 0x1000)? {
+                tally.add(row.address());
+            }
+        }
+        _ => return Err(Error::UnsupportedOffset),
     }
+    Ok(tally)
 }
 
-/// Sequences.
-fn tally_of_sequences<R: Reader>(sequences: &[LineSequence<R>]) -> Tally {
-    let mut tally = Tally::default();
+/// Adds the rows that are still to come.
+fn add_rows<R: Reader, P: LineProgram<R> + Drop>(
+    rows: LineRows<R, P>,
+    tally: &mut Tally,
+) -> Result<()> {
+    let mut rows = rows;
+    for _ in 0..u64::MAX {
+        match rows.next_row()? {
+            Some((_, row)) => tally.add(row.address()),
+            None => return Ok(()),
+        }
+    }
+    Ok(())
+}
+
+/// Adds the rows of each sequence.
+fn add_resumed<R: Reader>(program: IncompleteLineProgram<R>, tally: &mut Tally) -> Result<()> {
+    let (program, sequences) = program.sequences()?;
+    for sequence in &sequences {
+        add_rows(program.resume_from(sequence), tally)?;
+    }
+    Ok(())
+}
+
+/// Adds where sequences end.
+fn add_ends<R: Reader>(sequences: &[LineSequence<R>], tally: &mut Tally) {
     for sequence in sequences {
         tally.add(sequence.end);
     }
-    tally
 }
 
 /// The addresses from the lowest start of a sequence on, and how many there are to the highest end.
-fn span<R: Reader>(lookup: &Lookup<R>) -> (u64, u64) {
+fn span<R: Reader>(sequences: &[LineSequence<R>]) -> (u64, u64) {
     let mut lowest = u64::MAX;
     let mut highest = 0;
-    for sequence in lookup.sequences() {
+    for sequence in sequences {
         lowest = lowest.min(sequence.start);
         highest = highest.max(sequence.end);
     }
@@ -140,7 +165,7 @@ fn address(lowest: u64, length: u64, place: u64) -> u64 {
 
 /// Finds addresses at even distances so many times. The probes are counted in one more time.
 fn find_times<R: Reader>(lookup: &Lookup<R>, times: u64) -> Tally {
-    let (lowest, length) = span(lookup);
+    let (lowest, length) = span(lookup.sequences());
     let mut tally = Tally::default();
     for _ in 0..times {
         tally = find_all(lookup, lowest, length);
@@ -163,36 +188,42 @@ fn find_all<R: Reader>(lookup: &Lookup<R>, lowest: u64, length: u64) -> Tally {
     tally
 }
 
-/// The same as `find_times` over a section, from its lowest address that is covered to its highest.
-fn find_times_in_section<R: Reader>(lookup: &SectionLookup<R>, times: u64) -> Tally {
-    let (lowest, length) = span_of_section(lookup);
+/// The same over all units of a section that aren't refused.
+fn span_of_section<R: Reader>(alloc: Global, section: &DebugLine<R>) -> Result<(u64, u64)> {
+    let mut lowest = u64::MAX;
+    let mut highest = 0;
+    let mut units = section.units(alloc, 8);
+    for _ in 0..u64::MAX {
+        let Some(unit) = units.next()? else {
+            break;
+        };
+        if let Ok(program) = unit.program {
+            let (_, sequences) = program.sequences()?;
+            let (start, length) = span(&sequences);
+            lowest = lowest.min(start);
+            highest = u64::max(highest, start.saturating_add(length));
+        }
+    }
+    Ok((lowest, u64::saturating_sub(highest, lowest)))
+}
+
+/// The same as `find_times` over a section.
+fn find_times_in_section<R: Reader>(
+    alloc: Global,
+    section: &DebugLine<R>,
+    times: u64,
+) -> Result<Tally> {
+    let (lowest, length) = span_of_section(alloc, section)?;
+    let lookup = SectionLookup::new(section, alloc, 8, 0)?;
     let mut tally = Tally::default();
     for _ in 0..times {
-        tally = find_all_in_section(lookup, lowest, length);
+        tally = find_all_in_section(&lookup, lowest, length);
     }
     for place in 0..ADDRESSES {
         let (_, count) = lookup.find_counted(address(lowest, length, place));
         tally.probes = tally.probes.wrapping_add(count);
     }
-    tally
-}
-
-/// The lowest address that is covered, and how many there are to the end of the highest.
-fn span_of_section<R: Reader>(lookup: &SectionLookup<R>) -> (u64, u64) {
-    let mut ranges = lookup.ranges();
-    let mut lowest = u64::MAX;
-    let mut highest = 0;
-    for _ in 0..u64::MAX {
-        match ranges.next_range() {
-            Some(range) if range.rows.is_some() => {
-                lowest = lowest.min(range.start);
-                highest = range.end.unwrap_or(u64::MAX);
-            }
-            Some(_) => {}
-            None => break,
-        }
-    }
-    (lowest, highest.saturating_sub(lowest))
+    Ok(tally)
 }
 
 /// Finds each address in a section.
