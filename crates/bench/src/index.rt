@@ -8,11 +8,12 @@
 //! | `open` | opens one index, with bytes after it | starts | |
 //! | `find` | finds 10,000 addresses at random | those found | lines and sizes of paths |
 
+use crate::lookup::Tally;
 use crate::order::{INDEX, OrderOf};
 use crate::parse;
 use gimli_compilation::{CompilationSections, Compilations};
 use gimli_core::{EndianSlice, Reader};
-use gimli_index::{LineIndex, MakeError, write_index};
+use gimli_index::{LineIndex, write_index};
 use gimli_line::DebugLine;
 use gimli_lookup::{SectionLookup, StringSections};
 use std::alloc::Global;
@@ -22,13 +23,6 @@ use std::{fs, io};
 /// How many addresses are found each time.
 const ADDRESSES: u64 = 10_000;
 
-/// What was counted.
-#[derive(Clone, Copy, Default)]
-struct Tally {
-    count: u64,
-    sum: u64,
-}
-
 /// Does some work so many times on a section, and prints what the last time counted.
 pub fn run(rt: &HostRuntime, path: &str, work: &str, times: &str) -> io::Result<()> {
     let times = parse(times)?;
@@ -36,54 +30,45 @@ pub fn run(rt: &HostRuntime, path: &str, work: &str, times: &str) -> io::Result<
     let line = DebugLine::new(&section, OrderOf::<INDEX>);
     let none = EndianSlice::new(&[], OrderOf::<INDEX>);
     match do_work(rt.alloc(), &line, none, work, times) {
-        Ok(tally) => println!(rt; "count {} sum {}", tally.count, tally.sum),
-        Err(_) => Err(io::Error::from(ErrorKind::InvalidData)),
+        Some(tally) => println!(rt; "count {} sum {}", tally.count, tally.sum),
+        None => Err(io::Error::from(ErrorKind::InvalidData)),
     }
 }
 
-/// Does the work so many times. `none` is a reader of no bytes.
+/// Does the work so many times. `none` is a reader of no bytes. None where the section or memory
+/// refuses it.
 fn do_work<R: Reader>(
     alloc: Global,
     section: &DebugLine<R>,
     none: R,
     work: &str,
     times: u64,
-) -> Result<Tally, MakeError> {
-    let mut tally = Tally::default();
-    let mut lookup = lookup_of(alloc, section)?;
+) -> Option<Tally> {
     if work == "section" {
-        for _ in 0..times {
-            lookup = lookup_of(alloc, section)?;
-            tally.count = lookup.units().len() as u64;
-        }
-        return Ok(tally);
+        return lookups(alloc, section, times);
     }
+    let lookup = SectionLookup::new(section, alloc, 8, 0).ok()?;
     let mut bytes = index_of(alloc, &lookup, none)?;
-    bytes.extend_from_slice(&[0; 8])?;
+    bytes.extend_from_slice(&[0; 8]).ok()?;
     match work {
         "make" => indexes(alloc, &lookup, none, times),
-        "open" => Ok(openings(&bytes, times)),
-        _ => Ok(findings(&bytes, times)),
+        "open" => Some(openings(&bytes, times)),
+        _ => Some(findings(&bytes, times)),
     }
 }
 
-/// The lookup of a section.
-fn lookup_of<R: Reader>(
-    alloc: Global,
-    section: &DebugLine<R>,
-) -> Result<SectionLookup<R>, MakeError> {
-    match SectionLookup::new(section, alloc, 8, 0) {
-        Ok(lookup) => Ok(lookup),
-        Err(_) => Err(MakeError::OutOfMemory),
+/// Makes a lookup so many times.
+fn lookups<R: Reader>(alloc: Global, section: &DebugLine<R>, times: u64) -> Option<Tally> {
+    let mut tally = Tally::default();
+    for _ in 0..times {
+        let lookup = SectionLookup::new(section, alloc, 8, 0).ok()?;
+        tally.count = lookup.units().len() as u64;
     }
+    Some(tally)
 }
 
 /// The index of a lookup. Its strings stand in its section.
-fn index_of<R: Reader>(
-    alloc: Global,
-    lookup: &SectionLookup<R>,
-    none: R,
-) -> Result<Vec<u8>, MakeError> {
+fn index_of<R: Reader>(alloc: Global, lookup: &SectionLookup<R>, none: R) -> Option<Vec<u8>> {
     let strings = StringSections {
         debug_line_str: none,
         debug_str: none,
@@ -95,12 +80,10 @@ fn index_of<R: Reader>(
         debug_line_str: none,
         debug_str_offsets: none,
     };
-    let Ok(compilations) = Compilations::new(alloc, &sections) else {
-        return Err(MakeError::OutOfMemory);
-    };
+    let compilations = Compilations::new(alloc, &sections).ok()?;
     let mut bytes = Vec::new(alloc);
-    write_index(alloc, lookup, &strings, &compilations, 8, b"", &mut bytes)?;
-    Ok(bytes)
+    write_index(alloc, lookup, &strings, &compilations, 8, b"", &mut bytes).ok()?;
+    Some(bytes)
 }
 
 /// Makes the index of a lookup so many times.
@@ -109,14 +92,14 @@ fn indexes<R: Reader>(
     lookup: &SectionLookup<R>,
     none: R,
     times: u64,
-) -> Result<Tally, MakeError> {
+) -> Option<Tally> {
     let mut tally = Tally::default();
     for _ in 0..times {
         let bytes = index_of(alloc, lookup, none)?;
         tally.sum = bytes.len() as u64;
         tally.count = opening(&bytes).map_or(0, |index| index.len() as u64);
     }
-    Ok(tally)
+    Some(tally)
 }
 
 /// Opens an index.
@@ -165,11 +148,7 @@ fn find_all(index: &LineIndex<'_>, lowest: u64, length: u64) -> Tally {
         let address = lowest.wrapping_add((random >> 11).checked_rem(length).unwrap_or(0));
         if let Some(place) = index.find(address) {
             let size = place.path.map_or(0, |path| path.len());
-            tally.count = tally.count.wrapping_add(1);
-            tally.sum = tally
-                .sum
-                .wrapping_add(u64::from(place.line))
-                .wrapping_add(size as u64);
+            tally.add(u64::from(place.line).wrapping_add(size as u64));
         }
     }
     tally

@@ -26,15 +26,15 @@ const ADDRESSES: u64 = 10_000;
 
 /// What was counted.
 #[derive(Clone, Copy, Default)]
-struct Tally {
-    count: u64,
-    probes: u64,
-    sum: u64,
+pub struct Tally {
+    pub count: u64,
+    pub probes: u64,
+    pub sum: u64,
 }
 
 impl Tally {
     /// Counts one more, with this number.
-    fn add(&mut self, number: u64) {
+    pub fn add(&mut self, number: u64) {
         self.count = self.count.wrapping_add(1);
         self.sum = self.sum.wrapping_add(number);
     }

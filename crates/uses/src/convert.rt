@@ -36,24 +36,22 @@ fn print_converted<'i>(
     known: &'i [String],
     text: &mut String,
 ) -> ConvertResult<()> {
-    let directory = known
-        .first()
-        .map(|word| EndianSlice::new(word.as_bytes(), LittleEndian));
-    let name = known
-        .get(1)
-        .map(|word| EndianSlice::new(word.as_bytes(), LittleEndian));
+    let directory = reader_of(known.first());
+    let name = reader_of(known.get(1));
     let section = DebugLine::new(section, LittleEndian);
     let source = section.program(alloc, DebugLineOffset(offset), 8, directory, None)?;
     let no_texts = EndianSlice::new(b"", LittleEndian);
-    print_rows(&convert(alloc, source, name, no_texts)?, text)
-}
-
-/// Adds a line for each row that was read.
-fn print_rows(converted: &RoundTrip, text: &mut String) -> ConvertResult<()> {
+    let converted = convert(alloc, source, name, no_texts)?;
     for row in &converted.rows {
         print_row(row, text)?;
     }
     Ok(())
+}
+
+/// A reader of a word.
+fn reader_of(word: Option<&String>) -> Option<EndianSlice<'_, LittleEndian>> {
+    let word = word?;
+    Some(EndianSlice::new(word.as_bytes(), LittleEndian))
 }
 
 /// What is read of a unit after it was converted and written, each address as it is. Refused

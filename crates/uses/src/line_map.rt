@@ -18,26 +18,13 @@ pub fn start(rt: &HostRuntime, words: &[String]) -> Result<()> {
     let line = line.as_str().parse::<u64>()?;
     let address = u64::from_str_radix(address.as_str(), 16)?;
     let file = fs::read(rt, file.as_str())?;
-    let mut text = String::new(rt.alloc());
-    print_answers(rt.alloc(), &file, (path.as_str(), line), address, &mut text)?;
-    print!(rt; "{text}")?;
-    Ok(())
-}
-
-/// Adds what the index of an ELF file says of a line of a path, and of an address.
-fn print_answers(
-    alloc: Global,
-    file: &[u8],
-    of: (&str, u64),
-    address: u64,
-    text: &mut String,
-) -> Result<()> {
-    let program = program_of(alloc, file)?;
-    let bytes = map_of(alloc, &program)?;
+    let bytes = map_of(rt.alloc(), &program_of(rt.alloc(), &file)?)?;
     let index = LineIndex::open(&bytes)?;
     index.check()?;
-    print_line(index, of.0, of.1, text)?;
-    print_place(alloc, index.find(address), text)?;
+    let mut text = String::new(rt.alloc());
+    print_line(index, path.as_str(), line, &mut text)?;
+    print_place(rt.alloc(), index.find(address), &mut text)?;
+    print!(rt; "{text}")?;
     Ok(())
 }
 

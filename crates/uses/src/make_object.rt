@@ -94,9 +94,9 @@ fn write_relocations<W: Writer>(w: &mut W, list: &[Relocation]) -> Result<()> {
             RelocationTarget::OfSection(_) => 2,
         };
         let kind = if relocation.size == 8 { 1 } else { 10 };
+        let info = symbol.rotate_left(32) | kind;
         let addend = relocation.addend.cast_unsigned();
-        let offset = relocation.offset as u64;
-        write_numbers(w, &[offset, symbol.rotate_left(32) | kind, addend])?;
+        write_numbers(w, &[relocation.offset as u64, info, addend])?;
     }
     Ok(())
 }

@@ -42,11 +42,8 @@ pub fn print_bytes(
 /// Two functions of six bytes, one after the other.
 pub const AT_0X1000: [Address; 2] = [Address::Constant(0x1000), Address::Constant(0x1006)];
 
-/// The MD5 digest of an empty file.
-const NO_BYTES: [u8; 16] = *b"\xd4\x1d\x8c\xd9\x8f\0\xb2\x04\xe9\x80\x09\x98\xec\xf8\x42\x7e";
-
-/// Appends the unit of two functions of six bytes at these addresses, and its texts, which come last
-/// since `write` may add one.
+/// Appends the unit of two functions of six bytes at these addresses, and its texts: these come
+/// last, since `write` may add one.
 pub fn write_unit<W: Writer, T: Writer>(
     alloc: Global,
     functions: [Address; 2],
@@ -96,7 +93,7 @@ fn with_source(alloc: Global, line_strings: &mut LineStringTable) -> Result<Line
     Ok(program)
 }
 
-/// Adds the file `a.h` in the directory `inc`, with its digest.
+/// Adds the file `a.h` in the directory `inc`, with the MD5 digest of an empty file.
 fn add_header(program: &mut LineProgram, line_strings: &mut LineStringTable) -> Result<FileId>
     requires { CanWrite program.old (texts_in [] line_strings.old) }
     ensures { OnOk result (CanWrite program.new (texts_in [] line_strings.new)) }
@@ -104,7 +101,7 @@ fn add_header(program: &mut LineProgram, line_strings: &mut LineStringTable) -> 
     let info = FileInfo {
         timestamp: 0,
         size: 0,
-        md5: NO_BYTES,
+        md5: *b"\xd4\x1d\x8c\xd9\x8f\0\xb2\x04\xe9\x80\x09\x98\xec\xf8\x42\x7e",
         source: None,
     };
     let include = line_strings.add(b"inc")?;

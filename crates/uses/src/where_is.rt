@@ -30,21 +30,13 @@ pub fn start(rt: &HostRuntime, words: &[String]) -> anyhow::Result<()> {
     Ok(())
 }
 
-/// What is kept of an ELF file whose addresses have 8 bytes.
+/// What is kept of an ELF file.
 pub fn program_of<'a>(
     alloc: Global,
     file: &'a [u8],
-) -> anyhow::Result<Program<EndianSlice<'a, LittleEndian>>> {
+) -> Result<Program<EndianSlice<'a, LittleEndian>>> {
     let elf = Elf::parse(file)?;
-    let lines = section(&elf, b".debug_line")?;
-    let lowest = elf.lowest_code_address().unwrap_or(0);
-    let program = Program::new(alloc, DebugLine::from(lines), sections_of(&elf)?, lowest)?;
-    Ok(program)
-}
-
-/// What an ELF file says of its compilations.
-fn sections_of<'a>(elf: &Elf<'a>) -> Result<CompilationSections<EndianSlice<'a, LittleEndian>>> {
-    let elf = *elf;
+    let lines = DebugLine::from(section(&elf, b".debug_line")?);
     let sections = CompilationSections {
         debug_info: section(&elf, b".debug_info")?,
         debug_abbrev: section(&elf, b".debug_abbrev")?,
@@ -52,7 +44,10 @@ fn sections_of<'a>(elf: &Elf<'a>) -> Result<CompilationSections<EndianSlice<'a, 
         debug_line_str: section(&elf, b".debug_line_str")?,
         debug_str_offsets: section(&elf, b".debug_str_offsets")?,
     };
-    Ok(sections)
+    match Program::new(alloc, lines, sections, elf.lowest_code_address()) {
+        Ok(program) => Ok(program),
+        Err(_) => Err(ElfError::OutOfMemory),
+    }
 }
 
 /// A section of an ELF file; no bytes where it has none of this name.
@@ -61,28 +56,26 @@ fn section<'a>(elf: &Elf<'a>, name: &[u8]) -> Result<EndianSlice<'a, LittleEndia
     Ok(EndianSlice::new(bytes, LittleEndian))
 }
 
-/// What is kept of a program.
+/// What is kept of a program: the rows of its line programs, its texts, and the directories in
+/// which it was compiled.
 #[derive(Drop)]
 pub struct Program<R: Reader> {
-    /// The rows of its line programs.
     pub lookup: SectionLookup<R>,
-    /// Its texts.
     pub strings: StringSections<R>,
-    /// The directories in which it was compiled.
     pub compilations: Compilations<R>,
 }
 
 impl<R: Reader> Program<R> {
-    /// Reads the line programs and the units of a program whose addresses have 8 bytes, and whose
-    /// code begins at the address `lowest`: below it a linker leaves what it dropped.
+    /// Reads the line programs and the units of a program whose addresses have 8 bytes. Below the
+    /// lowest address of its code a linker leaves what it dropped. Fails only with `OutOfMemory`.
     fn new(
         alloc: Global,
         lines: DebugLine<R>,
         sections: CompilationSections<R>,
-        lowest: u64,
+        lowest: Option<u64>,
     ) -> Result<Self, Error> {
         Ok(Program {
-            lookup: SectionLookup::new(&lines, alloc, 8, lowest)?,
+            lookup: SectionLookup::new(&lines, alloc, 8, lowest.unwrap_or(0))?,
             strings: StringSections {
                 debug_line_str: sections.debug_line_str,
                 debug_str: sections.debug_str,
@@ -130,7 +123,7 @@ fn print_place<R: Reader>(
     address: u64,
     text: &mut String,
 ) -> Result<(), PathError> {
-    let Some(Source { path, row }) = source_at(alloc, program, address)? else {
+    let Some((path, row)) = source_at(alloc, program, address)? else {
         writeln!(text, "{address:#x} ??")?;
         return Ok(());
     };
@@ -144,24 +137,17 @@ fn print_place<R: Reader>(
     Ok(())
 }
 
-/// Where code comes from: the whole path of a file, and a row of it.
-#[derive(Drop)]
-struct Source {
-    path: Vec<u8>,
-    row: LineRow,
-}
-
-/// Where the code at an address comes from: what the row says that covers it. None where no row
-/// covers it. Refused where its file has no path.
+/// Where the code at an address comes from: the row that covers it, and the whole path of its file.
+/// None where no row covers it. Refused where its file has no path.
 fn source_at<R: Reader>(
     alloc: Global,
     program: &Program<R>,
     address: u64,
-) -> Result<Option<Source>, PathError>
+) -> Result<Option<(Vec<u8>, LineRow)>, PathError>
     ensures none { IfOk result (λ source. source ≡ None
         → All (HasNoPair address) (all_sequences program.now.lookup)) }
     ensures row { IfOk result (λ source. IfSome source (λ source. (next : _)
-        × IsFirstPair address (all_sequences program.now.lookup) source.row next)) }
+        × IsFirstPair address (all_sequences program.now.lookup) source.1 next)) }
 {
     let Some(found) = program.lookup.find(address) else {
         return Ok(None);
@@ -171,6 +157,5 @@ fn source_at<R: Reader>(
         return Err(PathError::InvalidFileIndex(found.row.file_index()));
     };
     let path = program.path_of(alloc, header, &found.row)?;
-    let row = found.row;
-    Ok(Some(Source { path, row }))
+    Ok(Some((path, found.row)))
 }
