@@ -101,8 +101,7 @@ impl<'i> Reader for OwnReader<'i> {
     }
 }
 
-/// A section in an array: what passes its end is `LengthOutOfBounds`. That it keeps the bytes given
-/// to it isn't claimed.
+/// A section in an array. That it keeps the bytes given to it isn't claimed.
 #[derive(Drop)]
 struct ArraySection {
     bytes: [u8; 256],
