@@ -1,5 +1,5 @@
 -- A row and an end change no table.
-use Rattle.uses.proofs.make_unit.build.Goals as goal
+use Rattle.uses.proofs.make_unit.add_function.Goals as goal
 
 pub loop-offset-preserved : goal.loop-offset-preserved
 loop-offset-preserved c =

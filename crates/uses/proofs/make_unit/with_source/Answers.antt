@@ -9,7 +9,7 @@ use Rattle.gimli_write.specs.LineText.{LineText, line_text, IsWithin, HasNoZero}
 use Rattle.gimli_write.specs.Tables.{File}
 use Rattle.gimli_write.proofs.ConvertSteps.{still_there}
 use Rattle.gimli_write.proofs.MappedTables.{within_where}
-use Rattle.uses.proofs.make_unit.without_rows.Goals as goal
+use Rattle.uses.proofs.make_unit.with_source.Goals as goal
 
 one : {A : Type 0} (P : A → Type 0) (xs : List A) (x : A) → xs ≡ x ∷ [] → P x → All P xs
 one P xs x is p = subst (All P) (sym is) (All-cons P x [] p (All-nil P))
