@@ -1,0 +1,165 @@
+//! Lookups over a reader of one's own, and over many files, sequences, and rows of a sequence.
+//! Memory for them is there, so a refusal by `OutOfMemory` would be wrong, which no contract tells.
+
+ghost use Rattle.std.specs.Prelude.{◌<◌, IsTrue, length};
+
+use crate::check::first_of;
+use crate::narrow::NarrowReader;
+use crate::units::{HEADER, program, slice, unit};
+use gimli_core::{EndianSlice, Endianity, Error, Reader, Result, RunTimeEndian};
+use gimli_line::{DebugLine, IncompleteLineProgram};
+use gimli_lookup::{Addresses, Lookup, SectionLookup, StringSections};
+use std::alloc::{AllocError, Global};
+
+// ---- a unit over a reader of one's own
+
+/// A program of the rows 0x1000, of line 1, and 0x1004, of line 3, and an end at 0x1008.
+const PROGRAM: &[u8] = b"\0\x05\x02\0\x10\0\0\x01\x4c\x02\x04\0\x01\x01";
+
+/// Whether the row at 0x1004 covers 0x1005 in a section.
+fn is_covered<R: Reader>(alloc: Global, section: &DebugLine<R>) -> Result<[bool; 1]> {
+    let found = SectionLookup::new(section, alloc, 4, 0)?.find(0x1005);
+    Ok([found.map(|found| found.row.address()) == Some(0x1004)])
+}
+
+/// Whether it does over offsets of 32 bits.
+pub fn narrow_unit(alloc: Global) -> Option<usize> {
+    let Ok(unit) = unit(alloc, HEADER, PROGRAM) else {
+        return Some(0);
+    };
+    let owned = DebugLine::from(unit);
+    let section = owned.borrow(|bytes| NarrowReader::new(alloc, bytes, RunTimeEndian::Little));
+    first_of(is_covered(alloc, &section))
+}
+
+// ---- copies of many files
+
+/// Past each power of two that a length could stop at.
+const MANY: usize = 70_000;
+
+/// The bytes of a unit of version 5 with many directories and many files, whose paths are empty; it
+/// has no program.
+fn bytes_of_tables(alloc: Global) -> std::result::Result<Vec<u8>, AllocError> {
+    let header = b"\xfa\x22\x02\0\x05\0\x08\0\xf2\x22\x02\0\x01\x01\x01\xfb\x0e\x01";
+    let format = b"\x01\x01\x08\xf0\xa2\x04";
+    let mut unit = Vec::from_slice(alloc, header)?;
+    for _ in 0..2 {
+        unit.extend_from_slice(format)?;
+        unit.resize(unit.len().saturating_add(MANY), 0)?;
+    }
+    Ok(unit)
+}
+
+/// Whether copies of a program, of a run, of a complete program and of its header have many.
+fn copied<R: Reader>(program: IncompleteLineProgram<R>) -> Result<[bool; 4]> {
+    let copy = program.clone()?;
+    let directories = copy.header().include_directories().len();
+    let rows = copy.rows().clone()?;
+    let (complete, _) = program.sequences()?;
+    let header = complete.header().clone()?;
+    let complete = complete.clone()?;
+    Ok([
+        directories == MANY,
+        rows.header().file_names().len() == MANY,
+        complete.header().file_names().len() == MANY,
+        header.file_names().len() == MANY,
+    ])
+}
+
+/// The first copy that has another number of them.
+pub fn copies(alloc: Global) -> Option<usize> {
+    let Ok(unit) = bytes_of_tables(alloc) else {
+        return Some(0);
+    };
+    match program(alloc, slice(&unit), None) {
+        Ok(program) => first_of(copied(program)),
+        Err(_) => Some(0),
+    }
+}
+
+// ---- many rows and sequences
+
+/// How many sequences there are beside the one of many rows.
+const SEQUENCES: usize = 3000;
+
+/// The last address of the sequence of many rows.
+const LAST: u64 = 70_016;
+
+/// A program of a sequence of many rows, at 0x11 and each address after it, by turns of line 2 and
+/// of line 1, and an end; then sequences of a row of line 1 at 0 and an end at 1.
+fn bytes_of_sequences(alloc: Global) -> std::result::Result<Vec<u8>, AllocError> {
+    let mut program = Vec::from_slice(alloc, b"\0\x05\x02\x10\0\0\0")?;
+    for _ in 0..MANY / 2 {
+        program.extend_from_slice(b"\x21\x1f")?;
+    }
+    program.extend_from_slice(b"\x02\x01\0\x01\x01")?;
+    for _ in 0..SEQUENCES {
+        program.extend_from_slice(b"\x01\x02\x01\0\x01\x01")?;
+    }
+    Ok(program)
+}
+
+/// The unit of this program.
+fn unit_of_sequences(alloc: Global) -> Result<Vec<u8>> {
+    let program = bytes_of_sequences(alloc).map_err(|_| Error::OutOfMemory)?;
+    unit(alloc, HEADER, &program)
+}
+
+/// Whether line 1 begins at each second row of the first sequence, and at the row of each other.
+fn are_all(found: Option<Addresses>) -> bool {
+    match found {
+        Some(found) => found.line == 1 && found.addresses.len() == MANY / 2 + SEQUENCES,
+        None => false,
+    }
+}
+
+/// Whether a lookup of one program has all.
+fn has_all<R: Reader>(program: IncompleteLineProgram<R>) -> Result<bool> {
+    let lookup = Lookup::new(program)?;
+    let found = lookup.find(LAST).map(|(row, _)| row.address());
+    let addresses = lookup.addresses_of_file(1, 1)?;
+    let count = lookup.sequences().len();
+    Ok(are_all(addresses) && (count, found) == (SEQUENCES + 1, Some(LAST)))
+}
+
+/// Whether a lookup has a unit.
+fn has_unit<R: Reader>(lookup: &SectionLookup<R>) -> bool
+    ensures { IsTrue result → 0 < length lookup.now }
+{
+    let count = lookup.units().len();
+    0 < count
+}
+
+/// Whether a lookup of a section has all, from a line to addresses.
+fn section_has_all<R: Reader>(lookup: &SectionLookup<R>, nothing: R) -> Result<bool> {
+    let sections = StringSections {
+        debug_line_str: nothing,
+        debug_str: nothing,
+    };
+    if !has_unit(lookup) || !are_all(lookup.addresses_of_file(0, 1, 1)?) {
+        return Ok(false);
+    }
+    Ok(are_all(lookup.addresses_of(&sections, b"a.c", 1)?))
+}
+
+/// Whether a lookup of a section finds the last row without its headers too.
+fn finds_without_headers<E: Endianity>(lookup: SectionLookup<EndianSlice<'_, E>>) -> Result<bool> {
+    let bare = lookup.without_headers()?;
+    Ok(bare.find(LAST).map(|found| found.row.address()) == Some(LAST))
+}
+
+/// What both lookups have.
+fn lookups(alloc: Global, unit: &[u8]) -> Result<[bool; 3]> {
+    let in_program = has_all(program(alloc, slice(unit), None)?)?;
+    let lookup = SectionLookup::new(&DebugLine::from(slice(unit)), alloc, 4, 0)?;
+    let in_section = section_has_all(&lookup, slice(b""))?;
+    Ok([in_program, in_section, finds_without_headers(lookup)?])
+}
+
+/// The first of three that fails: of a program, of a section, and of one without headers.
+pub fn many(alloc: Global) -> Option<usize> {
+    match unit_of_sequences(alloc) {
+        Ok(unit) => first_of(lookups(alloc, &unit)),
+        Err(_) => Some(0),
+    }
+}

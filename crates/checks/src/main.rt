@@ -1,0 +1,79 @@
+//! Checks in code, of what no clause and no row of input and output can say: tables of cases, each
+//! with what is expected of it by hand. A line for each check says whether it passed, or which case
+//! failed first; then come the texts of errors.
+//!
+//! They use public names alone.
+#![tactic(auto)]
+
+mod builder;
+mod check;
+mod compilations;
+mod converted;
+mod elf_files;
+mod errors;
+mod headers;
+mod lookups;
+mod machine;
+mod many;
+mod narrow;
+mod numbers;
+mod own_writer;
+mod readers;
+mod tables;
+mod units;
+mod writers;
+
+use std::alloc::Global;
+use std::io;
+
+/// Each check, and the number of the first case that fails.
+fn checks(alloc: Global) -> [(&'static str, Option<usize>); 33] {
+    [
+        ("readers::calls", readers::calls(alloc)),
+        ("numbers::sums", numbers::sums()),
+        ("numbers::parts", numbers::parts()),
+        ("numbers::orders", numbers::orders()),
+        ("headers::wide_numbers", headers::wide_numbers(alloc)),
+        ("machine::execute", machine::execute(alloc)),
+        ("lookups::narrow_unit", lookups::narrow_unit(alloc)),
+        ("lookups::copies", lookups::copies(alloc)),
+        ("lookups::many", lookups::many(alloc)),
+        ("compilations::units", compilations::units()),
+        ("compilations::lines", compilations::lines(alloc)),
+        ("elf_files::relocated", elf_files::relocated(alloc)),
+        ("elf_files::sought", elf_files::sought(alloc)),
+        ("elf_files::outlines", elf_files::outlines(alloc)),
+        ("elf_files::cut", elf_files::cut(alloc)),
+        ("elf_files::huge", elf_files::huge(alloc)),
+        ("elf_files::checksums", elf_files::checksums(alloc)),
+        ("elf_files::paths", elf_files::paths(alloc)),
+        ("writers::appends", writers::appends(alloc)),
+        ("writers::pointers", writers::pointers(alloc)),
+        ("writers::places", writers::places(alloc)),
+        ("writers::unknown", writers::unknown(alloc)),
+        ("writers::vectors", writers::vectors(alloc)),
+        ("writers::relocations", writers::relocations(alloc)),
+        ("tables::texts", tables::texts(alloc)),
+        ("builder::current_rows", builder::current_rows(alloc)),
+        ("builder::file", builder::file(alloc)),
+        ("builder::none", builder::none(alloc)),
+        ("converted::own_writer", converted::own_writer(alloc)),
+        ("converted::refused", converted::refused(alloc)),
+        ("many::writers_and_tables", many::writers_and_tables(alloc)),
+        ("many::conversions", many::conversions(alloc)),
+        ("errors::turned", errors::turned()),
+    ]
+}
+
+fn main(rt: HostRuntime) -> io::Result<()> {
+    for (name, failed) in checks(rt.alloc()) {
+        match failed {
+            None => println!(rt; "test {name} ... ok")?,
+            Some(case) => println!(rt; "test {name} ... FAILED at case {case}")?,
+        }
+    }
+    if let Ok(text) = errors::texts(rt.alloc()) {
+        print!(rt; "{text}")?;
+    }
+    Ok(())
+}
