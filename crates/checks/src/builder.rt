@@ -3,7 +3,7 @@
 
 ghost use Rattle.std.specs.Prelude.{◌≡◌, ◌<◌, length, false, IfOk};
 
-use crate::check::{first_false, first_of};
+use crate::check::{Found, first_false};
 use gimli_core::{Encoding, Format, LineEncoding};
 use gimli_write::{Address, BuiltItem, Error, FileId, LineProgram, LineRow, LineString, Result};
 use std::alloc::Global;
@@ -18,13 +18,17 @@ pub fn items_of(alloc: Global, program: &LineProgram) -> Result<Vec<BuiltItem>> 
 }
 
 /// A program of this version.
-fn program(alloc: Global, version: u16, lines: LineEncoding) -> Result<LineProgram>
+fn program(alloc: Global, version: u16) -> Result<LineProgram>
     ensures { IfOk result (λ program. program.is_none ≡ false) }
 {
     let encoding = Encoding {
         address_size: 4,
         format: Format::Dwarf32,
         version,
+    };
+    let lines = LineEncoding {
+        default_is_stmt: version == 4,
+        ..LineEncoding::default()
     };
     if !LineProgram::accepts(encoding, lines) {
         return Err(Error::InvalidAttributeValue);
@@ -64,19 +68,6 @@ fn marked(row: &LineRow) -> LineRow {
     }
 }
 
-/// A row all of whose registers were set.
-fn row_after(first: &LineRow, file: FileId) -> LineRow {
-    LineRow {
-        address_offset: 4,
-        file,
-        line: 7,
-        column: 8,
-        isa: 9,
-        is_statement: !first.is_statement,
-        ..*first
-    }
-}
-
 /// The current row after each call: an address outside a sequence, a row, an address in a sequence,
 /// an end, and the beginning of a sequence.
 fn rows_after_calls(program: &mut LineProgram, row: &LineRow) -> Result<[LineRow; 5]>
@@ -107,13 +98,17 @@ fn rows_after_calls(program: &mut LineProgram, row: &LineRow) -> Result<[LineRow
 /// place, and after an end all; an address outside a sequence and the beginning of one change
 /// nothing.
 fn has_rows(alloc: Global, version: u16) -> Result<bool> {
-    let lines = LineEncoding {
-        default_is_stmt: version == 4,
-        ..LineEncoding::default()
-    };
-    let mut program = program(alloc, version, lines)?;
+    let mut program = program(alloc, version)?;
     let first = *program.row();
-    let row = row_after(&first, LineProgram::none(alloc).row().file);
+    let row = LineRow {
+        address_offset: 4,
+        file: LineProgram::none(alloc).row().file,
+        line: 7,
+        column: 8,
+        isa: 9,
+        is_statement: !first.is_statement,
+        ..first
+    };
     let at_start = LineRow {
         address_offset: 0,
         ..row
@@ -124,10 +119,14 @@ fn has_rows(alloc: Global, version: u16) -> Result<bool> {
 }
 
 /// The first version in which a current row is another.
-pub fn current_rows(alloc: Global) -> Option<usize> {
-    [4, 5, 6]
-        .iter()
-        .position(|version| has_rows(alloc, *version) != Ok(true))
+pub fn current_rows(alloc: Global) -> Found {
+    let versions = [4, 5, 6];
+    Ok(
+        versions
+            .as_slice()
+            .iter()
+            .position(|version| has_rows(alloc, *version) != Ok(true)),
+    )
 }
 
 fn set_size(program: &mut LineProgram, file: FileId, size: u64)
@@ -140,7 +139,7 @@ fn set_size(program: &mut LineProgram, file: FileId, size: u64)
 
 /// Whether a file is found by its id and what is known of it is set by it, a second one has the
 /// same id, and each is listed with its id and its directory.
-fn knows_files(alloc: Global, program: &mut LineProgram) -> Result<[bool; 4]>
+fn knows_files(alloc: Global, program: &mut LineProgram) -> Result<Option<usize>>
     requires { program.old.is_none ≡ false }
 {
     let directory = program.default_directory();
@@ -158,27 +157,25 @@ fn knows_files(alloc: Global, program: &mut LineProgram) -> Result<[bool; 4]>
     for (id, _, directory) in program.files() {
         listed = Some((id, directory));
     }
-    Ok([is_found, is_other, stays, listed == Some((last, other))])
+    Ok(first_false(&[is_found, is_other, stays, listed == Some((last, other))]))
 }
 
 /// The first of these that fails in a program of version 4.
-pub fn file(alloc: Global) -> Option<usize> {
-    match program(alloc, 4, LineEncoding::default()) {
-        Ok(mut program) => first_of(knows_files(alloc, &mut program)),
-        Err(_) => Some(0),
-    }
+pub fn file(alloc: Global) -> Found {
+    let mut program = program(alloc, 4)?;
+    Ok(knows_files(alloc, &mut program)?)
 }
 
 /// The program that is none, as gimli has it.
-pub fn none(alloc: Global) -> Option<usize> {
+pub fn none(alloc: Global) -> Found {
     let mut none = LineProgram::none(alloc);
     let encoding = (none.version(), none.address_size(), none.format());
-    first_false([
+    Ok(first_false(&[
         is_initial(none.row(), 2, true),
         encoding == (2, 0, Format::Dwarf32),
         none.is_none() && none.is_empty(),
         none.files().count() == 0 && !none.in_sequence(),
         !none.file_has_timestamp && !none.file_has_size,
         !none.file_has_md5 && !none.file_has_source,
-    ])
+    ]))
 }

@@ -1,14 +1,11 @@
-//! What a check finds: the number of the first case that fails.
+//! What a check finds.
+
+use gimli_write::ConvertResult;
+
+/// The number of the first case that fails, or a refusal that no case expects.
+pub type Found = ConvertResult<Option<usize>>;
 
 /// The number of the first part that is false.
-pub fn first_false<const N: usize>(found: [bool; N]) -> Option<usize> {
-    found.as_slice().iter().position(|it| !*it)
-}
-
-/// The same, where the parts may be refused.
-pub fn first_of<E: Copy, const N: usize>(found: Result<[bool; N], E>) -> Option<usize> {
-    match found {
-        Ok(found) => first_false(found),
-        Err(_) => Some(N),
-    }
+pub fn first_false(found: &[bool]) -> Option<usize> {
+    found.iter().position(|it| !*it)
 }

@@ -2,7 +2,7 @@
 //! that of DWARF 5, section 7.5.1, and of DWARF 2 to 4, section 7.5.1.1; a declaration that of
 //! section 7.5.3, a form that of 7.5.4 to 7.5.6, and an index counts as in 7.26.
 
-use crate::check::first_false;
+use crate::check::{Found, first_false};
 use gimli_compilation::{Compilation, CompilationSections, Compilations, Refusal};
 use gimli_core::RunTimeEndian::{self, Big, Little};
 use gimli_core::{DwForm, EndianSlice, Error};
@@ -139,21 +139,20 @@ fn first_wrong(sections: CompilationSections<Slice>, wanted: &[(usize, Said)]) -
 }
 
 /// The first unit that says something else. A refused unit ends no walk.
-pub fn units() -> Option<usize> {
-    first_wrong(sections(Little), &SAID_LITTLE).or(first_wrong(sections(Big), &SAID_BIG))
+pub fn units() -> Found {
+    let little = first_wrong(sections(Little), &SAID_LITTLE);
+    Ok(little.or(first_wrong(sections(Big), &SAID_BIG)))
 }
 
 /// The first of three line programs that has another directory: one of a unit and of a type after
 /// it, one of another unit, and one of none.
-pub fn lines(alloc: Global) -> Option<usize> {
+pub fn lines(alloc: Global) -> Found {
     let sections = sections(Little);
-    let Ok(compilations) = Compilations::new(alloc, &sections) else {
-        return Some(0);
-    };
+    let compilations = Compilations::new(alloc, &sections)?;
     let [first, other, none] = [0x2a, 0x80, 0x81].map(|line| compilations.directory_of(line));
-    first_false([
+    Ok(first_false(&[
         first.map(|text| text.slice()) == Some(b"/u".as_slice()),
         other.map(|text| text.slice()) == Some(b"/t".as_slice()),
         none.is_none(),
-    ])
+    ]))
 }

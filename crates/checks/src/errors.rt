@@ -1,7 +1,7 @@
 //! What the errors of writing and converting print, which the stored output of the program has as
 //! gimli's texts are, and how one error becomes another. No contract tells it.
 
-use crate::check::first_false;
+use crate::check::{Found, first_false};
 use gimli_core::{DwEhPe, Error as ReadError};
 use gimli_write::{ConvertError, Error, Result};
 use std::alloc::{AllocError, Global};
@@ -78,12 +78,12 @@ pub fn texts(alloc: Global) -> Result<String> {
 
 /// The first refusal that doesn't become the converter's own variant of it, or one of memory
 /// `OutOfMemory`.
-pub fn turned() -> Option<usize> {
+pub fn turned() -> Found {
     let (read, write) = (ReadError::LineRangeZero, Error::UnsupportedVersion(6));
-    first_false([
+    Ok(first_false(&[
         ConvertError::from(read) == ConvertError::Read(read),
         ConvertError::from(write) == ConvertError::Write(write),
         ConvertError::from(AllocError) == ConvertError::OutOfMemory,
         Error::from(AllocError) == Error::OutOfMemory,
-    ])
+    ]))
 }

@@ -3,33 +3,32 @@
 
 ghost use Rattle.std.specs.Prelude.{◌<◌, IsTrue, length};
 
-use crate::check::first_of;
+use crate::check::{Found, first_false};
 use crate::narrow::NarrowReader;
 use crate::units::{HEADER, program, slice, unit};
-use gimli_core::{EndianSlice, Endianity, Error, Reader, Result, RunTimeEndian};
+use gimli_core::{EndianSlice, Endianity, Reader, Result, RunTimeEndian};
 use gimli_line::{DebugLine, IncompleteLineProgram};
 use gimli_lookup::{Addresses, Lookup, SectionLookup, StringSections};
-use std::alloc::{AllocError, Global};
+use gimli_write::ConvertResult;
+use std::alloc::Global;
 
 // ---- a unit over a reader of one's own
 
 /// A program of the rows 0x1000, of line 1, and 0x1004, of line 3, and an end at 0x1008.
 const PROGRAM: &[u8] = b"\0\x05\x02\0\x10\0\0\x01\x4c\x02\x04\0\x01\x01";
 
-/// Whether the row at 0x1004 covers 0x1005 in a section.
-fn is_covered<R: Reader>(alloc: Global, section: &DebugLine<R>) -> Result<[bool; 1]> {
-    let found = SectionLookup::new(section, alloc, 4, 0)?.find(0x1005);
-    Ok([found.map(|found| found.row.address()) == Some(0x1004)])
+/// The address of the row that covers an address in a section.
+fn covering<R: Reader>(alloc: Global, section: &DebugLine<R>, address: u64) -> Result<Option<u64>> {
+    let found = SectionLookup::new(section, alloc, 4, 0)?.find(address);
+    Ok(found.map(|found| found.row.address()))
 }
 
-/// Whether it does over offsets of 32 bits.
-pub fn narrow_unit(alloc: Global) -> Option<usize> {
-    let Ok(unit) = unit(alloc, HEADER, PROGRAM) else {
-        return Some(0);
-    };
-    let owned = DebugLine::from(unit);
+/// Whether a row is found over offsets of 32 bits.
+pub fn narrow_unit(alloc: Global) -> Found {
+    let owned = DebugLine::from(unit(alloc, HEADER, PROGRAM)?);
     let section = owned.borrow(|bytes| NarrowReader::new(alloc, bytes, RunTimeEndian::Little));
-    first_of(is_covered(alloc, &section))
+    let found = covering(alloc, &section, 0x1005)?;
+    Ok(first_false(&[found == Some(0x1004)]))
 }
 
 // ---- copies of many files
@@ -39,7 +38,7 @@ const MANY: usize = 70_000;
 
 /// The bytes of a unit of version 5 with many directories and many files, whose paths are empty; it
 /// has no program.
-fn bytes_of_tables(alloc: Global) -> std::result::Result<Vec<u8>, AllocError> {
+fn unit_of_tables(alloc: Global) -> ConvertResult<Vec<u8>> {
     let header = b"\xfa\x22\x02\0\x05\0\x08\0\xf2\x22\x02\0\x01\x01\x01\xfb\x0e\x01";
     let format = b"\x01\x01\x08\xf0\xa2\x04";
     let mut unit = Vec::from_slice(alloc, header)?;
@@ -50,31 +49,27 @@ fn bytes_of_tables(alloc: Global) -> std::result::Result<Vec<u8>, AllocError> {
     Ok(unit)
 }
 
-/// Whether copies of a program, of a run, of a complete program and of its header have many.
-fn copied<R: Reader>(program: IncompleteLineProgram<R>) -> Result<[bool; 4]> {
+/// The first of the copies of a program, of a run, of a complete program and of its header that has
+/// another number of them.
+fn copied<R: Reader>(program: IncompleteLineProgram<R>) -> Result<Option<usize>> {
     let copy = program.clone()?;
     let directories = copy.header().include_directories().len();
     let rows = copy.rows().clone()?;
     let (complete, _) = program.sequences()?;
     let header = complete.header().clone()?;
     let complete = complete.clone()?;
-    Ok([
+    Ok(first_false(&[
         directories == MANY,
         rows.header().file_names().len() == MANY,
         complete.header().file_names().len() == MANY,
         header.file_names().len() == MANY,
-    ])
+    ]))
 }
 
-/// The first copy that has another number of them.
-pub fn copies(alloc: Global) -> Option<usize> {
-    let Ok(unit) = bytes_of_tables(alloc) else {
-        return Some(0);
-    };
-    match program(alloc, slice(&unit), None) {
-        Ok(program) => first_of(copied(program)),
-        Err(_) => Some(0),
-    }
+/// The same of this unit.
+pub fn copies(alloc: Global) -> Found {
+    let unit = unit_of_tables(alloc)?;
+    Ok(copied(program(alloc, slice(&unit), None)?)?)
 }
 
 // ---- many rows and sequences
@@ -85,9 +80,9 @@ const SEQUENCES: usize = 3000;
 /// The last address of the sequence of many rows.
 const LAST: u64 = 70_016;
 
-/// A program of a sequence of many rows, at 0x11 and each address after it, by turns of line 2 and
+/// The unit of a sequence of many rows, at 0x11 and each address after it, by turns of line 2 and
 /// of line 1, and an end; then sequences of a row of line 1 at 0 and an end at 1.
-fn bytes_of_sequences(alloc: Global) -> std::result::Result<Vec<u8>, AllocError> {
+fn unit_of_sequences(alloc: Global) -> ConvertResult<Vec<u8>> {
     let mut program = Vec::from_slice(alloc, b"\0\x05\x02\x10\0\0\0")?;
     for _ in 0..MANY / 2 {
         program.extend_from_slice(b"\x21\x1f")?;
@@ -96,13 +91,7 @@ fn bytes_of_sequences(alloc: Global) -> std::result::Result<Vec<u8>, AllocError>
     for _ in 0..SEQUENCES {
         program.extend_from_slice(b"\x01\x02\x01\0\x01\x01")?;
     }
-    Ok(program)
-}
-
-/// The unit of this program.
-fn unit_of_sequences(alloc: Global) -> Result<Vec<u8>> {
-    let program = bytes_of_sequences(alloc).map_err(|_| Error::OutOfMemory)?;
-    unit(alloc, HEADER, &program)
+    Ok(unit(alloc, HEADER, &program)?)
 }
 
 /// Whether line 1 begins at each second row of the first sequence, and at the row of each other.
@@ -113,13 +102,21 @@ fn are_all(found: Option<Addresses>) -> bool {
     }
 }
 
-/// Whether a lookup of one program has all.
-fn has_all<R: Reader>(program: IncompleteLineProgram<R>) -> Result<bool> {
+/// What a lookup of one program has otherwise.
+fn of_program<R: Reader>(program: IncompleteLineProgram<R>) -> Result<Option<usize>> {
     let lookup = Lookup::new(program)?;
     let found = lookup.find(LAST).map(|(row, _)| row.address());
-    let addresses = lookup.addresses_of_file(1, 1)?;
-    let count = lookup.sequences().len();
-    Ok(are_all(addresses) && (count, found) == (SEQUENCES + 1, Some(LAST)))
+    Ok(first_false(&[
+        found == Some(LAST),
+        lookup.sequences().len() == SEQUENCES + 1,
+        are_all(lookup.addresses_of_file(1, 1)?),
+    ]))
+}
+
+/// The same over many sequences.
+pub fn many_in_program(alloc: Global) -> Found {
+    let unit = unit_of_sequences(alloc)?;
+    Ok(of_program(program(alloc, slice(&unit), None)?)?)
 }
 
 /// Whether a lookup has a unit.
@@ -130,16 +127,16 @@ fn has_unit<R: Reader>(lookup: &SectionLookup<R>) -> bool
     0 < count
 }
 
-/// Whether a lookup of a section has all, from a line to addresses.
-fn section_has_all<R: Reader>(lookup: &SectionLookup<R>, nothing: R) -> Result<bool> {
+/// What a lookup of a section has otherwise, from a line to addresses.
+fn of_section<R: Reader>(lookup: &SectionLookup<R>, nothing: R) -> Result<Option<usize>> {
     let sections = StringSections {
         debug_line_str: nothing,
         debug_str: nothing,
     };
-    if !has_unit(lookup) || !are_all(lookup.addresses_of_file(0, 1, 1)?) {
-        return Ok(false);
-    }
-    Ok(are_all(lookup.addresses_of(&sections, b"a.c", 1)?))
+    Ok(first_false(&[
+        has_unit(lookup) && are_all(lookup.addresses_of_file(0, 1, 1)?),
+        are_all(lookup.addresses_of(&sections, b"a.c", 1)?),
+    ]))
 }
 
 /// Whether a lookup of a section finds the last row without its headers too.
@@ -148,18 +145,10 @@ fn finds_without_headers<E: Endianity>(lookup: SectionLookup<EndianSlice<'_, E>>
     Ok(bare.find(LAST).map(|found| found.row.address()) == Some(LAST))
 }
 
-/// What both lookups have.
-fn lookups(alloc: Global, unit: &[u8]) -> Result<[bool; 3]> {
-    let in_program = has_all(program(alloc, slice(unit), None)?)?;
-    let lookup = SectionLookup::new(&DebugLine::from(slice(unit)), alloc, 4, 0)?;
-    let in_section = section_has_all(&lookup, slice(b""))?;
-    Ok([in_program, in_section, finds_without_headers(lookup)?])
-}
-
-/// The first of three that fails: of a program, of a section, and of one without headers.
-pub fn many(alloc: Global) -> Option<usize> {
-    match unit_of_sequences(alloc) {
-        Ok(unit) => first_of(lookups(alloc, &unit)),
-        Err(_) => Some(0),
-    }
+/// The same over many sequences.
+pub fn many_in_section(alloc: Global) -> Found {
+    let unit = unit_of_sequences(alloc)?;
+    let lookup = SectionLookup::new(&DebugLine::from(slice(&unit)), alloc, 4, 0)?;
+    let failed = of_section(&lookup, slice(b""))?;
+    Ok(failed.or(first_false(&[finds_without_headers(lookup)?])))
 }

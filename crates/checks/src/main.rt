@@ -23,21 +23,26 @@ mod tables;
 mod units;
 mod writers;
 
+use crate::check::Found;
 use std::alloc::Global;
 use std::io;
 
-/// Each check, and the number of the first case that fails.
-fn checks(alloc: Global) -> [(&'static str, Option<usize>); 33] {
+/// Each check, and what it finds.
+fn checks(alloc: Global) -> [(&'static str, Found); 34] {
     [
         ("readers::calls", readers::calls(alloc)),
-        ("numbers::sums", numbers::sums()),
         ("numbers::parts", numbers::parts()),
         ("numbers::orders", numbers::orders()),
         ("headers::wide_numbers", headers::wide_numbers(alloc)),
-        ("machine::execute", machine::execute(alloc)),
+        ("headers::details", headers::details(alloc)),
+        (
+            "machine::executed_instructions",
+            machine::executed_instructions(alloc),
+        ),
         ("lookups::narrow_unit", lookups::narrow_unit(alloc)),
         ("lookups::copies", lookups::copies(alloc)),
-        ("lookups::many", lookups::many(alloc)),
+        ("lookups::many_in_program", lookups::many_in_program(alloc)),
+        ("lookups::many_in_section", lookups::many_in_section(alloc)),
         ("compilations::units", compilations::units()),
         ("compilations::lines", compilations::lines(alloc)),
         ("elf_files::relocated", elf_files::relocated(alloc)),
@@ -47,13 +52,13 @@ fn checks(alloc: Global) -> [(&'static str, Option<usize>); 33] {
         ("elf_files::huge", elf_files::huge(alloc)),
         ("elf_files::checksums", elf_files::checksums(alloc)),
         ("elf_files::paths", elf_files::paths(alloc)),
-        ("writers::appends", writers::appends(alloc)),
-        ("writers::pointers", writers::pointers(alloc)),
-        ("writers::places", writers::places(alloc)),
-        ("writers::unknown", writers::unknown(alloc)),
+        ("writers::vector", writers::vector(alloc)),
+        ("writers::pieces", writers::pieces(alloc)),
+        ("writers::own", writers::own(alloc)),
         ("writers::vectors", writers::vectors(alloc)),
         ("writers::relocations", writers::relocations(alloc)),
-        ("tables::texts", tables::texts(alloc)),
+        ("tables::strings", tables::strings(alloc)),
+        ("tables::line_strings", tables::line_strings(alloc)),
         ("builder::current_rows", builder::current_rows(alloc)),
         ("builder::file", builder::file(alloc)),
         ("builder::none", builder::none(alloc)),
@@ -66,10 +71,11 @@ fn checks(alloc: Global) -> [(&'static str, Option<usize>); 33] {
 }
 
 fn main(rt: HostRuntime) -> io::Result<()> {
-    for (name, failed) in checks(rt.alloc()) {
-        match failed {
-            None => println!(rt; "test {name} ... ok")?,
-            Some(case) => println!(rt; "test {name} ... FAILED at case {case}")?,
+    for (name, found) in checks(rt.alloc()) {
+        match found {
+            Ok(None) => println!(rt; "test {name} ... ok")?,
+            Ok(Some(case)) => println!(rt; "test {name} ... FAILED at case {case}")?,
+            Err(e) => println!(rt; "test {name} ... FAILED by {e:?}")?,
         }
     }
     if let Ok(text) = errors::texts(rt.alloc()) {

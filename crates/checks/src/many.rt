@@ -6,7 +6,7 @@ ghost use Rattle.gimli_write.specs.Conditions.{CanWrite};
 ghost use Rattle.gimli_write.specs.StringTables.{texts_in};
 
 use crate::builder::items_of;
-use crate::check::first_of;
+use crate::check::{Found, first_false};
 use crate::converted::{conversion_of, converted};
 use crate::units::{program, slice};
 use gimli_core::{BigEndian, DebugLineOffset, Endianity, LittleEndian, Reader};
@@ -74,20 +74,15 @@ fn are_added(strings: &mut StringTable, line_strings: &mut LineStringTable) -> R
     Ok(true)
 }
 
-/// What writers, texts and tables have.
-fn written(alloc: Global) -> Result<[bool; 3]> {
+/// The first of three that fails: writers, texts, and tables.
+pub fn writers_and_tables(alloc: Global) -> Found {
     let mut section = EndianVec::new(alloc, BigEndian);
     fill(&mut section)?;
     let whole = has_all(alloc, &section)?;
     let copied = is_copied(LineString::String(section.into_vec()))?;
     let mut strings = StringTable::default(alloc);
     let added = are_added(&mut strings, &mut LineStringTable::default(alloc))?;
-    Ok([whole, copied, added])
-}
-
-/// The first of three that fails: writers, texts, and tables.
-pub fn writers_and_tables(alloc: Global) -> Option<usize> {
-    first_of(written(alloc))
+    Ok(first_false(&[whole, copied, added]))
 }
 
 /// The front of a unit of version 4: its length is 215,029, and its header's 55,020.
@@ -211,15 +206,10 @@ fn is_converted<R: Reader>(
     Ok(back && (files.len(), copied) == (2 * ENTRIES + 1, ITEMS + ENTRIES + 1))
 }
 
-/// What both conversions are.
-fn both(alloc: Global) -> ConvertResult<[bool; 2]> {
+/// The first of two that fails: a conversion in two halves, and one that is written.
+pub fn conversions(alloc: Global) -> Found {
     let unit = many_entries(alloc)?;
     let built = is_built(alloc, program(alloc, slice(&unit), None)?)?;
     let source = program(alloc, slice(&unit), Some(slice(b"/w")))?;
-    Ok([built, is_converted(alloc, source, slice(b"a.c"))?])
-}
-
-/// The first of two that fails: a conversion in two halves, and one that is written.
-pub fn conversions(alloc: Global) -> Option<usize> {
-    first_of(both(alloc))
+    Ok(first_false(&[built, is_converted(alloc, source, slice(b"a.c"))?]))
 }

@@ -1,10 +1,9 @@
 //! The tables of texts: gimli's own example, in which the text at 2 is the empty one.
 
-use crate::check::first_of;
+use crate::check::{Found, first_false};
 use gimli_core::{DebugLineStrOffset, DebugStrOffset, LittleEndian};
 use gimli_write::{
-    DebugLineStr, DebugStr, EndianVec, LineStringId, LineStringTable, Result, StringId,
-    StringTable, Writer,
+    DebugLineStr, DebugStr, EndianVec, LineStringId, LineStringTable, StringId, StringTable, Writer,
 };
 use std::alloc::Global;
 
@@ -13,7 +12,7 @@ const WRITTEN: &[u8] = b"\xaa\xbbone\0two\0\0";
 
 /// Whether a table gives texts their ids, of which the last is the first again, and their bytes;
 /// and a text its place.
-fn texts_of_table(alloc: Global) -> Result<[bool; 4]> {
+pub fn strings(alloc: Global) -> Found {
     let mut table = StringTable::default(alloc);
     let ids = [table.add(b"one")?.0, table.add(b"two")?.0];
     let others = [table.add(b"")?.0, table.add(b"one")?.0];
@@ -21,18 +20,18 @@ fn texts_of_table(alloc: Global) -> Result<[bool; 4]> {
     section.0.write(b"\xaa\xbb")?;
     table.write(&mut section)?;
     if table.count() != 3 {
-        return Ok([false; 4]);
+        return Ok(Some(0));
     }
-    Ok([
+    Ok(first_false(&[
         (ids, others) == ([0, 1], [2, 0]),
         table.offset(StringId(2)) == DebugStrOffset(8),
         table.get(StringId(1)) == b"two".as_slice(),
         *section.0.slice() == *WRITTEN && section.offset() == DebugStrOffset(11),
-    ])
+    ]))
 }
 
 /// The same of line strings.
-fn texts_of_line_table(alloc: Global) -> Result<[bool; 4]> {
+pub fn line_strings(alloc: Global) -> Found {
     let mut table = LineStringTable::default(alloc);
     let ids = [table.add(b"one")?.0, table.add(b"two")?.0];
     let others = [table.add(b"")?.0, table.add(b"one")?.0];
@@ -40,17 +39,12 @@ fn texts_of_line_table(alloc: Global) -> Result<[bool; 4]> {
     section.0.write(b"\xaa\xbb")?;
     table.write(&mut section)?;
     if table.count() != 3 {
-        return Ok([false; 4]);
+        return Ok(Some(0));
     }
-    Ok([
+    Ok(first_false(&[
         (ids, others) == ([0, 1], [2, 0]),
         table.offset(LineStringId(2)) == DebugLineStrOffset(8),
         table.get(LineStringId(1)) == b"two".as_slice(),
         *section.0.slice() == *WRITTEN && section.offset() == DebugLineStrOffset(11),
-    ])
-}
-
-/// The first of these that fails in either table.
-pub fn texts(alloc: Global) -> Option<usize> {
-    first_of(texts_of_table(alloc)).or(first_of(texts_of_line_table(alloc)))
+    ]))
 }
