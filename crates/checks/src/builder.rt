@@ -41,20 +41,11 @@ fn program(alloc: Global, version: u16) -> Result<LineProgram>
 /// Whether a row has the initial registers of a sequence: DWARF 5, section 6.2.2. Version 6, which
 /// is never written, has the first file.
 fn is_initial(row: &LineRow, version: u16, is_statement: bool) -> bool {
-    let wanted = LineRow {
-        address_offset: 0,
-        op_index: 0,
-        file: row.file,
-        line: 1,
-        column: 0,
-        discriminator: 0,
-        is_statement,
-        basic_block: false,
-        prologue_end: false,
-        epilogue_begin: false,
-        isa: 0,
-    };
-    *row == wanted && row.file.raw(version) == u64::from(version < 6)
+    let places = (row.address_offset, row.op_index, row.file.raw(version));
+    places == (0, 0, u64::from(version < 6))
+        && (row.line, row.column, row.discriminator, row.isa) == (1, 0, 0, 0)
+        && (row.is_statement, row.basic_block) == (is_statement, false)
+        && (row.prologue_end, row.epilogue_begin) == (false, false)
 }
 
 /// A row with all that stands for one row alone.

@@ -144,20 +144,16 @@ fn refusal(alloc: Global, file: &[u8]) -> Option<ElfError> {
     }
 }
 
-/// Why so many bytes of the file are no file: the magic number has 4 bytes, the header 52, and the
-/// section table ends the file.
-fn refusal_of_beginning(count: usize) -> ElfError {
-    match count {
-        0..=3 => ElfError::NotElf,
-        4..=51 => ElfError::HeaderCut,
-        _ => ElfError::SectionTableCut,
-    }
-}
-
-/// The first length at which a file that ends before its end is refused otherwise.
+/// The first length at which a file that ends before its end is refused otherwise: the magic number
+/// has 4 bytes, the header 52, and the section table ends the file.
 pub fn cut(alloc: Global) -> Found {
     for count in 0..RISCV.len() {
-        if refusal(alloc, &RISCV[..count]) != Some(refusal_of_beginning(count)) {
+        let wanted = match count {
+            0..=3 => ElfError::NotElf,
+            4..=51 => ElfError::HeaderCut,
+            _ => ElfError::SectionTableCut,
+        };
+        if refusal(alloc, &RISCV[..count]) != Some(wanted) {
             return Ok(Some(count));
         }
     }

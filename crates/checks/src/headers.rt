@@ -1,24 +1,17 @@
-//! Headers over a reader whose offsets have 32 bits, by which numbers that it doesn't hold are
-//! refused; and the details of a file.
+//! Headers over a reader whose offsets have 32 bits: numbers that it doesn't hold are refused.
 
-use crate::check::{Found, first_false};
+use crate::check::Found;
 use crate::narrow::NarrowReader;
-use crate::units::{HEADER, program, slice, unit};
-use gimli_core::{Error, Reader, RunTimeEndian};
-use gimli_line::IncompleteLineProgram;
+use crate::units::program;
+use gimli_core::{Error, RunTimeEndian};
 use std::alloc::Global;
 
 /// Units of the 64-bit format, and whether offsets of 32 bits hold their numbers: a header length
-/// that is too large; then in version 5 one directory each, the offset of a text that is too large,
-/// and the greatest that fits; and the index of a text that is too large.
-const WIDE: [(&[u8], bool); 4] = [
+/// that is too large; then in version 5 one directory each, the greatest offset of a text that
+/// fits, and the index of a text that is too large.
+const WIDE: [(&[u8], bool); 3] = [
     (
         b"\xff\xff\xff\xff\x0c\0\0\0\0\0\0\0\x05\0\x08\0\0\0\0\0\x01\0\0\0",
-        false,
-    ),
-    (
-        b"\xff\xff\xff\xff\x22\0\0\0\0\0\0\0\x05\0\x04\0\x16\0\0\0\0\0\0\0\x01\x01\x01\0\x01\x01\
-            \x01\x01\x0e\x01\0\0\0\0\x01\0\0\0\x01\x01\x08\0",
         false,
     ),
     (
@@ -46,22 +39,4 @@ pub fn wide_numbers(alloc: Global) -> Found {
             refusal(alloc, *unit) != (!*fits).then_some(Error::UnsupportedOffset)
         }),
     )
-}
-
-/// What is otherwise of the first file of a program.
-fn details_of<R: Reader>(program: &IncompleteLineProgram<R>) -> Option<usize> {
-    let Some(file) = program.header().file_names().first() else {
-        return Some(0);
-    };
-    first_false(&[
-        (file.timestamp(), file.last_modification()) == (7, 7),
-        (file.size(), file.length()) == (9, 9),
-        file.directory(program.header()).is_none(),
-    ])
-}
-
-/// The same of `a.c`.
-pub fn details(alloc: Global) -> Found {
-    let unit = unit(alloc, HEADER, b"")?;
-    Ok(details_of(&program(alloc, slice(&unit), None)?))
 }

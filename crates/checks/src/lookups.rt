@@ -102,12 +102,14 @@ fn are_all(found: Option<Addresses>) -> bool {
     }
 }
 
-/// What a lookup of one program has otherwise.
+/// What a lookup of one program, or its file, has otherwise.
 fn of_program<R: Reader>(program: IncompleteLineProgram<R>) -> Result<Option<usize>> {
+    let file = program.header().file_names().first();
+    let details = file.map(|file| (file.last_modification(), file.length()));
     let lookup = Lookup::new(program)?;
     let found = lookup.find(LAST).map(|(row, _)| row.address());
     Ok(first_false(&[
-        found == Some(LAST),
+        found == Some(LAST) && details == Some((7, 9)),
         lookup.sequences().len() == SEQUENCES + 1,
         are_all(lookup.addresses_of_file(1, 1)?),
     ]))

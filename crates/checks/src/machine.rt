@@ -131,7 +131,7 @@ fn passes(alloc: Global, group: &Cases, case: &Case) -> ConvertResult<bool> {
 }
 
 /// The first case of a group that fails.
-pub fn executed_instructions(alloc: Global) -> Found {
+pub fn executed(alloc: Global) -> Found {
     for group in CASES {
         let failed = group
             .3

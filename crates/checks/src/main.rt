@@ -19,7 +19,6 @@ mod narrow;
 mod numbers;
 mod own_writer;
 mod readers;
-mod tables;
 mod units;
 mod writers;
 
@@ -28,17 +27,13 @@ use std::alloc::Global;
 use std::io;
 
 /// Each check, and what it finds.
-fn checks(alloc: Global) -> [(&'static str, Found); 34] {
+fn checks(alloc: Global) -> [(&'static str, Found); 31] {
     [
         ("readers::calls", readers::calls(alloc)),
         ("numbers::parts", numbers::parts()),
         ("numbers::orders", numbers::orders()),
         ("headers::wide_numbers", headers::wide_numbers(alloc)),
-        ("headers::details", headers::details(alloc)),
-        (
-            "machine::executed_instructions",
-            machine::executed_instructions(alloc),
-        ),
+        ("machine::executed", machine::executed(alloc)),
         ("lookups::narrow_unit", lookups::narrow_unit(alloc)),
         ("lookups::copies", lookups::copies(alloc)),
         ("lookups::many_in_program", lookups::many_in_program(alloc)),
@@ -57,8 +52,6 @@ fn checks(alloc: Global) -> [(&'static str, Found); 34] {
         ("writers::own", writers::own(alloc)),
         ("writers::vectors", writers::vectors(alloc)),
         ("writers::relocations", writers::relocations(alloc)),
-        ("tables::strings", tables::strings(alloc)),
-        ("tables::line_strings", tables::line_strings(alloc)),
         ("builder::current_rows", builder::current_rows(alloc)),
         ("builder::file", builder::file(alloc)),
         ("builder::none", builder::none(alloc)),

@@ -182,13 +182,9 @@ fn is_read_back<E: Endianity>(
     unit.0.write(b"\xaa\xbb\xcc")?;
     let encoding = program.encoding();
     let answer = round_trip(program, &mut unit, encoding, line_strings, strings)?;
-    let counts = [
-        answer.directories.len(),
-        answer.files.len(),
-        answer.rows.len(),
-    ];
-    let wanted = [ENTRIES + 1, 2 * ENTRIES + 1, 4 * ENTRIES + 1];
-    Ok(answer.offset == DebugLineOffset(3) && counts == wanted)
+    let (directories, files) = (answer.directories.len(), answer.files.len());
+    let counted = (directories, files) == (ENTRIES + 1, 2 * ENTRIES + 1);
+    Ok(counted && answer.rows.len() == 4 * ENTRIES + 1 && answer.offset == DebugLineOffset(3))
 }
 
 /// Whether a source is converted to version 5, copied, written and read back.
