@@ -1,5 +1,5 @@
 -- Where an address of a source is, in programs that checks convert.
-use Rattle.std.specs.Prelude.{ℕ, pos, nat_lt}
+use Rattle.std.specs.Prelude.{ℕ, pos, nat_lt, if◌then◌else◌}
 use Rattle.gimli_bytes.specs.declared.address.Address.{Address}
 use Rattle.gimli_bytes.specs.declared.address.Address.TheVariants.{Constant, Symbol}
 

@@ -13,15 +13,10 @@ type Slice = EndianSlice<'static, RunTimeEndian>;
 
 /// What a unit says: its version, the offset of its line program, its directory and its name; or
 /// why it can't be read.
-type Said = Result<
-    (
-        u16,
-        Option<u64>,
-        Option<&'static [u8]>,
-        Option<&'static [u8]>,
-    ),
-    Refusal,
->;
+type Said = Result<(u16, Option<u64>, Text, Text), Refusal>;
+
+/// A text that a unit may have.
+type Text = Option<&'static [u8]>;
 
 /// `.debug_str`: /w at 1, a.c at 4.
 const STRINGS: &[u8] = b"\0/w\0a.c\0";

@@ -3,7 +3,8 @@
 
 use crate::check::{Found, first_false};
 use debug_files::{Outline, Refusal, checksum, debug_file_paths};
-use elf_sections::{Elf, ElfError, SectionPlace};
+use elf_sections::SectionPlace::{self, AllAtZero, Only};
+use elf_sections::{Elf, ElfError};
 use inflate::Error::OutputSmaller;
 use std::alloc::Global;
 use std::io::Cursor;
@@ -48,17 +49,9 @@ const ARM: &[u8] =
 /// `.text`, so that the address in `.text.b` is all ones, and what isn't code stays at 0; and the
 /// older form, whose addends stand at their places.
 const RELOCATED: [(&[u8], SectionPlace, &[u8]); 3] = [
-    (
-        RISCV,
-        SectionPlace::AllAtZero,
-        b"\x03\0\0\0\x16\0\x2c\x05\0\0\0\x07",
-    ),
-    (
-        RISCV,
-        SectionPlace::Only(1),
-        b"\xff\xff\xff\xff\x16\0\x2c\x05\0\0\0\x07",
-    ),
-    (ARM, SectionPlace::AllAtZero, b"\0\0\x01\x04\0\0\x02\x02"),
+    (RISCV, AllAtZero, b"\x03\0\0\0\x16\0\x2c\x05\0\0\0\x07"),
+    (RISCV, Only(1), b"\xff\xff\xff\xff\x16\0\x2c\x05\0\0\0\x07"),
+    (ARM, AllAtZero, b"\0\0\x01\x04\0\0\x02\x02"),
 ];
 
 /// Whether `.debug_line` of a file is relocated to these bytes.

@@ -6,7 +6,7 @@ ghost use Rattle.std.specs.Prelude.{◌<◌, IsTrue, length};
 use crate::check::{Found, first_false};
 use crate::narrow::NarrowReader;
 use crate::units::{HEADER, program, slice, unit};
-use gimli_core::{EndianSlice, Endianity, Reader, Result, RunTimeEndian};
+use gimli_core::{EndianSlice, Endianity, Error, Reader, Result, RunTimeEndian};
 use gimli_line::{DebugLine, IncompleteLineProgram};
 use gimli_lookup::{Addresses, Lookup, SectionLookup, StringSections};
 use gimli_write::ConvertResult;
@@ -29,6 +29,36 @@ pub fn narrow_unit(alloc: Global) -> Found {
     let section = owned.borrow(|bytes| NarrowReader::new(alloc, bytes, RunTimeEndian::Little));
     let found = covering(alloc, &section, 0x1005)?;
     Ok(first_false(&[found == Some(0x1004)]))
+}
+
+/// Units of version 5 and the 64-bit format, and whether offsets of 32 bits hold their numbers: the
+/// greatest offset of a text that fits, and the index of one that is too large.
+const WIDE: [(&[u8], bool); 2] = [
+    (
+        b"\xff\xff\xff\xff\x22\0\0\0\0\0\0\0\x05\0\x04\0\x16\0\0\0\0\0\0\0\x01\x01\x01\0\x01\x01\
+            \x01\x01\x0e\x01\xff\xff\xff\xff\0\0\0\0\x01\x01\x08\0",
+        true,
+    ),
+    (
+        b"\xff\xff\xff\xff\x1f\0\0\0\0\0\0\0\x05\0\x04\0\x13\0\0\0\0\0\0\0\x01\x01\x01\0\x01\x01\
+            \x01\x01\x1a\x01\x80\x80\x80\x80\x10\x01\x01\x08\0",
+        false,
+    ),
+];
+
+/// Why a unit is refused.
+fn refusal(alloc: Global, unit: &[u8]) -> Option<Error> {
+    let section = NarrowReader::new(alloc, unit, RunTimeEndian::Little);
+    program(alloc, section, None).err()
+}
+
+/// The first unit that is refused otherwise.
+pub fn wide_numbers(alloc: Global) -> Found {
+    Ok(
+        WIDE.iter().position(|(unit, fits)| {
+            refusal(alloc, *unit) != (!*fits).then_some(Error::UnsupportedOffset)
+        }),
+    )
 }
 
 // ---- copies of many files

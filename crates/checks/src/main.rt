@@ -11,12 +11,10 @@ mod compilations;
 mod converted;
 mod elf_files;
 mod errors;
-mod headers;
 mod lookups;
 mod machine;
 mod many;
 mod narrow;
-mod numbers;
 mod own_writer;
 mod readers;
 mod units;
@@ -27,14 +25,13 @@ use std::alloc::Global;
 use std::io;
 
 /// Each check, and what it finds.
-fn checks(alloc: Global) -> [(&'static str, Found); 31] {
+fn checks(alloc: Global) -> [(&'static str, Found); 29] {
     [
         ("readers::calls", readers::calls(alloc)),
-        ("numbers::parts", numbers::parts()),
-        ("numbers::orders", numbers::orders()),
-        ("headers::wide_numbers", headers::wide_numbers(alloc)),
+        ("readers::orders", readers::orders()),
         ("machine::executed", machine::executed(alloc)),
         ("lookups::narrow_unit", lookups::narrow_unit(alloc)),
+        ("lookups::wide_numbers", lookups::wide_numbers(alloc)),
         ("lookups::copies", lookups::copies(alloc)),
         ("lookups::many_in_program", lookups::many_in_program(alloc)),
         ("lookups::many_in_section", lookups::many_in_section(alloc)),
@@ -50,7 +47,6 @@ fn checks(alloc: Global) -> [(&'static str, Found); 31] {
         ("writers::vector", writers::vector(alloc)),
         ("writers::pieces", writers::pieces(alloc)),
         ("writers::own", writers::own(alloc)),
-        ("writers::vectors", writers::vectors(alloc)),
         ("writers::relocations", writers::relocations(alloc)),
         ("builder::current_rows", builder::current_rows(alloc)),
         ("builder::file", builder::file(alloc)),

@@ -11,7 +11,9 @@ use gimli_core::Error::{
 };
 use gimli_core::Format::{self, Dwarf32, Dwarf64};
 use gimli_core::RunTimeEndian::{Big, Little};
-use gimli_core::{EndianSlice, Endianity, Reader, ReaderOffset, ReaderOffsetId, Result};
+use gimli_core::{
+    BigEndian, EndianSlice, Endianity, LittleEndian, Reader, ReaderOffset, ReaderOffsetId, Result,
+};
 use std::alloc::Global;
 
 /// Numbers, the least significant byte first; of an unsigned and of a signed one the greatest and
@@ -132,4 +134,22 @@ pub fn calls(alloc: Global) -> Found {
     let lent = lent.or(texts(EndianSlice::new(TEXTS, Big)));
     let own = numbers(NarrowReader::new(alloc, NUMBERS, Little));
     Ok(lent.or(own).or(texts(NarrowReader::new(alloc, TEXTS, Big))))
+}
+
+/// Whether an order reads this number of the letters from a on, and says which it is.
+fn is_order<E: Endianity>(order: E, big: bool, wanted: u128) -> bool {
+    let found = order.read_u128(b"abcdefghijklmnop");
+    (order.is_big_endian(), order.is_little_endian(), found) == (big, !big, wanted)
+}
+
+/// The first order of bytes that is another, as a type or as a value.
+pub fn orders() -> Found {
+    let little = 0x706f_6e6d_6c6b_6a69_6867_6665_6463_6261;
+    let big = 0x6162_6364_6566_6768_696a_6b6c_6d6e_6f70;
+    Ok(first_false(&[
+        is_order(LittleEndian, false, little),
+        is_order(BigEndian, true, big),
+        is_order(Little, false, little),
+        is_order(Big, true, big),
+    ]))
 }

@@ -7,14 +7,14 @@ use crate::check::{Found, first_false};
 use crate::own_writer::{OWN, OwnWriter};
 use gimli_core::Format::{self, Dwarf64};
 use gimli_core::SectionId::{self, DebugInfo, DebugStr};
-use gimli_core::{BigEndian, DebugLineOffset, DwEhPe, LittleEndian};
+use gimli_core::{BigEndian, DwEhPe, LittleEndian};
 use gimli_write::Error::{
     InvalidAddress, InvalidRange, InvalidReference, LengthOutOfBounds, OffsetOutOfBounds,
     UnsupportedWordSize, ValueTooLarge,
 };
 use gimli_write::{
-    Addends, Address, DebugLine, EndianVec, InitialLengthOffset, PieceVec, RelocatableVec,
-    Relocation, RelocationTarget, Result, Writer,
+    Addends, Address, EndianVec, InitialLengthOffset, PieceVec, RelocatableVec, Relocation,
+    RelocationTarget, Result, Writer,
 };
 use std::alloc::Global;
 
@@ -34,7 +34,7 @@ const APPENDED: &[u8] = b"abcd\x11\x33\x22\x77\x66\x55\x44hgfedcbaponmlkjihgfedc
 
 /// The same with other bytes over it, and a number and two offsets after it.
 const WRITTEN: &[u8] = b"ab\x31\x33\x32\x37\x36\x35\x34\x3f\x3e\x3d\x3c\x3b\x3a\x39\x38\
-    ponmlkjihgfedcba\x53\x52\x51\xb9\x64\xff\x7e\xd4\x0f\0\0\x22\x11\
+    ponmlkjihgfedcba\x53\x52\x51\x22\x11\xfe\xff\xb9\x64\xff\x7e\xd4\x0f\0\0\x22\x11\
     \xff\xff\xff\xff\xf0\xff\xff\xff\0\0\0\0\x88\x77\x22\x11\x66\x55";
 
 /// Opens a length, whose word is to stand at 54.
@@ -100,11 +100,14 @@ fn call<W: Writer>(w: &mut W) -> Option<usize> {
     append(w, Ok(())).or(overwrite(w, Ok(()))).or(refer(w))
 }
 
-/// Over a vector: the first call that answers otherwise, else whether other bytes are written.
+/// Over a vector: the first call that answers otherwise, else whether other bytes are written, and
+/// taken.
 pub fn vector(alloc: Global) -> Found {
     let mut section = EndianVec::new(alloc, LittleEndian);
     let failed = call(&mut section);
-    Ok(failed.or(first_false(&[*section.slice() == *WRITTEN])))
+    let whole = *section.slice() == *WRITTEN;
+    let taken = section.take().as_slice() == WRITTEN && section.slice().is_empty();
+    Ok(failed.or(first_false(&[whole, taken])))
 }
 
 /// The same over pieces.
@@ -133,19 +136,6 @@ pub fn own(alloc: Global) -> Found {
     let over = w.section.slice() == &WRITTEN[..62];
     w.calls = 1;
     Ok(failed.or(first_false(&[whole, over, open(&mut w, Dwarf64) == Err(OWN)])))
-}
-
-/// A vector's own calls: the first that is otherwise.
-pub fn vectors(alloc: Global) -> Found {
-    let mut section = DebugLine::from(EndianVec::new(alloc, LittleEndian));
-    section.0.write(b"abc")?;
-    let mut copy = section.0.clone()?;
-    let taken = copy.take();
-    Ok(first_false(&[
-        section.offset() == DebugLineOffset(3),
-        section.0.into_vec().as_slice() == b"abc".as_slice(),
-        taken.as_slice() == b"abc".as_slice() && copy.slice().is_empty(),
-    ]))
 }
 
 /// Each call that lists a place, by its own name or through the trait.
