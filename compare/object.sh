@@ -1,6 +1,6 @@
 #!/usr/bin/env bash
 # Links the object file that `uses make_object` builds with a C program, and asks addr2line, llvm-symbolizer and
-# `lines where` for the lines of its two functions. All three have to answer what the object was built with.
+# `lines where` for the lines of its two functions, which are of two files. All three have to answer what the object was built with.
 #
 #     compare/object.sh
 #
@@ -21,7 +21,7 @@ work=$(mktemp -d)
 trap 'rm -rf "$work"' EXIT
 cd "$work" || exit 1
 
-"$uses" make_object | python3 -c 'import sys; sys.stdout.buffer.write(bytes.fromhex(sys.stdin.read()))' >two.o
+"$uses" make_object | python3 -c 'import sys; sys.stdout.buffer.write(bytes.fromhex(sys.stdin.read().split()[1]))' >two.o
 cat >main.c <<'C'
 int first(void);
 int second(void);
@@ -41,11 +41,12 @@ wants() {
 }
 # The address of a symbol, and an offset.
 place() { printf '%x' $((0x$(nm program | awk -v name="$1" '$3 == name { print $1 }') + $2)); }
-for row in "first 0 3" "first 4 3" "first 5 4" "second 0 8" "second 5 9"; do
-    read -r symbol offset line <<<"$row"
+for row in "first 0 a.c:3" "first 4 a.c:3" "first 5 a.c:4" "second 0 inc/a.h:8" "second 5 inc/a.h:9"; do
+    read -r symbol offset source <<<"$row"
     address=$(place "$symbol" "$offset")
-    wanted=/made/two.c:$line
-    wants "addr2line of $symbol + $offset" "$(addr2line -e program "$address" | sed 's/ .*//')" "$wanted"
+    wanted=/w/$source
+    # addr2line (GNU Binutils 2.40) numbers the files of version 5 from 1, so it is asked for lines alone.
+    wants "addr2line of $symbol + $offset" "$(addr2line -e program "$address" | sed 's/ .*//; s/.*://')" "${source##*:}"
     found=$(llvm-symbolizer --obj=program --no-inlines --functions=none "0x$address" | head -1)
     wants "llvm-symbolizer of $symbol + $offset" "${found%:*}" "$wanted"
     found=$("$lines" where program "$address")

@@ -21,11 +21,6 @@ use std::marker::Model;
 
 /// A section in one vector, and its relocations: a symbol that is written, and an offset into a
 /// section, is a place that a linker fills in.
-///
-/// <!-- part of crates/checks_calls/src/writers.rt -->
-/// ```rust
-/// let mut section = RelocatableVec::new(alloc, BigEndian, Addends::InPlace);
-/// ```
 #[derive(Debug, Drop)]
 pub struct RelocatableVec<E: Endianity> {
     section: EndianVec<E>,

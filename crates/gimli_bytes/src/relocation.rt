@@ -3,11 +3,6 @@
 use gimli_core::SectionId;
 
 /// What the value of a place is counted from.
-///
-/// <!-- part of crates/checks_calls/src/writers.rt -->
-/// ```rust
-/// (4, 4, RelocationTarget::OfSymbol(9)),
-/// ```
 #[derive(Clone, Copy, Debug, PartialEq, Eq)]
 pub enum RelocationTarget {
     /// A symbol, by the number that [`Address::Symbol`](crate::Address::Symbol) has.
@@ -17,11 +12,6 @@ pub enum RelocationTarget {
 }
 
 /// Where the addends of relocations stand (System V ABI, chapter 4, "Relocation").
-///
-/// <!-- part of crates/checks_calls/src/writers.rt -->
-/// ```rust
-/// let mut section = RelocatableVec::new(alloc, BigEndian, Addends::InPlace);
-/// ```
 #[derive(Clone, Copy, Debug, PartialEq, Eq)]
 pub enum Addends {
     /// In the list, as in a section `SHT_RELA`. The places are zero.
@@ -31,16 +21,6 @@ pub enum Addends {
 }
 
 /// A place that a linker fills in: with what the target's address is then, and the addend.
-///
-/// <!-- part of crates/checks_calls/src/writers.rt -->
-/// ```rust
-/// let wanted = wanted.map(|(offset, size, target)| Relocation {
-///     offset,
-///     size,
-///     target,
-///     addend: 0,
-/// });
-/// ```
 #[derive(Clone, Copy, Debug, PartialEq, Eq)]
 pub struct Relocation {
     /// The offset of the place in the section, in bytes.

@@ -8,13 +8,6 @@ ghost use Rattle.gimli_bytes.specs.declared.error.Error.{Error};
 ///
 /// It has no call, and nothing of it is left in a program. It stands apart from `Writer`, so that
 /// the clauses of its calls can name it whole.
-///
-/// <!-- part of crates/checks_calls/src/own_writer.rt -->
-/// ```rust
-/// ghost contents = { λ w. w.section.bytes };
-///
-/// ghost big = { λ w. false };
-/// ```
 pub trait Sink {
     /// The bytes of the section.
     ghost contents: { Self → List ℕ };

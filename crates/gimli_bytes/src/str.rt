@@ -112,22 +112,10 @@ impl Texts {
 }
 
 /// The index of a text in its [`StringTable`].
-///
-/// <!-- part of crates/checks_calls/src/tables.rt -->
-/// ```rust
-/// table.offset(StringId(2)) == DebugStrOffset(8),
-/// table.get(StringId(1)) == b"two".as_slice(),
-/// ```
 #[derive(Clone, Copy, Debug, PartialEq, Eq, Hash)]
 pub struct StringId(pub usize);
 
 /// A table of distinct texts that is written to a section `.debug_str`.
-///
-/// <!-- part of crates/checks_calls/src/tables.rt -->
-/// ```rust
-/// let mut table = StringTable::default(alloc);
-/// let ids = [table.add(b"one")?.0, table.add(b"two")?.0];
-/// ```
 #[derive(Debug, Drop)]
 pub struct StringTable {
     texts: Texts,
@@ -206,12 +194,6 @@ impl StringTable {
 }
 
 /// The index of a text in its [`LineStringTable`].
-///
-/// <!-- part of crates/checks_calls/src/tables.rt -->
-/// ```rust
-/// table.offset(LineStringId(2)) == DebugLineStrOffset(8),
-/// table.get(LineStringId(1)) == b"two".as_slice(),
-/// ```
 #[derive(Clone, Copy, Debug, PartialEq, Eq, Hash)]
 pub struct LineStringId(pub usize);
 

@@ -23,12 +23,6 @@ use gimli_core::{DwEhPe, Endianity, Format, SectionId, constants};
 /// whose names end in `_at`, which write over bytes that are there. Whatever the writer, a refused
 /// append leaves the old bytes as a beginning, a refused `_at` call changes no byte, and no `_at`
 /// call changes the length.
-///
-/// <!-- part of crates/checks_calls/src/writers.rt -->
-/// ```rust
-/// w.write(b"\0\0\0\0")?;
-/// w.write_offset_at(1, 0x0203, DebugStr, 2)?;
-/// ```
 pub trait Writer: Sink {
     /// The order of bytes.
     type Endian: Endianity;
@@ -362,11 +356,6 @@ pub trait Writer: Sink {
 }
 
 /// Where the word of an initial length stands.
-///
-/// <!-- part of crates/checks_calls/src/writers.rt -->
-/// ```rust
-/// let found = w.write_initial_length(format)?;
-/// ```
 #[derive(Clone, Copy, Debug)]
 pub struct InitialLengthOffset(pub usize);
 

@@ -92,15 +92,6 @@ impl Default for LineEncoding {
 }
 
 /// A section of debugging information.
-///
-/// <!-- part of crates/checks_calls/src/own_writer.rt -->
-/// ```rust
-/// fn write_offset(&mut self, val: usize, section: SectionId, size: u8) -> Result<()> {
-///     let is_str = section == SectionId::DebugStr;
-///     let letter = if is_str { b'S' } else { b'L' };
-///     self.write(&[letter, size, (val & 0xff) as u8])
-/// }
-/// ```
 #[derive(Clone, Copy, Debug, PartialEq, Eq)]
 pub enum SectionId {
     /// `.debug_info`

@@ -4,11 +4,6 @@ use crate::constants::DwForm;
 use std::fmt;
 
 /// Where a reader refused: the number of bytes that were left in it.
-///
-/// <!-- part of crates/checks_calls/src/readers.rt -->
-/// ```rust
-/// const EOF_2: Error = UnexpectedEof(ReaderOffsetId(2));
-/// ```
 #[derive(Clone, Copy, Debug, PartialEq, Eq)]
 pub struct ReaderOffsetId(pub u64);
 

@@ -1,103 +1,84 @@
-//! A unit of version 5 whose texts stand in `.debug_line_str`: built, and written.
+//! A unit of version 5 with two files in two directories, whose texts stand in `.debug_line_str`:
+//! built, and written.
 #![tactic(auto)]
 
-ghost use Rattle.std.specs.Prelude.{false, [], IfOk};
-ghost use Rattle.gimli_bytes.specs.Written.{Appends};
+ghost use Rattle.std.specs.Prelude.{[], IfOk, OnOk};
 ghost use Rattle.gimli_write.specs.StringTables.{texts_in};
-ghost use Rattle.gimli_write.specs.Unit.{unit_bytes};
 ghost use Rattle.gimli_write.specs.Conditions.{CanWrite};
 
-use anyhow::{Result, bail};
 use gimli_core::{Encoding, Format, LineEncoding, LittleEndian};
 use gimli_write::{
-    Address, DebugLine, DebugLineStr, EndianVec, LineProgram, LineString, LineStringTable,
-    StringTable,
+    Address, DebugLine, DebugLineStr, EndianVec, Error, FileId, FileInfo, LineProgram, LineString,
+    LineStringTable, Result, StringTable, Writer,
 };
-use std::alloc::Global;
+use std::alloc::{AllocError, Global};
 use std::fmt::Write;
 
 /// Prints the bytes of a unit, and those of its texts.
-pub fn start(rt: &HostRuntime, _words: &[String]) -> Result<()> {
+pub fn start(rt: &HostRuntime) -> anyhow::Result<()> {
+    let mut lines = DebugLine::from(EndianVec::new(rt.alloc(), LittleEndian));
+    let mut texts = DebugLineStr::from(EndianVec::new(rt.alloc(), LittleEndian));
+    write_unit(rt.alloc(), AT_0X1000, &mut lines, &mut texts)?;
     let mut text = String::new(rt.alloc());
-    make_unit(rt.alloc(), &mut text)?;
+    print_bytes(".debug_line", lines.0.slice(), &mut text)?;
+    print_bytes(".debug_line_str", texts.0.slice(), &mut text)?;
     print!(rt; "{text}")?;
     Ok(())
 }
 
-/// Builds a unit, and adds its bytes and those of its texts. The texts are written last, since
-/// `write` may add one.
-pub fn make_unit(alloc: Global, text: &mut String) -> Result<()> {
-    let mut line_strings = LineStringTable::default(alloc);
-    let program = build(alloc, &mut line_strings)?;
-    print_unit(alloc, &program, &mut line_strings, text)?;
-    print_texts(alloc, &line_strings, text)
-}
-
-/// Adds the bytes of a unit.
-fn print_unit(
-    alloc: Global,
-    program: &LineProgram,
-    line_strings: &mut LineStringTable,
+/// Adds a line with the name of a section and its bytes, in hexadecimal digits.
+pub fn print_bytes(
+    name: &str,
+    bytes: &[u8],
     text: &mut String,
-) -> Result<()>
-    requires { CanWrite program.now (texts_in [] line_strings.old) }
-{
-    let section = write_unit(alloc, program, line_strings)?;
-    print_bytes(".debug_line", section.slice(), text)
+) -> std::result::Result<(), AllocError> {
+    write!(text, "{name} ")?;
+    for byte in bytes {
+        write!(text, "{byte:02x}")?;
+    }
+    writeln!(text)
 }
 
-/// Adds the bytes of the texts of a table.
-fn print_texts(alloc: Global, line_strings: &LineStringTable, text: &mut String) -> Result<()> {
-    let mut section = DebugLineStr::from(EndianVec::new(alloc, LittleEndian));
-    line_strings.write(&mut section)?;
-    print_bytes(".debug_line_str", section.0.slice(), text)
-}
+/// Two functions of six bytes, one after the other.
+pub const AT_0X1000: [Address; 2] = [Address::Constant(0x1000), Address::Constant(0x1006)];
 
-/// The bytes of a unit whose texts all stand in the program or in a table. Refused by the first
-/// cause that the program has, or by `OutOfMemory`.
-pub fn write_unit(
+/// Appends the unit of two functions of six bytes at these addresses, and its texts: these come
+/// last, since `write` may add one.
+pub fn write_unit<W: Writer, T: Writer>(
     alloc: Global,
-    program: &LineProgram,
-    line_strings: &mut LineStringTable,
-) -> gimli_write::Result<EndianVec<LittleEndian>>
-    requires can { CanWrite program.now (texts_in [] line_strings.old) }
-    ensures unit { IfOk result (λ section. Appends (unit_bytes false program.now.encoding
-        program.now (texts_in [] line_strings.old)) [] section.bytes) }
-{
-    let mut section = DebugLine::from(EndianVec::new(alloc, LittleEndian));
+    functions: [Address; 2],
+    lines: &mut DebugLine<W>,
+    texts: &mut DebugLineStr<T>,
+) -> Result<()> {
+    let mut line_strings = LineStringTable::default(alloc);
+    let program = build(alloc, functions, &mut line_strings)?;
     let mut strings = StringTable::default(alloc);
-    program.write(&mut section, program.encoding(), line_strings, &mut strings)?;
-    Ok(section.0)
+    program.write(lines, program.encoding(), &mut line_strings, &mut strings)?;
+    line_strings.write(texts)?;
+    Ok(())
 }
 
-/// Lines 3 and 4 of `a.c` in `/w`: the first at 0x1000, the second from 0x1004 up to 0x1009.
-fn build(alloc: Global, line_strings: &mut LineStringTable) -> Result<LineProgram>
+/// The program of two functions: of the first the lines 3 and 4 of `a.c`, of the second the lines 8
+/// and 9 of `inc/a.h`.
+fn build(
+    alloc: Global,
+    functions: [Address; 2],
+    line_strings: &mut LineStringTable,
+) -> Result<LineProgram>
     ensures { IfOk result (λ program. CanWrite program (texts_in [] line_strings.new)) }
 {
-    let mut program = without_rows(alloc, line_strings)?;
-    let Some((file, _, _)) = program.files().next() else {
-        bail!("the program has no file");
+    let mut program = with_source(alloc, line_strings)?;
+    let Some((source, _, _)) = program.files().next() else {
+        return Err(Error::InvalidRange);
     };
-    program.set_address(Address::Constant(0x1000))?;
-    for (offset, line) in [(0, 3), (4, 4)] {
-        let row = program.row();
-        row.file = file;
-        row.address_offset = offset;
-        row.line = line;
-        if !program.can_generate_row() {
-            bail!("line {line} can't be built");
-        }
-        program.generate_row()?;
-    }
-    if !program.can_end_sequence(9) {
-        bail!("the sequence can't end here");
-    }
-    program.end_sequence(9)?;
+    let header = add_header(&mut program, line_strings)?;
+    add_function(&mut program, line_strings, source, functions[0], [3, 4])?;
+    add_function(&mut program, line_strings, header, functions[1], [8, 9])?;
     Ok(program)
 }
 
-/// A program whose directory and file are texts of the table.
-fn without_rows(alloc: Global, line_strings: &mut LineStringTable) -> Result<LineProgram>
+/// A program of the file `a.c` in the directory `/w`.
+fn with_source(alloc: Global, line_strings: &mut LineStringTable) -> Result<LineProgram>
     ensures { IfOk result (λ program. CanWrite program (texts_in [] line_strings.new)) }
 {
     let encoding = Encoding {
@@ -112,12 +93,50 @@ fn without_rows(alloc: Global, line_strings: &mut LineStringTable) -> Result<Lin
     Ok(program)
 }
 
-/// Adds a line with the name of a section and its bytes, in hexadecimal digits.
-fn print_bytes(name: &str, bytes: &[u8], text: &mut String) -> Result<()> {
-    write!(text, "{name} ")?;
-    for byte in bytes {
-        write!(text, "{byte:02x}")?;
+/// Adds the file `a.h` in the directory `inc`, with the MD5 digest of an empty file.
+fn add_header(program: &mut LineProgram, line_strings: &mut LineStringTable) -> Result<FileId>
+    requires { CanWrite program.old (texts_in [] line_strings.old) }
+    ensures { OnOk result (CanWrite program.new (texts_in [] line_strings.new)) }
+{
+    let info = FileInfo {
+        timestamp: 0,
+        size: 0,
+        md5: *b"\xd4\x1d\x8c\xd9\x8f\0\xb2\x04\xe9\x80\x09\x98\xec\xf8\x42\x7e",
+        source: None,
+    };
+    let include = line_strings.add(b"inc")?;
+    let path = line_strings.add(b"a.h")?;
+    let directory = program.add_directory(LineString::LineStringRef(include))?;
+    let file = program.add_file(LineString::LineStringRef(path), directory, Some(info))?;
+    program.file_has_md5 = true;
+    Ok(file)
+}
+
+/// Adds a function of six bytes: a line of a file, and another one for its last byte.
+fn add_function(
+    program: &mut LineProgram,
+    line_strings: &LineStringTable,
+    file: FileId,
+    address: Address,
+    lines: [u64; 2],
+) -> Result<()>
+    requires { CanWrite program.old (texts_in [] line_strings.now) }
+    ensures { OnOk result (CanWrite program.new (texts_in [] line_strings.now)) }
+{
+    program.set_address(address)?;
+    for (offset, line) in [(0, lines[0]), (5, lines[1])] {
+        let row = program.row();
+        row.file = file;
+        row.address_offset = offset;
+        row.line = line;
+        if !program.can_generate_row() {
+            return Err(Error::InvalidRange);
+        }
+        program.generate_row()?;
     }
-    writeln!(text)?;
+    if !program.can_end_sequence(6) {
+        return Err(Error::InvalidRange);
+    }
+    program.end_sequence(6)?;
     Ok(())
 }

@@ -5,8 +5,8 @@ ghost use Rattle.std.specs.Prelude.{◌≡◌, All, IfOk, IfSome, None};
 ghost use Rattle.gimli_lookup.specs.FirstPair.{HasNoPair, IsFirstPair};
 ghost use Rattle.gimli_lookup.specs.Section.{all_sequences};
 
-use anyhow::{Result, bail};
-use elf_sections::Elf;
+use anyhow::bail;
+use elf_sections::{Elf, ElfError};
 use gimli_compilation::{CompilationSections, Compilations};
 use gimli_core::{EndianSlice, Error, LittleEndian, Reader, ReaderOffset};
 use gimli_line::{ColumnType, DebugLine, LineProgramHeader, LineRow};
@@ -15,31 +15,28 @@ use std::alloc::Global;
 use std::fmt::Write;
 use std::fs;
 
+type Result<T, E = ElfError> = std::result::Result<T, E>;
+
 /// Reads an ELF file, and prints a line for each address, which has hexadecimal digits.
-pub fn start(rt: &HostRuntime, words: &[String]) -> Result<()> {
+pub fn start(rt: &HostRuntime, words: &[String]) -> anyhow::Result<()> {
     let [file, addresses @ ..] = words else {
         bail!("usage: where_is FILE ADDRESS..");
     };
     let file = fs::read(rt, file.as_str())?;
+    let program = program_of(rt.alloc(), &file)?;
     let mut text = String::new(rt.alloc());
-    print_places(rt.alloc(), &file, addresses, &mut text)?;
+    print_places(rt.alloc(), &program, addresses, &mut text)?;
     print!(rt; "{text}")?;
     Ok(())
 }
 
-/// Adds a line for each address of an ELF file.
-fn print_places(alloc: Global, file: &[u8], addresses: &[String], text: &mut String) -> Result<()> {
-    let elf = Elf::parse(file)?;
-    let program = program_of(alloc, elf)?;
-    where_is(alloc, &program, addresses, text)
-}
-
-/// What is kept of the program of an ELF file.
+/// What is kept of an ELF file.
 pub fn program_of<'a>(
     alloc: Global,
-    elf: Elf<'a>,
+    file: &'a [u8],
 ) -> Result<Program<EndianSlice<'a, LittleEndian>>> {
-    let lines = section(&elf, b".debug_line")?;
+    let elf = Elf::parse(file)?;
+    let lines = DebugLine::from(section(&elf, b".debug_line")?);
     let sections = CompilationSections {
         debug_info: section(&elf, b".debug_info")?,
         debug_abbrev: section(&elf, b".debug_abbrev")?,
@@ -47,9 +44,10 @@ pub fn program_of<'a>(
         debug_line_str: section(&elf, b".debug_line_str")?,
         debug_str_offsets: section(&elf, b".debug_str_offsets")?,
     };
-    let lowest = elf.lowest_code_address().unwrap_or(0);
-    let program = Program::new(alloc, DebugLine::from(lines), sections, lowest)?;
-    Ok(program)
+    match Program::new(alloc, lines, sections, elf.lowest_code_address()) {
+        Ok(program) => Ok(program),
+        Err(_) => Err(ElfError::OutOfMemory),
+    }
 }
 
 /// A section of an ELF file; no bytes where it has none of this name.
@@ -58,28 +56,26 @@ fn section<'a>(elf: &Elf<'a>, name: &[u8]) -> Result<EndianSlice<'a, LittleEndia
     Ok(EndianSlice::new(bytes, LittleEndian))
 }
 
-/// What is kept of a program.
+/// What is kept of a program: the rows of its line programs, its texts, and the directories in
+/// which it was compiled.
 #[derive(Drop)]
 pub struct Program<R: Reader> {
-    /// The rows of its line programs.
     pub lookup: SectionLookup<R>,
-    /// Its texts.
     pub strings: StringSections<R>,
-    /// The directories in which it was compiled.
     pub compilations: Compilations<R>,
 }
 
 impl<R: Reader> Program<R> {
-    /// Reads the line programs and the units of a program whose addresses have 8 bytes, and whose
-    /// code begins at the address `lowest`: below it a linker leaves what it dropped.
+    /// Reads the line programs and the units of a program whose addresses have 8 bytes. Below the
+    /// lowest address of its code a linker leaves what it dropped. Fails only with `OutOfMemory`.
     fn new(
         alloc: Global,
         lines: DebugLine<R>,
         sections: CompilationSections<R>,
-        lowest: u64,
-    ) -> std::result::Result<Self, Error> {
+        lowest: Option<u64>,
+    ) -> Result<Self, Error> {
         Ok(Program {
-            lookup: SectionLookup::new(&lines, alloc, 8, lowest)?,
+            lookup: SectionLookup::new(&lines, alloc, 8, lowest.unwrap_or(0))?,
             strings: StringSections {
                 debug_line_str: sections.debug_line_str,
                 debug_str: sections.debug_str,
@@ -94,7 +90,7 @@ impl<R: Reader> Program<R> {
         alloc: Global,
         header: &LineProgramHeader<R>,
         row: &LineRow,
-    ) -> std::result::Result<Vec<u8>, PathError> {
+    ) -> Result<Vec<u8>, PathError> {
         let offset = header.offset().0.into_u64();
         let Some(directory) = self.compilations.directory_of(offset) else {
             return Paths::new(header, self.strings, None).of_row(alloc, row);
@@ -106,16 +102,16 @@ impl<R: Reader> Program<R> {
     }
 }
 
-/// Adds a line for each address. Refused where a word is no address, where a file has no path, and
-/// where memory is missing.
-pub fn where_is<R: Reader>(
+/// Adds a line for each address.
+fn print_places<R: Reader>(
     alloc: Global,
     program: &Program<R>,
     addresses: &[String],
     text: &mut String,
-) -> Result<()> {
+) -> anyhow::Result<()> {
     for address in addresses {
-        print_place(alloc, program, address.as_str(), text)?;
+        let address = u64::from_str_radix(address.as_str(), 16)?;
+        print_place(alloc, program, address, text)?;
     }
     Ok(())
 }
@@ -124,54 +120,34 @@ pub fn where_is<R: Reader>(
 fn print_place<R: Reader>(
     alloc: Global,
     program: &Program<R>,
-    address: &str,
-    text: &mut String,
-) -> Result<()> {
-    let address = u64::from_str_radix(address.strip_prefix("0x").unwrap_or(address), 16)?;
-    match source_at(alloc, program, address)? {
-        Some(source) => print_source(alloc, address, &source, text)?,
-        None => writeln!(text, "{address:#x} ??")?,
-    }
-    Ok(())
-}
-
-/// Where code comes from.
-#[derive(Debug, Drop)]
-pub struct Source {
-    /// The whole path of the file.
-    pub path: Vec<u8>,
-    /// The line, 0 where none is known.
-    pub line: u64,
-    /// The column, 0 for the left edge.
-    pub column: u64,
-}
-
-/// Adds the line of an address whose source is known.
-fn print_source(
-    alloc: Global,
     address: u64,
-    source: &Source,
     text: &mut String,
-) -> std::result::Result<(), PathError> {
-    let path = String::from_utf8_lossy(alloc, &source.path)?;
-    let line = source.line;
-    let column = source.column;
+) -> Result<(), PathError> {
+    let Some((path, row)) = source_at(alloc, program, address)? else {
+        writeln!(text, "{address:#x} ??")?;
+        return Ok(());
+    };
+    let path = String::from_utf8_lossy(alloc, &path)?;
+    let line = row.line().map_or(0, |line| line.get());
+    let column = match row.column() {
+        ColumnType::LeftEdge => 0,
+        ColumnType::Column(column) => column.get(),
+    };
     writeln!(text, "{address:#x} {path}:{line}:{column}")?;
     Ok(())
 }
 
-/// Where the code at an address comes from: what the row says that covers it. None where no row
-/// covers it. Refused where its file has no path.
-pub fn source_at<R: Reader>(
+/// Where the code at an address comes from: the row that covers it, and the whole path of its file.
+/// None where no row covers it. Refused where its file has no path.
+fn source_at<R: Reader>(
     alloc: Global,
     program: &Program<R>,
     address: u64,
-) -> std::result::Result<Option<Source>, PathError>
+) -> Result<Option<(Vec<u8>, LineRow)>, PathError>
     ensures none { IfOk result (λ source. source ≡ None
         → All (HasNoPair address) (all_sequences program.now.lookup)) }
-    ensures row { IfOk result (λ source. IfSome source (λ source. (row next : _)
-        × IsFirstPair address (all_sequences program.now.lookup) row next
-        × (source.line ≡ row.line) × (source.column ≡ row.column))) }
+    ensures row { IfOk result (λ source. IfSome source (λ source. (next : _)
+        × IsFirstPair address (all_sequences program.now.lookup) source.1 next)) }
 {
     let Some(found) = program.lookup.find(address) else {
         return Ok(None);
@@ -181,27 +157,5 @@ pub fn source_at<R: Reader>(
         return Err(PathError::InvalidFileIndex(found.row.file_index()));
     };
     let path = program.path_of(alloc, header, &found.row)?;
-    let line = line_of(&found.row);
-    let column = column_of(&found.row);
-    Ok(Some(Source { path, line, column }))
-}
-
-/// The line of a row, 0 where none is known.
-fn line_of(row: &LineRow) -> u64
-    ensures { result ≡ row.now.line }
-{
-    match row.line() {
-        Some(line) => line.get(),
-        None => 0,
-    }
-}
-
-/// The column of a row, 0 for the left edge.
-fn column_of(row: &LineRow) -> u64
-    ensures { result ≡ row.now.column }
-{
-    match row.column() {
-        ColumnType::LeftEdge => 0,
-        ColumnType::Column(column) => column.get(),
-    }
+    Ok(Some((path, found.row)))
 }

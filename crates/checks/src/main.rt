@@ -1,0 +1,74 @@
+//! Checks in code, of what no clause and no row of input and output can say: tables of cases, each
+//! with what is expected of it by hand. A line for each check says whether it passed, or which case
+//! failed first; then come the texts of errors.
+//!
+//! They use public names alone.
+#![tactic(auto)]
+
+mod builder;
+mod check;
+mod compilations;
+mod converted;
+mod elf_files;
+mod errors;
+mod lookups;
+mod machine;
+mod many;
+mod narrow;
+mod own_writer;
+mod readers;
+mod units;
+mod writers;
+
+use crate::check::Found;
+use std::alloc::Global;
+use std::io;
+
+/// Each check, and what it finds.
+fn checks(alloc: Global) -> [(&'static str, Found); 29] {
+    [
+        ("readers::calls", readers::calls(alloc)),
+        ("readers::orders", readers::orders()),
+        ("machine::executed", machine::executed(alloc)),
+        ("lookups::narrow_unit", lookups::narrow_unit(alloc)),
+        ("lookups::wide_numbers", lookups::wide_numbers(alloc)),
+        ("lookups::copies", lookups::copies(alloc)),
+        ("lookups::many_in_program", lookups::many_in_program(alloc)),
+        ("lookups::many_in_section", lookups::many_in_section(alloc)),
+        ("compilations::units", compilations::units()),
+        ("compilations::lines", compilations::lines(alloc)),
+        ("elf_files::relocated", elf_files::relocated(alloc)),
+        ("elf_files::sought", elf_files::sought(alloc)),
+        ("elf_files::outlines", elf_files::outlines(alloc)),
+        ("elf_files::cut", elf_files::cut(alloc)),
+        ("elf_files::huge", elf_files::huge(alloc)),
+        ("elf_files::checksums", elf_files::checksums(alloc)),
+        ("elf_files::paths", elf_files::paths(alloc)),
+        ("writers::vector", writers::vector(alloc)),
+        ("writers::pieces", writers::pieces(alloc)),
+        ("writers::own", writers::own(alloc)),
+        ("writers::relocations", writers::relocations(alloc)),
+        ("builder::current_rows", builder::current_rows(alloc)),
+        ("builder::file", builder::file(alloc)),
+        ("builder::none", builder::none(alloc)),
+        ("converted::own_writer", converted::own_writer(alloc)),
+        ("converted::refused", converted::refused(alloc)),
+        ("many::writers_and_tables", many::writers_and_tables(alloc)),
+        ("many::conversions", many::conversions(alloc)),
+        ("errors::turned", errors::turned()),
+    ]
+}
+
+fn main(rt: HostRuntime) -> io::Result<()> {
+    for (name, found) in checks(rt.alloc()) {
+        match found {
+            Ok(None) => println!(rt; "test {name} ... ok")?,
+            Ok(Some(case)) => println!(rt; "test {name} ... FAILED at case {case}")?,
+            Err(e) => println!(rt; "test {name} ... FAILED by {e:?}")?,
+        }
+    }
+    if let Ok(text) = errors::texts(rt.alloc()) {
+        print!(rt; "{text}")?;
+    }
+    Ok(())
+}

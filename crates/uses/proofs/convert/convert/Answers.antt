@@ -1,0 +1,24 @@
+-- A converted program can be written.
+use Rattle.std.proofs.Common.{rules, ℕ}
+use Rattle.std.specs.Prelude.{Option, Some, None}
+use Rattle.gimli_bytes.specs.declared.address.Address.{Address}
+use Rattle.gimli_bytes.specs.declared.address.Address.TheVariants.{Constant}
+use Rattle.gimli_write.specs.convert.Conversion.{outcome_with}
+use Rattle.gimli_write.specs.convert.DoneConversions.{DoneConversion}
+use Rattle.gimli_write.specs.convert.Sources.{Source, source_of}
+use Rattle.uses.proofs.convert.convert.Goals as goal
+
+abbrev itself : ℕ → Option Address
+itself a = Some (Constant a)
+
+pub round_trip-requires : goal.round_trip-requires
+round_trip-requires g c =
+    let source : Source = source_of g.R.Reader.bytes c.args.no_texts c.args.no_texts c.args.source c.args.name (Some _) None in
+    let done : DoneConversion = record {
+      convert_address = itself;
+      source = source;
+      line_strings = c.default-line_strings.result;
+      outcome = outcome_with (c.in_ok-program.program, c.in_ok-program._files) c.convert_program.new.line_strings;
+      is = c.in_ok-program.ensures.outcome.converts itself (λ a r post. search rules);
+    } in
+    c.converted_programs_can_be_written.ensures done c.convert_program.new.strings

@@ -1,3 +1,0 @@
-pub mod KeptRows
-pub mod UnitRows
-pub mod SameHeaders

@@ -1,0 +1,86 @@
+//! A unit up to version 4, written in version 5.
+#![tactic(auto)]
+
+use crate::rows::print_row;
+use anyhow::{Result, bail};
+use gimli_core::{DebugLineOffset, Encoding, EndianSlice, LittleEndian, Reader};
+use gimli_line::{DebugLine, IncompleteLineProgram};
+use gimli_write::conversion_laws::converted_programs_can_be_written;
+use gimli_write::{
+    Address, ConvertResult, EndianVec, LineStringTable, RoundTrip, StringTable, convert_program,
+    round_trip,
+};
+use std::alloc::Global;
+use std::fs;
+
+/// Reads a section from a file, and prints the rows that are read of a unit after it was converted.
+/// The directory is `DW_AT_comp_dir` of its entry in `.debug_info`, and the name `DW_AT_name`.
+pub fn start(rt: &HostRuntime, words: &[String]) -> Result<()> {
+    let [lines, offset, known @ ..] = words else {
+        bail!("usage: convert LINES OFFSET [DIRECTORY [NAME]]");
+    };
+    let offset = offset.parse::<usize>()?;
+    let section = fs::read(rt, lines.as_str())?;
+    let mut text = String::new(rt.alloc());
+    print_converted(rt.alloc(), &section, offset, known, &mut text)?;
+    print!(rt; "{text}")?;
+    Ok(())
+}
+
+/// Adds a line for each row that is read of the unit at an offset after it was converted. Up to
+/// version 4 all texts of a unit stand in its header, so the sections of texts have no bytes.
+fn print_converted<'i>(
+    alloc: Global,
+    section: &'i [u8],
+    offset: usize,
+    known: &'i [String],
+    text: &mut String,
+) -> ConvertResult<()> {
+    let directory = reader_of(known.first());
+    let name = reader_of(known.get(1));
+    let section = DebugLine::new(section, LittleEndian);
+    let source = section.program(alloc, DebugLineOffset(offset), 8, directory, None)?;
+    let no_texts = EndianSlice::new(b"", LittleEndian);
+    let converted = convert(alloc, source, name, no_texts)?;
+    for row in &converted.rows {
+        print_row(row, text)?;
+    }
+    Ok(())
+}
+
+/// A reader of a word.
+fn reader_of(word: Option<&String>) -> Option<EndianSlice<'_, LittleEndian>> {
+    let word = word?;
+    Some(EndianSlice::new(word.as_bytes(), LittleEndian))
+}
+
+/// What is read of a unit after it was converted and written, each address as it is. Refused
+/// without a directory and a name, which tables from version 5 on have.
+fn convert<R: Reader>(
+    alloc: Global,
+    source: IncompleteLineProgram<R>,
+    name: Option<R>,
+    no_texts: R,
+) -> ConvertResult<RoundTrip> {
+    converted_programs_can_be_written();
+    let encoding = Encoding {
+        version: 5,
+        ..source.header().encoding()
+    };
+    let mut strings = StringTable::default(alloc);
+    let mut line_strings = LineStringTable::default(alloc);
+    let (program, _files) = convert_program(
+        no_texts,
+        no_texts,
+        source,
+        name,
+        Some(encoding),
+        None,
+        &mut line_strings,
+        &mut strings,
+        |address| Some(Address::Constant(address)),
+    )?;
+    let mut lines = gimli_write::DebugLine::from(EndianVec::new(alloc, LittleEndian));
+    let of = program.encoding();
+    round_trip(&program, &mut lines, of, &mut line_strings, &mut strings)
+}
