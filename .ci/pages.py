@@ -6,9 +6,10 @@
 
 Refused are, on the pages of NARROW, a line of prose above 100 characters (what stands in a block of code or in a table is
 none) and a cell of a table above 300; on every page a link to a file of the tree, or to a heading, that isn't there, the name
-of a source or a script that no file has, and a clause that a call hasn't (`CALL`, clause `NAME`); in ARCHITECTURE.md a line
-`A <- B, C` from which, with what B and C stand on, A doesn't stand on what crates.txt says; and in CHANGELOG.md a version that
-neither the header for C nor `lines` has.
+of a source or a script that no file has, a name in code that no source has, and a clause that a call hasn't (`CALL`, clause
+`NAME`); in ARCHITECTURE.md a line `A <- B, C` from which, with what B and C stand on, A doesn't stand on what crates.txt says; in
+CHANGELOG.md a version that neither the header for C nor `lines` has; and in CONTRIBUTING.md a limit that isn't that of the scripts,
+or that the tree passes.
 """
 import glob
 import os
@@ -30,6 +31,12 @@ ITEM = re.compile(r"(\s*)([-*+]|\d+[.)])( +)")
 LINK = re.compile(r"\]\(([^()\s]+)\)")
 # A source or a script that a page names; a word in capitals stands for any name. And calls with the clauses that are cited.
 FILE = re.compile(r"`((?![^`]*\b[A-Z]{4,}\b)[\w./-]+\.(?:antt|rt|sh|py|rows))`")
+# A name in code. Those of others are gimli's, ELF's, DWARF's, the kit's and the C library's; gimli's tests begin with test_.
+NAME = re.compile(r"`((?!test_|[0-9a-f_]+`)[A-Za-z_]\w*(?:::\w+)*)`")
+OTHERS = set(
+    "BaseId Deref DerefMut RelocateWriter fnv read_u8_array ConvertUnit SHN_ABS SHT_SYMTAB_SHNDX also_shares ADD SET SUB uncompress"
+    " DW_FORM_ DW_LNCT_ DW_LNE_ DW_LNS_ DW_AT_decl_file PT_LOAD dl_iterate_phdr dlpi_addr dlopen".split()
+)
 CITED = re.compile(r"((?:`[\w:]+`, )*`[\w:]+`)(?:, | \()clauses? (`\w+`(?:(?:, | and )`\w+`)*)")
 
 
@@ -109,6 +116,25 @@ def unknown(page, ends):
                 yield f"{page}:{number}: no file is {name}"
 
 
+def words_of_sources():
+    """The words of all sources and scripts but this one."""
+    words = set()
+    for folder, folders, names in os.walk(TOP):
+        folders[:] = [it for it in folders if it not in ("out", "build", "target", "data", ".git")]
+        for path in (os.path.join(folder, it) for it in names if not it.endswith((".md", ".edit", ".diff", ".pyc"))):
+            if os.path.realpath(path) != os.path.realpath(__file__):
+                words.update(re.findall(r"\w+", open(path, encoding="utf8", errors="replace").read()))
+    return words
+
+
+def unnamed(page, words):
+    """The names in code on a page that no source has."""
+    for number, line, is_code in lines_of(page):
+        for name in [] if is_code else NAME.findall(line):
+            if not words.issuperset(name.split("::")):
+                yield f"{page}:{number}: no source has the name {name}"
+
+
 def uncited(pages):
     """The clauses that pages cite and that the call hasn't. A name without a type has the type of the one before it."""
     crates = [os.path.basename(os.path.dirname(it)) for it in found(["crates/*/CALLING.md"])]
@@ -163,6 +189,18 @@ def misdrawn():
     for name in below:
         if below[name] and name not in drawn:
             yield f"{page}: no line says what {name} stands on"
+
+
+def other_limits():
+    """The limits of CONTRIBUTING.md that the scripts don't have, or that the tree passes."""
+    page = " ".join(open(os.path.join(TOP, "CONTRIBUTING.md"), encoding="utf8").read().split())
+    limits = (f"at most {WIDTH} columns", f"at most {CELL} characters", f"at most {contracts.LINES} lines and {contracts.WORDS:,} words")
+    yield from (f"CONTRIBUTING.md: it doesn't say '{it}'" for it in limits if it not in page)
+    gate, tried = found(["crates/*/must-fail/*.edit"]), found(["tried/*/*.edit"])
+    for text, edits in ((r"The gate has at most (\d+) of them", gate), (r"together are at most (\d+) files", gate + tried)):
+        limit = re.search(text, page)
+        if not limit or len(edits) > int(limit[1]):
+            yield f"CONTRIBUTING.md: there are {len(edits)} edits; '{text}'"
 
 
 # ---- wrapping
@@ -222,8 +260,9 @@ def main(words):
     narrow = [it for it in found(NARROW) if it not in STILL_WIDE]
     told = [it for page in narrow for it in wide(page)] + [it for page in found(PAGES) for it in lost(page)]
     ends = files()
-    told += [it for page in found(NARROW) for it in unknown(page, ends)]
-    told += [*uncited(found(NARROW)), *misdrawn(), *other_versions()]
+    words = words_of_sources() | OTHERS
+    told += [it for page in found(NARROW) for it in [*unknown(page, ends), *unnamed(page, words)]]
+    told += [*uncited(found(NARROW)), *misdrawn(), *other_versions(), *other_limits()]
     print("\n".join(told), end="\n" if told else "")
     sys.exit(1 if told else 0)
 
