@@ -4,9 +4,9 @@
     compare/json_lines.py [PROGRAM..]
 
 A program whose unit has a path that is no UTF-8 is made here by gcc, and asked too. Each line of each command with --json has
-to be one object, whose fields stand in the order of their table, each of the type that it says. The bytes of `path_bytes` have
-to be those of `path`. LINES_PROGRAM=FILE is asked in place of crates/lines. The last line is 'json: N lines as they have to be,
-M not'; the status is 1 where one isn't.
+to be one object, whose fields stand in the order of their form below, each of the type that it says; the tables of the page have
+to have the same fields. The bytes of `path_bytes` have to be those of `path`. LINES_PROGRAM=FILE is asked in place of
+crates/lines. The last line is 'json: N lines as they have to be, M not'; the status is 1 where one isn't.
 """
 import json
 import os
@@ -164,6 +164,18 @@ def check_program(program):
     check(program, "diff", [program, program])
 
 
+def other_tables():
+    """The tables of docs/LINES.md that don't have the fields of the forms of their command, or aren't there."""
+    with open(f"{TOP}/docs/LINES.md", encoding="utf8") as file:
+        found = re.findall(r"^\| Field of `(\w+)` .*\n\|[-|]+\n((?:\|.*\n)+)", file.read(), re.M)
+    tables = {name: set(re.findall(r"`(\w+)`", " ".join(row.split("|")[1] for row in rows.splitlines()))) for name, rows in found}
+    for name, forms in FORMS.items():
+        forms = FORMS["where"] + FORMS["where -f"] if name == "where" else forms[:1] if name in ("check", "stat", "diff") else forms
+        fields = {field for form in forms for field, _ in form} - {"text_bytes"}
+        if " " not in name and tables.get(name) != fields:
+            yield f"docs/LINES.md: the fields of `{name}` are {' '.join(sorted(fields))}"
+
+
 def made(folder):
     """A program with a path that is no UTF-8, where gcc is there."""
     source = os.path.join(os.fsencode(folder), b"a\xff\x1b.c")
@@ -178,6 +190,9 @@ def made(folder):
 
 
 def main(programs):
+    wrong = list(other_tables())
+    print("\n".join(wrong), end="\n" if wrong else "")
+    counts["bad"] += len(wrong)
     with tempfile.TemporaryDirectory() as folder:
         for program in [*made(folder), *programs]:
             check_program(program)
