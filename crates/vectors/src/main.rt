@@ -25,8 +25,6 @@
 #![tactic(auto)]
 
 mod check;
-mod indexes;
-mod lines;
 mod linetool;
 mod run;
 

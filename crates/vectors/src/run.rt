@@ -1,6 +1,5 @@
 //! What a command of a row gives.
 
-use crate::lines::run_lines;
 use crate::linetool::run_linetool;
 use row_text::{Attempts, Input, Lines, RowCommand, Stop, words_before_parts};
 use rows::{
@@ -50,9 +49,6 @@ pub fn run(
     };
     match input {
         Input::Script(script) => write(request, script, out),
-        Input::Section(section, named) if name == "lines" => {
-            run_lines(alloc, words, section, named, out)
-        }
         Input::Section(section, named) => {
             let sections = sections_of(section, named)?;
             if words.iter().skip(count).any(|word| !word.starts_with('@')) {
