@@ -6,12 +6,11 @@ use std::alloc::Global;
 use std::str;
 
 /// A number in decimal digits, or in hexadecimal ones after `0x`, where it fits.
-pub fn parse_number(word: &str) -> Result<u64, Stop> {
-    let number = match word.strip_prefix("0x") {
+pub fn parse_number(word: &str) -> Option<u64> {
+    match word.strip_prefix("0x") {
         Some(digits) => parse_digits(digits, 16),
         None => parse_digits(word, 10),
-    };
-    number.ok_or(Stop::Bad)
+    }
 }
 
 /// A text: `%` and two hexadecimal digits are a byte, and `%` alone is the empty text. No word that
@@ -48,7 +47,7 @@ pub fn push_bytes(bytes: &mut Vec<u8>, text: &str) -> Result<(), Stop> {
         match word.split_once('*') {
             Some((count, byte)) => {
                 let byte = parse_byte(byte.as_bytes())?;
-                let count = parse_number(count)? as usize;
+                let count = parse_number(count).ok_or(Stop::Bad)? as usize;
                 let length = bytes.len().checked_add(count).ok_or(Stop::Bad)?;
                 bytes.resize(length, byte)?;
             }
