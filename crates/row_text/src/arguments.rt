@@ -133,11 +133,13 @@ impl<'a> Arguments<'a> {
         }
     }
 
-    /// Whether all that is left are numbers; they are taken.
-    pub fn numbers(&mut self) -> &'a [&'a str] {
+    /// All words that are left. Where numbers are asked for, they must be that, and are taken.
+    pub fn numbers(&mut self, is_asked: bool) -> &'a [&'a str] {
         let numbers = self.rest;
-        for _ in numbers {
-            self.number(u64::MAX);
+        if is_asked {
+            for _ in numbers {
+                self.number(u64::MAX);
+            }
         }
         numbers
     }

@@ -101,7 +101,12 @@ impl Lines {
             Error::UnexpectedEof(_) => self.put(&[Piece::Word(word), Piece::Word("UnexpectedEof")]),
             Error::UnknownForm(form) => {
                 let form = Piece::Number(u64::from(form.0));
-                self.put(&[Piece::Word(word), Piece::Word("UnknownForm("), form, Piece::Word(")")]);
+                self.put(&[
+                    Piece::Word(word),
+                    Piece::Word("UnknownForm("),
+                    form,
+                    Piece::Word(")"),
+                ]);
             }
             error => self.put_value(word, format_args!("{error:?}")),
         }

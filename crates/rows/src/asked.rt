@@ -3,7 +3,6 @@
 use crate::target::Target;
 use gimli_core::{DebugLineOffset, Error, Reader, ReaderOffset, RunTimeEndian};
 use gimli_line::{DebugLine, IncompleteLineProgram};
-use gimli_lookup::StringSections;
 use line_text::{AddressSize, Slice};
 use row_text::Attempts;
 use std::alloc::Global;
@@ -28,8 +27,10 @@ pub(crate) struct Asked<'w, R> {
     pub attempts: Attempts,
     /// The section `.debug_line`.
     pub section: DebugLine<R>,
-    /// The sections of texts.
-    pub texts: StringSections<R>,
+    /// The section `.debug_str`.
+    pub strings: R,
+    /// The section `.debug_line_str`.
+    pub line_strings: R,
     pub order: RunTimeEndian,
     pub address_size: AddressSize,
     /// Where the unit stands, or the lowest address of code.
@@ -42,8 +43,8 @@ pub(crate) struct Asked<'w, R> {
     pub unit_name: Option<R>,
     /// The encodings of the program that is built.
     pub target: Target,
-    /// The path that is looked up, or the directory of the compilation.
-    pub path: Option<&'w [u8]>,
+    /// The path that is looked up, or the directory of the compilation, empty for none.
+    pub path: &'w [u8],
     /// The line that is looked up.
     pub line: u64,
     /// The addresses that are looked up.
@@ -52,7 +53,7 @@ pub(crate) struct Asked<'w, R> {
 
 impl<R: Reader> Asked<'_, R> {
     /// The program of the unit. Where memory was refused it is made once more, if attempts are two.
-    pub fn program(self) -> gimli_core::Result<IncompleteLineProgram<R>> {
+    pub fn program(&self) -> gimli_core::Result<IncompleteLineProgram<R>> {
         match self.parse() {
             Err(Error::OutOfMemory) if self.attempts == Attempts::Two => self.parse(),
             outcome => outcome,
@@ -60,10 +61,10 @@ impl<R: Reader> Asked<'_, R> {
     }
 
     /// The program of the unit.
-    fn parse(self) -> gimli_core::Result<IncompleteLineProgram<R>> {
+    fn parse(&self) -> gimli_core::Result<IncompleteLineProgram<R>> {
         let offset = DebugLineOffset(R::Offset::from_u64(self.offset)?);
         let size = self.address_size.bytes();
-        self.section
-            .program(self.alloc, offset, size, self.directory, self.name)
+        let section = self.section;
+        section.program(self.alloc, offset, size, self.directory, self.name)
     }
 }

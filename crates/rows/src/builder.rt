@@ -117,7 +117,7 @@ impl Builder {
             }
             "program" => self.begin_program(&mut words),
             "dir" => self.add_directory(&mut words),
-            "file" => self.add_file(&mut words),
+            "file" => return self.add_file(words),
             name => self.build_item(name, &mut words),
         }
         words.end()
@@ -231,11 +231,12 @@ impl Builder {
     }
 
     /// Adds a file to the directory of a number.
-    fn add_file(&mut self, words: &mut Arguments<'_>) {
+    fn add_file(&mut self, words: Arguments<'_>) -> Option<Stop> {
+        let mut words = words;
         let encoding = self.encoding();
-        let text = self.text(Form::Usual, encoding, words);
+        let text = self.text(Form::Usual, encoding, &mut words);
         let number = words.number(u64::MAX);
-        let info = self.info(encoding, words);
+        let info = self.info(encoding, &mut words);
         let can = can_be_added(&self.program, &text);
         match directory_id(&self.program, &self.directories, number) {
             Some(directory) if words.may_call(can) => {
@@ -246,6 +247,7 @@ impl Builder {
             Some(_) => {}
             None => words.refuse(Stop::Condition),
         }
+        words.end()
     }
 
     /// Builds the item of a call, or sets what is written of files.
@@ -404,13 +406,17 @@ fn file_id(alloc: Global, program: &LineProgram, words: &mut Arguments<'_>) -> O
 fn scratch_file(alloc: Global, number: u64) -> Option<FileId> {
     let words = ["4", "32", "4", "1", "1", "1", "-5", "14", "w", "s"];
     let mut scratch = Builder::empty(alloc, Attempts::One);
-    scratch.begin_program(&mut Arguments::new(alloc, &words));
+    let mut words = Arguments::new(alloc, &words);
+    scratch.begin_program(&mut words);
     for index in 0..=number {
-        let name = format!(in alloc; "{index}").ok()?;
-        scratch.add_file(&mut Arguments::new(alloc, &[name.as_str(), "0"]));
+        let line = format!(in alloc; "{index} 0").ok()?;
+        let words: Vec<&str> = line.split(' ').collect(alloc).ok()?;
+        scratch.add_file(Arguments::new(alloc, &words));
     }
-    let (id, _, _) = scratch.program.files().nth(number as usize)?;
-    Some(id)
+    match scratch.program.files().nth(number as usize) {
+        Some((id, _, _)) => Some(id),
+        None => None,
+    }
 }
 
 /// Builds an item, if that is one.

@@ -10,7 +10,6 @@ use crate::target::Target;
 use crate::unit_text::{print_paths, print_units, watch_rows};
 use gimli_core::{EndianSlice, RunTimeEndian};
 use gimli_line::DebugLine;
-use gimli_lookup::StringSections;
 use line_text::Slice;
 use row_text::{Arguments, Attempts, Lines, Stop};
 use std::alloc::Global;
@@ -117,26 +116,21 @@ pub fn print(
         Command::Addresses => words.number(u64::MAX),
         _ => 0,
     };
-    let addresses = match command {
-        Command::Places => words.numbers(),
-        _ => &[],
-    };
+    let addresses = words.numbers(matches!(command, Command::Places));
     let target = Target::parse(alloc, texts == 3, &mut words);
     if let Some(stop) = words.end() {
         return Err(stop);
     }
-    let (name, path) = match command {
-        Command::Paths => (&None, &second),
-        _ => (&second, &first),
-    };
+    let is_paths = matches!(command, Command::Paths);
+    // A command that asks for paths hands no name to the reader: it has no third text.
+    let name = if is_paths { &third } else { &second };
+    let path = if is_paths { &second } else { &first };
     let asked = Asked {
         alloc,
         attempts: request.attempts,
         section: DebugLine::new(sections.lines, order),
-        texts: StringSections {
-            debug_line_str: EndianSlice::new(sections.line_strings, order),
-            debug_str: EndianSlice::new(sections.strings, order),
-        },
+        strings: EndianSlice::new(sections.strings, order),
+        line_strings: EndianSlice::new(sections.line_strings, order),
         order,
         address_size,
         offset,
@@ -144,11 +138,11 @@ pub fn print(
         name: reader(name, order),
         unit_name: reader(&third, order),
         target,
-        path: path.as_deref(),
+        path: path.as_deref().unwrap_or(&[]),
         line,
         addresses,
     };
-    perform(command, asked, lines);
+    perform(command, &asked, lines);
     Ok(())
 }
 
@@ -161,7 +155,7 @@ fn reader(text: &Option<Vec<u8>>, order: RunTimeEndian) -> Option<Slice<'_>> {
 }
 
 /// The same over any reader.
-fn perform<R: Lender>(command: Command, asked: Asked<'_, R>, lines: &mut Lines) {
+fn perform<R: Lender>(command: Command, asked: &Asked<'_, R>, lines: &mut Lines) {
     match command {
         Command::Walk => return print_units(asked, lines),
         Command::Places => return print_lookup(asked, false, lines),

@@ -31,7 +31,7 @@ enum Ending {
 impl<R: Reader> Asked<'_, R> {
     /// Prints what a conversion reads, item by item and after a line `==` what is built of them, or
     /// sequence by sequence. Where the target breaks a condition, no conversion can be asked for.
-    pub fn print_conversion(self, by_items: bool, lines: &mut Lines) {
+    pub fn print_conversion(&self, by_items: bool, lines: &mut Lines) {
         if !self.target.is_taken() {
             return lines.put(&[Piece::Word("condition")]);
         }
@@ -49,8 +49,8 @@ impl<R: Reader> Asked<'_, R> {
     }
 
     /// Prints what one conversion reads, in tables that hold texts before.
-    fn print_read(self, by_items: bool, lines: &mut Lines) -> Ending
-        requires { IsTaken self.target }
+    fn print_read(&self, by_items: bool, lines: &mut Lines) -> Ending
+        requires { IsTaken self.now.target }
     {
         let mut tables = Tables::new(self.alloc);
         if tables.strings.add(b"old").is_err() || tables.line_strings.add(b"old").is_err() {
@@ -59,8 +59,8 @@ impl<R: Reader> Asked<'_, R> {
         }
         let begun = match self.program() {
             Ok(program) => ConvertLineHeader::new(
-                self.texts.debug_str,
-                self.texts.debug_line_str,
+                self.strings,
+                self.line_strings,
                 program,
                 self.unit_name,
                 self.target.encoding,
@@ -89,8 +89,8 @@ impl<R: Reader> Asked<'_, R> {
 
     /// Prints what is built, in tables without a text, by a closure that keeps each address; of a
     /// second conversion, where memory is refused to the first and attempts are two.
-    fn print_built(self, lines: &mut Lines)
-        requires { IsTaken self.target }
+    fn print_built(&self, lines: &mut Lines)
+        requires { IsTaken self.now.target }
     {
         let mut tables = Tables::new(self.alloc);
         let mut built = self.convert(&mut tables);
@@ -113,8 +113,8 @@ impl<R: Reader> Asked<'_, R> {
     }
 
     /// What one conversion builds.
-    fn convert(self, tables: &mut Tables) -> ConvertResult<(LineProgram, Vec<FileId>)>
-        requires { IsTaken self.target }
+    fn convert(&self, tables: &mut Tables) -> ConvertResult<(LineProgram, Vec<FileId>)>
+        requires { IsTaken self.now.target }
         ensures { IfOk result (λ built. AreWithin built.0.directories (texts_of tables.new)) }
     {
         let program = match self.program() {
@@ -122,8 +122,8 @@ impl<R: Reader> Asked<'_, R> {
             Err(error) => return Err(ConvertError::Read(error)),
         };
         let built = convert_program(
-            self.texts.debug_str,
-            self.texts.debug_line_str,
+            self.strings,
+            self.line_strings,
             program,
             self.unit_name,
             self.target.encoding,

@@ -66,7 +66,7 @@ fn print_numbers<R: Lender>(header: &LineProgramHeader<R>, lines: &mut Lines) {
 }
 
 /// Prints bytes after a word, and the word alone where there are none.
-fn print_bytes<R: Lender>(word: &str, bytes: &R, lines: &mut Lines) {
+fn print_bytes<'x, R: Lender>(word: &'x str, bytes: &'x R, lines: &mut Lines) {
     let bytes = bytes.lent_bytes();
     let blank = Piece::If(!bytes.is_empty(), " ");
     lines.put(&[Piece::Word(word), blank, Piece::Digits(bytes)]);

@@ -19,54 +19,47 @@ pub(crate) fn print_instructions<R: Lender>(header: &LineProgramHeader<R>, lines
 
 /// Prints the line of an instruction: its variant and its operands.
 fn print_instruction<R: Lender>(instruction: &LineInstruction<R>, lines: &mut Lines) {
-    let none = Piece::Word("");
-    let (variant, first, second) = match instruction {
-        LineInstruction::Special(n) => ("Special(", Piece::Number(u64::from(*n)), none),
-        LineInstruction::Copy => ("Copy", none, none),
-        LineInstruction::AdvancePc(n) => ("AdvancePc(", Piece::Number(*n), none),
-        LineInstruction::AdvanceLine(n) => ("AdvanceLine(", Piece::Signed(*n), none),
-        LineInstruction::SetFile(n) => ("SetFile(", Piece::Number(*n), none),
-        LineInstruction::SetColumn(n) => ("SetColumn(", Piece::Number(*n), none),
-        LineInstruction::NegateStatement => ("NegateStatement", none, none),
-        LineInstruction::SetBasicBlock => ("SetBasicBlock", none, none),
-        LineInstruction::ConstAddPc => ("ConstAddPc", none, none),
-        LineInstruction::FixedAddPc(n) => ("FixedAddPc(", Piece::Number(u64::from(*n)), none),
-        LineInstruction::SetPrologueEnd => ("SetPrologueEnd", none, none),
-        LineInstruction::SetEpilogueBegin => ("SetEpilogueBegin", none, none),
-        LineInstruction::SetIsa(n) => ("SetIsa(", Piece::Number(*n), none),
-        LineInstruction::UnknownStandard0(opcode) => ("UnknownStandard0(", number(opcode.0), none),
+    let (variant, held) = match instruction {
+        LineInstruction::Special(n) => ("Special(", Piece::Number(u64::from(*n))),
+        LineInstruction::Copy => ("Copy", Piece::Word("")),
+        LineInstruction::AdvancePc(n) => ("AdvancePc(", Piece::Number(*n)),
+        LineInstruction::AdvanceLine(n) => ("AdvanceLine(", Piece::Signed(*n)),
+        LineInstruction::SetFile(n) => ("SetFile(", Piece::Number(*n)),
+        LineInstruction::SetColumn(n) => ("SetColumn(", Piece::Number(*n)),
+        LineInstruction::NegateStatement => ("NegateStatement", Piece::Word("")),
+        LineInstruction::SetBasicBlock => ("SetBasicBlock", Piece::Word("")),
+        LineInstruction::ConstAddPc => ("ConstAddPc", Piece::Word("")),
+        LineInstruction::FixedAddPc(n) => ("FixedAddPc(", Piece::Number(u64::from(*n))),
+        LineInstruction::SetPrologueEnd => ("SetPrologueEnd", Piece::Word("")),
+        LineInstruction::SetEpilogueBegin => ("SetEpilogueBegin", Piece::Word("")),
+        LineInstruction::SetIsa(n) => ("SetIsa(", Piece::Number(*n)),
+        LineInstruction::UnknownStandard0(opcode) => {
+            ("UnknownStandard0(", Piece::Number(u64::from(opcode.0)))
+        }
         LineInstruction::UnknownStandard1(opcode, n) => {
-            ("UnknownStandard1(", number(opcode.0), Piece::Number(*n))
+            add_opcode("UnknownStandard1(", opcode.0, lines);
+            (", ", Piece::Number(*n))
         }
         LineInstruction::UnknownStandardN(opcode, operands) => {
-            (
-                "UnknownStandardN(",
-                number(opcode.0),
-                Piece::Digits(operands.lent_bytes()),
-            )
+            add_opcode("UnknownStandardN(", opcode.0, lines);
+            (", ", Piece::Digits(operands.lent_bytes()))
         }
-        LineInstruction::EndSequence => ("EndSequence", none, none),
-        LineInstruction::SetAddress(n) => ("SetAddress(", Piece::Number(*n), none),
+        LineInstruction::EndSequence => ("EndSequence", Piece::Word("")),
+        LineInstruction::SetAddress(n) => ("SetAddress(", Piece::Number(*n)),
         LineInstruction::DefineFile(file) => return print_file(file, lines),
-        LineInstruction::SetDiscriminator(n) => ("SetDiscriminator(", Piece::Number(*n), none),
+        LineInstruction::SetDiscriminator(n) => ("SetDiscriminator(", Piece::Number(*n)),
         LineInstruction::UnknownExtended(opcode, operands) => {
-            (
-                "UnknownExtended(",
-                number(opcode.0),
-                Piece::Digits(operands.lent_bytes()),
-            )
+            add_opcode("UnknownExtended(", opcode.0, lines);
+            (", ", Piece::Digits(operands.lent_bytes()))
         }
     };
-    let comma = Piece::If(
-        variant.starts_with("Unknown") && variant != "UnknownStandard0(",
-        ", ",
-    );
-    let end = Piece::If(variant.ends_with('('), ")");
-    lines.put(&[Piece::Word(variant), first, comma, second, end]);
+    let end = Piece::If(variant.ends_with('(') || variant == ", ", ")");
+    lines.put(&[Piece::Word(variant), held, end]);
 }
-/// An opcode, as a number.
-fn number(opcode: u8) -> Piece<'static> {
-    Piece::Number(u64::from(opcode))
+
+/// Prints an opcode after a word.
+fn add_opcode(word: &str, opcode: u8, lines: &mut Lines) {
+    lines.add(&[Piece::Word(word), Piece::Number(u64::from(opcode))]);
 }
 
 /// Prints the line of a file that is defined: its path, directory, timestamp and size.

@@ -2,14 +2,15 @@
 
 use crate::asked::Asked;
 use gimli_core::{Reader, ReaderOffset};
-use gimli_lookup::SectionLookup;
+use gimli_lookup::{SectionLookup, StringSections};
 use row_text::{Lines, Piece, parse_number};
 
 /// Prints what is looked up in a section: where the code of a line of a file begins, or of the next
 /// line that has any; or the units, and for each address the rows that cover it.
-pub(crate) fn print_lookup<R: Reader>(asked: Asked<'_, R>, is_line: bool, lines: &mut Lines) {
+pub(crate) fn print_lookup<R: Reader>(asked: &Asked<'_, R>, is_line: bool, lines: &mut Lines) {
     let size = asked.address_size.bytes();
-    match SectionLookup::new(&asked.section, asked.alloc, size, asked.offset) {
+    let section = asked.section;
+    match SectionLookup::new(&section, asked.alloc, size, asked.offset) {
         Ok(lookup) if is_line => print_addresses(asked, &lookup, lines),
         Ok(lookup) => {
             print_units(&lookup, lines);
@@ -56,8 +57,12 @@ fn print_places<R: Reader>(lookup: &SectionLookup<R>, words: &[&str], lines: &mu
 }
 
 /// Prints a line, and the addresses at which its code begins.
-fn print_addresses<R: Reader>(asked: Asked<'_, R>, lookup: &SectionLookup<R>, lines: &mut Lines) {
-    match lookup.addresses_of(&asked.texts, asked.path.unwrap_or(&[]), asked.line) {
+fn print_addresses<R: Reader>(asked: &Asked<'_, R>, lookup: &SectionLookup<R>, lines: &mut Lines) {
+    let sections = StringSections {
+        debug_line_str: asked.line_strings,
+        debug_str: asked.strings,
+    };
+    match lookup.addresses_of(&sections, asked.path, asked.line) {
         Ok(Some(found)) => {
             lines.put(&[Piece::Word("line "), Piece::Number(found.line)]);
             for address in &found.addresses {

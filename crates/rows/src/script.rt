@@ -282,9 +282,10 @@ impl Script {
 
     /// Prints what is read back; false where that is refused, or where a condition isn't met.
     fn print_read(&mut self, encoding: Encoding, lines: &mut Lines) -> bool {
+        let attempts = self.builder.attempts;
         let mut answer = self.builder.read_back(self.order, encoding);
         let is_refused = matches!(answer, Some(Err(ConvertError::OutOfMemory)));
-        if is_refused && self.builder.attempts == Attempts::Two {
+        if is_refused && attempts == Attempts::Two {
             answer = self.builder.read_back(self.order, encoding);
         }
         match &answer {

@@ -3,12 +3,13 @@
 use crate::asked::Asked;
 use gimli_core::{Error, Reader, ReaderOffset};
 use gimli_line::{LineProgram, LineProgramHeader, LineRows};
-use gimli_lookup::{PathError, Paths};
+use gimli_lookup::{PathError, Paths, StringSections};
 use row_text::{Lines, Piece};
 
 /// Prints the units of a section.
-pub(crate) fn print_units<R: Reader>(asked: Asked<'_, R>, lines: &mut Lines) {
-    let mut units = asked.section.units(asked.alloc, asked.address_size.bytes());
+pub(crate) fn print_units<R: Reader>(asked: &Asked<'_, R>, lines: &mut Lines) {
+    let section = asked.section;
+    let mut units = section.units(asked.alloc, asked.address_size.bytes());
     for _ in 0..u64::MAX {
         let unit = match units.next() {
             Ok(Some(unit)) => unit,
@@ -31,11 +32,15 @@ pub(crate) fn print_units<R: Reader>(asked: Asked<'_, R>, lines: &mut Lines) {
 
 /// Prints the paths of the files of a header, or why they aren't known.
 pub(crate) fn print_paths<R: Reader>(
-    asked: Asked<'_, R>,
+    asked: &Asked<'_, R>,
     header: &LineProgramHeader<R>,
     lines: &mut Lines,
 ) {
-    let paths = Paths::new(header, asked.texts, asked.path);
+    let sections = StringSections {
+        debug_line_str: asked.line_strings,
+        debug_str: asked.strings,
+    };
+    let paths = Paths::new(header, sections, Some(asked.path));
     let last = header.file_names().len() as u64;
     for index in 0..=last {
         if let Some(file) = header.file(index) {

@@ -3,9 +3,7 @@
 use crate::check::check_rows;
 use crate::run::run;
 use linetool_commands::words_after_name;
-use row_text::{
-    Attempts, CONVERSION_WORDS, Fault, Input, Lines, Stop, parse_rows, repeat_lines,
-};
+use row_text::{Attempts, CONVERSION_WORDS, Fault, Input, Lines, Stop, parse_rows, repeat_lines};
 use std::alloc::Global;
 use std::env::Env;
 use std::fs::{File, Files};

@@ -66,7 +66,13 @@ pub fn run_linetool(
         ["broken", words @ ..] => (words, Some(true)),
         words => (words, Some(false)),
     };
-    let file = file.map(|breaks| RowFile { bytes: section, breaks });
+    let file = match file {
+        Some(breaks) => Some(RowFile {
+            bytes: section,
+            breaks,
+        }),
+        None => None,
+    };
     let mut own = Vec::new(request.alloc);
     for word in words {
         own.push(*word)?;
@@ -77,7 +83,10 @@ pub fn run_linetool(
     }
     let status = run_words(request, &own, file, left, lines)?;
     if request.attempts == Attempts::Two && words.first() == Some(&"rows") {
-        let request = Request { words: words.get(1..).unwrap_or(&[]), ..request };
+        let request = Request {
+            words: words.get(1..).unwrap_or(&[]),
+            ..request
+        };
         // Words that are no location have no rows.
         let _ = print(Command::Watch, request, sections, lines);
     }

@@ -41,19 +41,40 @@ pub fn run(
         words: words.get(1..count.min(words.len())).unwrap_or(&[]),
         attempts,
     };
-    let (section, named) = match input {
-        Input::Script(script) => return write(request, script, lines),
-        Input::Section(section, named) => (section, named),
-    };
-    if named.len() > 2 || words.iter().skip(count).any(|word| !word.starts_with('@')) {
-        return Err(Stop::Bad);
+    match input {
+        Input::Script(script) => write(request, script, lines),
+        Input::Section(section, named) => {
+            if words.iter().skip(count).any(|word| !word.starts_with('@')) {
+                return Err(Stop::Bad);
+            }
+            run_over(request, words, sections_of(section, named)?, lines)
+        }
     }
-    let sections = Sections {
-        lines: section,
-        strings: named.first().map_or(&[], |text| text.as_slice()),
-        line_strings: named.get(1).map_or(&[], |text| text.as_slice()),
+}
+
+/// The sections of a row: that of lines, and after it those of texts, as far as they are named.
+fn sections_of<'r>(lines: &'r [u8], named: &'r [Vec<u8>]) -> Result<Sections<'r>, Stop> {
+    let (strings, line_strings) = match named {
+        [] => ([].as_slice(), [].as_slice()),
+        [strings] => (strings.as_slice(), [].as_slice()),
+        [strings, line_strings] => (strings.as_slice(), line_strings.as_slice()),
+        _ => return Err(Stop::Bad),
     };
-    match Command::parse(name) {
+    Ok(Sections {
+        lines,
+        strings,
+        line_strings,
+    })
+}
+
+/// Runs a command over sections, and returns its status.
+fn run_over(
+    request: Request<'_>,
+    words: &[&str],
+    sections: Sections<'_>,
+    lines: &mut Lines,
+) -> Result<u8, Stop> {
+    match Command::parse(words.first().copied().unwrap_or("")) {
         Some(command) => match print(command, request, sections, lines) {
             Ok(()) => Ok(0),
             Err(stop) => Err(stop),

@@ -16,9 +16,9 @@ returns g c =
       convert_address = same;
       source = record {
         notation = c.in-Ok.program.notation;
-        sections = record { strings = bytes self.texts.debug_str; line_strings = bytes self.texts.debug_line_str };
+        sections = record { strings = bytes self.now.strings; line_strings = bytes self.now.line_strings };
         header = c.in-Ok.program.meaning;
-        given = handed_of self.target.encoding self.target.line_encoding (option_map bytes self.unit_name);
+        given = handed_of self.now.target.encoding self.now.target.line_encoding (option_map bytes self.now.unit_name);
       };
       line_strings = c.args.tables.now.line_strings;
       outcome = outcome_with c.in_ok-built.built c.convert_program.new.line_strings;
