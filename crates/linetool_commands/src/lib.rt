@@ -5,6 +5,7 @@
 mod commands;
 mod count;
 mod demo;
+mod entry;
 mod find;
 mod print;
 mod refusal;
@@ -14,5 +15,6 @@ mod words;
 
 pub use commands::run;
 pub use demo::one_file_program;
+pub use entry::{start, words_after_name};
 pub use refusal::Refusal;
 pub use words::{Command, Numbers, Query};

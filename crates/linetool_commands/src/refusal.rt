@@ -11,7 +11,7 @@ use std::io::{ErrorKind, Write};
 const REFUSED: u8 = 1;
 
 /// Why a command ends before its end.
-#[derive(Clone, Copy, Debug, PartialEq, Eq)]
+#[derive(Clone, Copy)]
 pub enum Refusal {
     /// The file can't be read.
     File,

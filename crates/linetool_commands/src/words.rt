@@ -9,7 +9,7 @@ use gimli_core::RunTimeEndian;
 use line_text::{AddressSize, UnitLocation, parse_digits, parse_order, parse_size};
 
 /// A command, with what its words say.
-#[derive(Clone, Copy, Debug, PartialEq, Eq)]
+#[derive(Clone, Copy)]
 pub enum Command {
     /// Prints a unit that is built, and its rows.
     Demo,
@@ -26,7 +26,7 @@ pub enum Command {
 }
 
 /// An address that is looked up in a unit.
-#[derive(Clone, Copy, Debug, PartialEq, Eq)]
+#[derive(Clone, Copy)]
 pub struct Query {
     /// Where the unit stands.
     pub location: UnitLocation,
@@ -35,7 +35,7 @@ pub struct Query {
 }
 
 /// How the numbers of a section are read.
-#[derive(Clone, Copy, Debug, PartialEq, Eq)]
+#[derive(Clone, Copy)]
 pub struct Numbers {
     /// The order of bytes.
     pub order: RunTimeEndian,

@@ -1,19 +1,16 @@
-//! The words of a line of a script, and what they say.
+//! The words of a line of a script or of a command, and what they say.
 
-ghost use Rattle.std.specs.Prelude.{◌≤◌};
+ghost use Rattle.std.specs.Prelude.{◌≡◌, ◌≤◌, IsTrue, true};
 
 use crate::stop::Stop;
 use crate::words::{parse_number, parse_text, push_bytes};
 use gimli_bytes::Address;
 use gimli_core::{Encoding, Format, LineEncoding, RunTimeEndian};
-use line_text::parse_order;
+use line_text::{AddressSize, parse_order, parse_size};
 use std::alloc::Global;
 
 /// The longest array that a program is written into.
 const LONGEST_ARRAY: u64 = 0x10_0000;
-
-/// The greatest number of a file.
-const LAST_FILE: u64 = 999;
 
 /// What a program is written into.
 #[derive(Clone, Copy)]
@@ -43,52 +40,8 @@ pub enum Form {
     LineStrings,
 }
 
-/// A text as its word has it, and where it is kept.
-#[derive(Clone, Copy)]
-pub struct Text<'a> {
-    pub form: Form,
-    pub word: &'a str,
-}
-
-/// What is known of a file.
-#[derive(Clone, Copy)]
-pub struct Details<'a> {
-    pub timestamp: u64,
-    pub size: u64,
-    pub md5: [u8; 16],
-    pub source: Option<Text<'a>>,
-}
-
-/// A call that builds an item, or sets what is written of files.
-#[derive(Clone, Copy)]
-pub enum Item<'a> {
-    /// Sets what is written of files, by letters.
-    Flags(&'a str),
-    /// Begins a sequence.
-    Begin(Option<Address>),
-    /// Sets an address.
-    Set(Address),
-    /// Generates a row.
-    Row(Row<'a>),
-    /// Ends a sequence, at this operation where one is given.
-    End(u64, Option<u64>),
-}
-
-/// A row, with its file as a number from 0 on, and the letters of the flags that hold.
-#[derive(Clone, Copy)]
-pub struct Row<'a> {
-    pub offset: u64,
-    pub op_index: u64,
-    pub file: u64,
-    pub line: u64,
-    pub column: u64,
-    pub discriminator: u64,
-    pub flags: &'a str,
-    pub isa: u64,
-}
-
-/// The words of a line that are left. Of words that are missing, or aren't what they are taken for,
-/// the first is kept as a stop, and something stands in the place of each.
+/// The words of a line that are left, and why its call isn't made: of words that are missing, or
+/// aren't what they are taken for, something stands in the place of each.
 #[derive(Clone, Copy)]
 pub struct Arguments<'a> {
     alloc: Global,
@@ -106,19 +59,50 @@ impl<'a> Arguments<'a> {
         }
     }
 
-    /// Keeps why the words aren't what they must be.
-    fn refuse(&mut self, stop: Stop) {
-        if self.stop.is_none() {
+    /// Keeps why the call isn't made. The first cause counts, but words that are no call come
+    /// before any.
+    pub fn refuse(&mut self, stop: Stop) {
+        if self.stop.is_none() || matches!(stop, Stop::Bad) {
             self.stop = Some(stop);
         }
     }
 
-    /// Refused where words aren't what they were taken for, or one is left.
-    pub fn finish(&self) -> Result<(), Stop> {
-        match self.stop {
-            Some(stop) => Err(stop),
-            None if self.rest.is_empty() => Ok(()),
-            None => Err(Stop::Bad),
+    /// Why the call isn't made; None where it is. Bad where a word is left.
+    pub fn end(&self) -> Option<Stop> {
+        match self.rest {
+            [] => self.stop,
+            _ => Some(Stop::Bad),
+        }
+    }
+
+    /// Whether the call may be made: its conditions are met, and its words are what they must be.
+    pub fn may_call(&mut self, is_met: bool) -> bool
+        ensures { IsTrue result → is_met ≡ true }
+    {
+        if !is_met {
+            self.refuse(Stop::Condition);
+        }
+        is_met && self.end().is_none()
+    }
+
+    /// Whether no text of the call is refused so far.
+    pub fn is_fine(&self) -> bool {
+        self.stop.is_none()
+    }
+
+    /// Whether no word is left.
+    pub fn is_empty(&self) -> bool {
+        self.rest.is_empty()
+    }
+
+    /// Whether the next word is this one; then it is taken.
+    pub fn takes(&mut self, word: &str) -> bool {
+        match self.rest {
+            [first, rest @ ..] if *first == word => {
+                self.rest = rest;
+                true
+            }
+            _ => false,
         }
     }
 
@@ -141,12 +125,23 @@ impl<'a> Arguments<'a> {
         ensures { result ≤ greatest }
     {
         match parse_number(self.word()) {
-            Ok(number) if number <= greatest => number,
+            Some(number) if number <= greatest => number,
             _ => {
                 self.refuse(Stop::Bad);
                 0
             }
         }
+    }
+
+    /// All words that are left. Where numbers are asked for, they must be that, and are taken.
+    pub fn numbers(&mut self, is_asked: bool) -> &'a [&'a str] {
+        let numbers = self.rest;
+        if is_asked {
+            for _ in numbers {
+                self.number(u64::MAX);
+            }
+        }
+        numbers
     }
 
     /// A number of eight bits with a sign.
@@ -176,6 +171,17 @@ impl<'a> Arguments<'a> {
         }
     }
 
+    /// The size of an address.
+    pub fn address_size(&mut self) -> AddressSize {
+        match parse_size(self.word()) {
+            Some(size) => size,
+            None => {
+                self.refuse(Stop::Bad);
+                AddressSize::Eight
+            }
+        }
+    }
+
     /// What a program is written into.
     pub fn target(&mut self) -> Target {
         match self.word() {
@@ -198,7 +204,7 @@ impl<'a> Arguments<'a> {
         let mut bytes = Vec::new(self.alloc);
         for word in self.rest {
             if let Err(stop) = push_bytes(&mut bytes, word) {
-                self.stop = Some(stop);
+                self.refuse(stop);
             }
         }
         self.rest = &[];
@@ -234,8 +240,15 @@ impl<'a> Arguments<'a> {
         }
     }
 
-    /// A text in this form; where that is the usual one, letters before it name another.
-    pub fn text(&mut self, form: Form) -> Text<'a> {
+    /// A text.
+    pub fn text(&mut self) -> Vec<u8> {
+        let word = self.word();
+        self.text_of(word)
+    }
+
+    /// A text and where it is kept: in this form, or where that is the usual one, as letters before
+    /// it say.
+    pub fn text_in(&mut self, form: Form) -> (Form, Vec<u8>) {
         let all = self.word();
         let (form, word) = match (form, all.split_at_checked(2)) {
             (Form::Usual, Some(("s:", word))) => (Form::Inside, word),
@@ -243,60 +256,54 @@ impl<'a> Arguments<'a> {
             (Form::Usual, Some(("p:", word))) => (Form::Strings, word),
             _ => (form, all),
         };
-        if let Err(stop) = parse_text(self.alloc, word) {
-            self.refuse(stop);
-        }
-        Text { form, word }
+        (form, self.text_of(word))
     }
 
-    /// A text after `in`, where that is the next word.
-    pub fn source_dir(&mut self) -> Option<Text<'a>> {
-        match self.rest {
-            ["in", rest @ ..] => {
-                self.rest = rest;
-                Some(self.text(Form::Usual))
+    /// The text of a word.
+    fn text_of(&mut self, word: &str) -> Vec<u8> {
+        match parse_text(self.alloc, word) {
+            Ok(text) => text,
+            Err(stop) => {
+                self.refuse(stop);
+                Vec::new(self.alloc)
             }
-            _ => None,
         }
     }
 
-    /// What is known of a file: its time, and if they are there its size, digest and source.
-    pub fn details(&mut self) -> Option<Details<'a>> {
-        if self.rest.is_empty() {
-            return None;
+    /// A text, or none for the word `-`; none without a word too, where none is asked for.
+    pub fn optional_text(&mut self, is_asked: bool) -> Option<Vec<u8>> {
+        if is_asked && !self.takes("-") {
+            Some(self.text())
+        } else {
+            None
         }
-        let mut details = Details {
-            timestamp: self.number(u64::MAX),
-            size: 0,
-            md5: [0; 16],
-            source: None,
-        };
-        if !self.rest.is_empty() {
-            details.size = self.number(u64::MAX);
-        }
-        if !self.rest.is_empty() {
-            details.md5 = self.md5();
-        }
-        if !self.rest.is_empty() {
-            details.source = Some(self.text(Form::Usual));
-        }
-        Some(details)
     }
 
-    /// An MD5 digest in 32 hexadecimal digits.
-    fn md5(&mut self) -> [u8; 16] {
+    /// An MD5 digest in 32 hexadecimal digits; zeros where no word is left.
+    pub fn md5(&mut self) -> [u8; 16] {
         let mut bytes = Vec::new(self.alloc);
         let mut digest = [0; 16];
-        match push_bytes(&mut bytes, self.word()) {
-            Ok(()) if bytes.len() == 16 => digest.copy_from_slice(bytes.as_slice()),
-            Ok(()) => self.refuse(Stop::Bad),
-            Err(stop) => self.refuse(stop),
+        if !self.rest.is_empty() {
+            match push_bytes(&mut bytes, self.word()) {
+                Ok(()) if bytes.len() == 16 => digest.copy_from_slice(bytes.as_slice()),
+                Ok(()) => self.refuse(Stop::Bad),
+                Err(stop) => self.refuse(stop),
+            }
         }
         digest
     }
 
+    /// A number, or 0 where no word is left.
+    pub fn optional_number(&mut self) -> u64 {
+        if self.rest.is_empty() {
+            0
+        } else {
+            self.number(u64::MAX)
+        }
+    }
+
     /// Some of these letters alone, or `-` for none.
-    fn letters(&mut self, letters: &str) -> &'a str {
+    pub fn letters(&mut self, letters: &str) -> &'a str {
         let word = self.word();
         if word != "-" && !word.chars().all(|letter| letters.contains(letter)) {
             self.refuse(Stop::Bad);
@@ -304,50 +311,14 @@ impl<'a> Arguments<'a> {
         word
     }
 
-    /// The item of a call, by its name and its other words.
-    pub fn item(&mut self, name: &str) -> Item<'a> {
-        match name {
-            "flags" => return Item::Flags(self.letters("tsmS")),
-            "begin" if self.rest.is_empty() => return Item::Begin(None),
-            "begin" => return Item::Begin(Some(Address::Constant(self.number(u64::MAX)))),
-            "set" => return Item::Set(self.address()),
-            "row" => return Item::Row(self.row()),
-            "end" => {}
-            _ => self.refuse(Stop::Bad),
-        }
-        let offset = self.number(u64::MAX);
-        let op_index = match self.rest {
-            [] => None,
-            _ => Some(self.number(u64::MAX)),
-        };
-        Item::End(offset, op_index)
-    }
-
     /// An address, or `symbol`.
-    fn address(&mut self) -> Address {
-        match self.rest {
-            ["symbol"] => {
-                self.rest = &[];
-                Address::Symbol {
-                    symbol: 0,
-                    addend: 0,
-                }
-            }
-            _ => Address::Constant(self.number(u64::MAX)),
+    pub fn address(&mut self) -> Address {
+        if self.takes("symbol") {
+            return Address::Symbol {
+                symbol: 0,
+                addend: 0,
+            };
         }
-    }
-
-    /// A row.
-    fn row(&mut self) -> Row<'a> {
-        Row {
-            offset: self.number(u64::MAX),
-            op_index: self.number(u64::MAX),
-            file: self.number(LAST_FILE),
-            line: self.number(u64::MAX),
-            column: self.number(u64::MAX),
-            discriminator: self.number(u64::MAX),
-            flags: self.letters("sbpq"),
-            isa: self.number(u64::MAX),
-        }
+        Address::Constant(self.number(u64::MAX))
     }
 }

@@ -12,13 +12,13 @@ mod row_file;
 mod stop;
 mod words;
 
-pub use arguments::{Arguments, Details, Form, Item, Row, Target, Text};
+pub use arguments::{Arguments, Form, Target};
 pub use comparison::is_expected;
 pub use digest::digest_of;
-pub use lines::{Held, Lines};
+pub use lines::{Lines, Piece};
 pub use repeat::repeat_lines;
 pub use row_file::{
     CONVERSION_WORDS, Fault, Input, RowCommand, TestRow, parse_rows, words_before_parts,
 };
 pub use stop::{Attempts, Stop};
-pub use words::{parse_number, parse_text};
+pub use words::parse_number;

@@ -1,95 +1,136 @@
 //! Lines that are printed one after another.
 
-use crate::stop::Stop;
 use gimli_core::Error;
-use line_text::{Digits, print_bytes};
-use std::fmt;
+use gimli_line::LineRow;
+use line_text::{BytesLine, Digits, RowLine, Text, print_bytes};
+use std::alloc::{AllocError, Global};
+use std::fmt::Display;
 use std::io::Write;
 
-/// What a value holds.
+/// A piece of a line.
 #[derive(Clone, Copy)]
-pub enum Held<'a> {
-    /// Nothing.
-    Nothing,
-    /// Bytes, printed in hexadecimal digits.
+pub enum Piece<'a> {
+    /// Letters.
+    Word(&'a str),
+    /// Letters, where something holds.
+    If(bool, &'static str),
+    /// A number in decimal digits.
+    Number(u64),
+    /// One that may be below zero.
+    Signed(i64),
+    /// A number in hexadecimal digits.
+    Hex(u64),
+    /// An address, in sixteen hexadecimal digits.
+    Address(u64),
+    /// Bytes in hexadecimal digits, with nothing between.
+    Digits(&'a [u8]),
+    /// Bytes in hexadecimal digits, with a blank between.
     Bytes(&'a [u8]),
-    /// A number.
-    Number(i128),
-    /// An opcode, and its operand.
-    Operand(u8, u64),
-    /// An opcode, and the bytes after it.
-    Operands(u8, &'a [u8]),
+    /// A text as a script has it.
+    Text(&'a [u8]),
 }
 
-/// Lines that go into a vector. Where memory is refused to one, no later one is printed.
+/// Lines, as bytes. Where memory is refused to one, no later one is printed.
 #[derive(Drop)]
-pub struct Lines<'o> {
-    out: &'o mut Vec<u8>,
+pub struct Lines {
+    bytes: Vec<u8>,
     is_refused: bool,
 }
 
-impl<'o> Lines<'o> {
-    ghost use Rattle.std.specs.Prelude.{◌≡◌, IfErr};
-    ghost use Rattle.row_text.specs.declared.stop.Stop.TheVariants.{Memory};
-
-    /// Lines after what the vector holds.
-    pub fn new(out: &'o mut Vec<u8>) -> Lines<'o> {
+impl Lines {
+    /// No line.
+    pub fn new(alloc: Global) -> Lines {
         Lines {
-            out,
+            bytes: Vec::new(alloc),
             is_refused: false,
         }
     }
 
-    /// Prints a line.
-    pub fn put(&mut self, line: impl fmt::Display + Drop) {
-        if !self.is_refused {
-            self.is_refused = writeln!(self.out, "{line}").is_err();
-        }
-    }
-
     /// Prints a part of a line.
-    pub fn add(&mut self, part: impl fmt::Display + Drop) {
+    pub fn add(&mut self, pieces: &[Piece<'_>]) {
+        for piece in pieces {
+            if !self.is_refused {
+                let out = &mut self.bytes;
+                let done = match *piece {
+                    Piece::Word(word) | Piece::If(true, word) => out.write_all(word.as_bytes()),
+                    Piece::If(false, _) => Ok(()),
+                    Piece::Number(number) => write!(out, "{number}"),
+                    Piece::Signed(number) => write!(out, "{number}"),
+                    Piece::Hex(number) => write!(out, "{number:x}"),
+                    Piece::Address(address) => write!(out, "{address:016x}"),
+                    Piece::Digits(bytes) => {
+                        let digits = Digits(bytes);
+                        write!(out, "{digits}")
+                    }
+                    Piece::Bytes(bytes) => {
+                        let line = BytesLine(bytes);
+                        write!(out, "{line}")
+                    }
+                    Piece::Text(text) => {
+                        let text = Text(text);
+                        write!(out, "{text}")
+                    }
+                };
+                self.is_refused = done.is_err();
+            }
+        }
+    }
+
+    /// Prints a line.
+    pub fn put(&mut self, pieces: &[Piece<'_>]) {
+        self.add(pieces);
+        self.add(&[Piece::Word("\n")]);
+    }
+
+    /// Prints the line of a row.
+    pub fn put_row(&mut self, row: LineRow) {
+        self.put_value("", RowLine(row));
+    }
+
+    /// Prints the line of a value, after a word.
+    pub fn put_value(&mut self, word: &str, value: impl Display + Drop) {
         if !self.is_refused {
-            self.is_refused = write!(self.out, "{part}").is_err();
+            self.is_refused = writeln!(self.bytes, "{word}{value}").is_err();
         }
     }
 
-    /// Prints a value, as a part of a line: its variant, and in brackets what it holds.
-    pub fn add_value(&mut self, variant: &str, held: Held<'_>) {
-        self.add(variant);
-        match held {
-            Held::Nothing => {}
-            Held::Bytes(bytes) => {
-                let bytes = Digits(bytes);
-                self.add(format_args!("({bytes})"));
-            }
-            Held::Number(number) => self.add(format_args!("({number})")),
-            Held::Operand(opcode, number) => self.add(format_args!("({opcode}, {number})")),
-            Held::Operands(opcode, bytes) => {
-                let bytes = Digits(bytes);
-                self.add(format_args!("({opcode}, {bytes})"));
-            }
-        }
-    }
-
-    /// Prints the line of a refusal: its variant, with what it holds where that is a version, a
-    /// size or a form.
+    /// Prints the line of a refusal of reading: its variant, with what it holds where that is a
+    /// version, a size or a form.
     pub fn put_refusal(&mut self, word: &str, error: Error) {
-        self.add(word);
         match error {
-            Error::UnexpectedEof(_) => self.put("UnexpectedEof"),
+            Error::UnexpectedEof(_) => self.put(&[Piece::Word(word), Piece::Word("UnexpectedEof")]),
             Error::UnknownForm(form) => {
-                let form = form.0;
-                self.put(format_args!("UnknownForm({form})"));
+                let form = Piece::Number(u64::from(form.0));
+                self.put(&[
+                    Piece::Word(word),
+                    Piece::Word("UnknownForm("),
+                    form,
+                    Piece::Word(")"),
+                ]);
             }
-            error => self.put(format_args!("{error:?}")),
+            error => self.put_value(word, format_args!("{error:?}")),
         }
     }
 
     /// Prints bytes, sixteen a line.
     pub fn put_bytes(&mut self, bytes: &[u8]) {
         if !self.is_refused {
-            self.is_refused = print_bytes(bytes, self.out).is_err();
+            self.is_refused = print_bytes(bytes, &mut self.bytes).is_err();
+        }
+    }
+
+    /// Prints the lines of a text, each after a word.
+    pub fn put_each(&mut self, word: &str, text: &[u8]) {
+        for line in text.split_inclusive(|byte| *byte == b'\n') {
+            self.add(&[Piece::Word(word)]);
+            self.write(line);
+        }
+    }
+
+    /// Prints bytes as they are.
+    pub fn write(&mut self, bytes: &[u8]) {
+        if !self.is_refused {
+            self.is_refused = self.bytes.extend_from_slice(bytes).is_err();
         }
     }
 
@@ -100,22 +141,20 @@ impl<'o> Lines<'o> {
 
     /// How many bytes stand there.
     pub fn len(&self) -> usize {
-        self.out.len()
+        self.bytes.len()
     }
 
     /// Takes back what was printed after so many bytes.
     pub fn truncate(&mut self, len: usize) {
-        self.out.truncate(len);
+        self.bytes.truncate(len);
     }
 
-    /// Whether memory was refused to a line.
-    pub fn finish(self) -> Result<(), Stop>
-        ensures { IfErr result (λ stop. stop ≡ Memory) }
-    {
+    /// The bytes. Refused where memory was to a line.
+    pub fn finish(self) -> Result<Vec<u8>, AllocError> {
         if self.is_refused {
-            Err(Stop::Memory)
+            Err(AllocError)
         } else {
-            Ok(())
+            Ok(self.bytes)
         }
     }
 }

@@ -27,7 +27,7 @@ pub fn repeat_lines(alloc: Global, text: &str) -> Result<String, AllocError> {
 fn push_lines(all: &mut String, line: &str) -> Result<(), Stop> {
     let line = line.strip_prefix(":* ").ok_or(Stop::Bad)?;
     let (count, line) = line.split_once(' ').ok_or(Stop::Bad)?;
-    for turn in 0..parse_number(count)? {
+    for turn in 0..parse_number(count).ok_or(Stop::Bad)? {
         if turn != 0 {
             all.push('\n')?;
         }

@@ -214,11 +214,7 @@ fn input_of(alloc: Global, parts: &Parts<'_>, words: &str, text: &str) -> Result
         return Ok(Input::Script(String::from_str(alloc, text)?));
     }
     let order = order_of(words);
-    let section = if reads_lines(words) {
-        Vec::from_slice(alloc, text.as_bytes())?
-    } else {
-        parts.expand(alloc, text, order)?
-    };
+    let section = parts.expand(alloc, text, order)?;
     Ok(Input::Section(section, named_parts(alloc, parts, words, order)?))
 }
 
@@ -256,7 +252,6 @@ pub fn words_before_parts(name: &str) -> Option<usize> {
     match name {
         "convert" | "convert_sequences" => Some(CONVERSION_WORDS + 1),
         "paths" | "addresses" => Some(6),
-        "lines" => Some(1),
         _ => None,
     }
 }
@@ -266,22 +261,10 @@ fn takes_script(words: &str) -> bool {
     words.split_whitespace().next() == Some("write")
 }
 
-/// Whether the input of the command with these words is the text of standard input.
-fn reads_lines(words: &str) -> bool {
-    let mut words = words.split_whitespace();
-    words.next() == Some("lines") && words.any(|word| word == "--maps" || word == "--files")
-}
-
-/// The order of bytes that the word after a command names, or any word of `lines`; little if none.
+/// The order of bytes that the word after a command names; little if none.
 fn order_of(words: &str) -> RunTimeEndian {
-    let mut words = words.split_whitespace();
-    let is_big = match words.next() {
-        Some("lines") => words.any(|word| word == "big"),
-        _ => words.next() == Some("big"),
-    };
-    if is_big {
-        RunTimeEndian::Big
-    } else {
-        RunTimeEndian::Little
+    match words.split_whitespace().nth(1) {
+        Some("big") => RunTimeEndian::Big,
+        _ => RunTimeEndian::Little,
     }
 }

@@ -13,7 +13,7 @@ pub enum Attempts {
 }
 
 /// Why a command, or a call of a script, isn't done.
-#[derive(Clone, Copy, PartialEq, Eq)]
+#[derive(Clone, Copy)]
 pub enum Stop {
     /// Its words are no such command or call.
     Bad,
@@ -34,11 +34,5 @@ impl From<AllocError> for Stop {
 impl<T: Drop> From<AllocFailed<T>> for Stop {
     fn from(_error: AllocFailed<T>) -> Stop {
         Stop::Memory
-    }
-}
-
-impl From<Error> for Stop {
-    fn from(error: Error) -> Stop {
-        Stop::Refused(error)
     }
 }

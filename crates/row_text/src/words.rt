@@ -6,12 +6,11 @@ use std::alloc::Global;
 use std::str;
 
 /// A number in decimal digits, or in hexadecimal ones after `0x`, where it fits.
-pub fn parse_number(word: &str) -> Result<u64, Stop> {
-    let number = match word.strip_prefix("0x") {
+pub fn parse_number(word: &str) -> Option<u64> {
+    match word.strip_prefix("0x") {
         Some(digits) => parse_digits(digits, 16),
         None => parse_digits(word, 10),
-    };
-    number.ok_or(Stop::Bad)
+    }
 }
 
 /// A text: `%` and two hexadecimal digits are a byte, and `%` alone is the empty text. No word that
@@ -35,7 +34,7 @@ fn push_text(text: &mut Vec<u8>, word: &str) -> Result<(), Stop> {
         let [high, low, plain @ ..] = part.as_bytes() else {
             return Err(Stop::Bad);
         };
-        text.push(parse_byte(&[*high, *low])?)?;
+        text.push(parse_byte(&[*high, *low]).ok_or(Stop::Bad)?)?;
         text.extend_from_slice(plain)?;
     }
     Ok(())
@@ -45,34 +44,46 @@ fn push_text(text: &mut Vec<u8>, word: &str) -> Result<(), Stop> {
 /// is N times a byte.
 pub fn push_bytes(bytes: &mut Vec<u8>, text: &str) -> Result<(), Stop> {
     for word in text.split_whitespace() {
-        match word.split_once('*') {
-            Some((count, byte)) => {
-                let byte = parse_byte(byte.as_bytes())?;
-                let count = parse_number(count)? as usize;
-                let length = bytes.len().checked_add(count).ok_or(Stop::Bad)?;
-                bytes.resize(length, byte)?;
-            }
-            None => push_digits(bytes, word.as_bytes())?,
+        let done = match word.split_once('*') {
+            Some((count, byte)) => push_times(bytes, count, byte.as_bytes()),
+            None => push_digits(bytes, word.as_bytes()),
+        };
+        if done.is_err() {
+            return done;
         }
     }
     Ok(())
 }
 
+/// Appends a byte so many times.
+fn push_times(bytes: &mut Vec<u8>, count: &str, byte: &[u8]) -> Result<(), Stop> {
+    let (Some(count), Some(byte)) = (parse_number(count), parse_byte(byte)) else {
+        return Err(Stop::Bad);
+    };
+    match bytes.len().checked_add(count as usize) {
+        Some(length) => Ok(bytes.resize(length, byte)?),
+        None => Err(Stop::Bad),
+    }
+}
+
 /// Appends the bytes of a word of digits.
 fn push_digits(bytes: &mut Vec<u8>, word: &[u8]) -> Result<(), Stop> {
     for pair in word.chunks(2) {
-        bytes.push(parse_byte(pair)?)?;
+        match parse_byte(pair) {
+            Some(byte) => bytes.push(byte)?,
+            None => return Err(Stop::Bad),
+        }
     }
     Ok(())
 }
 
 /// The byte of two hexadecimal digits.
-fn parse_byte(digits: &[u8]) -> Result<u8, Stop> {
+fn parse_byte(digits: &[u8]) -> Option<u8> {
     match (digits, str::from_utf8(digits)) {
         ([_, _], Ok(digits)) => match parse_digits(digits, 16) {
-            Some(byte) => u8::try_from(byte).ok().ok_or(Stop::Bad),
-            None => Err(Stop::Bad),
+            Some(byte) => u8::try_from(byte).ok(),
+            None => None,
         },
-        _ => Err(Stop::Bad),
+        _ => None,
     }
 }

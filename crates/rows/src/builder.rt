@@ -1,33 +1,36 @@
-//! A builder: a program, its tables, and the calls of a script.
+//! A builder: a program, its tables, and the calls of a script. Conditions are tested before each
+//! call of the library.
 
-ghost use Rattle.rows.specs.Within.{AreWithin, texts_of};
+ghost use Rattle.std.specs.Prelude.{◌≡◌, ◌<◌, ◌≤◌, length, false, IsTrue, IfOk, IfSome};
+ghost use Rattle.gimli_write.specs.LineText.{line_text, HasNoZero, IsNotEmpty};
+ghost use Rattle.rows.specs.Within.{AreWithin, AreIds, texts_of};
 
-use crate::programs;
-use crate::programs::Names;
 use crate::tables::{TableBytes, Tables};
-use crate::unit::{read_program, write_program};
+use crate::texts::{are_no_zeros, has_no_zero, is_name, is_not_empty, is_optional_name};
+use crate::unit::can_be_written;
 use gimli_core::{Encoding, RunTimeEndian};
 use gimli_write::{
-    ConvertResult, DebugLine, DirectoryId, Error, FileId, FileInfo, LineProgram, LineString,
-    RoundTrip, Writer,
+    Address, ConvertResult, DebugLine, DirectoryId, EndianVec, Error, FileId, FileInfo,
+    LineProgram, LineString, RoundTrip, Writer, round_trip,
 };
-use row_text::{Arguments, Attempts, Details, Form, Item, Stop, Text, digest_of};
+use row_text::{Arguments, Attempts, Form, Stop, digest_of};
 use std::alloc::Global;
 use std::marker::Model;
+
+/// The greatest number of a file.
+const LAST_FILE: u64 = 999;
 
 /// A program that is built, and the tables that it is built with.
 #[derive(Drop)]
 pub(crate) struct Builder {
-    alloc: Global,
-    attempts: Attempts,
+    pub alloc: Global,
+    pub attempts: Attempts,
     program: LineProgram,
     tables: Tables,
     /// The directory that each call added, after the working directory.
     directories: Vec<DirectoryId>,
     /// The digest of all before the last call of the library.
     before: u64,
-    /// Why a text of this call isn't made.
-    stop: Option<Stop>,
 }
 
 impl Model for Builder {
@@ -39,6 +42,21 @@ impl Model for Builder {
     ghost view = { λ b. b.before };
 
     ghost invariant = { λ b. Stands b.program.directories b.directories.items (texts_of b.tables) };
+}
+
+/// A call that builds an item.
+#[derive(Clone, Copy)]
+enum Item {
+    /// None: what is written of files is set.
+    Flags,
+    /// Begins a sequence.
+    Begin(Option<Address>),
+    /// Sets an address.
+    Set(Address),
+    /// Generates the current row.
+    Row,
+    /// Ends a sequence.
+    End(u64),
 }
 
 impl Builder {
@@ -53,18 +71,13 @@ impl Builder {
             tables,
             directories: Vec::new(alloc),
             before: 0,
-            stop: None,
         }
     }
 
     /// A builder without a program.
     pub fn empty(alloc: Global, attempts: Attempts) -> Builder {
-        Builder::new(
-            alloc,
-            attempts,
-            LineProgram::none(alloc),
-            Tables::new(alloc),
-        )
+        let program = LineProgram::none(alloc);
+        Builder::new(alloc, attempts, program, Tables::new(alloc))
     }
 
     /// The encoding of the program.
@@ -91,175 +104,191 @@ impl Builder {
         self.digest() == self.before
     }
 
-    /// Makes a call of a script.
-    pub fn perform(&mut self, name: &str, words: Arguments<'_>) -> Result<(), Stop> {
-        self.keep();
-        self.stop = None;
-        match name {
-            "line_str" => self.add_text(Form::LineStrings, words),
-            "str" => self.add_text(Form::Strings, words),
-            "program" => self.begin_program(words),
-            "dir" => self.add_directory(words),
-            "file" => self.add_file(words),
-            name => self.build_item(name, words),
-        }
-    }
-
-    /// Adds a text to a table.
-    fn add_text(&mut self, form: Form, words: Arguments<'_>) -> Result<(), Stop> {
+    /// Makes a call of a script. Returns why it isn't made.
+    pub fn perform(&mut self, name: &str, words: Arguments<'_>) -> Option<Stop> {
         let mut words = words;
-        let text = words.text(form);
-        words.finish()?;
-        let _text = self.text(text, self.encoding());
-        self.made()
+        self.keep();
+        match name {
+            "line_str" => {
+                let _text = self.text(Form::LineStrings, self.encoding(), &mut words);
+            }
+            "str" => {
+                let _text = self.text(Form::Strings, self.encoding(), &mut words);
+            }
+            "program" => self.begin_program(&mut words),
+            "dir" => self.add_directory(&mut words),
+            "file" => return self.add_file(words),
+            name => self.build_item(name, &mut words),
+        }
+        words.end()
     }
 
-    /// Makes a text. Why it isn't made is kept; then no later one of the call is, and an empty one
-    /// stands in the place of each.
-    fn text(&mut self, text: Text<'_>, encoding: Encoding) -> LineString {
-        if self.stop.is_none() {
-            match programs::make_text(self.alloc, &mut self.tables, encoding, text) {
-                Ok(made) => {
-                    self.keep();
-                    return made;
-                }
-                Err(stop) => self.stop = Some(stop),
+    /// Makes a text, and adds it to its table. Where it isn't made, or one before wasn't, an empty
+    /// one stands in its place.
+    fn text(&mut self, form: Form, encoding: Encoding, words: &mut Arguments<'_>) -> LineString {
+        let (form, bytes) = words.text_in(form);
+        if matches!(form, Form::Inside) || !words.is_fine() {
+            return LineString::String(bytes);
+        }
+        if !are_no_zeros(&bytes) {
+            words.refuse(Stop::Condition);
+            return LineString::String(bytes);
+        }
+        let tables = &mut self.tables;
+        let made = match form {
+            Form::Strings => match tables.strings.add(&bytes) {
+                Ok(id) => Ok(LineString::StringRef(id)),
+                Err(error) => Err(error),
+            },
+            Form::LineStrings => match tables.line_strings.add(&bytes) {
+                Ok(id) => Ok(LineString::LineStringRef(id)),
+                Err(error) => Err(error),
+            },
+            _ => LineString::new(&bytes, encoding, &mut tables.line_strings),
+        };
+        match made {
+            Ok(text) => {
+                self.keep();
+                text
+            }
+            Err(error) => {
+                words.refuse(Stop::Refused(error));
+                LineString::String(bytes)
             }
         }
-        LineString::String(Vec::new(self.alloc))
     }
 
-    /// Whether each text of the call is made.
-    fn made(&self) -> Result<(), Stop> {
-        match self.stop {
-            Some(stop) => Err(stop),
-            None => Ok(()),
+    /// What is known of a file: its time, and if they are there its size, digest and source.
+    fn info(&mut self, encoding: Encoding, words: &mut Arguments<'_>) -> Option<FileInfo> {
+        if words.is_empty() {
+            return None;
         }
-    }
-
-    /// Makes a text, where there is one.
-    fn optional_text(&mut self, text: Option<Text<'_>>, encoding: Encoding) -> Option<LineString> {
-        match text {
-            Some(text) => Some(self.text(text, encoding)),
-            None => None,
+        let mut info = FileInfo {
+            timestamp: words.number(u64::MAX),
+            size: words.optional_number(),
+            md5: words.md5(),
+            source: None,
+        };
+        if !words.is_empty() {
+            info.source = Some(self.text(Form::Usual, encoding, words));
         }
-    }
-
-    /// What is known of a file.
-    fn info(&mut self, details: Option<Details<'_>>, encoding: Encoding) -> Option<FileInfo> {
-        match details {
-            Some(details) => Some(FileInfo {
-                timestamp: details.timestamp,
-                size: details.size,
-                md5: details.md5,
-                source: self.optional_text(details.source, encoding),
-            }),
-            None => None,
-        }
+        Some(info)
     }
 
     /// Begins the program.
-    fn begin_program(&mut self, words: Arguments<'_>) -> Result<(), Stop> {
-        let mut words = words;
+    fn begin_program(&mut self, words: &mut Arguments<'_>) {
         let encoding = words.encoding();
         let line_encoding = words.line_encoding();
-        let texts = [words.text(Form::Usual), words.text(Form::Usual)];
-        let source_dir = words.source_dir();
-        let details = words.details();
-        words.finish()?;
-        let names = Names {
-            working_dir: self.text(texts[0], encoding),
-            source_file: self.text(texts[1], encoding),
-            source_dir: self.optional_text(source_dir, encoding),
-            info: self.info(details, encoding),
+        let working_dir = self.text(Form::Usual, encoding, words);
+        let source_file = self.text(Form::Usual, encoding, words);
+        let source_dir = if words.takes("in") {
+            Some(self.text(Form::Usual, encoding, words))
+        } else {
+            None
         };
-        self.made()?;
-        let program = programs::begin_program(
+        let info = self.info(encoding, words);
+        let tables = &self.tables;
+        let can = LineProgram::accepts(encoding, line_encoding)
+            && is_name(&working_dir, tables)
+            && is_optional_name(&source_dir, tables)
+            && is_name(&source_file, tables);
+        if !words.may_call(can) {
+            return;
+        }
+        match LineProgram::new(
             self.alloc,
-            &self.tables,
             encoding,
             line_encoding,
-            names,
-        )?;
-        self.directories.clear();
-        self.program = program;
-        Ok(())
-    }
-
-    /// Adds a directory.
-    fn add_directory(&mut self, words: Arguments<'_>) -> Result<(), Stop> {
-        let mut words = words;
-        let text = words.text(Form::Usual);
-        words.finish()?;
-        let text = self.text(text, self.encoding());
-        self.made()?;
-        self.push_directory(text)
-    }
-
-    /// Adds a directory of this text, and keeps its id.
-    fn push_directory(&mut self, text: LineString) -> Result<(), Stop> {
-        self.directories.reserve(1)?;
-        let id = programs::add_directory(&mut self.program, &self.tables, text)?;
-        self.directories.push_reserved(id);
-        Ok(())
-    }
-
-    /// Adds a file to the directory of a number.
-    fn add_file(&mut self, words: Arguments<'_>) -> Result<(), Stop> {
-        let mut words = words;
-        let text = words.text(Form::Usual);
-        let directory = words.number(u64::MAX);
-        let details = words.details();
-        words.finish()?;
-        let encoding = self.encoding();
-        let text = self.text(text, encoding);
-        let info = self.info(details, encoding);
-        self.made()?;
-        let ids = self.directories.as_slice();
-        let directory = programs::directory_id(&self.program, ids, directory)?;
-        programs::add_file(&mut self.program, text, directory, info)?;
-        Ok(())
-    }
-
-    /// Builds the item of a call, or sets what is written of files.
-    fn build_item(&mut self, name: &str, words: Arguments<'_>) -> Result<(), Stop> {
-        let mut words = words;
-        let item = words.item(name);
-        words.finish()?;
-        let file = match item {
-            Item::Row(row) => Some(self.file(row.file)?),
-            _ => None,
-        };
-        programs::set_parts(&mut self.program, item, file);
-        self.keep();
-        programs::build_item(&mut self.program, item)
-    }
-
-    /// The id of the file of this number, if need be of a program that has so many and is thrown
-    /// away.
-    fn file(&self, number: u64) -> Result<FileId, Stop> {
-        match self.program.files().nth(number as usize) {
-            Some((id, _, _)) => Ok(id),
-            None => scratch_file(self.alloc, number),
+            working_dir,
+            source_dir,
+            source_file,
+            info,
+        ) {
+            Ok(program) => {
+                self.directories.clear();
+                self.program = program;
+            }
+            Err(error) => words.refuse(Stop::Refused(error)),
         }
     }
 
-    /// Writes the program.
+    /// Adds a directory, and keeps its id.
+    fn add_directory(&mut self, words: &mut Arguments<'_>) {
+        let text = self.text(Form::Usual, self.encoding(), words);
+        let can = can_be_added(&self.program, &text) && is_name(&text, &self.tables);
+        if !words.may_call(can) {
+            return;
+        }
+        match self.program.add_directory(text) {
+            Ok(id) => {
+                self.keep();
+                if self.directories.push(id).is_err() {
+                    words.refuse(Stop::Memory);
+                }
+            }
+            Err(error) => words.refuse(Stop::Refused(error)),
+        }
+    }
+
+    /// Adds a file to the directory of a number.
+    fn add_file(&mut self, words: Arguments<'_>) -> Option<Stop> {
+        let mut words = words;
+        let encoding = self.encoding();
+        let text = self.text(Form::Usual, encoding, &mut words);
+        let number = words.number(u64::MAX);
+        let info = self.info(encoding, &mut words);
+        let can = can_be_added(&self.program, &text);
+        match directory_id(&self.program, &self.directories, number) {
+            Some(directory) if words.may_call(can) => {
+                if let Err(error) = self.program.add_file(text, directory, info) {
+                    words.refuse(Stop::Refused(error));
+                }
+            }
+            Some(_) => {}
+            None => words.refuse(Stop::Condition),
+        }
+        words.end()
+    }
+
+    /// Builds the item of a call, or sets what is written of files.
+    fn build_item(&mut self, name: &str, words: &mut Arguments<'_>) {
+        let item = take_item(self.alloc, &mut self.program, name, words);
+        self.keep();
+        if words.may_call(!self.program.is_none()) {
+            build(&mut self.program, item, words);
+        }
+    }
+
+    /// Writes the program. Returns why it isn't written.
     pub fn write<W: Writer>(
         &mut self,
         section: &mut DebugLine<W>,
         encoding: Encoding,
-    ) -> Result<(), Stop> {
-        write_program(&self.program, &mut self.tables, section, encoding)
+    ) -> Option<Stop> {
+        if !can_be_written(&self.program, &self.tables) {
+            return Some(Stop::Condition);
+        }
+        let line_strings = &mut self.tables.line_strings;
+        let strings = &mut self.tables.strings;
+        match self.program.write(section, encoding, line_strings, strings) {
+            Ok(_) => None,
+            Err(error) => Some(Stop::Refused(error)),
+        }
     }
 
-    /// What is read back; None where the program can't be written.
+    /// What is read of the program's unit, in an empty section; None where it can't be written.
     pub fn read_back(
         &mut self,
         order: RunTimeEndian,
         encoding: Encoding,
     ) -> Option<ConvertResult<RoundTrip>> {
-        read_program(self.alloc, &self.program, &mut self.tables, order, encoding)
+        if !can_be_written(&self.program, &self.tables) {
+            return None;
+        }
+        let mut section = DebugLine::from(EndianVec::new(self.alloc, order));
+        let line_strings = &mut self.tables.line_strings;
+        let strings = &mut self.tables.strings;
+        Some(round_trip(&self.program, &mut section, encoding, line_strings, strings))
     }
 
     /// The bytes of the tables; by a second call, where memory is refused to the first and attempts
@@ -272,17 +301,138 @@ impl Builder {
     }
 }
 
+/// Whether a text may be the name of a directory or a file that is added.
+fn can_be_added(program: &LineProgram, text: &LineString) -> bool
+    ensures program { IsTrue result → program.now.is_none ≡ false }
+    ensures ends { IsTrue result → HasNoZero (line_text text.now) }
+    ensures not_empty { IsTrue result →
+        program.now.encoding.version ≤ 4 → IsNotEmpty (line_text text.now) }
+{
+    !program.is_none() && has_no_zero(text) && (program.version() > 4 || is_not_empty(text))
+}
+
+/// The id of the directory of a number: the working directory is 0, and the others are these.
+fn directory_id(program: &LineProgram, ids: &[DirectoryId], number: u64) -> Option<DirectoryId>
+    requires { AreIds ids.now program.now.directories }
+    ensures { IfSome result (λ id. id < length program.now.directories) }
+{
+    if program.is_none() {
+        return None;
+    }
+    if number == 0 {
+        return Some(program.default_directory());
+    }
+    ids.get((number - 1) as usize).copied()
+}
+
+/// Takes the words of a call, and sets what is set before it: the current row, its operation, or
+/// what is written of files.
+fn take_item(
+    alloc: Global,
+    program: &mut LineProgram,
+    name: &str,
+    words: &mut Arguments<'_>,
+) -> Item
+    ensures { program.new.directories ≡ program.old.directories }
+{
+    match name {
+        "flags" => {
+            let letters = words.letters("tsmS");
+            program.file_has_timestamp = letters.contains('t');
+            program.file_has_size = letters.contains('s');
+            program.file_has_md5 = letters.contains('m');
+            program.file_has_source = letters.contains('S');
+            Item::Flags
+        }
+        "begin" if words.is_empty() => Item::Begin(None),
+        "begin" => Item::Begin(Some(Address::Constant(words.number(u64::MAX)))),
+        "set" => Item::Set(words.address()),
+        "row" => {
+            set_row(alloc, program, words);
+            Item::Row
+        }
+        "end" => {
+            let offset = words.number(u64::MAX);
+            if !words.is_empty() {
+                program.row().op_index = words.number(u64::MAX);
+            }
+            Item::End(offset)
+        }
+        _ => {
+            words.refuse(Stop::Bad);
+            Item::Flags
+        }
+    }
+}
+
+/// Sets the current row.
+fn set_row(alloc: Global, program: &mut LineProgram, words: &mut Arguments<'_>)
+    ensures { program.new.directories ≡ program.old.directories }
+{
+    let offset = words.number(u64::MAX);
+    let op_index = words.number(u64::MAX);
+    let file = file_id(alloc, program, words);
+    let row = program.row();
+    row.address_offset = offset;
+    row.op_index = op_index;
+    if let Some(file) = file {
+        row.file = file;
+    }
+    row.line = words.number(u64::MAX);
+    row.column = words.number(u64::MAX);
+    row.discriminator = words.number(u64::MAX);
+    let flags = words.letters("sbpq");
+    row.is_statement = flags.contains('s');
+    row.basic_block = flags.contains('b');
+    row.prologue_end = flags.contains('p');
+    row.epilogue_begin = flags.contains('q');
+    row.isa = words.number(u64::MAX);
+}
+
+/// The id of the file of a number, if need be of a program that has so many and is thrown away.
+fn file_id(alloc: Global, program: &LineProgram, words: &mut Arguments<'_>) -> Option<FileId> {
+    let number = words.number(LAST_FILE);
+    if let Some((id, _, _)) = program.files().nth(number as usize) {
+        return Some(id);
+    }
+    let id = scratch_file(alloc, number);
+    if id.is_none() {
+        words.refuse(Stop::Memory);
+    }
+    id
+}
+
 /// The id of the file with this number, in a program that has so many and is thrown away.
-fn scratch_file(alloc: Global, number: u64) -> Result<FileId, Stop> {
+fn scratch_file(alloc: Global, number: u64) -> Option<FileId> {
     let words = ["4", "32", "4", "1", "1", "1", "-5", "14", "w", "s"];
     let mut scratch = Builder::empty(alloc, Attempts::One);
-    scratch.begin_program(Arguments::new(alloc, &words))?;
+    let mut words = Arguments::new(alloc, &words);
+    scratch.begin_program(&mut words);
     for index in 0..=number {
-        let name = format!(in alloc; "{index}")?;
-        scratch.add_file(Arguments::new(alloc, &[name.as_str(), "0"]))?;
+        let line = format!(in alloc; "{index} 0").ok()?;
+        let words: Vec<&str> = line.split(' ').collect(alloc).ok()?;
+        scratch.add_file(Arguments::new(alloc, &words));
     }
     match scratch.program.files().nth(number as usize) {
-        Some((id, _, _)) => Ok(id),
-        None => Err(Stop::Condition),
+        Some((id, _, _)) => Some(id),
+        None => None,
+    }
+}
+
+/// Builds an item, if that is one.
+fn build(program: &mut LineProgram, item: Item, words: &mut Arguments<'_>)
+    requires { program.old.is_none ≡ false }
+    ensures { program.new.directories ≡ program.old.directories }
+{
+    let done = match item {
+        Item::Flags => Ok(()),
+        Item::Begin(address) if !program.in_sequence() => program.begin_sequence(address),
+        Item::Set(address) => program.set_address(address),
+        Item::Row if program.can_generate_row() => program.generate_row(),
+        Item::End(offset) if program.can_end_sequence(offset) => program.end_sequence(offset),
+        _ => return words.refuse(Stop::Condition),
+    };
+    if let Err(error) = done {
+        words.refuse(Stop::Refused(error));
     }
 }

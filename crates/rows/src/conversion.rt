@@ -1,149 +1,120 @@
-//! A conversion, and what is printed of it.
+//! Conversions: what one reads, and what is built of it.
 
 ghost use Rattle.std.specs.Prelude.{IfOk};
 ghost use Rattle.rows.specs.Within.{AreWithin, texts_of};
 ghost use Rattle.rows.specs.Taken.{IsTaken};
 
-use crate::command::Unit;
-use crate::item_text::FileIndex;
-use crate::output::put_refused;
-use crate::reading::{Ending, Kind, print_after_header, print_not_begun};
-use crate::request::Request;
+use crate::asked::Asked;
+use crate::builder::Builder;
+use crate::built::{print_row, put_refused};
 use crate::script::print_program;
 use crate::tables::Tables;
-use crate::target::Target;
-use gimli_line::IncompleteLineProgram;
+use gimli_core::Reader;
 use gimli_write::conversion_laws::converted_programs_can_be_written;
 use gimli_write::{
-    Address, ConvertError, ConvertLineHeader, ConvertResult, FileId, LineProgram, LineStringId,
-    LineStringTable, StringId, StringTable, convert_program,
+    Address, ConvertError, ConvertLineHeader, ConvertLineRow, ConvertLineSequence,
+    ConvertLineSequenceEnd, ConvertResult, FileId, LineProgram, convert_program,
 };
-use line_text::Slice;
-use row_text::{Attempts, Lines};
-use std::fmt;
+use row_text::{Attempts, Lines, Piece};
 
-/// A unit that is converted, with all that is handed in.
+/// How reading a conversion ends.
 #[derive(Clone, Copy)]
-pub(crate) struct Conversion<'i> {
-    pub request: Request<'i>,
-    pub unit: Unit<'i>,
-    /// The texts of the section `.debug_str`.
-    pub strings: Slice<'i>,
-    /// The texts of the section `.debug_line_str`.
-    pub line_strings: Slice<'i>,
-    /// The name of the unit.
-    pub name: Option<Slice<'i>>,
-    pub target: Target,
+enum Ending {
+    /// It isn't begun.
+    NotBegun,
+    /// By its end, or a refusal.
+    Ended,
+    /// Memory is refused; and whether what must stand then does.
+    OutOfMemory(bool),
 }
 
-impl<'i> Conversion<'i> {
-    /// The program of the unit.
-    fn program(self) -> gimli_core::Result<IncompleteLineProgram<Slice<'i>>> {
-        self.unit.program(self.request.alloc, self.request.attempts)
-    }
-
-    /// Prints what is read, and after items and a line `==` what is built of them. Where the header
-    /// is refused or the target breaks a condition, no conversion can be asked for.
-    pub fn print(self, kind: Kind, lines: &mut Lines<'_>) {
-        match self.program() {
-            Err(error) => lines.put_refusal("error ", error),
-            Ok(_program) if self.target.is_taken() => self.print_taken(kind, lines),
-            Ok(_program) => lines.put("condition"),
+impl<R: Reader> Asked<'_, R> {
+    /// Prints what a conversion reads, item by item and after a line `==` what is built of them, or
+    /// sequence by sequence. Where the target breaks a condition, no conversion can be asked for.
+    pub fn print_conversion(&self, by_items: bool, lines: &mut Lines) {
+        if !self.target.is_taken() {
+            return lines.put(&[Piece::Word("condition")]);
         }
-    }
-
-    /// The same, where a conversion can be asked for: what is read of a second one, where memory is
-    /// refused to the first and attempts are two.
-    fn print_taken(self, kind: Kind, lines: &mut Lines<'_>)
-        requires { IsTaken self.target }
-    {
         let start = lines.len();
-        let mut ending = self.print_read(kind, lines);
-        if let (Attempts::Two, Ending::OutOfMemory(stands)) = (self.request.attempts, ending) {
+        let mut ending = self.print_read(by_items, lines);
+        if let (Attempts::Two, Ending::OutOfMemory(stands)) = (self.attempts, ending) {
             lines.truncate(start);
-            if !stands {
-                lines.put("state");
-            }
-            ending = self.print_read(kind, lines);
+            lines.add(&[Piece::If(!stands, "state\n")]);
+            ending = self.print_read(by_items, lines);
         }
-        if kind == Kind::Items && ending != Ending::NotBegun {
-            lines.put("==");
+        if by_items && !matches!(ending, Ending::NotBegun) {
+            lines.put(&[Piece::Word("==")]);
             self.print_built(lines);
         }
     }
 
     /// Prints what one conversion reads, in tables that hold texts before.
-    fn print_read(self, kind: Kind, lines: &mut Lines<'_>) -> Ending
-        requires { IsTaken self.target }
+    fn print_read(&self, by_items: bool, lines: &mut Lines) -> Ending
+        requires { IsTaken self.now.target }
     {
-        let mut tables = Tables::new(self.request.alloc);
+        let mut tables = Tables::new(self.alloc);
         if tables.strings.add(b"old").is_err() || tables.line_strings.add(b"old").is_err() {
             lines.refuse();
             return Ending::NotBegun;
         }
-        let ending = match self.program() {
-            Ok(program) => {
-                let strings = &mut tables.strings;
-                self.print_parts(kind, program, &mut tables.line_strings, strings, lines)
+        let begun = match self.program() {
+            Ok(program) => ConvertLineHeader::new(
+                self.strings,
+                self.line_strings,
+                program,
+                self.unit_name,
+                self.target.encoding,
+                self.target.line_encoding,
+                &mut tables.line_strings,
+            ),
+            Err(error) => Err(ConvertError::Read(error)),
+        };
+        let ending = match begun {
+            Ok(header) => print_after_header(by_items, header, &mut tables, lines),
+            Err(error) => {
+                put_refused(error, lines);
+                match error {
+                    ConvertError::OutOfMemory => Ending::OutOfMemory(true),
+                    _ => Ending::NotBegun,
+                }
             }
-            Err(error) => print_not_begun(ConvertError::Read(error), lines),
         };
         match ending {
-            Ending::OutOfMemory(stands) => Ending::OutOfMemory(stands && has_old_texts(&tables)),
+            Ending::OutOfMemory(stands) => {
+                Ending::OutOfMemory(stands && tables.begin_with(b"old"))
+            }
             ending => ending,
-        }
-    }
-
-    /// Prints what is read, up to its end or to the first refusal.
-    fn print_parts(
-        self,
-        kind: Kind,
-        program: IncompleteLineProgram<Slice<'_>>,
-        line_strings: &mut LineStringTable,
-        strings: &mut StringTable,
-        lines: &mut Lines<'_>,
-    ) -> Ending
-        requires { IsTaken self.target }
-    {
-        match ConvertLineHeader::new(
-            self.strings,
-            self.line_strings,
-            program,
-            self.name,
-            self.target.encoding,
-            self.target.line_encoding,
-            line_strings,
-        ) {
-            Ok(header) => print_after_header(kind, header, line_strings, strings, lines),
-            Err(error) => print_not_begun(error, lines),
         }
     }
 
     /// Prints what is built, in tables without a text, by a closure that keeps each address; of a
     /// second conversion, where memory is refused to the first and attempts are two.
-    fn print_built(self, lines: &mut Lines<'_>)
-        requires { IsTaken self.target }
+    fn print_built(&self, lines: &mut Lines)
+        requires { IsTaken self.now.target }
     {
-        let mut tables = Tables::new(self.request.alloc);
-        let mut built = self.built_once(&mut tables);
-        if self.request.attempts == Attempts::Two && is_out_of_memory(&built) {
-            tables = Tables::new(self.request.alloc);
-            built = self.built_once(&mut tables);
+        let mut tables = Tables::new(self.alloc);
+        let mut built = self.convert(&mut tables);
+        if let (Attempts::Two, Err(ConvertError::OutOfMemory)) = (self.attempts, &built) {
+            tables = Tables::new(self.alloc);
+            built = self.convert(&mut tables);
         }
         match built {
             Ok((program, files)) => {
-                let files = FileIndexes(&files);
-                lines.put(format_args!("files{files}"));
-                let order = self.unit.location.order;
-                print_program(self.request, program, tables, order, lines);
+                lines.add(&[Piece::Word("files")]);
+                for file in &files {
+                    lines.add(&[Piece::Word(" "), Piece::Number(file.raw(5))]);
+                }
+                lines.put(&[]);
+                let builder = Builder::new(self.alloc, self.attempts, program, tables);
+                print_program(builder, self.order, lines);
             }
             Err(error) => put_refused(error, lines),
         }
     }
 
     /// What one conversion builds.
-    fn built_once(self, tables: &mut Tables) -> ConvertResult<(LineProgram, Vec<FileId>)>
-        requires { IsTaken self.target }
+    fn convert(&self, tables: &mut Tables) -> ConvertResult<(LineProgram, Vec<FileId>)>
+        requires { IsTaken self.now.target }
         ensures { IfOk result (λ built. AreWithin built.0.directories (texts_of tables.new)) }
     {
         let program = match self.program() {
@@ -154,7 +125,7 @@ impl<'i> Conversion<'i> {
             self.strings,
             self.line_strings,
             program,
-            self.name,
+            self.unit_name,
             self.target.encoding,
             self.target.line_encoding,
             &mut tables.line_strings,
@@ -166,31 +137,70 @@ impl<'i> Conversion<'i> {
     }
 }
 
-/// Whether memory is refused.
-fn is_out_of_memory(built: &ConvertResult<(LineProgram, Vec<FileId>)>) -> bool {
-    matches!(built, Err(ConvertError::OutOfMemory))
-}
-
-/// The ids of the files, by their numbers in the source, each after a blank.
-#[derive(Clone, Copy)]
-struct FileIndexes<'a>(&'a [FileId]);
-
-impl fmt::Display for FileIndexes<'_> {
-    fn fmt<W: fmt::Write>(&self, f: &mut fmt::Formatter<W>) -> fmt::Result {
-        for file in self.0 {
-            let index = FileIndex(*file);
-            write!(f, " {index}")?;
+/// Prints what is read after a header, up to its end or to the first refusal. After a refusal for
+/// memory the next read must be refused for it too.
+fn print_after_header<R: Reader>(
+    by_items: bool,
+    header: ConvertLineHeader<R>,
+    tables: &mut Tables,
+    lines: &mut Lines,
+) -> Ending {
+    let mut converter = header.converter(&mut tables.line_strings, &mut tables.strings);
+    for _turn in 0..u64::MAX {
+        let end = if by_items {
+            match converter.read_row() {
+                Ok(Some(item)) => {
+                    print_item(item, lines);
+                    None
+                }
+                Ok(None) => return Ending::Ended,
+                Err(error) => Some(error),
+            }
+        } else {
+            match converter.read_sequence() {
+                Ok(Some(sequence)) => {
+                    print_sequence(&sequence, lines);
+                    None
+                }
+                Ok(None) => return Ending::Ended,
+                Err(error) => Some(error),
+            }
+        };
+        if let Some(error) = end {
+            put_refused(error, lines);
+            let stands = matches!(converter.read_row(), Err(ConvertError::OutOfMemory));
+            return match error {
+                ConvertError::OutOfMemory => Ending::OutOfMemory(stands),
+                _ => Ending::Ended,
+            };
         }
-        Ok(())
     }
+    Ending::Ended
 }
 
-/// Whether tables begin with the text that they held before.
-fn has_old_texts(tables: &Tables) -> bool {
-    let strings = &tables.strings;
-    let line_strings = &tables.line_strings;
-    strings.count() != 0
-        && line_strings.count() != 0
-        && strings.get(StringId(0)) == b"old".as_slice()
-        && line_strings.get(LineStringId(0)) == b"old".as_slice()
+/// Prints an item: an address, a row, or an end.
+fn print_item(item: ConvertLineRow, lines: &mut Lines) {
+    let (word, number) = match item {
+        ConvertLineRow::Row(row) => return print_row(row, lines),
+        ConvertLineRow::SetAddress(address) => ("set ", address),
+        ConvertLineRow::EndSequence(offset) => ("end ", offset),
+    };
+    lines.put(&[Piece::Word(word), Piece::Number(number)]);
+}
+
+/// Prints a sequence: its start, its rows and its end.
+fn print_sequence(sequence: &ConvertLineSequence, lines: &mut Lines) {
+    let start = match sequence.start {
+        Some(start) => Piece::Number(start),
+        None => Piece::Word("-"),
+    };
+    lines.put(&[Piece::Word("sequence "), start]);
+    for row in sequence.rows.as_slice() {
+        print_row(*row, lines);
+    }
+    let (word, number) = match sequence.end {
+        ConvertLineSequenceEnd::Length(length) => ("length ", length),
+        ConvertLineSequenceEnd::Address(address) => ("address ", address),
+    };
+    lines.put(&[Piece::Word(word), Piece::Number(number)]);
 }

@@ -1,46 +1,36 @@
 //! Builder scripts: the calls of programs, and how each is written.
 
-ghost use Rattle.rows.specs.Within.{AreWithin, texts_of};
-
 use crate::array_section::ArraySection;
 use crate::builder::Builder;
-use crate::output::{print_answer, put_refused};
-use crate::request::Request;
+use crate::built::{print_answer, put_refused};
+use crate::command::Request;
 use crate::section::Section;
-use crate::tables::Tables;
 use gimli_core::{Encoding, RunTimeEndian};
-use gimli_write::{ConvertError, DebugLine, EndianVec, Error, LineProgram, PieceVec};
-use line_text::BytesLine;
-use row_text::{Arguments, Attempts, Lines, Stop, Target};
-use std::alloc::Global;
+use gimli_write::{ConvertError, DebugLine, EndianVec, Error, PieceVec};
+use row_text::{Arguments, Attempts, Lines, Piece, Stop, Target};
 
-/// Builds the programs of a text's scripts and writes them; appends what is printed, and returns
-/// the status: 1 where a program is refused or a condition isn't met. Of a bad script nothing is
+/// Builds the programs of a text's scripts and writes them; prints what that gives, and returns the
+/// status: 1 where a program is refused or a condition isn't met. Of a bad script nothing is
 /// printed.
-pub fn write(request: Request<'_>, input: &str, out: &mut Vec<u8>) -> Result<u8, Stop> {
+pub fn write(request: Request<'_>, input: &str, lines: &mut Lines) -> Result<u8, Stop> {
     if !request.words.is_empty() {
         return Err(Stop::Bad);
     }
-    let mut lines = Lines::new(out);
     let start = lines.len();
-    let builder = Builder::empty(request.alloc, request.attempts);
-    let mut script = Script::new(request.alloc, request.attempts, builder);
-    script.run(input, &mut lines);
-    if script.stop.is_some() {
-        lines.truncate(start);
-    }
-    lines.finish()?;
+    let mut script = Script::new(Builder::empty(request.alloc, request.attempts));
+    script.run(input, lines);
     match script.stop {
-        Some(stop) => Err(stop),
+        Some(stop) => {
+            lines.truncate(start);
+            Err(stop)
+        }
         None => Ok(script.status),
     }
 }
 
 /// A program that is built, and how it is written.
 #[derive(Drop)]
-pub(crate) struct Script {
-    alloc: Global,
-    attempts: Attempts,
+struct Script {
     builder: Builder,
     /// The order of bytes.
     order: RunTimeEndian,
@@ -73,10 +63,9 @@ struct Written {
 
 impl Script {
     /// A script without a call.
-    fn new(alloc: Global, attempts: Attempts, builder: Builder) -> Script {
+    fn new(builder: Builder) -> Script {
+        let alloc = builder.alloc;
         Script {
-            alloc,
-            attempts,
             builder,
             order: RunTimeEndian::Little,
             target: Target::Vector,
@@ -92,12 +81,12 @@ impl Script {
     }
 
     /// Runs scripts one after the other, with a line between.
-    fn run(&mut self, input: &str, lines: &mut Lines<'_>) {
+    fn run(&mut self, input: &str, lines: &mut Lines) {
         for line in input.lines() {
             self.number = self.number.saturating_add(1);
             let words = line.split_whitespace();
             let words = words.take_while(|word| !word.starts_with('#'));
-            match words.collect::<Vec<&str>>(self.alloc) {
+            match words.collect::<Vec<&str>>(self.builder.alloc) {
                 Ok(words) => self.take(&words, lines),
                 Err(_) => self.stop = Some(Stop::Memory),
             }
@@ -107,14 +96,20 @@ impl Script {
     }
 
     /// Takes the words of a line.
-    fn take(&mut self, words: &[&str], lines: &mut Lines<'_>) {
-        let mut rest = Arguments::new(self.alloc, words.get(1..).unwrap_or(&[]));
+    fn take(&mut self, words: &[&str], lines: &mut Lines) {
+        let mut rest = Arguments::new(self.builder.alloc, words.get(1..).unwrap_or(&[]));
         match words {
             [] => {}
             ["next"] => {
                 self.finish(lines);
-                lines.put("--");
-                self.begin_anew();
+                lines.put(&[Piece::Word("--")]);
+                let builder = Builder::empty(self.builder.alloc, self.builder.attempts);
+                *self = Script {
+                    number: self.number,
+                    status: self.status,
+                    stop: self.stop,
+                    ..Script::new(builder)
+                };
             }
             ["order", ..] => self.order = rest.order(),
             ["writer", ..] => self.target = rest.target(),
@@ -123,54 +118,41 @@ impl Script {
             ["back"] => self.reads_back = true,
             [name, ..] => return self.take_call(name, rest, lines),
         }
-        self.keep(rest.finish());
+        self.keep(rest.end());
     }
 
     /// Keeps why a line is none of a script.
-    fn keep(&mut self, taken: Result<(), Stop>) {
-        if let (None, Err(stop)) = (self.stop, taken) {
-            self.stop = Some(stop);
+    fn keep(&mut self, stop: Option<Stop>) {
+        if self.stop.is_none() {
+            self.stop = stop;
         }
-    }
-
-    /// Goes on with a script without a call.
-    fn begin_anew(&mut self) {
-        self.builder = Builder::empty(self.alloc, self.attempts);
-        self.order = RunTimeEndian::Little;
-        self.target = Target::Vector;
-        self.prefix.clear();
-        self.unit = None;
-        self.reads_back = false;
-        self.has_program = false;
-        self.is_ended = false;
     }
 
     /// Makes a call, and tells how it ends the script, if it does. The program is begun once, and
     /// before each other call but those of the tables.
-    fn take_call(&mut self, name: &str, words: Arguments<'_>, lines: &mut Lines<'_>) {
+    fn take_call(&mut self, name: &str, words: Arguments<'_>, lines: &mut Lines) {
         let begins = name == "program";
         if begins == self.has_program && name != "str" && name != "line_str" {
-            return self.keep(Err(Stop::Bad));
+            return self.keep(Some(Stop::Bad));
         }
         self.has_program = self.has_program || begins;
-        let mut done = self.builder.perform(name, words);
-        if self.is_made_again(done.err()) {
+        let mut end = self.builder.perform(name, words);
+        if self.is_made_again(end) {
             if !self.builder.stands() {
                 self.print_state(lines);
             }
-            done = self.builder.perform(name, words);
+            end = self.builder.perform(name, words);
         }
-        match done {
-            Ok(()) => {}
-            Err(Stop::Bad) => self.keep(Err(Stop::Bad)),
-            Err(_) if self.is_ended => {}
-            Err(end) => {
+        match end {
+            Some(Stop::Bad) => self.keep(end),
+            Some(end) if !self.is_ended => {
                 self.is_ended = true;
                 self.print_end(end, lines);
-                if end != Stop::Condition {
+                if !matches!(end, Stop::Condition) {
                     self.print_tables(lines);
                 }
             }
+            _ => {}
         }
     }
 
@@ -178,31 +160,34 @@ impl Script {
     /// on its way to a call, that stands for the call's own `OutOfMemory`.
     fn is_made_again(&self, end: Option<Stop>) -> bool {
         let is_refused = matches!(end, Some(Stop::Memory | Stop::Refused(Error::OutOfMemory)));
-        is_refused && self.attempts == Attempts::Two
+        is_refused && self.builder.attempts == Attempts::Two
     }
 
     /// Says that something doesn't stand as it must.
-    fn print_state(&self, lines: &mut Lines<'_>) {
-        let number = self.number;
-        lines.put(format_args!("state {number}"));
+    fn print_state(&self, lines: &mut Lines) {
+        lines.put(&[Piece::Word("state "), Piece::Number(self.number)]);
     }
 
     /// Prints the line of an end that isn't as it should be.
-    fn print_end(&self, end: Stop, lines: &mut Lines<'_>) {
-        let number = self.number;
+    fn print_end(&self, end: Stop, lines: &mut Lines) {
         match end {
-            Stop::Condition => lines.put(format_args!("condition {number}")),
-            Stop::Refused(error) => lines.put(format_args!("error {error:?}")),
-            _ => lines.put("error OutOfMemory"),
+            Stop::Condition => lines.put(&[Piece::Word("condition "), Piece::Number(self.number)]),
+            Stop::Refused(error) => lines.put_value("error ", format_args!("{error:?}")),
+            _ => lines.put(&[Piece::Word("error OutOfMemory")]),
         }
     }
 
     /// Prints the tables that aren't empty.
-    fn print_tables(&self, lines: &mut Lines<'_>) {
+    fn print_tables(&self, lines: &mut Lines) {
         match self.builder.table_bytes() {
             Ok(tables) => {
-                print_table("line_str", &tables.line_strings, lines);
-                print_table("str", &tables.strings, lines);
+                let (line_strings, strings) = (&tables.line_strings, &tables.strings);
+                if !line_strings.is_empty() {
+                    lines.put(&[Piece::Word("line_str "), Piece::Bytes(line_strings)]);
+                }
+                if !strings.is_empty() {
+                    lines.put(&[Piece::Word("str "), Piece::Bytes(strings)]);
+                }
             }
             Err(_) => lines.refuse(),
         }
@@ -210,9 +195,9 @@ impl Script {
 
     /// Ends a script, and keeps its status: 1 where its program is refused or a condition isn't
     /// met.
-    fn finish(&mut self, lines: &mut Lines<'_>) {
+    fn finish(&mut self, lines: &mut Lines) {
         if !self.has_program {
-            return self.keep(Err(Stop::Bad));
+            return self.keep(Some(Stop::Bad));
         }
         if self.is_ended || !self.print_written(lines) {
             self.status = 1;
@@ -221,14 +206,14 @@ impl Script {
 
     /// Writes the program, and prints what that gives; false where it is refused or a condition
     /// isn't met.
-    fn print_written(&mut self, lines: &mut Lines<'_>) -> bool {
+    fn print_written(&mut self, lines: &mut Lines) -> bool {
         let encoding = self.unit.unwrap_or(self.builder.encoding());
         let written = self.written(encoding, lines);
         match written.end {
             None => lines.put_bytes(&written.bytes),
             Some(end) => self.print_end(end, lines),
         }
-        if written.end == Some(Stop::Condition) {
+        if matches!(written.end, Some(Stop::Condition)) {
             return false;
         }
         self.print_tables(lines);
@@ -238,7 +223,7 @@ impl Script {
 
     /// The section of the program, by a second call where memory is refused to the first and
     /// attempts are two.
-    fn written(&mut self, encoding: Encoding, lines: &mut Lines<'_>) -> Written {
+    fn written(&mut self, encoding: Encoding, lines: &mut Lines) -> Written {
         let before = self.builder.table_bytes();
         let written = self.written_once(encoding);
         if !self.is_made_again(written.end) {
@@ -253,7 +238,8 @@ impl Script {
             _ => true,
         };
         let takes_none = matches!(self.target, Target::Array(_));
-        if !begins || !stand || takes_none && written.end != Some(Stop::Memory) {
+        let is_own = matches!(written.end, Some(Stop::Memory));
+        if !begins || !stand || takes_none && !is_own {
             self.print_state(lines);
         }
         self.written_once(encoding)
@@ -261,7 +247,7 @@ impl Script {
 
     /// The section of the program.
     fn written_once(&mut self, encoding: Encoding) -> Written {
-        let alloc = self.alloc;
+        let alloc = self.builder.alloc;
         let order = self.order;
         match self.target {
             Target::Vector => self.written_into(encoding, EndianVec::new(alloc, order)),
@@ -281,27 +267,25 @@ impl Script {
     /// A section with the program after the bytes that it holds before.
     fn written_into<W: Section>(&mut self, encoding: Encoding, section: W) -> Written {
         let mut section = DebugLine::from(section);
-        let done = match section.0.write(self.prefix.as_slice()) {
+        let end = match section.0.write(self.prefix.as_slice()) {
             Ok(()) => self.builder.write(&mut section, encoding),
-            Err(error) => Err(Stop::Refused(error)),
+            Err(error) => Some(Stop::Refused(error)),
         };
-        match section.0.to_bytes(self.alloc) {
-            Ok(bytes) => Written {
-                bytes,
-                end: done.err(),
-            },
+        match section.0.to_bytes(self.builder.alloc) {
+            Ok(bytes) => Written { bytes, end },
             Err(_) => Written {
-                bytes: Vec::new(self.alloc),
+                bytes: Vec::new(self.builder.alloc),
                 end: Some(Stop::Memory),
             },
         }
     }
 
     /// Prints what is read back; false where that is refused, or where a condition isn't met.
-    fn print_read(&mut self, encoding: Encoding, lines: &mut Lines<'_>) -> bool {
+    fn print_read(&mut self, encoding: Encoding, lines: &mut Lines) -> bool {
+        let attempts = self.builder.attempts;
         let mut answer = self.builder.read_back(self.order, encoding);
         let is_refused = matches!(answer, Some(Err(ConvertError::OutOfMemory)));
-        if is_refused && self.attempts == Attempts::Two {
+        if is_refused && attempts == Attempts::Two {
             answer = self.builder.read_back(self.order, encoding);
         }
         match &answer {
@@ -313,27 +297,10 @@ impl Script {
     }
 }
 
-/// Prints the bytes of a table after a word, if there are any.
-fn print_table(word: &str, bytes: &[u8], lines: &mut Lines<'_>) {
-    if !bytes.is_empty() {
-        let bytes = BytesLine(bytes);
-        lines.put(format_args!("{word} {bytes}"));
-    }
-}
-
 /// Prints what is written of a program in an order of bytes, the tables that aren't empty, and what
-/// is read back, as a script does. Requires directories that are in these tables.
-pub(crate) fn print_program(
-    request: Request<'_>,
-    program: LineProgram,
-    tables: Tables,
-    order: RunTimeEndian,
-    lines: &mut Lines<'_>,
-)
-    requires { AreWithin program.directories (texts_of tables) }
-{
-    let builder = Builder::new(request.alloc, request.attempts, program, tables);
-    let mut script = Script::new(request.alloc, request.attempts, builder);
+/// is read back, as a script does.
+pub(crate) fn print_program(builder: Builder, order: RunTimeEndian, lines: &mut Lines) {
+    let mut script = Script::new(builder);
     script.order = order;
     script.reads_back = true;
     let _is_written = script.print_written(lines);

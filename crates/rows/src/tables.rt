@@ -3,7 +3,9 @@
 ghost use Rattle.std.specs.Prelude.{◌≡◌, []};
 
 use gimli_core::LittleEndian;
-use gimli_write::{DebugLineStr, DebugStr, EndianVec, LineStringTable, Result, StringTable};
+use gimli_write::{
+    DebugLineStr, DebugStr, EndianVec, LineStringId, LineStringTable, Result, StringId, StringTable,
+};
 use std::alloc::Global;
 
 /// The tables of texts.
@@ -32,6 +34,16 @@ impl Tables {
             strings: StringTable::default(alloc),
             line_strings: LineStringTable::default(alloc),
         }
+    }
+
+    /// Whether the first text of both is this one.
+    pub fn begin_with(&self, text: &[u8]) -> bool {
+        let strings = &self.strings;
+        let line_strings = &self.line_strings;
+        strings.count() != 0
+            && line_strings.count() != 0
+            && strings.get(StringId(0)) == text
+            && line_strings.get(LineStringId(0)) == text
     }
 
     /// The bytes of both.

@@ -16,25 +16,31 @@ impl Target {
     ghost use Rattle.std.specs.Prelude.{IsTrue};
     ghost use Rattle.rows.specs.Taken.{IsTaken};
 
-    /// The target that a word names: `-` for the source's own, or the version, the format and the
-    /// size of an address, and after them what lines are encoded by, if it isn't as in the source.
-    /// All are numbers with commas between.
-    pub fn parse(alloc: Global, word: &str) -> Result<Target, Stop> {
+    /// The target that the next word names, where one is asked for: `-` for the source's own, or the version, the format
+    /// and the size of an address, and after them what lines are encoded by, if it isn't as in the
+    /// source. All are numbers with commas between.
+    pub fn parse(alloc: Global, is_asked: bool, words: &mut Arguments<'_>) -> Target {
         let mut target = Target {
             encoding: None,
             line_encoding: None,
         };
-        if word == "-" {
-            return Ok(target);
+        if !is_asked || words.takes("-") {
+            return target;
         }
-        let numbers: Vec<&str> = word.split(',').collect(alloc)?;
-        let mut words = Arguments::new(alloc, numbers.as_slice());
-        target.encoding = Some(words.encoding());
-        if numbers.len() > 3 {
-            target.line_encoding = Some(words.line_encoding());
+        match words.word().split(',').collect::<Vec<&str>>(alloc) {
+            Ok(numbers) => {
+                let mut rest = Arguments::new(alloc, &numbers);
+                target.encoding = Some(rest.encoding());
+                if !rest.is_empty() {
+                    target.line_encoding = Some(rest.line_encoding());
+                }
+                if let Some(stop) = rest.end() {
+                    words.refuse(stop);
+                }
+            }
+            Err(_) => words.refuse(Stop::Memory),
         }
-        words.finish()?;
-        Ok(target)
+        target
     }
 
     /// Whether a conversion takes it. Without numbers of lines it is judged with those that are

@@ -1,9 +1,7 @@
 //! The program `linetool`, as a command of a row.
 
-use crate::run::print_errors;
-use linetool_commands::Command;
 use row_text::{Attempts, Lines, Stop, parse_number};
-use rows::{Request, watch_rows};
+use rows::{Command, Request, Sections, print};
 use std::io;
 use std::io::{ErrorKind, Read, Write};
 
@@ -54,31 +52,26 @@ impl Write for Room {
 pub fn run_linetool(
     request: Request<'_>,
     words: &[&str],
-    section: &[u8],
-    out: &mut Vec<u8>,
+    sections: Sections<'_>,
+    lines: &mut Lines,
 ) -> Result<u8, Stop> {
-    let mut file = Some(RowFile {
-        bytes: section,
-        breaks: false,
-    });
+    let section = sections.lines;
     let mut left = usize::MAX;
-    let words = match words {
+    let (words, file) = match words {
         ["room", room, words @ ..] => {
-            left = parse_number(room)? as usize;
-            words
+            left = parse_number(room).ok_or(Stop::Bad)? as usize;
+            (words, Some(false))
         }
-        ["missing", words @ ..] => {
-            file = None;
-            words
-        }
-        ["broken", words @ ..] => {
-            file = Some(RowFile {
-                bytes: section,
-                breaks: true,
-            });
-            words
-        }
-        words => words,
+        ["missing", words @ ..] => (words, None),
+        ["broken", words @ ..] => (words, Some(true)),
+        words => (words, Some(false)),
+    };
+    let file = match file {
+        Some(breaks) => Some(RowFile {
+            bytes: section,
+            breaks,
+        }),
+        None => None,
     };
     let mut own = Vec::new(request.alloc);
     for word in words {
@@ -88,9 +81,14 @@ pub fn run_linetool(
             own.push("FILE")?;
         }
     }
-    let status = run_words(request, &own, file, left, out)?;
-    if request.attempts == Attempts::Two {
-        watch_command(request, &own, section, out)?;
+    let status = run_words(request, &own, file, left, lines)?;
+    if request.attempts == Attempts::Two && words.first() == Some(&"rows") {
+        let request = Request {
+            words: words.get(1..).unwrap_or(&[]),
+            ..request
+        };
+        // Words that are no location have no rows.
+        let _ = print(Command::Watch, request, sections, lines);
     }
     Ok(status)
 }
@@ -101,7 +99,7 @@ fn run_words(
     words: &[&str],
     file: Option<RowFile<'_>>,
     left: usize,
-    out: &mut Vec<u8>,
+    lines: &mut Lines,
 ) -> Result<u8, Stop> {
     let alloc = request.alloc;
     let mut err = Vec::new(alloc);
@@ -119,21 +117,7 @@ fn run_words(
     if status != 0 && err.is_empty() && printed.left != 0 {
         return Err(Stop::Memory);
     }
-    out.extend_from_slice(&printed.out)?;
-    print_errors(&err, out)?;
+    lines.write(&printed.out);
+    lines.put_each("stderr ", &err);
     Ok(status)
-}
-
-/// Watches the rows of a command that prints them.
-fn watch_command(
-    request: Request<'_>,
-    words: &[&str],
-    section: &[u8],
-    out: &mut Vec<u8>,
-) -> Result<(), Stop> {
-    let mut lines = Lines::new(out);
-    if let Some(Command::Rows(location)) = Command::parse(words) {
-        watch_rows(request.alloc, section, location, &mut lines);
-    }
-    lines.finish()
 }

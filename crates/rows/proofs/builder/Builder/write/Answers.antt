@@ -1,5 +1,5 @@
 use Rattle.rows.proofs.WithinLemmas.{strings_kept-longer, line_strings_kept-longer}
-use Rattle.rows.proofs.unit.write_program.Goals as goal
+use Rattle.rows.proofs.builder.Builder.write.Goals as goal
 
 pub returns-in_err-write-clause-strings : goal.returns-in_err-write-clause-strings
 returns-in_err-write-clause-strings g c = strings_kept-longer c.write.ensures.tables_kept
