@@ -11,6 +11,15 @@ use lines_inputs::{Input, InputError, NOT_LINKED, PathSources, Program, look_up}
 use lines_words::{Files, Kind, Output};
 use std::alloc::{AllocError, Global};
 
+/// An index, and what came of making it.
+#[derive(Drop)]
+pub struct MadeIndex {
+    /// Its bytes; None where there is none, which was reported.
+    pub bytes: Option<Vec<u8>>,
+    /// The status of the program: 0, or 1 where something was reported.
+    pub status: u8,
+}
+
 /// What names a program in its index: the build id that is told or that it has, or else the SHA-256
 /// of its line programs. Refused as `InputError` says.
 pub fn program_identity(

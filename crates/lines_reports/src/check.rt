@@ -6,7 +6,7 @@ use gimli_core::{Reader, ReaderOffset};
 use gimli_line::LineProgramHeader;
 use gimli_lookup::PathError;
 use lines_inputs::{Input, PathSources, Printing, Walk};
-use lines_words::{CheckChoice, FindingKind, Output, Pieces, UnitChoice};
+use lines_words::{CheckChoice, FindingKind, Output, UnitChoice};
 use sha2::{Digest, Sha256};
 use std::alloc::{AllocError, Global};
 
@@ -34,6 +34,7 @@ impl<R: Reader> Check<R> {
         alloc: Global,
         input: &Input<R>,
         choice: CheckChoice,
+        is_json: bool,
         output: &mut Output<'_>,
     ) -> Result<Check<R>, AllocError> {
         let sources = PathSources::new(alloc, input)?;
@@ -46,7 +47,7 @@ impl<R: Reader> Check<R> {
             unit: None,
             units: 0,
             sequences: Vec::new(alloc),
-            findings: Findings::new(choice),
+            findings: Findings::new(choice, is_json),
         })
     }
 
@@ -131,6 +132,41 @@ impl<R: Reader> Check<R> {
         }
         Ok(())
     }
+
+    /// Looks at some instructions of a unit, and after the last one at its files. After the last
+    /// unit follow the sequences that overlap, and the counts.
+    pub(crate) fn print_next(&mut self, output: &mut Output<'_>) -> Result<bool, AllocError> {
+        if let Some(mut unit) = self.unit.take() {
+            if unit.run_some(&mut self.sequences, &mut self.findings, output)? {
+                self.unit = Some(unit);
+            } else {
+                self.check_files(unit.offset(), unit.header(), output)?;
+            }
+            return Ok(true);
+        }
+        if let Some(unit) = self.walk.next_unit(output)? {
+            self.units = self.units.saturating_add(1);
+            let offset = unit.offset.0.into_u64();
+            match unit.program {
+                Ok(program) => {
+                    let unit = UnitCheck::new(offset, self.lowest, self.is_linked, program);
+                    self.unit = Some(unit);
+                }
+                Err(refusal) => {
+                    let kind = FindingKind::Header;
+                    self.findings
+                        .print(offset, kind, Some(offset), refusal, output);
+                }
+            }
+            return Ok(true);
+        }
+        // In an object file each section stands at 0, and so do its sequences.
+        if self.is_linked {
+            self.print_overlaps(output)?;
+        }
+        self.findings.print_counts(self.units, output);
+        Ok(false)
+    }
 }
 
 /// Prints that a sequence overlaps another.
@@ -169,41 +205,4 @@ fn print_overlap(
 struct DigestedFile {
     digest: [u8; 32],
     index: u64,
-}
-
-impl<R: Reader> Pieces for Check<R> {
-    /// Looks at some instructions of a unit, and after the last one at its files. After the last
-    /// unit follow the sequences that overlap, and the counts.
-    fn print_next(&mut self, output: &mut Output<'_>) -> Result<bool, AllocError> {
-        if let Some(mut unit) = self.unit.take() {
-            if unit.run_some(&mut self.sequences, &mut self.findings, output)? {
-                self.unit = Some(unit);
-            } else {
-                self.check_files(unit.offset(), unit.header(), output)?;
-            }
-            return Ok(true);
-        }
-        if let Some(unit) = self.walk.next_unit(output)? {
-            self.units = self.units.saturating_add(1);
-            let offset = unit.offset.0.into_u64();
-            match unit.program {
-                Ok(program) => {
-                    let unit = UnitCheck::new(offset, self.lowest, self.is_linked, program);
-                    self.unit = Some(unit);
-                }
-                Err(refusal) => {
-                    let kind = FindingKind::Header;
-                    self.findings
-                        .print(offset, kind, Some(offset), refusal, output);
-                }
-            }
-            return Ok(true);
-        }
-        // In an object file each section stands at 0, and so do its sequences.
-        if self.is_linked {
-            self.print_overlaps(output)?;
-        }
-        self.findings.print_counts(self.units, output);
-        Ok(false)
-    }
 }

@@ -5,9 +5,8 @@ use crate::path_numbers::PathNumbers;
 use gimli_core::Reader;
 use gimli_line::LineRow;
 use lines_inputs::{Input, PathSources, Printing, UnitRows, Walk, line_of};
-use lines_words::{JsonCount, JsonField, Output, PathText, Pieces, UnitChoice};
+use lines_words::{Json, Output, PathText, UnitChoice};
 use std::alloc::{AllocError, Global};
-use std::fmt;
 
 /// The code of each line of two programs.
 #[derive(Drop)]
@@ -62,9 +61,11 @@ impl<R: Reader> Diff<R> {
         let new = self.new.coverage.count();
         let count = differences.len();
         if self.is_json {
-            output.print(format_args!(
-                "{{\"old_lines\":{old},\"new_lines\":{new},\"differences\":{count}}}"
-            ));
+            output.print_object(&[
+                ("old_lines", Json::Number(old as u64)),
+                ("new_lines", Json::Number(new as u64)),
+                ("differences", Json::Number(count as u64)),
+            ]);
         } else {
             output.print(format_args!(
                 "lines with code: {old} in the old program, {new} in the new one; differences: \
@@ -80,22 +81,25 @@ impl<R: Reader> Diff<R> {
         let line = place.line;
         if !self.is_json {
             let path = PathText(path);
-            let change = ChangeText(change);
-            return output.print(format_args!("{path}:{line}  {change}"));
+            output.add(format_args!("{path}:{line}  "));
+            return match (change.old, change.new) {
+                (Some(old), Some(new)) => output.print(format_args!("{old} bytes, now {new}")),
+                (Some(old), None) => output.print(format_args!("{old} bytes, now no code")),
+                (None, Some(new)) => output.print(format_args!("no code, now {new} bytes")),
+                (None, None) => output.print("no code"),
+            };
         }
-        let path = JsonField::of_path(Some(path));
-        let old = JsonCount(change.old);
-        let new = JsonCount(change.new);
-        output.print(format_args!(
-            "{{{path},\"line\":{line},\"old_bytes\":{old},\"new_bytes\":{new}}}"
-        ));
+        output.print_object(&[
+            ("path", Json::Bytes(Some(path))),
+            ("line", Json::Number(line)),
+            ("old_bytes", Json::Count(change.old)),
+            ("new_bytes", Json::Count(change.new)),
+        ]);
     }
-}
 
-impl<R: Reader> Pieces for Diff<R> {
     /// Adds the code of the next unit. After the last one of the new program follow the lines that
     /// differ.
-    fn print_next(&mut self, output: &mut Output<'_>) -> Result<bool, AllocError> {
+    pub fn print_next(&mut self, output: &mut Output<'_>) -> Result<bool, AllocError> {
         if !self.is_new {
             return self.old.add_next(&mut self.paths, output);
         }
@@ -173,20 +177,5 @@ impl<R: Reader> Side<R> {
             line: line_of(row),
         };
         self.coverage.add(place, end.saturating_sub(row.address()))
-    }
-}
-
-/// How many bytes a line has in two programs, for people.
-#[derive(Clone, Copy)]
-struct ChangeText(Change);
-
-impl fmt::Display for ChangeText {
-    fn fmt<W: fmt::Write>(&self, f: &mut fmt::Formatter<W>) -> fmt::Result {
-        match (self.0.old, self.0.new) {
-            (Some(old), Some(new)) => write!(f, "{old} bytes, now {new}"),
-            (Some(old), None) => write!(f, "{old} bytes, now no code"),
-            (None, Some(new)) => write!(f, "no code, now {new} bytes"),
-            (None, None) => f.write_str("no code"),
-        }
     }
 }

@@ -1,21 +1,23 @@
 //! What a check has found, and what of it is told.
 
-use lines_words::{CheckChoice, FindingKind, Form, JsonOffset, Output, Style};
+use lines_words::{CheckChoice, FindingKind, Json, Output, Style};
 use std::fmt;
 
 /// What was found so far, and what of it is told.
 #[derive(Clone, Copy)]
 pub(crate) struct Findings {
     choice: CheckChoice,
+    is_json: bool,
     /// How many there were of each kind.
     counts: [u64; 12],
 }
 
 impl Findings {
     /// Nothing was found.
-    pub(crate) fn new(choice: CheckChoice) -> Findings {
+    pub(crate) fn new(choice: CheckChoice, is_json: bool) -> Findings {
         Findings {
             choice,
+            is_json,
             counts: [0; 12],
         }
     }
@@ -38,14 +40,17 @@ impl Findings {
             return;
         }
         let severity = severity.name();
-        if self.choice.form == Form::Json {
-            let byte = JsonOffset(byte);
-            return output.print(format_args!(
-                "{{\"unit\":\"0x{unit:x}\",\"severity\":\"{severity}\",\"kind\":\"{name}\",\
-                 \"byte\":{byte},\"message\":\"{sentence}\"}}"
-            ));
+        if self.is_json {
+            let fields = [
+                ("unit", Json::Offset(Some(unit))),
+                ("severity", Json::Word(severity)),
+                ("kind", Json::Word(name)),
+                ("byte", Json::Offset(byte)),
+            ];
+            output.add_fields("{", &fields);
+            return output.print(format_args!(",\"message\":\"{sentence}\"}}"));
         }
-        let Style { begin, end } = output.screen().heading();
+        let Style { begin, end } = output.heading();
         output.print(format_args!(
             "{begin}unit at 0x{unit:x}:{end} {severity}: {sentence} [{name}]"
         ));
@@ -54,7 +59,6 @@ impl Findings {
     /// Prints how many findings of each kind there were in so many units, and how many of them
     /// count.
     pub(crate) fn print_counts(&self, units: u64, output: &mut Output<'_>) {
-        let is_json = self.choice.form == Form::Json;
         let mut findings = 0u64;
         for kind in FindingKind::ALL {
             let (number, name, severity) = kind.entry();
@@ -66,16 +70,21 @@ impl Findings {
                 findings = findings.saturating_add(count);
             }
             let severity = severity.name();
-            if is_json {
-                output.print(format_args!(
-                    "{{\"severity\":\"{severity}\",\"kind\":\"{name}\",\"count\":{count}}}"
-                ));
+            if self.is_json {
+                output.print_object(&[
+                    ("severity", Json::Word(severity)),
+                    ("kind", Json::Word(name)),
+                    ("count", Json::Number(count)),
+                ]);
             } else {
                 output.print(format_args!("{name} ({severity}): {count}"));
             }
         }
-        if is_json {
-            output.print(format_args!("{{\"units\":{units},\"findings\":{findings}}}"));
+        if self.is_json {
+            output.print_object(&[
+                ("units", Json::Number(units)),
+                ("findings", Json::Number(findings)),
+            ]);
         } else {
             output.print(format_args!("units: {units}, findings: {findings}"));
         }

@@ -7,7 +7,7 @@ use crate::unit_list::unit_bytes;
 use gimli_core::Reader;
 use gimli_line::LineRow;
 use lines_inputs::{Input, PathSources, Printing, UnitRows, Walk};
-use lines_words::{JsonField, Output, PathText, Pieces, UnitChoice};
+use lines_words::{Json, Output, PathText, UnitChoice};
 use std::alloc::{AllocError, Global};
 use std::collections::BTreeMap;
 use std::fmt;
@@ -129,10 +129,13 @@ impl<R: Reader> Stat<R> {
             ..
         } = self;
         if self.is_json {
-            return output.print(format_args!(
-                "{{\"units\":{units},\"rows\":{rows},\"sequences\":{ends},\
-                 \"not_statements\":{not_statements},\"bytes\":{all}}}"
-            ));
+            return output.print_object(&[
+                ("units", Json::Number(units as u64)),
+                ("rows", Json::Number(*rows)),
+                ("sequences", Json::Number(*ends)),
+                ("not_statements", Json::Number(*not_statements)),
+                ("bytes", Json::Number(*all)),
+            ]);
         }
         let whole = all.checked_div(*rows).unwrap_or(0);
         let rest = all.checked_rem(*rows).unwrap_or(0);
@@ -158,10 +161,12 @@ impl<R: Reader> Stat<R> {
                 continue;
             }
             if self.is_json {
-                output.print(format_args!(
-                    "{{\"what\":\"{name}\",\"times\":{times},\"bytes\":{bytes},\
-                     \"operands\":{operands}}}"
-                ));
+                output.print_object(&[
+                    ("what", Json::Word(name)),
+                    ("times", Json::Number(times)),
+                    ("bytes", Json::Number(bytes)),
+                    ("operands", Json::Number(operands)),
+                ]);
             } else {
                 let percent = Percent(share.all_bytes(), self.all);
                 output.print(format_args!(
@@ -178,7 +183,10 @@ impl<R: Reader> Stat<R> {
         }
         for (bytes, offset) in self.units.iter().rev().take(LARGEST) {
             if self.is_json {
-                output.print(format_args!("{{\"unit\":\"0x{offset:x}\",\"bytes\":{bytes}}}"));
+                output.print_object(&[
+                    ("unit", Json::Offset(Some(*offset))),
+                    ("bytes", Json::Number(*bytes)),
+                ]);
             } else {
                 let percent = Percent(*bytes, self.all);
                 output.print(format_args!(
@@ -202,15 +210,15 @@ impl<R: Reader> Stat<R> {
                 output.print(format_args!("{count:>9}  {path}  {percent}"));
                 continue;
             }
-            let path = JsonField::of_path(Some(path));
-            output.print(format_args!("{{{path},\"rows\":{count}}}"));
+            output.print_object(&[
+                ("path", Json::Bytes(Some(path))),
+                ("rows", Json::Number(*count)),
+            ]);
         }
     }
-}
 
-impl<R: Reader> Pieces for Stat<R> {
     /// Counts the next unit, whose fault is reported. After the last one everything is printed.
-    fn print_next(&mut self, output: &mut Output<'_>) -> Result<bool, AllocError> {
+    pub(crate) fn print_next(&mut self, output: &mut Output<'_>) -> Result<bool, AllocError> {
         if let Some(mut unit) = self.walk.next_rows(output)? {
             self.add_unit(&mut unit)?;
             unit.tell_fault(output);

@@ -3,7 +3,7 @@
 use gimli_core::{Format, Reader, ReaderOffset};
 use gimli_line::LineProgramHeader;
 use lines_inputs::{Input, Printing, UnitRows, Walk};
-use lines_words::{Output, Pieces, UnitChoice};
+use lines_words::{Json, Output, UnitChoice};
 use std::alloc::{AllocError, Global};
 
 /// The units whose headers can be read.
@@ -41,29 +41,32 @@ impl<R: Reader> UnitList<R> {
         let header = unit.header();
         let version = header.version();
         let format = match header.format() {
-            Format::Dwarf32 => 32,
+            Format::Dwarf32 => 32u64,
             Format::Dwarf64 => 64,
         };
         let address_size = header.address_size();
         let files = header.file_names().len();
         let bytes = unit_bytes(header);
         if self.is_json {
-            return output.print(format_args!(
-                "{{\"unit\":\"0x{offset:x}\",\"version\":{version},\"format\":{format},\
-                 \"address_size\":{address_size},\"files\":{files},\"sequences\":{sequences},\
-                 \"rows\":{rows},\"bytes\":{bytes}}}"
-            ));
+            return output.print_object(&[
+                ("unit", Json::Offset(Some(offset))),
+                ("version", Json::Number(u64::from(version))),
+                ("format", Json::Number(format)),
+                ("address_size", Json::Number(u64::from(address_size))),
+                ("files", Json::Number(files as u64)),
+                ("sequences", Json::Number(sequences)),
+                ("rows", Json::Number(rows)),
+                ("bytes", Json::Number(bytes)),
+            ]);
         }
         output.print(format_args!(
             "0x{offset:08x}  {version:>7}  {format}-bit  {address_size:>7}  \
              {files:>5}  {sequences:>9}  {rows:>8}  {bytes:>8}"
         ));
     }
-}
 
-impl<R: Reader> Pieces for UnitList<R> {
     /// Prints the line of the next unit. The fault of its program is reported.
-    fn print_next(&mut self, output: &mut Output<'_>) -> Result<bool, AllocError> {
+    pub(crate) fn print_next(&mut self, output: &mut Output<'_>) -> Result<bool, AllocError> {
         let Some(mut unit) = self.walk.next_rows(output)? else {
             return Ok(false);
         };

@@ -340,25 +340,22 @@ impl Argument {
     fn argument<'a>(self, alloc: Global) -> Result<Arg<'a>, AllocError> {
         let Argument(name, shape, help) = self;
         let word = Arg::new(alloc, name).help(help);
-        let argument = match shape {
-            Shape::Word => word,
-            Shape::Needed => word.required(true),
-            Shape::Words => word.action(ArgAction::Append).num_args(0..),
-            Shape::Flag => word.long(name).action(ArgAction::SetTrue),
-            Shape::LetterFlag(letter) => word.long(name).action(ArgAction::SetTrue).short(letter),
-            Shape::Option(value) => word.long(name).action(ArgAction::Set).value_name(value),
-            Shape::LetterOption(letter, value) => {
-                word.long(name)
-                    .short(letter)
-                    .action(ArgAction::Set)
-                    .value_name(value)
-            }
-            Shape::Options(value) => word.long(name).action(ArgAction::Append).value_name(value),
-            Shape::RawOption(value) => {
-                let option = word.long(name).action(ArgAction::Set).value_name(value);
-                return option.requires_arg("raw");
+        let option = match shape {
+            Shape::Word => return Ok(word),
+            Shape::Needed => return Ok(word.required(true)),
+            Shape::Words => return Ok(word.action(ArgAction::Append).num_args(0..)),
+            Shape::Flag | Shape::LetterFlag(_) => word.action(ArgAction::SetTrue),
+            Shape::Options(value) => word.action(ArgAction::Append).value_name(value),
+            Shape::Option(value) | Shape::LetterOption(_, value) | Shape::RawOption(value) => {
+                word.action(ArgAction::Set).value_name(value)
             }
         };
-        argument.conflicts_with_all(conflicts_of(name))
+        let option = option.long(name);
+        let option = match shape {
+            Shape::LetterFlag(letter) | Shape::LetterOption(letter, _) => option.short(letter),
+            Shape::RawOption(_) => return option.requires_arg("raw"),
+            _ => option,
+        };
+        option.conflicts_with_all(conflicts_of(name))
     }
 }

@@ -3,10 +3,11 @@
 ghost use Rattle.std.specs.Prelude.{◌≡◌, ◌≤◌, ◌↔◌, IfOk, true, false};
 ghost use Rattle.lines_words.specs.Findings.{is_denied};
 
+use crate::json::{Json, JsonBytes, JsonText};
 use crate::kinds::{CheckChoice, FindingKind};
 use crate::names::NameText;
-use crate::screen::{Screen, Style};
-use std::alloc::{AllocError, Global};
+use line_text::Digits;
+use std::alloc::Global;
 use std::io::{ErrorKind, Write};
 use std::{fmt, io};
 
@@ -29,6 +30,41 @@ impl Verdict {
         match self {
             Verdict::Clean => 0,
             Verdict::Faulty => 1,
+        }
+    }
+}
+
+/// What the outputs are shown on.
+#[derive(Clone, Copy)]
+pub struct Screen {
+    /// Whether standard output is a terminal.
+    pub is_out: bool,
+    /// Whether standard error is a terminal.
+    pub is_err: bool,
+    /// Whether terminals are shown colours.
+    pub is_coloured: bool,
+}
+
+/// What stands before and after a text that is set off on a terminal (ECMA-48, section 8.3.117).
+#[derive(Clone, Copy)]
+pub struct Style {
+    pub begin: &'static str,
+    pub end: &'static str,
+}
+
+impl Style {
+    /// Nothing is set off.
+    pub const PLAIN: Style = Style { begin: "", end: "" };
+
+    /// What begins so on a terminal with colours, and nothing elsewhere.
+    fn new(is_coloured: bool, begin: &'static str) -> Style {
+        if is_coloured {
+            Style {
+                begin,
+                end: "\u{1b}[0m",
+            }
+        } else {
+            Style::PLAIN
         }
     }
 }
@@ -79,9 +115,21 @@ impl<'o> Output<'o> {
         }
     }
 
+    /// Prints a part of a line.
+    pub fn add(&mut self, part: impl fmt::Display + Drop) {
+        if write!(self.out, "{part}").is_err() {
+            self.is_incomplete = true;
+        }
+    }
+
+    /// How a heading on standard output is set off: bold on a terminal.
+    pub fn heading(&self) -> Style {
+        Style::new(self.screen.is_out && self.screen.is_coloured, "\u{1b}[1m")
+    }
+
     /// Prints a line of headings.
     pub fn print_heading(&mut self, heading: impl fmt::Display + Drop) {
-        let Style { begin, end } = self.screen.heading();
+        let Style { begin, end } = self.heading();
         self.print(format_args!("{begin}{heading}{end}"));
     }
 
@@ -90,15 +138,66 @@ impl<'o> Output<'o> {
         self.print_heading(format_args!("unit at 0x{unit:x}, version {version}"));
     }
 
+    /// Prints an object of JSON with these fields.
+    pub fn print_object(&mut self, fields: &[(&str, Json<'_>)]) {
+        self.add_fields("{", fields);
+        self.print("}");
+    }
+
+    /// Prints fields of an object of JSON, with a text before the first of them.
+    pub fn add_fields(&mut self, first: &str, fields: &[(&str, Json<'_>)]) {
+        let mut before = first;
+        for (name, value) in fields {
+            self.add(format_args!("{before}\"{name}\":"));
+            self.add_value(name, *value);
+            before = ",";
+        }
+    }
+
+    /// Prints the value of a field.
+    fn add_value(&mut self, name: &str, value: Json<'_>) {
+        match value {
+            Json::Number(number) | Json::Count(Some(number)) => self.add(number),
+            Json::Offset(Some(offset)) => self.add(format_args!("\"0x{offset:x}\"")),
+            Json::Range(start, end) => self.add(format_args!("[\"0x{start:x}\",\"0x{end:x}\"]")),
+            Json::Holds(holds) => self.add(holds),
+            Json::Flags(flags) => self.add_flags(flags),
+            Json::Word(word) => self.add(format_args!("\"{word}\"")),
+            Json::Text(Some(bytes)) => self.add(JsonText(bytes)),
+            Json::Bytes(bytes) => self.add(JsonBytes { name, bytes }),
+            Json::Digits(Some(bytes)) => {
+                let digits = Digits(bytes);
+                self.add(format_args!("\"{digits}\""));
+            }
+            Json::Written(value) => self.add(value),
+            _ => self.add("null"),
+        }
+    }
+
+    /// Prints the words that hold.
+    fn add_flags(&mut self, flags: &[(bool, &str, char)]) {
+        let mut before = "[";
+        for (holds, name, _) in flags {
+            if *holds {
+                self.add(format_args!("{before}\"{name}\""));
+                before = ",";
+            }
+        }
+        self.add(if before == "[" { "[]" } else { "]" });
+    }
+
     /// Says a sentence on the file on standard error, which is no fault of it.
     pub fn note(&mut self, sentence: impl fmt::Display + Drop) {
         self.note_of(self.name, sentence);
     }
 
-    /// Says a sentence on a file on standard error.
+    /// Says a sentence on a file on standard error: red on a terminal.
     fn note_of(&mut self, name: &str, sentence: impl fmt::Display + Drop) {
         let name = NameText(name);
-        let Style { begin, end } = self.screen.fault();
+        let Style { begin, end } = Style::new(
+            self.screen.is_err && self.screen.is_coloured,
+            "\u{1b}[31m",
+        );
         if writeln!(self.err, "lines: {name}: {begin}{sentence}{end}").is_err() {
             self.is_incomplete = true;
         }
@@ -192,10 +291,4 @@ impl<'o> Output<'o> {
         out.flush()?;
         Ok(self.verdict.status())
     }
-}
-
-/// What prints piece by piece, so that each piece is handed on before the next one.
-pub trait Pieces {
-    /// Prints the next piece, and returns whether more may follow.
-    fn print_next(&mut self, output: &mut Output<'_>) -> Result<bool, AllocError>;
 }
