@@ -34,7 +34,7 @@ pub(crate) fn perform(
     ensures no_lines_fails { kind ≡ Kind.Elf → (HasLines files.entry.file.now → ⊥)
         → IfErr result (λ e. error_kind e ≡ ErrorKind.OutOfMemory) }
 {
-    let mut output = Output::new(rt.alloc(), request.file, screen(rt));
+    let mut output = Output::new(rt.alloc(), request, request.file, screen(rt));
     let program = match Program::new(rt.alloc(), kind, files) {
         Ok(program) => program,
         Err(InputError::Elf(ElfError::OutOfMemory)) => {
@@ -131,20 +131,18 @@ pub(crate) fn compare(
 ) -> io::Result<u8>
     ensures { IfOk result (λ status. status ≤ 1) }
 {
-    let mut old_output = Output::new(rt.alloc(), request.file, screen(rt));
+    let mut old_output = Output::new(rt.alloc(), request, request.file, screen(rt));
     let Some(old) = program_of(rt, old, &mut old_output)? else {
         return finish(rt, old_output);
     };
-    let mut new_output = Output::new(rt.alloc(), new_name, screen(rt));
+    let mut new_output = Output::new(rt.alloc(), request, new_name, screen(rt));
     let Some(new) = program_of(rt, new, &mut new_output)? else {
         return finish(rt, new_output);
     };
-    let is_json = request.is_json();
     let mut diff = Diff::new(
         rt.alloc(),
         &old.input(),
         &new.input(),
-        is_json,
         &mut old_output,
     )?;
     add_program(rt, &mut diff, &mut old_output)?;

@@ -31,7 +31,14 @@ fn index_of(rt: &HostRuntime, request: &Request<'_>, name: &str) -> io::Result<M
         });
     };
     let build_id = build_id_of(rt, request, name)?;
-    make_index(rt, name, inputs.kind, inputs.files(), build_id.as_deref())
+    make_index(
+        rt,
+        request,
+        name,
+        inputs.kind,
+        inputs.files(),
+        build_id.as_deref(),
+    )
 }
 
 /// Makes the index of a program, which is named so in messages. It is named by the build id where
@@ -39,6 +46,7 @@ fn index_of(rt: &HostRuntime, request: &Request<'_>, name: &str) -> io::Result<M
 /// stands before it is in the index all the same. Fails where memory is missing.
 fn make_index(
     rt: &HostRuntime,
+    request: &Request<'_>,
     name: &str,
     kind: Kind,
     files: Files<'_>,
@@ -47,7 +55,7 @@ fn make_index(
     ensures { IfOk result (λ made. made.status ≤ 1) }
 {
     let alloc = rt.alloc();
-    let mut output = Output::new(alloc, name, screen(rt));
+    let mut output = Output::new(alloc, request, name, screen(rt));
     let bytes = match Program::new(alloc, kind, files) {
         Ok(program) => {
             let is_told = show_reading(program.input().length(), &mut output);
@@ -198,7 +206,7 @@ fn answer_by(
     ensures stale { (found : Index) → index_at index.now ≡ Ok found
         → IsStale found (option_copied identity.entry) → IfOk result (λ status. status ≡ 1) }
 {
-    let mut output = Output::new(rt.alloc(), name, screen(rt));
+    let mut output = Output::new(rt.alloc(), request, name, screen(rt));
     match open_index(index, identity) {
         Ok(index) => {
             let printer = PlacePrinter::new(rt.alloc(), request)?;
@@ -244,7 +252,7 @@ pub(crate) fn ask_lines(
         LineNames::Files => STANDARD_INPUT,
     };
     let mut input = BufReader::new(alloc, rt.stdin())?;
-    let mut output = Output::new(alloc, name, screen(rt));
+    let mut output = Output::new(alloc, request, name, screen(rt));
     let mut answers = LineAnswers::new(alloc, names, request)?;
     let mut line = Vec::new(alloc);
     for _ in 0..u64::MAX {

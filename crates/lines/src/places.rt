@@ -121,16 +121,7 @@ pub(crate) fn print_source<R: Reader>(
             break;
         };
         let file = read_source(rt, request.source, path)?;
-        print_lines(
-            alloc,
-            path,
-            file,
-            rows,
-            place,
-            context,
-            request.is_json(),
-            output,
-        )?;
+        print_lines(alloc, path, file, rows, place, context, output)?;
         hand_on(rt, output)?;
     }
     Ok(())

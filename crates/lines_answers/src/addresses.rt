@@ -1,6 +1,5 @@
 //! The command `at`: the addresses of a line, in the files whose path ends with what is asked for.
 
-use crate::path_files::{PathFiles, SeenFile};
 use gimli_core::{Error, Reader};
 use gimli_index::PathEnd;
 use gimli_line::LineRow;
@@ -36,8 +35,7 @@ pub fn print_addresses<R: Reader>(
         output.note(format_args!("no file's path ends with {end}"));
     }
     let mut is_found = false;
-    for number in 0..files.len() {
-        let (path, files) = files.get(number);
+    for PathFiles { path, files } in &files {
         if search.print_of_path(path, files, output)? {
             is_found = true;
         }
@@ -45,6 +43,43 @@ pub fn print_addresses<R: Reader>(
     if !is_found {
         output.refuse();
     }
+    Ok(())
+}
+
+/// A file of a unit.
+#[derive(Clone, Copy)]
+struct SeenFile {
+    /// The index of the unit.
+    unit: usize,
+    /// The index of the file in the header of the unit.
+    index: u64,
+}
+
+/// The files of one path, by its first spelling.
+#[derive(Drop)]
+struct PathFiles {
+    path: Vec<u8>,
+    files: Vec<SeenFile>,
+}
+
+/// Adds a file to those of its path, by whatever spelling.
+fn add_file(
+    alloc: Global,
+    all: &mut Vec<PathFiles>,
+    path: Vec<u8>,
+    file: SeenFile,
+) -> Result<(), AllocError> {
+    let end = PathEnd::new(&path);
+    for one in all.iter_mut() {
+        let is_same = one.path == path
+            || end.is_end_of(&one.path) && PathEnd::new(&one.path).is_end_of(&path);
+        if is_same {
+            one.files.push(file)?;
+            return Ok(());
+        }
+    }
+    let files = Vec::from_slice(alloc, &[file])?;
+    all.push(PathFiles { path, files })?;
     Ok(())
 }
 
@@ -61,11 +96,11 @@ struct Search<'s, R: Reader> {
 
 impl<R: Reader> Search<'_, R> {
     /// The files that are meant in all units. One that has no path is passed over.
-    fn find_files(self, end: &str) -> Result<PathFiles, AllocError> {
+    fn find_files(self, end: &str) -> Result<Vec<PathFiles>, AllocError> {
         let sources = PathSources::new(self.alloc, self.input)?;
         let end = bytes_of_word(self.alloc, end)?;
         let end = PathEnd::new(&end);
-        let mut files = PathFiles::new(self.alloc);
+        let mut files = Vec::new(self.alloc);
         for (unit, kept) in self.lookup.units().iter().enumerate() {
             let Some(header) = kept.header() else {
                 continue;
@@ -74,7 +109,7 @@ impl<R: Reader> Search<'_, R> {
             for index in 0..=last {
                 if let Some(path) = sources.known_path(self.alloc, header, index)? {
                     if end.is_end_of(&path) {
-                        files.add(path, SeenFile { unit, index })?;
+                        add_file(self.alloc, &mut files, path, SeenFile { unit, index })?;
                     }
                 }
             }
@@ -125,7 +160,7 @@ impl<R: Reader> Search<'_, R> {
         found: &[Addresses],
         output: &mut Output<'_>,
     ) -> Result<(), AllocError> {
-        let columns = if self.request.has_column || self.request.is_json() {
+        let columns = if self.request.has_column || output.is_json() {
             self.columns_of(files, line, true)?
         } else {
             BTreeMap::new(self.alloc)
@@ -150,15 +185,17 @@ impl<R: Reader> Search<'_, R> {
         output: &mut Output<'_>,
     ) {
         let end = self.end_of_row(address);
-        if self.request.is_json() {
-            return output.print_object(&[
+        if output.is_json() {
+            let fields = [
                 ("address", Json::Offset(Some(address))),
                 ("path", Json::Bytes(Some(path))),
                 ("line", Json::Number(line)),
                 ("column", Json::Number(column.unwrap_or(0))),
                 ("range", Json::Range(address, end)),
                 ("is_stmt", Json::Holds(is_stmt)),
-            ]);
+            ];
+            output.add_fields("{", &fields);
+            return output.print("}");
         }
         output.add(format_args!("0x{address:x}"));
         if self.request.has_range {

@@ -10,7 +10,6 @@ mod line_answers;
 mod locate;
 mod made_index;
 mod opened_index;
-mod path_files;
 mod place_printer;
 mod source;
 mod source_list;

@@ -47,7 +47,7 @@ impl<'r> PlacePrinter<'r> {
         let column = place.column;
         let path = place.path.map(|path| shown_path(path, self.request.paths, &self.directory));
         self.begin(Some(place.address), path, place.function, output);
-        if self.request.is_json() {
+        if output.is_json() {
             let line = Json::Number(line);
             let column = Json::Number(column);
             output.add_fields(",", &[("line", line), ("column", column)]);
@@ -66,11 +66,7 @@ impl<'r> PlacePrinter<'r> {
         output: &mut Output<'_>,
     ) {
         self.begin(address, None, function, output);
-        let rest = if self.request.is_json() {
-            "}"
-        } else {
-            "??:0:0"
-        };
+        let rest = if output.is_json() { "}" } else { "??:0:0" };
         output.print(rest);
     }
 
@@ -84,7 +80,7 @@ impl<'r> PlacePrinter<'r> {
         output: &mut Output<'_>,
     ) {
         let has_function = self.request.has_function;
-        if self.request.is_json() {
+        if output.is_json() {
             let address = Json::Offset(address);
             output.add_fields("{", &[("address", address), ("path", Json::Bytes(path))]);
             if has_function {

@@ -21,7 +21,6 @@ pub fn print_lines(
     rows: &[SourceRow],
     place: SourcePlace<'_>,
     context: u64,
-    is_json: bool,
     output: &mut Output<'_>,
 ) -> Result<(), AllocError> {
     if file.is_none() {
@@ -40,7 +39,6 @@ pub fn print_lines(
         lines: &lines,
         asked,
         rows,
-        is_json,
     };
     listing.print(&ranges, output);
     Ok(())
@@ -91,18 +89,14 @@ struct SourceListing<'l> {
     asked: Option<u64>,
     /// The rows in the order of their lines.
     rows: &'l [SourceRow],
-    is_json: bool,
 }
 
 impl<'l> SourceListing<'l> {
     /// Prints the lines of ranges.
     fn print(self, ranges: &[LineRange], output: &mut Output<'_>) {
-        if !self.is_json {
-            let path = PathText(self.path);
-            output.print_heading(path);
-        }
+        output.print_heading(PathText(self.path));
         for (number, range) in ranges.iter().enumerate() {
-            if number > 0 && !self.is_json {
+            if number > 0 && !output.is_json() {
                 output.print("...");
             }
             self.print_range(*range, output);
@@ -117,7 +111,7 @@ impl<'l> SourceListing<'l> {
             if text.is_none() && rows.is_empty() && self.asked != Some(line) {
                 continue;
             }
-            if self.is_json {
+            if output.is_json() {
                 self.print_json(line, text, rows, output);
             } else {
                 self.print_line(line, text, rows, output);

@@ -16,7 +16,6 @@ pub struct Diff<R: Reader> {
     new: Side<R>,
     /// Whether the new program is read.
     is_new: bool,
-    is_json: bool,
     paths: PathNumbers,
 }
 
@@ -26,7 +25,6 @@ impl<R: Reader> Diff<R> {
         alloc: Global,
         old: &Input<R>,
         new: &Input<R>,
-        is_json: bool,
         output: &mut Output<'_>,
     ) -> Result<Diff<R>, AllocError> {
         Ok(Diff {
@@ -34,7 +32,6 @@ impl<R: Reader> Diff<R> {
             old: Side::new(alloc, old, output)?,
             new: Side::new(alloc, new, output)?,
             is_new: false,
-            is_json,
             paths: PathNumbers::new(alloc),
         })
     }
@@ -60,18 +57,18 @@ impl<R: Reader> Diff<R> {
         let old = self.old.coverage.count();
         let new = self.new.coverage.count();
         let count = differences.len();
-        if self.is_json {
-            output.print_object(&[
-                ("old_lines", Json::Number(old as u64)),
-                ("new_lines", Json::Number(new as u64)),
-                ("differences", Json::Number(count as u64)),
-            ]);
-        } else {
-            output.print(format_args!(
+        let fields = [
+            ("old_lines", Json::Number(old as u64)),
+            ("new_lines", Json::Number(new as u64)),
+            ("differences", Json::Number(count as u64)),
+        ];
+        output.print_item(
+            &fields,
+            format_args!(
                 "lines with code: {old} in the old program, {new} in the new one; differences: \
                  {count}"
-            ));
-        }
+            ),
+        );
         Ok(())
     }
 
@@ -79,22 +76,24 @@ impl<R: Reader> Diff<R> {
     fn print_change(&self, place: Place, change: Change, output: &mut Output<'_>) {
         let path = self.paths.path(place.path);
         let line = place.line;
-        if !self.is_json {
-            let path = PathText(path);
-            output.add(format_args!("{path}:{line}  "));
-            return match (change.old, change.new) {
-                (Some(old), Some(new)) => output.print(format_args!("{old} bytes, now {new}")),
-                (Some(old), None) => output.print(format_args!("{old} bytes, now no code")),
-                (None, Some(new)) => output.print(format_args!("no code, now {new} bytes")),
-                (None, None) => output.print("no code"),
-            };
+        if output.is_json() {
+            let fields = [
+                ("path", Json::Bytes(Some(path))),
+                ("line", Json::Number(line)),
+                ("old_bytes", Json::Count(change.old)),
+                ("new_bytes", Json::Count(change.new)),
+            ];
+            output.add_fields("{", &fields);
+            return output.print("}");
         }
-        output.print_object(&[
-            ("path", Json::Bytes(Some(path))),
-            ("line", Json::Number(line)),
-            ("old_bytes", Json::Count(change.old)),
-            ("new_bytes", Json::Count(change.new)),
-        ]);
+        let path = PathText(path);
+        output.add(format_args!("{path}:{line}  "));
+        match (change.old, change.new) {
+            (Some(old), Some(new)) => output.print(format_args!("{old} bytes, now {new}")),
+            (Some(old), None) => output.print(format_args!("{old} bytes, now no code")),
+            (None, Some(new)) => output.print(format_args!("no code, now {new} bytes")),
+            (None, None) => output.print("no code"),
+        }
     }
 
     /// Adds the code of the next unit. After the last one of the new program follow the lines that

@@ -14,7 +14,6 @@ pub struct FileList<R: Reader> {
     alloc: Global,
     walk: Walk<R>,
     sources: PathSources<R>,
-    is_json: bool,
 }
 
 impl<R: Reader> FileList<R> {
@@ -23,7 +22,6 @@ impl<R: Reader> FileList<R> {
         alloc: Global,
         input: &Input<R>,
         units: UnitChoice,
-        is_json: bool,
         output: &mut Output<'_>,
     ) -> Result<FileList<R>, AllocError> {
         let sources = PathSources::new(alloc, input)?;
@@ -31,7 +29,6 @@ impl<R: Reader> FileList<R> {
             alloc,
             walk: Walk::new(alloc, input, units, Printing::Steady, output),
             sources,
-            is_json,
         })
     }
 
@@ -89,7 +86,7 @@ impl<R: Reader> FileList<R> {
             Err(fault) => (None, Some(self.sources.fault(fault))),
         };
         let path = path.as_deref();
-        if self.is_json {
+        if output.is_json() {
             let fields = [
                 ("unit", Json::Offset(Some(unit.offset))),
                 (kind, Json::Number(index)),
@@ -103,7 +100,7 @@ impl<R: Reader> FileList<R> {
         if let Some(file) = file {
             self.add_details(unit.header(), file, output);
         }
-        output.print(if self.is_json { "}" } else { "" });
+        output.print(if output.is_json() { "}" } else { "" });
         if let Some(fault) = fault {
             output.tell_of_unit(unit.offset, format_args!("{kind} {index}: {fault}"));
         }
@@ -122,7 +119,7 @@ impl<R: Reader> FileList<R> {
         let size = file.size();
         let md5 = header.file_has_md5().then_some(file.md5());
         let source = source_length(file, self.sources.strings());
-        if self.is_json {
+        if output.is_json() {
             let md5 = match md5 {
                 Some(md5) => Some(md5.as_slice()),
                 None => None,
@@ -156,9 +153,7 @@ impl<R: Reader> FileList<R> {
         let Some(mut unit) = self.walk.next_rows(output)? else {
             return Ok(false);
         };
-        if !self.is_json {
-            output.print_unit_heading(unit.offset, unit.header().version());
-        }
+        output.print_unit_heading(unit.offset, unit.header().version());
         unit.run()?;
         unit.tell_fault(output);
         self.print_directories(&unit, output)?;

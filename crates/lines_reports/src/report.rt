@@ -33,19 +33,14 @@ impl<R: Reader> Report<R> {
         request: &Request<'_>,
         output: &mut Output<'_>,
     ) -> Result<Option<Report<R>>, AllocError> {
-        let is_json = request.is_json();
         Ok(Some(match request.command {
-            Command::Units => Report::Units(UnitList::new(alloc, input, is_json, output)),
-            Command::Files => {
-                Report::Files(FileList::new(alloc, input, request.units, is_json, output)?)
-            }
+            Command::Units => Report::Units(UnitList::new(alloc, input, output)),
+            Command::Files => { Report::Files(FileList::new(alloc, input, request.units, output)?) }
             Command::Rows(form) => {
                 Report::Rows(RowList::new(alloc, input, request.units, form, output)?)
             }
-            Command::Check => {
-                Report::Check(Check::new(alloc, input, request.check, is_json, output)?)
-            }
-            Command::Stat => Report::Stat(Stat::new(alloc, input, is_json, output)?),
+            Command::Check => Report::Check(Check::new(alloc, input, output)?),
+            Command::Stat => Report::Stat(Stat::new(alloc, input, output)?),
             _ => return Ok(None),
         }))
     }

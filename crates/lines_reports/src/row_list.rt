@@ -119,10 +119,8 @@ impl<R: Reader> RowList<R> {
         let Some(unit) = self.walk.next_rows(output)? else {
             return Ok(false);
         };
-        if !matches!(self.form, Form::Json) {
-            output.print_unit_heading(unit.offset, unit.header().version());
-            output.print_heading("           address     line  column  discr  isa  flags  file");
-        }
+        output.print_unit_heading(unit.offset, unit.header().version());
+        output.print_heading("           address     line  column  discr  isa  flags  file");
         self.file = None;
         self.unit = Some(unit);
         Ok(true)
@@ -151,7 +149,7 @@ fn print_text(row: &LineRow, path: &str, output: &mut Output<'_>) {
 /// Prints a row as a JSON object.
 fn print_json(offset: u64, row: &LineRow, path: &str, output: &mut Output<'_>) {
     let flags = flags_of(row);
-    output.print_object(&[
+    let fields = [
         ("unit", Json::Offset(Some(offset))),
         ("address", Json::Offset(Some(row.address()))),
         ("op_index", Json::Number(row.op_index())),
@@ -162,5 +160,7 @@ fn print_json(offset: u64, row: &LineRow, path: &str, output: &mut Output<'_>) {
         ("discriminator", Json::Number(row.discriminator())),
         ("isa", Json::Number(row.isa())),
         ("flags", Json::Flags(&flags)),
-    ]);
+    ];
+    output.add_fields("{", &fields);
+    output.print("}");
 }

@@ -43,17 +43,24 @@ enum Shape {
 }
 
 /// What has no place beside an argument.
+const CONFLICTS: [(&str, &[&str]); 7] = [
+    ("FILE", &["maps", "files"]),
+    ("pretty", &["json"]),
+    ("whole-paths", &["json"]),
+    ("basenames", &["relative-to"]),
+    ("index", &["functions"]),
+    ("maps", &["index", "functions", "raw", "line-str", "str"]),
+    ("files", &["index", "maps", "functions"]),
+];
+
+/// What has no place beside the argument of a name.
 fn conflicts_of(name: &str) -> &'static [&'static str] {
-    match name {
-        "FILE" => &["maps", "files"],
-        "pretty" => &["json"],
-        "whole-paths" => &["json"],
-        "basenames" => &["relative-to"],
-        "index" => &["functions"],
-        "maps" => &["index", "functions", "raw", "line-str", "str"],
-        "files" => &["index", "maps", "functions"],
-        _ => &[],
+    for (argument, others) in &CONFLICTS {
+        if *argument == name {
+            return others;
+        }
     }
+    &[]
 }
 
 /// What stands in the place of the file of the command `where`.
@@ -297,10 +304,11 @@ pub(crate) fn command<'a>(alloc: Global, name: &str) -> Result<Command<'a>, Allo
 impl Entry {
     /// The command.
     fn command<'a>(&self, alloc: Global) -> Result<Command<'a>, AllocError> {
+        let file = self.file(alloc)?;
         let command = Command::new(alloc, self.name)
             .about(self.about)
             .after_help(self.example)
-            .arg(self.file(alloc)?)?;
+            .arg(file)?;
         let command = with_arguments(alloc, command, &OF_FILE)?;
         with_arguments(alloc, command, self.arguments)
     }

@@ -6,6 +6,7 @@ ghost use Rattle.lines_words.specs.Findings.{is_denied};
 use crate::json::{Json, JsonBytes, JsonText};
 use crate::kinds::{CheckChoice, FindingKind};
 use crate::names::NameText;
+use crate::request::{Form, Request};
 use line_text::Digits;
 use std::alloc::Global;
 use std::io::{ErrorKind, Write};
@@ -73,6 +74,7 @@ impl Style {
 /// what hands it on knows the writers. And what came of the command over the file of a name.
 #[derive(Drop)]
 pub struct Output<'o> {
+    request: &'o Request<'o>,
     name: &'o str,
     screen: Screen,
     out: Vec<u8>,
@@ -85,9 +87,15 @@ pub struct Output<'o> {
 }
 
 impl<'o> Output<'o> {
-    /// Nothing was printed yet.
-    pub fn new(alloc: Global, name: &'o str, screen: Screen) -> Output<'o> {
+    /// Nothing was printed yet of what a request asks for.
+    pub fn new(
+        alloc: Global,
+        request: &'o Request<'o>,
+        name: &'o str,
+        screen: Screen,
+    ) -> Output<'o> {
         Output {
+            request,
             name,
             screen,
             out: Vec::new(alloc),
@@ -103,9 +111,14 @@ impl<'o> Output<'o> {
         self.screen
     }
 
-    /// Goes on to a file of another name.
-    pub fn rename(&mut self, name: &'o str) {
-        self.name = name;
+    /// Whether a JSON object a line is printed.
+    pub fn is_json(&self) -> bool {
+        matches!(self.request.form, Form::Json)
+    }
+
+    /// What a check tells.
+    pub fn check(&self) -> CheckChoice {
+        self.request.check
     }
 
     /// Prints a line.
@@ -127,10 +140,12 @@ impl<'o> Output<'o> {
         Style::new(self.screen.is_out && self.screen.is_coloured, "\u{1b}[1m")
     }
 
-    /// Prints a line of headings.
+    /// Prints a line of headings, for people.
     pub fn print_heading(&mut self, heading: impl fmt::Display + Drop) {
-        let Style { begin, end } = self.heading();
-        self.print(format_args!("{begin}{heading}{end}"));
+        if !self.is_json() {
+            let Style { begin, end } = self.heading();
+            self.print(format_args!("{begin}{heading}{end}"));
+        }
     }
 
     /// Prints the heading of the unit at an offset.
@@ -138,10 +153,14 @@ impl<'o> Output<'o> {
         self.print_heading(format_args!("unit at 0x{unit:x}, version {version}"));
     }
 
-    /// Prints an object of JSON with these fields.
-    pub fn print_object(&mut self, fields: &[(&str, Json<'_>)]) {
-        self.add_fields("{", fields);
-        self.print("}");
+    /// Prints an object of JSON with these fields, or for people a line.
+    pub fn print_item(&mut self, fields: &[(&str, Json<'_>)], line: impl fmt::Display + Drop) {
+        if self.is_json() {
+            self.add_fields("{", fields);
+            self.print("}");
+        } else {
+            self.print(line);
+        }
     }
 
     /// Prints fields of an object of JSON, with a text before the first of them.

@@ -45,13 +45,6 @@ pub struct Request<'w> {
     pub check: CheckChoice,
 }
 
-impl Request<'_> {
-    /// Whether a JSON object a line is printed.
-    pub fn is_json(&self) -> bool {
-        matches!(self.form, Form::Json)
-    }
-}
-
 /// What is done over a file.
 #[derive(Clone, Copy)]
 pub enum Command<'w> {
