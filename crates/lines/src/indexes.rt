@@ -118,7 +118,7 @@ fn identity_of(rt: &HostRuntime, request: &Request<'_>) -> io::Result<Option<Vec
     let Some(inputs) = inputs_of(rt, request, name)? else {
         return Ok(None);
     };
-    match program_identity(rt.alloc(), inputs.kind, inputs.files(), None) {
+    match program_identity(rt.alloc(), inputs.kind, inputs.files()) {
         Ok(identity) => Ok(Some(identity)),
         Err(refusal) => {
             report(rt, name, refusal);

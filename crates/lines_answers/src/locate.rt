@@ -134,8 +134,8 @@ impl<'r, 'n, R: Reader> Places<'r, 'n, R> {
         }
     }
 
-    /// Prints a place, and in JSON what its rows say beside it. Their range is moved by the bias, as
-    /// the address is.
+    /// Prints a place, and in JSON what its rows say beside it. Their range is moved by the bias,
+    /// as the address is.
     fn print_found(&self, place: FoundPlace<'_>, found: &CoveringRows, output: &mut Output<'_>) {
         let bias = self.printer.request.bias;
         let start = found.row.address().saturating_add(bias);

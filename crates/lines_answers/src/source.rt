@@ -180,8 +180,9 @@ impl<'w, R: Reader> SourceRows<'w, R> {
         Ok(())
     }
 
-    /// Adds the rows of the next unit, whose fault is reported, and returns whether more may follow.
-    /// After the last one the rows are put in order; that no file has the place is reported.
+    /// Adds the rows of the next unit, whose fault is reported, and returns whether more may
+    /// follow. After the last one the rows are put in order; that no file has the place is
+    /// reported.
     pub fn add_next(&mut self, output: &mut Output<'_>) -> Result<bool, AllocError> {
         if let Some(mut unit) = self.walk.next_rows(output)? {
             self.add_unit(&mut unit)?;
