@@ -273,7 +273,11 @@ const COMMANDS: [Entry; 10] = [
 
 /// What the whole program takes.
 pub(crate) fn program<'a>(alloc: Global) -> Result<Command<'a>, AllocError> {
-    let mut program = Command::new(alloc, "lines")
+    let mut commands = Vec::new(alloc);
+    for entry in &COMMANDS {
+        commands.push(entry.command(alloc)?)?;
+    }
+    Command::new(alloc, "lines")
         .version(VERSION)
         .about("Looks into the line tables (.debug_line) of a program, DWARF versions 2 to 5.")
         .after_help(
@@ -283,11 +287,8 @@ pub(crate) fn program<'a>(alloc: Global) -> Result<Command<'a>, AllocError> {
         )
         .subcommand_required(true)
         .arg_required_else_help(true)
-        .bin_name("lines")?;
-    for entry in &COMMANDS {
-        program = program.subcommand(entry.command(alloc)?)?;
-    }
-    Ok(program)
+        .subcommands(commands)?
+        .bin_name("lines")
 }
 
 /// A command by itself; the whole program where no command has the name.
@@ -304,43 +305,40 @@ pub(crate) fn command<'a>(alloc: Global, name: &str) -> Result<Command<'a>, Allo
 impl Entry {
     /// The command.
     fn command<'a>(&self, alloc: Global) -> Result<Command<'a>, AllocError> {
-        let file = self.file(alloc)?;
-        let command = Command::new(alloc, self.name)
+        let mut arguments = Vec::new(alloc);
+        arguments.push(self.file(alloc)?)?;
+        push_all(alloc, &OF_FILE, &mut arguments)?;
+        push_all(alloc, self.arguments, &mut arguments)?;
+        Command::new(alloc, self.name)
             .about(self.about)
             .after_help(self.example)
-            .arg(file)?;
-        let command = with_arguments(alloc, command, &OF_FILE)?;
-        with_arguments(alloc, command, self.arguments)
+            .args(arguments)
     }
 
     /// The file. That of the command `where` may be left out where an index is named, and has no
     /// place beside lines that say what they ask.
     fn file<'a>(&self, alloc: Global) -> Result<Arg<'a>, AllocError> {
-        let mut file = Arg::new(alloc, "FILE").help(
+        let file = Arg::new(alloc, "FILE").help(
             "An ELF file, or with --raw a section .debug_line; - is standard input",
         );
-        if self.name == "where" {
-            for other in &INSTEAD_OF_FILE {
-                file = file.required_unless_present(other)?;
-            }
-            return file.conflicts_with_all(conflicts_of("FILE"));
+        if self.name != "where" {
+            return Ok(file.required(true));
         }
-        Ok(file.required(true))
+        file.required_unless_present_any(&INSTEAD_OF_FILE)?
+            .conflicts_with_all(conflicts_of("FILE"))
     }
 }
 
-/// A command that takes these too.
-fn with_arguments<'a>(
+/// Adds arguments to others.
+fn push_all<'a>(
     alloc: Global,
-    command: Command<'a>,
-    arguments: &[Argument],
-) -> Result<Command<'a>, AllocError> {
-    let mut command = command;
-    for argument in arguments {
-        let argument = argument.argument(alloc)?;
-        command = command.arg(argument)?;
+    more: &[Argument],
+    arguments: &mut Vec<Arg<'a>>,
+) -> Result<(), AllocError> {
+    for argument in more {
+        arguments.push(argument.argument(alloc)?)?;
     }
-    Ok(command)
+    Ok(())
 }
 
 impl Argument {
