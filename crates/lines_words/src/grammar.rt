@@ -318,14 +318,16 @@ impl Entry {
     /// The file. That of the command `where` may be left out where an index is named, and has no
     /// place beside lines that say what they ask.
     fn file<'a>(&self, alloc: Global) -> Result<Arg<'a>, AllocError> {
-        let file = Arg::new(alloc, "FILE").help(
+        let mut file = Arg::new(alloc, "FILE").help(
             "An ELF file, or with --raw a section .debug_line; - is standard input",
         );
-        if self.name != "where" {
-            return Ok(file.required(true));
+        if self.name == "where" {
+            for other in &INSTEAD_OF_FILE {
+                file = file.required_unless_present(other)?;
+            }
+            return file.conflicts_with_all(conflicts_of("FILE"));
         }
-        file.required_unless_present_any(&INSTEAD_OF_FILE)?
-            .conflicts_with_all(conflicts_of("FILE"))
+        Ok(file.required(true))
     }
 }
 
