@@ -17,7 +17,7 @@ pub(crate) fn arguments(rt: &HostRuntime) -> io::Result<Vec<String>> {
             Err(FillError::TooLong) => return Err(io::Error::from(io::ErrorKind::InvalidInput)),
             Err(FillError::NotPresent) => break,
         };
-        arguments.push(lines_commands::text_of_word(alloc, &room[..length])?)?;
+        arguments.push(lines_words::text_of_word(alloc, &room[..length])?)?;
     }
     Ok(arguments)
 }

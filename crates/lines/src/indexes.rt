@@ -1,24 +1,29 @@
-//! The files that hold indexes, and what names a program in its index.
+//! The commands that make an index, or ask one.
+
+ghost use Rattle.std.specs.Prelude.{◌≡◌, ◌≤◌, IfOk, Ok, Some};
+ghost use Rattle.std.specs.Option.{option_copied};
+ghost use Rattle.gimli_index.specs.Parts.{Index, index_at};
+ghost use Rattle.lines_answers.specs.Indexes.{IsStale};
 
 use crate::inputs::{STANDARD_INPUT, can_be_opened, inputs_of, read, report};
-use crate::{REFUSED, screen};
+use crate::questions::Questions;
+use crate::{REFUSED, finish, hand_on, screen};
 use debug_files::{Outline, Refusal};
 use elf_sections::ElfError;
-use lines_commands::{
-    Command, IndexFiles, Kind, LineNames, MadeIndex, Request, make_index, program_identity,
-    run_ask, run_ask_lines,
+use lines_answers::{
+    IndexPlaces, LineAnswers, MadeIndex, PlacePrinter, index_of_program, open_index,
+    program_identity,
 };
+use lines_inputs::{Program, show_reading, tell_refusal};
+use lines_words::{Files, Kind, LineNames, Output, Request};
 use std::fs::File;
-use std::io::{BufReader, BufWriter, ErrorKind, Write};
+use std::io::{BufRead, BufReader, ErrorKind, Write};
 use std::{fs, io};
 
 /// The index of a program by its name.
-fn index_of<E: Write>(
-    rt: &HostRuntime,
-    request: &Request<'_>,
-    name: &str,
-    err: &mut E,
-) -> io::Result<MadeIndex> {
+fn index_of(rt: &HostRuntime, request: &Request<'_>, name: &str) -> io::Result<MadeIndex>
+    ensures { IfOk result (λ made. made.status ≤ 1) }
+{
     let Some(inputs) = inputs_of(rt, request, name)? else {
         return Ok(MadeIndex {
             bytes: None,
@@ -27,14 +32,47 @@ fn index_of<E: Write>(
     };
     let build_id = build_id_of(rt, request, name)?;
     make_index(
-        rt.alloc(),
-        screen(rt),
+        rt,
+        request,
         name,
         inputs.kind,
         inputs.files(),
         build_id.as_deref(),
-        err,
     )
+}
+
+/// Makes the index of a program, which is named so in messages. It is named by the build id where
+/// there is one, or else by the SHA-256 of the line programs. A fault of a unit is reported; what
+/// stands before it is in the index all the same. Fails where memory is missing.
+fn make_index(
+    rt: &HostRuntime,
+    request: &Request<'_>,
+    name: &str,
+    kind: Kind,
+    files: Files<'_>,
+    build_id: Option<&[u8]>,
+) -> io::Result<MadeIndex>
+    ensures { IfOk result (λ made. made.status ≤ 1) }
+{
+    let alloc = rt.alloc();
+    let mut output = Output::new(alloc, request, name, screen(rt));
+    let bytes = match Program::new(alloc, kind, files) {
+        Ok(program) => {
+            let is_told = show_reading(program.input().length(), &mut output);
+            hand_on(rt, &mut output)?;
+            let bytes = index_of_program(alloc, &program, kind, files, build_id, &mut output)?;
+            if is_told {
+                output.clear();
+            }
+            bytes
+        }
+        Err(refusal) => {
+            tell_refusal(refusal, &mut output)?;
+            None
+        }
+    };
+    let status = finish(rt, output)?;
+    Ok(MadeIndex { bytes, status })
 }
 
 /// The build id of a program by its name, where it is a file that is an ELF file; None where it has
@@ -80,7 +118,7 @@ fn identity_of(rt: &HostRuntime, request: &Request<'_>) -> io::Result<Option<Vec
     let Some(inputs) = inputs_of(rt, request, name)? else {
         return Ok(None);
     };
-    match program_identity(rt.alloc(), inputs.kind, inputs.files(), None) {
+    match program_identity(rt.alloc(), inputs.kind, inputs.files()) {
         Ok(identity) => Ok(Some(identity)),
         Err(refusal) => {
             report(rt, name, refusal);
@@ -95,7 +133,7 @@ pub(crate) fn write_index(
     request: &Request<'_>,
     out: Option<&str>,
 ) -> io::Result<u8> {
-    let made = index_of(rt, request, request.file, &mut rt.stderr())?;
+    let made = index_of(rt, request, request.file)?;
     let Some(bytes) = &made.bytes else {
         return Ok(made.status);
     };
@@ -145,95 +183,133 @@ pub(crate) fn ask(rt: &HostRuntime, request: &Request<'_>, index: &str) -> io::R
     let Some(bytes) = read(rt, index)? else {
         return Ok(REFUSED);
     };
-    let identity = if request.file.is_empty() {
-        None
-    } else {
-        let Some(identity) = identity_of(rt, request)? else {
-            return Ok(REFUSED);
-        };
-        Some(identity)
-    };
-    let alloc = rt.alloc();
-    let mut input = BufReader::new(alloc, rt.stdin())?;
-    let mut out = BufWriter::new(alloc, rt.stdout())?;
-    run_ask(
-        alloc,
-        screen(rt),
-        request,
-        &bytes,
-        identity.as_deref(),
-        &mut input,
-        &mut out,
-        &mut rt.stderr(),
-    )
+    if request.file.is_empty() {
+        return answer_by(rt, request, index, &bytes, None);
+    }
+    match identity_of(rt, request)? {
+        Some(identity) => answer_by(rt, request, index, &bytes, Some(&identity)),
+        None => Ok(REFUSED),
+    }
 }
 
-/// Prints the places of lines that name what they ask, and returns the status of the program.
+/// Prints the places of the addresses that a request names, or of those of standard input, by the
+/// bytes of an index of a name, and returns the status: 0, or 1 where something was reported. An
+/// index that isn't that of the program with this identity, where one is known, is refused.
+fn answer_by(
+    rt: &HostRuntime,
+    request: &Request<'_>,
+    name: &str,
+    index: &[u8],
+    identity: Option<&[u8]>,
+) -> io::Result<u8>
+    ensures status { IfOk result (λ status. status ≤ 1) }
+    ensures stale { (found : Index) → index_at index.now ≡ Ok found
+        → IsStale found (option_copied identity.entry) → IfOk result (λ status. status ≡ 1) }
+{
+    let mut output = Output::new(rt.alloc(), request, name, screen(rt));
+    match open_index(index, identity) {
+        Ok(index) => {
+            let printer = PlacePrinter::new(rt.alloc(), request)?;
+            answer_all(rt, request, &IndexPlaces { index, printer }, &mut output)?;
+        }
+        Err(fault) => output.tell(fault),
+    }
+    finish(rt, output)
+}
+
+/// Answers questions by an index.
+fn answer_all(
+    rt: &HostRuntime,
+    request: &Request<'_>,
+    places: &IndexPlaces<'_, '_>,
+    output: &mut Output<'_>,
+) -> io::Result<()> {
+    let mut questions = Questions::new(rt, &request.addresses)?;
+    for _ in 0..u64::MAX {
+        match questions.current() {
+            Some(asked) => places.answer(asked, output),
+            None => break,
+        }
+        hand_on(rt, output)?;
+        questions.go_on()?;
+    }
+    Ok(())
+}
+
+/// Prints the place of each line of standard input, which names what it asks and then an address,
+/// and returns the status: 0, or 1 where something was reported. Each line gets one line of answer.
+/// The indexes that were asked last are kept; one that can't be asked is reported once.
 pub(crate) fn ask_lines(
     rt: &HostRuntime,
     request: &Request<'_>,
     names: LineNames<'_>,
-) -> io::Result<u8> {
-    match names {
-        LineNames::BuildIds(_) => ask_lines_of(rt, request, &mut Indexes { rt }),
-        LineNames::Files => ask_lines_of(rt, request, &mut Programs { rt, request }),
+) -> io::Result<u8>
+    ensures { IfOk result (λ status. status ≤ 1) }
+{
+    let alloc = rt.alloc();
+    let name = match names {
+        LineNames::BuildIds(folder) => folder,
+        LineNames::Files => STANDARD_INPUT,
+    };
+    let mut input = BufReader::new(alloc, rt.stdin())?;
+    let mut output = Output::new(alloc, request, name, screen(rt));
+    let mut answers = LineAnswers::new(alloc, names, request)?;
+    let mut line = Vec::new(alloc);
+    for _ in 0..u64::MAX {
+        line.clear();
+        input.read_until(b'\n', &mut line)?;
+        if line.is_empty() {
+            break;
+        }
+        answer_line(
+            rt,
+            request,
+            names,
+            line.trim_ascii(),
+            &mut answers,
+            &mut output,
+        )?;
+        hand_on(rt, &mut output)?;
     }
+    finish(rt, output)
 }
 
-/// Prints the places of lines by the indexes of a source.
-fn ask_lines_of<S: IndexFiles>(
+/// Prints the answer to a line without its ends.
+fn answer_line(
     rt: &HostRuntime,
     request: &Request<'_>,
-    source: &mut S,
-) -> io::Result<u8> {
-    let alloc = rt.alloc();
-    let mut input = BufReader::new(alloc, rt.stdin())?;
-    let mut out = BufWriter::new(alloc, rt.stdout())?;
-    run_ask_lines(
-        alloc,
-        screen(rt),
-        request,
-        source,
-        &mut input,
-        &mut out,
-        &mut rt.stderr(),
-    )
-}
-
-/// Files that are indexes.
-#[derive(Drop)]
-struct Indexes<'r> {
-    rt: &'r HostRuntime,
-}
-
-impl IndexFiles for Indexes<'_> {
-    fn index_at<E: Write>(&mut self, place: &str, _err: &mut E) -> io::Result<MadeIndex> {
-        let bytes = read(self.rt, place)?;
-        let status = if bytes.is_some() { 0 } else { REFUSED };
-        Ok(MadeIndex { bytes, status })
+    names: LineNames<'_>,
+    line: &[u8],
+    answers: &mut LineAnswers<'_>,
+    output: &mut Output<'_>,
+) -> io::Result<()> {
+    let Some((name, address)) = answers.question(line, output) else {
+        return Ok(());
+    };
+    if let Some(place) = answers.missing(name, output)? {
+        let made = index_at(rt, request, names, &place)?;
+        answers.keep(name, &place, made, output)?;
     }
+    answers.answer(name, address, output);
+    Ok(())
 }
 
-/// Files that are programs, whose indexes are made.
-#[derive(Drop)]
-struct Programs<'r, 'w> {
-    rt: &'r HostRuntime,
-    request: &'r Request<'w>,
-}
-
-impl IndexFiles for Programs<'_, '_> {
-    fn index_at<E: Write>(&mut self, place: &str, err: &mut E) -> io::Result<MadeIndex> {
-        if place == STANDARD_INPUT {
-            report(
-                self.rt,
-                place,
-                "standard input has the lines; write ./- for a file of this name",
-            );
-            return Ok(MadeIndex {
-                bytes: None,
-                status: REFUSED,
-            });
+/// The index at a place: of a file that is an index, or of a program.
+fn index_at(
+    rt: &HostRuntime,
+    request: &Request<'_>,
+    names: LineNames<'_>,
+    place: &str,
+) -> io::Result<MadeIndex> {
+    let bytes = match names {
+        LineNames::BuildIds(_) => read(rt, place)?,
+        LineNames::Files if place == STANDARD_INPUT => {
+            let reason = "standard input has the lines; write ./- for a file of this name";
+            report(rt, place, reason);
+            None
         }
-        index_of(self.rt, self.request, place, err)
-    }
+        LineNames::Files => return index_of(rt, request, place),
+    };
+    let status = if bytes.is_some() { 0 } else { REFUSED };
+    Ok(MadeIndex { bytes, status })
 }

@@ -1,9 +1,8 @@
 //! The bytes of the files that a request names.
 
 use debug_files::{Found, Missing, PathSections, Source, Wanted};
-use lines_commands::{
-    Files, InputError, Kind, NameText, Notation, Request, SymbolFiles, UnitFiles,
-};
+use lines_inputs::InputError;
+use lines_words::{Files, Kind, NameText, Notation, Request, SymbolFiles, UnitFiles};
 use std::io::{Read, Write};
 use std::{fmt, fs, io};
 
@@ -148,7 +147,7 @@ fn named_or<'s>(named: &'s [u8], own: &'s [u8]) -> &'s [u8] {
 
 /// Whether a name can be opened: the files of the kit take text alone. One that can't is reported.
 pub(crate) fn can_be_opened(rt: &HostRuntime, name: &str) -> io::Result<bool> {
-    let bytes = lines_commands::bytes_of_word(rt.alloc(), name)?;
+    let bytes = lines_words::bytes_of_word(rt.alloc(), name)?;
     if bytes.as_slice() == name.as_bytes() {
         return Ok(true);
     }

@@ -1,19 +1,23 @@
 //! The program `lines`: what the line tables of a program say.
 #![tactic(auto)]
 
+ghost use Rattle.std.specs.Prelude.{◌≤◌, IfOk};
+
 mod arguments;
+mod commands;
 mod indexes;
 mod inputs;
-mod sources;
+mod places;
+mod questions;
 
 use crate::arguments::arguments;
+use crate::commands::{compare, perform};
 use crate::indexes::{ask, ask_lines, write_index};
-use crate::inputs::{Inputs, inputs_of};
-use crate::sources::Sources;
+use crate::inputs::inputs_of;
 use clap::Error;
 use clap::error::ErrorKind as WordsError;
-use lines_commands::{Command, Files, Request, Screen};
-use std::io::{BufReader, BufWriter, ErrorKind, IsTerminal, Write};
+use lines_words::{Command, Output, Request, Screen};
+use std::io::{ErrorKind, IsTerminal, Write};
 use std::process::ExitCode;
 use std::{env, io};
 
@@ -49,8 +53,8 @@ fn start(rt: &HostRuntime) -> io::Result<u8> {
     for word in &arguments {
         words.push(word.as_str())?;
     }
-    match lines_commands::parse(alloc, &words) {
-        Ok(request) => run(rt, request),
+    match lines_words::parse(alloc, &words) {
+        Ok(request) => run(rt, &request),
         Err(error) => explain(rt, &error),
     }
 }
@@ -60,7 +64,7 @@ fn explain(rt: &HostRuntime, error: &Error) -> io::Result<u8> {
     if error.kind() == WordsError::OutOfMemory {
         return Err(io::Error::from(ErrorKind::OutOfMemory));
     }
-    let message = lines_commands::message_of(rt.alloc(), error)?;
+    let message = lines_words::message_of(rt.alloc(), error)?;
     if error.use_stderr() {
         write!(rt.stderr(), "{message}")?;
         Ok(USAGE)
@@ -70,64 +74,24 @@ fn explain(rt: &HostRuntime, error: &Error) -> io::Result<u8> {
     }
 }
 
-/// Reads the sections and the files that a request names, does what it asks for, and returns the
-/// status of the program.
-fn run(rt: &HostRuntime, mut request: Request<'_>) -> io::Result<u8> {
-    match &request.command {
-        Command::Index { out } => return write_index(rt, &request, *out),
-        Command::Ask { index, .. } => return ask(rt, &request, *index),
-        Command::AskLines { names, .. } => return ask_lines(rt, &request, *names),
+/// Does what a request asks for, and returns the status of the program.
+fn run(rt: &HostRuntime, request: &Request<'_>) -> io::Result<u8> {
+    match request.command {
+        Command::Index(out) => return write_index(rt, request, out),
+        Command::Ask(index) => return ask(rt, request, index),
+        Command::AskLines(names) => return ask_lines(rt, request, names),
         _ => {}
     }
-    let Some(inputs) = inputs_of(rt, &request, request.file)? else {
+    let Some(inputs) = inputs_of(rt, request, request.file)? else {
         return Ok(REFUSED);
     };
-    if let Some(new) = request.command.new_file() {
-        return compare(rt, request, &inputs, new);
+    let Command::Diff(new) = request.command else {
+        return perform(rt, request, inputs.kind, inputs.files());
+    };
+    match inputs_of(rt, request, new)? {
+        Some(new_inputs) => compare(rt, request, &inputs, new, &new_inputs),
+        None => Ok(REFUSED),
     }
-    request.kind = inputs.kind;
-    perform(rt, &request, inputs.files())
-}
-
-/// Compares a program with the new one of a name, and returns the status of the program.
-fn compare(rt: &HostRuntime, mut request: Request<'_>, old: &Inputs, new: &str) -> io::Result<u8> {
-    let Some(new) = inputs_of(rt, &request, new)? else {
-        return Ok(REFUSED);
-    };
-    request.kind = old.kind;
-    let alloc = rt.alloc();
-    let mut out = BufWriter::new(alloc, rt.stdout())?;
-    lines_commands::run_diff(
-        alloc,
-        screen(rt),
-        &request,
-        old.files(),
-        new.kind,
-        new.files(),
-        &mut out,
-        &mut rt.stderr(),
-    )
-}
-
-/// Does what a request asks for, over the bytes of files.
-fn perform(rt: &HostRuntime, request: &Request<'_>, files: Files<'_>) -> io::Result<u8> {
-    let alloc = rt.alloc();
-    let mut input = BufReader::new(alloc, rt.stdin())?;
-    let mut out = BufWriter::new(alloc, rt.stdout())?;
-    let sources = Sources {
-        rt,
-        only: request.source,
-    };
-    lines_commands::run(
-        alloc,
-        screen(rt),
-        request,
-        files,
-        &sources,
-        &mut input,
-        &mut out,
-        &mut rt.stderr(),
-    )
 }
 
 /// What the outputs are shown on. A terminal is shown colours, unless the variable `NO_COLOR` has a
@@ -146,4 +110,18 @@ pub(crate) fn screen(rt: &HostRuntime) -> Screen {
         is_err: rt.stderr().is_terminal(),
         is_coloured: !is_refused && !is_dumb,
     }
+}
+
+/// Hands on what a command printed. Fails where standard output takes no more, and where memory is
+/// missing.
+pub(crate) fn hand_on(rt: &HostRuntime, output: &mut Output<'_>) -> io::Result<()> {
+    output.hand_on(&mut rt.stdout(), &mut rt.stderr())
+}
+
+/// Hands on what a command printed, and returns the status of the program: 0, or 1 where something
+/// was reported, or a check found what is denied.
+pub(crate) fn finish(rt: &HostRuntime, output: Output<'_>) -> io::Result<u8>
+    ensures { IfOk result (λ status. status ≤ 1) }
+{
+    output.finish(&mut rt.stdout(), &mut rt.stderr())
 }

@@ -1,15 +1,13 @@
 //! The command `at`: the addresses of a line, in the files whose path ends with what is asked for.
 
-use crate::path_files::{PathFiles, SeenFile};
 use gimli_core::{Error, Reader};
 use gimli_index::PathEnd;
 use gimli_line::LineRow;
 use gimli_lookup::{Addresses, SectionLookup};
 use lines_inputs::{Input, PathSources, column_of, line_of, look_up};
-use lines_words::{CodeLine, JsonField, NameText, Output, PathText, bytes_of_word};
+use lines_words::{Json, NameText, Output, PathText, Request, bytes_of_word};
 use std::alloc::{AllocError, Global};
 use std::collections::BTreeMap;
-use std::fmt;
 
 /// Prints the addresses of a line in each file whose whole path ends with the components that are
 /// asked for, each path once: where to break at the line. Where none of its rows is a statement,
@@ -18,7 +16,9 @@ use std::fmt;
 pub fn print_addresses<R: Reader>(
     alloc: Global,
     input: &Input<R>,
-    asked: CodeLine<'_>,
+    request: &Request<'_>,
+    path: &str,
+    line: u64,
     output: &mut Output<'_>,
 ) -> Result<(), AllocError> {
     let lookup = look_up(alloc, input, output)?;
@@ -26,16 +26,16 @@ pub fn print_addresses<R: Reader>(
         alloc,
         input,
         lookup: &lookup,
-        asked,
+        request,
+        line,
     };
-    let files = search.find_files()?;
+    let files = search.find_files(path)?;
     if files.is_empty() {
-        let end = NameText(asked.path);
+        let end = NameText(path);
         output.note(format_args!("no file's path ends with {end}"));
     }
     let mut is_found = false;
-    for number in 0..files.len() {
-        let (path, files) = files.get(number);
+    for PathFiles { path, files } in &files {
         if search.print_of_path(path, files, output)? {
             is_found = true;
         }
@@ -46,22 +46,61 @@ pub fn print_addresses<R: Reader>(
     Ok(())
 }
 
+/// A file of a unit.
+#[derive(Clone, Copy)]
+struct SeenFile {
+    /// The index of the unit.
+    unit: usize,
+    /// The index of the file in the header of the unit.
+    index: u64,
+}
+
+/// The files of one path, by its first spelling.
+#[derive(Drop)]
+struct PathFiles {
+    path: Vec<u8>,
+    files: Vec<SeenFile>,
+}
+
+/// Adds a file to those of its path, by whatever spelling.
+fn add_file(
+    alloc: Global,
+    all: &mut Vec<PathFiles>,
+    path: Vec<u8>,
+    file: SeenFile,
+) -> Result<(), AllocError> {
+    let end = PathEnd::new(&path);
+    for one in all.iter_mut() {
+        let is_same = one.path == path
+            || end.is_end_of(&one.path) && PathEnd::new(&one.path).is_end_of(&path);
+        if is_same {
+            one.files.push(file)?;
+            return Ok(());
+        }
+    }
+    let files = Vec::from_slice(alloc, &[file])?;
+    all.push(PathFiles { path, files })?;
+    Ok(())
+}
+
 /// A search for the addresses of a line.
 #[derive(Clone, Copy)]
 struct Search<'s, R: Reader> {
     alloc: Global,
     input: &'s Input<R>,
     lookup: &'s SectionLookup<R>,
-    asked: CodeLine<'s>,
+    request: &'s Request<'s>,
+    /// The line that is asked for.
+    line: u64,
 }
 
 impl<R: Reader> Search<'_, R> {
     /// The files that are meant in all units. One that has no path is passed over.
-    fn find_files(self) -> Result<PathFiles, AllocError> {
+    fn find_files(self, end: &str) -> Result<Vec<PathFiles>, AllocError> {
         let sources = PathSources::new(self.alloc, self.input)?;
-        let end = bytes_of_word(self.alloc, self.asked.path)?;
+        let end = bytes_of_word(self.alloc, end)?;
         let end = PathEnd::new(&end);
-        let mut files = PathFiles::new(self.alloc);
+        let mut files = Vec::new(self.alloc);
         for (unit, kept) in self.lookup.units().iter().enumerate() {
             let Some(header) = kept.header() else {
                 continue;
@@ -70,7 +109,7 @@ impl<R: Reader> Search<'_, R> {
             for index in 0..=last {
                 if let Some(path) = sources.known_path(self.alloc, header, index)? {
                     if end.is_end_of(&path) {
-                        files.add(path, SeenFile { unit, index })?;
+                        add_file(self.alloc, &mut files, path, SeenFile { unit, index })?;
                     }
                 }
             }
@@ -87,7 +126,7 @@ impl<R: Reader> Search<'_, R> {
     ) -> Result<bool, AllocError> {
         let found = self.addresses_of(files)?;
         let first = found.iter().map(|found| found.line).min();
-        let asked = self.asked.line;
+        let asked = self.line;
         if first == Some(asked) {
             self.print_statements(path, asked, files, &found, output)?;
             return Ok(true);
@@ -121,7 +160,7 @@ impl<R: Reader> Search<'_, R> {
         found: &[Addresses],
         output: &mut Output<'_>,
     ) -> Result<(), AllocError> {
-        let columns = if self.asked.has_column || self.asked.is_json {
+        let columns = if self.request.has_column || output.is_json() {
             self.columns_of(files, line, true)?
         } else {
             BTreeMap::new(self.alloc)
@@ -146,19 +185,29 @@ impl<R: Reader> Search<'_, R> {
         output: &mut Output<'_>,
     ) {
         let end = self.end_of_row(address);
-        if self.asked.is_json {
-            let path = JsonField::of_path(Some(path));
-            let column = column.unwrap_or(0);
-            return output.print(format_args!(
-                "{{\"address\":\"0x{address:x}\",{path},\"line\":{line},\"column\":{column},\
-                 \"range\":[\"0x{address:x}\",\"0x{end:x}\"],\"is_stmt\":{is_stmt}}}"
-            ));
+        if output.is_json() {
+            let fields = [
+                ("address", Json::Offset(Some(address))),
+                ("path", Json::Bytes(Some(path))),
+                ("line", Json::Number(line)),
+                ("column", Json::Number(column.unwrap_or(0))),
+                ("range", Json::Range(address, end)),
+                ("is_stmt", Json::Holds(is_stmt)),
+            ];
+            output.add_fields("{", &fields);
+            return output.print("}");
+        }
+        output.add(format_args!("0x{address:x}"));
+        if self.request.has_range {
+            output.add(format_args!("-0x{end:x}"));
         }
         let path = PathText(path);
-        let end = ShownEnd(self.asked.has_range.then_some(end));
-        let column = ShownColumn(column.filter(|_| self.asked.has_column));
-        let note = if is_stmt { "" } else { "  not a statement" };
-        output.print(format_args!("0x{address:x}{end}  {path}:{line}{column}{note}"));
+        output.add(format_args!("  {path}:{line}"));
+        match column {
+            Some(column) if self.request.has_column => output.add(format_args!(":{column}")),
+            _ => {}
+        }
+        output.print(if is_stmt { "" } else { "  not a statement" });
     }
 
     /// Where the row ends that covers the addresses from one on; there where none does.
@@ -187,7 +236,7 @@ impl<R: Reader> Search<'_, R> {
         }
         match self
             .lookup
-            .addresses_of_file(file.unit, file.index, self.asked.line)
+            .addresses_of_file(file.unit, file.index, self.line)
         {
             Ok(found) => Ok(found),
             Err(_) => Err(AllocError),
@@ -249,32 +298,6 @@ impl<R: Reader> Search<'_, R> {
             _ if row.is_stmt() => true,
             Some(found) => found.unit == unit && found.row == *row,
             None => false,
-        }
-    }
-}
-
-/// The end of a range after its beginning, where it is shown.
-#[derive(Clone, Copy)]
-struct ShownEnd(Option<u64>);
-
-impl fmt::Display for ShownEnd {
-    fn fmt<W: fmt::Write>(&self, f: &mut fmt::Formatter<W>) -> fmt::Result {
-        match self.0 {
-            Some(end) => write!(f, "-0x{end:x}"),
-            None => Ok(()),
-        }
-    }
-}
-
-/// A column after its line, where it is shown.
-#[derive(Clone, Copy)]
-struct ShownColumn(Option<u64>);
-
-impl fmt::Display for ShownColumn {
-    fn fmt<W: fmt::Write>(&self, f: &mut fmt::Formatter<W>) -> fmt::Result {
-        match self.0 {
-            Some(column) => write!(f, ":{column}"),
-            None => Ok(()),
         }
     }
 }

@@ -41,21 +41,24 @@ pub struct PathReason(pub NoPath);
 
 impl fmt::Display for PathReason {
     fn fmt<W: fmt::Write>(&self, f: &mut fmt::Formatter<W>) -> fmt::Result {
-        let reason = match self.0 {
-            NoPath::Reason(reason) => reason,
-            NoPath::Outside => return f.write_str("the path is outside of the index"),
+        let NoPath::Reason(number) = self.0 else {
+            return f.write_str("the path is outside of the index");
+        };
+        let reason = match number {
+            1 => "a string is given by an index into the string offsets",
+            2 => "a string stands in the supplementary file",
+            3 => "the offset of a string is past the end of its section",
+            4 => "a string has no zero byte at its end",
+            5 => "a value is no string",
+            6 => "the header has no such directory",
+            7 => "the header has no such file",
+            8 => "the header of the unit is not known",
+            _ => "",
         };
         f.write_str("the path was not known when the index was made: ")?;
-        match reason {
-            1 => f.write_str("a string is given by an index into the string offsets"),
-            2 => f.write_str("a string stands in the supplementary file"),
-            3 => f.write_str("the offset of a string is past the end of its section"),
-            4 => f.write_str("a string has no zero byte at its end"),
-            5 => f.write_str("a value is no string"),
-            6 => f.write_str("the header has no such directory"),
-            7 => f.write_str("the header has no such file"),
-            8 => f.write_str("the header of the unit is not known"),
-            reason => write!(f, "reason {reason}"),
+        if reason.is_empty() {
+            return write!(f, "reason {number}");
         }
+        f.write_str(reason)
     }
 }

@@ -9,11 +9,11 @@ use lines_words::{CodeAddress, Output};
 
 /// What an index is asked by, and how its places are printed.
 #[derive(Drop)]
-pub struct IndexPlaces<'i, 'f> {
+pub struct IndexPlaces<'i, 'r> {
     /// The index.
     pub index: LineIndex<'i>,
     /// What prints its places.
-    pub printer: PlacePrinter<'f>,
+    pub printer: PlacePrinter<'r>,
 }
 
 impl IndexPlaces<'_, '_> {
@@ -36,7 +36,7 @@ pub(crate) fn print_place(
     address: u64,
     output: &mut Output<'_>,
 ) {
-    let Some(place) = place_asked(index, printer.form.bias, address) else {
+    let Some(place) = place_asked(index, printer.request.bias, address) else {
         return printer.print_unknown(Some(address), None, output);
     };
     let found = FoundPlace {
@@ -46,7 +46,7 @@ pub(crate) fn print_place(
         line: u64::from(place.line),
         column: u64::from(place.column),
     };
-    printer.print_found(found, "", output);
+    printer.print_found(found, &[], output);
     if let Err(fault) = place.path {
         let fault = PathReason(fault);
         output.tell_of_unit(

@@ -5,25 +5,23 @@
 mod addresses;
 mod asked;
 mod index_fault;
-mod index_files;
 mod index_places;
 mod line_answers;
 mod locate;
 mod made_index;
 mod opened_index;
-mod path_files;
 mod place_printer;
 mod source;
 mod source_list;
+mod source_text;
 
 pub use addresses::print_addresses;
 pub use asked::{Asked, asked_by};
 pub use index_fault::IndexFault;
-pub use index_files::{IndexFiles, MadeIndex};
 pub use index_places::IndexPlaces;
 pub use line_answers::LineAnswers;
 pub use locate::{Answered, Places, SourceLine, print_below};
-pub use made_index::{index_of_program, program_identity};
+pub use made_index::{MadeIndex, index_of_program, program_identity};
 pub use opened_index::open_index;
 pub use place_printer::PlacePrinter;
 pub use source::{SourceRow, SourceRows};

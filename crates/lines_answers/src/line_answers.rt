@@ -1,12 +1,12 @@
 //! The command `where` over lines that name what they ask.
 
-use crate::index_files::MadeIndex;
 use crate::index_places::print_place;
+use crate::made_index::MadeIndex;
 use crate::opened_index::open_index;
 use crate::place_printer::PlacePrinter;
 use gimli_index::LineIndex;
 use lines_words::{
-    LineNames, NameText, Output, PathText, PlaceForm, build_id_of, map_path, parse_line_question,
+    LineNames, NameText, Output, PathText, Request, build_id_of, map_path, parse_line_question,
 };
 use lru::LruCache;
 use std::alloc::{AllocError, Global};
@@ -33,10 +33,10 @@ impl<'n> LineAnswers<'n> {
     pub fn new(
         alloc: Global,
         names: LineNames<'n>,
-        form: PlaceForm<'n>,
+        request: &'n Request<'n>,
     ) -> Result<LineAnswers<'n>, AllocError> {
         let most = NonZeroUsize::new(KEPT).unwrap_or(NonZeroUsize::MIN);
-        let printer = PlacePrinter::new(alloc, form)?;
+        let printer = PlacePrinter::new(alloc, request)?;
         let kept = LruCache::new(alloc, most)?;
         Ok(LineAnswers {
             alloc,

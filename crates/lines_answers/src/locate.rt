@@ -4,15 +4,15 @@ ghost use Rattle.std.specs.Prelude.{◌≡◌};
 
 use crate::asked::Asked;
 use crate::place_printer::{FoundPlace, PlacePrinter};
+use crate::source_text::{line_at, lines_of};
 use gimli_core::{Reader, ReaderOffset};
 use gimli_lookup::{CoveringRows, PathError};
 use lines_inputs::{
-    Covering, Functions, Input, JsonFlags, PathSources, column_of, line_of, look_up_any,
+    Covering, Functions, Input, PathSources, column_of, flags_of, line_of, look_up_any,
     look_up_each,
 };
-use lines_words::{CodeAddress, ColumnMark, Output, PlaceForm, SourceText, line_at, lines_of};
+use lines_words::{CodeAddress, ColumnMark, Json, Output, Request, SourceText};
 use std::alloc::{AllocError, Global};
-use std::fmt;
 
 /// What came of a question.
 #[derive(Drop)]
@@ -39,36 +39,35 @@ pub struct SourceLine {
 /// The rows of all units of a section, or those at a few addresses, and how their places are
 /// printed.
 #[derive(Drop)]
-pub struct Places<'f, 'n, R: Reader> {
+pub struct Places<'r, 'n, R: Reader> {
     alloc: Global,
     lookup: Covering<R>,
     sources: PathSources<R>,
     functions: Functions<'n>,
-    printer: PlacePrinter<'f>,
+    printer: PlacePrinter<'r>,
     /// The name of the section, in an object file.
-    section: Option<&'f [u8]>,
+    section: Option<&'r [u8]>,
 }
 
-impl<'f, 'n, R: Reader> Places<'f, 'n, R> {
+impl<'r, 'n, R: Reader> Places<'r, 'n, R> {
     /// Reads the rows for the addresses of a linked program that are named, or where none is, for
     /// any; in an object file those of one section.
     pub fn new(
         alloc: Global,
         input: &Input<R>,
         functions: Functions<'n>,
-        addresses: &[CodeAddress<'_>],
-        form: PlaceForm<'f>,
-        section: Option<&'f [u8]>,
+        request: &'r Request<'r>,
+        section: Option<&'r [u8]>,
         output: &mut Output<'_>,
-    ) -> Result<Places<'f, 'n, R>, AllocError> {
-        let lookup = if addresses.is_empty() {
+    ) -> Result<Places<'r, 'n, R>, AllocError> {
+        let lookup = if request.addresses.is_empty() || section.is_some() {
             look_up_any(alloc, input, output)?
         } else {
-            let addresses = unmoved(alloc, addresses, form.bias)?;
+            let addresses = unmoved(alloc, request)?;
             look_up_each(alloc, input, addresses, output)?
         };
         let sources = PathSources::new(alloc, input)?;
-        let printer = PlacePrinter::new(alloc, form)?;
+        let printer = PlacePrinter::new(alloc, request)?;
         Ok(Places {
             alloc,
             lookup,
@@ -102,7 +101,7 @@ impl<'f, 'n, R: Reader> Places<'f, 'n, R> {
 
     /// Prints the place of an address.
     fn print_place(&self, address: u64, output: &mut Output<'_>) -> Result<Answered, AllocError> {
-        let own = address.checked_sub(self.printer.form.bias);
+        let own = address.checked_sub(self.printer.request.bias);
         let function = own.and_then(|own| self.functions.name_at(own));
         let Some(found) = own.and_then(|own| self.lookup.find(own)) else {
             self.printer.print_unknown(Some(address), function, output);
@@ -121,22 +120,33 @@ impl<'f, 'n, R: Reader> Places<'f, 'n, R> {
             line,
             column,
         };
-        let fields = RowFields {
-            found,
-            bias: self.printer.form.bias,
-        };
-        self.printer.print_found(place, fields, output);
+        self.print_found(place, &found, output);
         if let Some(fault) = fault {
             self.tell_fault(address, &found, fault, output);
         }
         match path {
-            Some(path) if self.printer.form.has_source => Ok(Answered::Above(SourceLine {
+            Some(path) if self.printer.request.has_source => Ok(Answered::Above(SourceLine {
                 path,
                 line,
                 column,
             })),
             _ => Ok(Answered::Whole),
         }
+    }
+
+    /// Prints a place, and in JSON what its rows say beside it. Their range is moved by the bias,
+    /// as the address is.
+    fn print_found(&self, place: FoundPlace<'_>, found: &CoveringRows, output: &mut Output<'_>) {
+        let bias = self.printer.request.bias;
+        let start = found.row.address().saturating_add(bias);
+        let end = found.next.address().saturating_add(bias);
+        let flags = flags_of(&found.row);
+        let fields = [
+            ("range", Json::Range(start, end)),
+            ("discriminator", Json::Number(found.row.discriminator())),
+            ("flags", Json::Flags(&flags)),
+        ];
+        self.printer.print_found(place, &fields, output);
     }
 
     /// The whole path of the file of a row. Refused as `PathError` says.
@@ -167,15 +177,11 @@ impl<'f, 'n, R: Reader> Places<'f, 'n, R> {
 }
 
 /// The addresses that are looked for, before the program was moved by a bias.
-fn unmoved(
-    alloc: Global,
-    addresses: &[CodeAddress<'_>],
-    bias: u64,
-) -> Result<Vec<u64>, AllocError> {
+fn unmoved(alloc: Global, request: &Request<'_>) -> Result<Vec<u64>, AllocError> {
     let mut unmoved = Vec::new(alloc);
-    for address in addresses {
+    for address in &request.addresses {
         if let CodeAddress::Linked(address) = *address {
-            if let Some(own) = address.checked_sub(bias) {
+            if let Some(own) = address.checked_sub(request.bias) {
                 unmoved.push(own)?;
             }
         }
@@ -189,29 +195,6 @@ fn line_and_column(found: &CoveringRows) -> (u64, u64)
     ensures { result ≡ (found.now.row.line, found.now.row.column) }
 {
     (line_of(&found.row), column_of(&found.row))
-}
-
-/// What a JSON object says of rows beside their place. The range is moved by the bias, as the
-/// address is.
-#[derive(Clone, Copy)]
-struct RowFields {
-    found: CoveringRows,
-    bias: u64,
-}
-
-impl fmt::Display for RowFields {
-    fn fmt<W: fmt::Write>(&self, f: &mut fmt::Formatter<W>) -> fmt::Result {
-        let row = self.found.row;
-        let start = row.address().saturating_add(self.bias);
-        let end = self.found.next.address().saturating_add(self.bias);
-        let discriminator = row.discriminator();
-        let flags = JsonFlags(row);
-        write!(
-            f,
-            ",\"range\":[\"0x{start:x}\",\"0x{end:x}\"],\"discriminator\":{discriminator},\
-             \"flags\":{flags}"
-        )
-    }
 }
 
 /// Prints the line of a place in its file, and below it a mark at the column, where that is no left

@@ -11,40 +11,27 @@ use lines_inputs::{Input, InputError, NOT_LINKED, PathSources, Program, look_up}
 use lines_words::{Files, Kind, Output};
 use std::alloc::{AllocError, Global};
 
-/// What names a program in its index: the build id that is told or that it has, or else the SHA-256
-/// of its line programs. Refused as `InputError` says.
+/// An index, and what came of making it.
+#[derive(Drop)]
+pub struct MadeIndex {
+    /// Its bytes; None where there is none, which was reported.
+    pub bytes: Option<Vec<u8>>,
+    /// The status of the program: 0, or 1 where something was reported.
+    pub status: u8,
+}
+
+/// What names a program in its index: the build id that it has, or else the SHA-256 of its line
+/// programs. Refused as `InputError` says.
 pub fn program_identity(
     alloc: Global,
     kind: Kind,
     files: Files<'_>,
-    build_id: Option<&[u8]>,
-) -> Result<Vec<u8>, InputError>
-    ensures told { IfSome build_id.entry (λ id. IfOk result (λ named. named.items ≡ id.now)) }
-{
-    match build_id {
-        Some(id) => told_identity(alloc, id),
-        None => own_identity(alloc, kind, files),
-    }
-}
-
-/// A build id, as what names a program.
-fn told_identity(alloc: Global, id: &[u8]) -> Result<Vec<u8>, InputError>
-    ensures { IfOk result (λ named. named.items ≡ id.now) }
-{
-    match Vec::from_slice(alloc, id) {
-        Ok(named) => Ok(named),
-        Err(_) => Err(InputError::Elf(ElfError::OutOfMemory)),
-    }
-}
-
-/// The build id of a program, or else the SHA-256 of its line programs.
-fn own_identity(alloc: Global, kind: Kind, files: Files<'_>) -> Result<Vec<u8>, InputError> {
+) -> Result<Vec<u8>, InputError> {
     if let Some(id) = own_build_id(kind, files, None) {
-        return told_identity(alloc, id);
+        return Ok(Vec::from_slice(alloc, id).map_err(ElfError::from)?);
     }
     let program = Program::new(alloc, kind, files)?;
-    let named = identity_of(alloc, None, program.lines()).map_err(ElfError::from)?;
-    Ok(named)
+    Ok(identity_of(alloc, None, program.lines()).map_err(ElfError::from)?)
 }
 
 /// The build id that is told, or else that of an ELF file.

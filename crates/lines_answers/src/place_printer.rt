@@ -1,13 +1,10 @@
 //! How the places of addresses are printed.
 
 use crate::asked::Asked;
-use lines_inputs::{JsonFunction, ShownFunction};
 use lines_words::{
-    CodeAddress, JsonField, JsonOffset, Output, PathForm, PathText, PlaceForm, bytes_of_word,
-    shown_path,
+    CodeAddress, Json, Output, PathForm, PathText, Request, bytes_of_word, shown_path,
 };
 use std::alloc::{AllocError, Global};
-use std::fmt;
 
 /// The place of an address.
 #[derive(Clone, Copy)]
@@ -23,48 +20,42 @@ pub(crate) struct FoundPlace<'p> {
 
 /// What prints places.
 #[derive(Drop)]
-pub struct PlacePrinter<'f> {
-    pub(crate) form: PlaceForm<'f>,
+pub struct PlacePrinter<'r> {
+    pub(crate) request: &'r Request<'r>,
     /// The directory that paths are printed from; empty where none is named.
     directory: Vec<u8>,
 }
 
-impl<'f> PlacePrinter<'f> {
-    /// Places in a form.
-    pub fn new(alloc: Global, form: PlaceForm<'f>) -> Result<PlacePrinter<'f>, AllocError> {
-        let directory = match form.paths {
+impl<'r> PlacePrinter<'r> {
+    /// Places as a request has them.
+    pub fn new(alloc: Global, request: &'r Request<'r>) -> Result<PlacePrinter<'r>, AllocError> {
+        let directory = match request.paths {
             PathForm::From(directory) => bytes_of_word(alloc, directory)?,
             _ => Vec::new(alloc),
         };
-        Ok(PlacePrinter { form, directory })
+        Ok(PlacePrinter { request, directory })
     }
 
     /// Prints a place, whose JSON object has more fields.
     pub(crate) fn print_found(
         &self,
         place: FoundPlace<'_>,
-        more: impl fmt::Display + Drop,
+        more: &[(&str, Json<'_>)],
         output: &mut Output<'_>,
     ) {
-        let FoundPlace {
-            address,
-            function,
-            path,
-            line,
-            column,
-        } = place;
-        let function = self.shown_function(function);
-        let path = path.map(|path| shown_path(path, self.form.paths, &self.directory));
-        if self.form.is_json {
-            let function = JsonFunction(function);
-            let path = JsonField::of_path(path);
-            return output.print(format_args!(
-                "{{\"address\":\"0x{address:x}\",{path}{function},\"line\":{line},\
-                 \"column\":{column}{more}}}"
-            ));
+        let line = place.line;
+        let column = place.column;
+        let path = place.path.map(|path| shown_path(path, self.request.paths, &self.directory));
+        self.begin(Some(place.address), path, place.function, output);
+        if output.is_json() {
+            let line = Json::Number(line);
+            let column = Json::Number(column);
+            output.add_fields(",", &[("line", line), ("column", column)]);
+            output.add_fields(",", more);
+            return output.print("}");
         }
         let path = PathText(path.unwrap_or(b"??"));
-        output.print(format_args!("{function}{path}:{line}:{column}"));
+        output.print(format_args!("{path}:{line}:{column}"));
     }
 
     /// Prints that there is no place of an address, or of what is none.
@@ -74,13 +65,31 @@ impl<'f> PlacePrinter<'f> {
         function: Option<&[u8]>,
         output: &mut Output<'_>,
     ) {
-        let function = self.shown_function(function);
-        if !self.form.is_json {
-            return output.print(format_args!("{function}??:0:0"));
+        self.begin(address, None, function, output);
+        let rest = if output.is_json() { "}" } else { "??:0:0" };
+        output.print(rest);
+    }
+
+    /// Prints what stands first in a line: in an object of JSON the address, the path and the name
+    /// of the function, where names are shown, and else that alone.
+    fn begin(
+        &self,
+        address: Option<u64>,
+        path: Option<&[u8]>,
+        function: Option<&[u8]>,
+        output: &mut Output<'_>,
+    ) {
+        let has_function = self.request.has_function;
+        if output.is_json() {
+            let address = Json::Offset(address);
+            output.add_fields("{", &[("address", address), ("path", Json::Bytes(path))]);
+            if has_function {
+                output.add_fields(",", &[("function", Json::Text(function))]);
+            }
+        } else if has_function {
+            let name = PathText(function.unwrap_or(b"??"));
+            output.add(format_args!("{name} at "));
         }
-        let address = JsonOffset(address);
-        let function = JsonFunction(function);
-        output.print(format_args!("{{\"address\":{address},\"path\":null{function}}}"));
     }
 
     /// Prints that what is asked is no address of this file, which is reported.
@@ -106,14 +115,6 @@ impl<'f> PlacePrinter<'f> {
                 output.tell(format_args!("'{word}' is no address"));
             }
             Asked::Nothing => {}
-        }
-    }
-
-    /// How the name of a function is shown.
-    fn shown_function<'n>(&self, name: Option<&'n [u8]>) -> ShownFunction<'n> {
-        ShownFunction {
-            is_shown: self.form.has_function,
-            name,
         }
     }
 }

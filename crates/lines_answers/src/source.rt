@@ -5,7 +5,7 @@ use gimli_index::PathEnd;
 use gimli_line::{LineProgramHeader, LineRow};
 use indexmap::IndexSet;
 use lines_inputs::{Functions, Input, PathSources, Printing, UnitRows, Walk, line_of};
-use lines_words::{NameText, Output, Pieces, SourceChoice, SourcePlace, UnitChoice, bytes_of_word};
+use lines_words::{NameText, Output, SourcePlace, UnitChoice, bytes_of_word};
 use std::alloc::{AllocError, Global};
 use std::collections::BTreeMap;
 
@@ -39,7 +39,9 @@ enum Wanted {
 #[derive(Drop)]
 pub struct SourceRows<'w, R: Reader> {
     alloc: Global,
-    choice: SourceChoice<'w>,
+    place: SourcePlace<'w>,
+    /// How many lines before the asked one and after it are wanted.
+    context: u64,
     wanted: Wanted,
     /// An address below which there is no code.
     lowest: u64,
@@ -56,25 +58,30 @@ impl<'w, R: Reader> SourceRows<'w, R> {
         alloc: Global,
         input: &Input<R>,
         functions: &Functions<'_>,
-        choice: SourceChoice<'w>,
+        place: SourcePlace<'w>,
+        context: u64,
         output: &mut Output<'_>,
     ) -> Result<Option<SourceRows<'w, R>>, AllocError> {
         let sources = PathSources::new(alloc, input)?;
-        let word = bytes_of_word(alloc, choice.place.word())?;
-        let wanted = match choice.place {
-            SourcePlace::Line { line, .. } => Wanted::Line { end: word, line },
-            SourcePlace::Function(name) => match functions.range_of(&word) {
-                Some((start, end)) => Wanted::Code { start, end },
-                None => {
+        let wanted = match place {
+            SourcePlace::Line { path, line } => Wanted::Line {
+                end: bytes_of_word(alloc, path)?,
+                line,
+            },
+            SourcePlace::Function(name) => {
+                let word = bytes_of_word(alloc, name)?;
+                let Some((start, end)) = functions.range_of(&word) else {
                     let name = NameText(name);
                     output.tell(format_args!("no function has the name {name}"));
                     return Ok(None);
-                }
-            },
+                };
+                Wanted::Code { start, end }
+            }
         };
         Ok(Some(SourceRows {
             alloc,
-            choice,
+            place,
+            context,
             wanted,
             lowest: input.lowest,
             walk: Walk::new(alloc, input, UnitChoice::All, Printing::Rare, output),
@@ -128,7 +135,7 @@ impl<'w, R: Reader> SourceRows<'w, R> {
         }
         match &self.wanted {
             Wanted::Line { line: asked, .. } => {
-                line > 0 && line.abs_diff(*asked) <= self.choice.context
+                line > 0 && line.abs_diff(*asked) <= self.context
             }
             Wanted::Code { start, end } => *start <= address && address < *end,
         }
@@ -172,6 +179,31 @@ impl<'w, R: Reader> SourceRows<'w, R> {
         self.rows = distinct;
         Ok(())
     }
+
+    /// Adds the rows of the next unit, whose fault is reported, and returns whether more may
+    /// follow. After the last one the rows are put in order; that no file has the place is
+    /// reported.
+    pub fn add_next(&mut self, output: &mut Output<'_>) -> Result<bool, AllocError> {
+        if let Some(mut unit) = self.walk.next_rows(output)? {
+            self.add_unit(&mut unit)?;
+            unit.tell_fault(output);
+            return Ok(true);
+        }
+        self.sort()?;
+        if self.paths.is_empty() {
+            match self.place {
+                SourcePlace::Line { path, .. } => {
+                    let path = NameText(path);
+                    output.tell(format_args!("no file's path ends with {path}"));
+                }
+                SourcePlace::Function(name) => {
+                    let name = NameText(name);
+                    output.tell(format_args!("no rows have the code of {name}"));
+                }
+            }
+        }
+        Ok(false)
+    }
 }
 
 impl Wanted {
@@ -181,26 +213,5 @@ impl Wanted {
             Wanted::Line { end, .. } => PathEnd::new(end).is_end_of(path),
             Wanted::Code { .. } => true,
         }
-    }
-}
-
-impl<R: Reader> Pieces for SourceRows<'_, R> {
-    /// Adds the rows of the next unit, whose fault is reported. After the last one the rows are put
-    /// in order; that no file has the place is reported.
-    fn print_next(&mut self, output: &mut Output<'_>) -> Result<bool, AllocError> {
-        if let Some(mut unit) = self.walk.next_rows(output)? {
-            self.add_unit(&mut unit)?;
-            unit.tell_fault(output);
-            return Ok(true);
-        }
-        self.sort()?;
-        if self.paths.is_empty() {
-            let word = NameText(self.choice.place.word());
-            match self.wanted {
-                Wanted::Line { .. } => output.tell(format_args!("no file's path ends with {word}")),
-                Wanted::Code { .. } => output.tell(format_args!("no rows have the code of {word}")),
-            }
-        }
-        Ok(false)
     }
 }

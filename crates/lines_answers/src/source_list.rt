@@ -1,11 +1,9 @@
 //! How lines of source are printed, with the addresses of their code.
 
 use crate::source::SourceRow;
-use lines_words::{
-    JsonField, Output, PathText, SourceChoice, SourcePlace, SourceText, Style, line_at, lines_of,
-};
+use crate::source_text::{line_at, lines_of};
+use lines_words::{Json, Output, PathText, SourcePlace, SourceText, Style};
 use std::alloc::{AllocError, Global};
-use std::fmt;
 
 /// The first line of several, and the last.
 #[derive(Clone, Copy)]
@@ -21,7 +19,8 @@ pub fn print_lines(
     path: &[u8],
     file: Option<Vec<u8>>,
     rows: &[SourceRow],
-    choice: SourceChoice<'_>,
+    place: SourcePlace<'_>,
+    context: u64,
     output: &mut Output<'_>,
 ) -> Result<(), AllocError> {
     if file.is_none() {
@@ -30,17 +29,16 @@ pub fn print_lines(
     }
     let file = file.unwrap_or(Vec::new(alloc));
     let lines = lines_of(alloc, &file)?;
-    let asked = match choice.place {
+    let asked = match place {
         SourcePlace::Line { line, .. } => Some(line),
         SourcePlace::Function(_) => None,
     };
-    let ranges = ranges_of(alloc, asked, rows, choice.context)?;
+    let ranges = ranges_of(alloc, asked, rows, context)?;
     let listing = SourceListing {
         path,
         lines: &lines,
         asked,
         rows,
-        is_json: choice.is_json,
     };
     listing.print(&ranges, output);
     Ok(())
@@ -91,18 +89,14 @@ struct SourceListing<'l> {
     asked: Option<u64>,
     /// The rows in the order of their lines.
     rows: &'l [SourceRow],
-    is_json: bool,
 }
 
 impl<'l> SourceListing<'l> {
     /// Prints the lines of ranges.
     fn print(self, ranges: &[LineRange], output: &mut Output<'_>) {
-        if !self.is_json {
-            let path = PathText(self.path);
-            output.print_heading(path);
-        }
+        output.print_heading(PathText(self.path));
         for (number, range) in ranges.iter().enumerate() {
-            if number > 0 && !self.is_json {
+            if number > 0 && !output.is_json() {
                 output.print("...");
             }
             self.print_range(*range, output);
@@ -117,7 +111,7 @@ impl<'l> SourceListing<'l> {
             if text.is_none() && rows.is_empty() && self.asked != Some(line) {
                 continue;
             }
-            if self.is_json {
+            if output.is_json() {
                 self.print_json(line, text, rows, output);
             } else {
                 self.print_line(line, text, rows, output);
@@ -143,27 +137,33 @@ impl<'l> SourceListing<'l> {
     ) {
         let is_asked = self.asked == Some(line);
         let mark = if is_asked { '>' } else { ' ' };
-        let style = if is_asked {
-            output.screen().heading()
+        let Style { begin, end } = if is_asked {
+            output.heading()
         } else {
             Style::PLAIN
         };
-        let Style { begin, end } = style;
-        let beside = Beside {
-            row: rows.first().copied(),
-            text: text.unwrap_or(b""),
-        };
-        output.print(format_args!("{begin}{mark}{line:>6}{beside}{end}"));
+        output.add(format_args!("{begin}{mark}{line:>6}"));
+        match (rows.first(), text) {
+            (Some(row), _) => add_row(*row, output),
+            (None, Some(text)) if !text.is_empty() => output.add(format_args!("{:23}", "")),
+            _ => {}
+        }
+        match text {
+            Some(text) if !text.is_empty() => {
+                let text = SourceText(text);
+                output.add(format_args!("  {text}"));
+            }
+            _ => {}
+        }
+        output.print(end);
         for row in rows.iter().skip(1) {
-            let below = Beside {
-                row: Some(*row),
-                text: b"",
-            };
-            output.print(format_args!("       {below}"));
+            output.add("       ");
+            add_row(*row, output);
+            output.print("");
         }
     }
 
-    /// Prints a line as a JSON object.
+    /// Prints a line as an object of JSON.
     fn print_json(
         self,
         line: u64,
@@ -171,62 +171,30 @@ impl<'l> SourceListing<'l> {
         rows: &[SourceRow],
         output: &mut Output<'_>,
     ) {
-        let path = JsonField::of_path(Some(self.path));
-        let text = JsonField {
-            name: "text",
-            bytes: text,
-        };
-        let rows = JsonRows(rows);
-        output.print(format_args!("{{{path},\"line\":{line},{text},\"rows\":[{rows}]}}"));
+        let fields = [
+            ("path", Json::Bytes(Some(self.path))),
+            ("line", Json::Number(line)),
+            ("text", Json::Bytes(text)),
+            ("rows", Json::Written("[")),
+        ];
+        output.add_fields("{", &fields);
+        let mut first = "{";
+        for row in rows {
+            let fields = [
+                ("address", Json::Offset(Some(row.address))),
+                ("is_stmt", Json::Holds(row.is_stmt)),
+            ];
+            output.add_fields(first, &fields);
+            output.add("}");
+            first = ",{";
+        }
+        output.print("]}");
     }
 }
 
-/// Rows, as JSON objects.
-#[derive(Clone, Copy)]
-struct JsonRows<'l>(&'l [SourceRow]);
-
-impl fmt::Display for JsonRows<'_> {
-    fn fmt<W: fmt::Write>(&self, f: &mut fmt::Formatter<W>) -> fmt::Result {
-        let mut before = "";
-        for row in self.0 {
-            let SourceRow {
-                address,
-                is_stmt,
-                ..
-            } = row;
-            write!(
-                f,
-                "{before}{{\"address\":\"0x{address:x}\",\"is_stmt\":{is_stmt}}}"
-            )?;
-            before = ",";
-        }
-        Ok(())
-    }
-}
-
-/// What stands beside the number of a line: the address of a row, `s` for a statement or a stroke,
-/// and the text.
-#[derive(Clone, Copy)]
-struct Beside<'l> {
-    row: Option<SourceRow>,
-    text: &'l [u8],
-}
-
-impl fmt::Display for Beside<'_> {
-    fn fmt<W: fmt::Write>(&self, f: &mut fmt::Formatter<W>) -> fmt::Result {
-        match self.row {
-            Some(row) => {
-                let address = row.address;
-                let letter = if row.is_stmt { 's' } else { '-' };
-                write!(f, "  0x{address:<16x}  {letter}")?;
-            }
-            None if self.text.is_empty() => return Ok(()),
-            None => write!(f, "{:23}", "")?,
-        }
-        if self.text.is_empty() {
-            return Ok(());
-        }
-        let text = SourceText(self.text);
-        write!(f, "  {text}")
-    }
+/// Prints the address of a row, and `s` for a statement or a stroke.
+fn add_row(row: SourceRow, output: &mut Output<'_>) {
+    let address = row.address;
+    let letter = if row.is_stmt { 's' } else { '-' };
+    output.add(format_args!("  0x{address:<16x}  {letter}"));
 }

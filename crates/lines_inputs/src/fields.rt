@@ -25,17 +25,8 @@ pub fn column_of(row: &LineRow) -> u64
     }
 }
 
-/// The flags of a row, as words in JSON.
-#[derive(Clone, Copy)]
-pub struct JsonFlags(pub LineRow);
-
-/// The flags of a row, as letters, each in a place of its own, with a stroke in place of each that
-/// doesn't hold.
-#[derive(Clone, Copy)]
-pub struct FlagLetters(pub LineRow);
-
 /// Each flag of a row, with its name and its letter.
-fn flags(row: &LineRow) -> [(bool, &'static str, char); 5] {
+pub fn flags_of(row: &LineRow) -> [(bool, &'static str, char); 5] {
     [
         (row.is_stmt(), "is_stmt", 's'),
         (row.basic_block(), "basic_block", 'b'),
@@ -45,23 +36,14 @@ fn flags(row: &LineRow) -> [(bool, &'static str, char); 5] {
     ]
 }
 
-impl fmt::Display for JsonFlags {
-    fn fmt<W: fmt::Write>(&self, f: &mut fmt::Formatter<W>) -> fmt::Result {
-        let mut before = "";
-        f.write_char('[')?;
-        for (holds, name, _) in flags(&self.0) {
-            if holds {
-                write!(f, "{before}\"{name}\"")?;
-                before = ",";
-            }
-        }
-        f.write_char(']')
-    }
-}
+/// The flags of a row, as letters, each in a place of its own, with a stroke in place of each that
+/// doesn't hold.
+#[derive(Clone, Copy)]
+pub struct FlagLetters(pub LineRow);
 
 impl fmt::Display for FlagLetters {
     fn fmt<W: fmt::Write>(&self, f: &mut fmt::Formatter<W>) -> fmt::Result {
-        for (holds, _, letter) in flags(&self.0) {
+        for (holds, _, letter) in flags_of(&self.0) {
             f.write_char(if holds { letter } else { '-' })?;
         }
         Ok(())

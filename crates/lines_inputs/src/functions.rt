@@ -2,9 +2,8 @@
 
 use crate::section_source::SectionSource;
 use elf_sections::{CodeSymbol, ElfError, SectionBytes, SymbolTable};
-use lines_words::{JsonText, PathText, SymbolFiles};
+use lines_words::SymbolFiles;
 use std::alloc::{AllocError, Global};
-use std::fmt;
 
 /// A symbol that is a function (`STT_FUNC`).
 const FUNCTION: u8 = 2;
@@ -138,43 +137,4 @@ fn is_function(symbol: CodeSymbol, section: Option<u16>) -> bool {
         None => symbol.section != 0,
     };
     is_there && (symbol.kind == FUNCTION || symbol.kind == CHOOSING)
-}
-
-/// The name of a function before its place, where names are shown.
-#[derive(Clone, Copy)]
-pub struct ShownFunction<'n> {
-    /// Whether names are shown.
-    pub is_shown: bool,
-    /// The name, where it is known.
-    pub name: Option<&'n [u8]>,
-}
-
-impl fmt::Display for ShownFunction<'_> {
-    fn fmt<W: fmt::Write>(&self, f: &mut fmt::Formatter<W>) -> fmt::Result {
-        if !self.is_shown {
-            return Ok(());
-        }
-        let name = PathText(self.name.unwrap_or(b"??"));
-        write!(f, "{name} at ")
-    }
-}
-
-/// The name of a function as a field of a JSON object, with a comma before it; nothing where names
-/// aren't shown.
-#[derive(Clone, Copy)]
-pub struct JsonFunction<'n>(pub ShownFunction<'n>);
-
-impl fmt::Display for JsonFunction<'_> {
-    fn fmt<W: fmt::Write>(&self, f: &mut fmt::Formatter<W>) -> fmt::Result {
-        if !self.0.is_shown {
-            return Ok(());
-        }
-        match self.0.name {
-            Some(name) => {
-                let name = JsonText(name);
-                write!(f, ",\"function\":{name}")
-            }
-            None => f.write_str(",\"function\":null"),
-        }
-    }
 }

@@ -14,8 +14,8 @@ mod unit_rows;
 mod unit_sections;
 mod walk;
 
-pub use fields::{FlagLetters, JsonFlags, column_of, line_of};
-pub use functions::{Functions, JsonFunction, ShownFunction};
+pub use fields::{FlagLetters, column_of, flags_of, line_of};
+pub use functions::Functions;
 pub use input::{Input, NOT_LINKED};
 pub use input_error::{InputError, tell_refusal};
 pub use lookup::{Covering, look_up, look_up_any, look_up_each};

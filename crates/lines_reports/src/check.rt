@@ -6,7 +6,7 @@ use gimli_core::{Reader, ReaderOffset};
 use gimli_line::LineProgramHeader;
 use gimli_lookup::PathError;
 use lines_inputs::{Input, PathSources, Printing, Walk};
-use lines_words::{CheckChoice, FindingKind, Output, Pieces, UnitChoice};
+use lines_words::{FindingKind, Output, UnitChoice};
 use sha2::{Digest, Sha256};
 use std::alloc::{AllocError, Global};
 
@@ -33,7 +33,6 @@ impl<R: Reader> Check<R> {
     pub fn new(
         alloc: Global,
         input: &Input<R>,
-        choice: CheckChoice,
         output: &mut Output<'_>,
     ) -> Result<Check<R>, AllocError> {
         let sources = PathSources::new(alloc, input)?;
@@ -46,14 +45,13 @@ impl<R: Reader> Check<R> {
             unit: None,
             units: 0,
             sequences: Vec::new(alloc),
-            findings: Findings::new(choice),
+            findings: Findings::new(),
         })
     }
 
     /// Prints each file of a unit that has no path, and each that has the path of a file before it.
     fn check_files(
         &mut self,
-        unit: u64,
         header: &LineProgramHeader<R>,
         output: &mut Output<'_>,
     ) -> Result<(), AllocError> {
@@ -71,24 +69,19 @@ impl<R: Reader> Check<R> {
                 Err(PathError::OutOfMemory) => return Err(AllocError),
                 Err(error) => {
                     let error = self.sources.fault(error);
-                    self.findings.print(
-                        unit,
-                        FindingKind::NoPath,
-                        None,
-                        format_args!("file {index}: {error}"),
-                        output,
-                    );
+                    let sentence = format_args!("file {index}: {error}");
+                    self.findings.find(FindingKind::NoPath, sentence, output);
                 }
             }
         }
         files.sort()?;
-        self.print_duplicates(unit, &files, output);
+        self.print_duplicates(&files, output);
         Ok(())
     }
 
     /// Prints each file whose path is that of the file before it, where files are sorted by their
     /// paths.
-    fn print_duplicates(&mut self, unit: u64, files: &[DigestedFile], output: &mut Output<'_>) {
+    fn print_duplicates(&mut self, files: &[DigestedFile], output: &mut Output<'_>) {
         let mut before: Option<DigestedFile> = None;
         for file in files {
             if let Some(other) = before {
@@ -101,13 +94,8 @@ impl<R: Reader> Check<R> {
                     } else {
                         FindingKind::SamePath
                     };
-                    self.findings.print(
-                        unit,
-                        kind,
-                        None,
-                        format_args!("files {first} and {second} have the same path"),
-                        output,
-                    );
+                    let sentence = format_args!("files {first} and {second} have the same path");
+                    self.findings.find(kind, sentence, output);
                 }
             }
             before = Some(*file);
@@ -131,6 +119,40 @@ impl<R: Reader> Check<R> {
         }
         Ok(())
     }
+
+    /// Looks at some instructions of a unit, and after the last one at its files. After the last
+    /// unit follow the sequences that overlap, and the counts.
+    pub(crate) fn print_next(&mut self, output: &mut Output<'_>) -> Result<bool, AllocError> {
+        if let Some(mut unit) = self.unit.take() {
+            if unit.run_some(&mut self.sequences, &mut self.findings, output)? {
+                self.unit = Some(unit);
+            } else {
+                self.check_files(unit.header(), output)?;
+            }
+            return Ok(true);
+        }
+        if let Some(unit) = self.walk.next_unit(output)? {
+            self.units = self.units.saturating_add(1);
+            let offset = unit.offset.0.into_u64();
+            self.findings.unit = offset;
+            match unit.program {
+                Ok(program) => {
+                    self.unit = Some(UnitCheck::new(self.lowest, self.is_linked, program));
+                }
+                Err(refusal) => {
+                    let kind = FindingKind::Header;
+                    self.findings.find_at(Some(offset), kind, refusal, output);
+                }
+            }
+            return Ok(true);
+        }
+        // In an object file each section stands at 0, and so do its sequences.
+        if self.is_linked {
+            self.print_overlaps(output)?;
+        }
+        self.findings.print_counts(self.units, output);
+        Ok(false)
+    }
 }
 
 /// Prints that a sequence overlaps another.
@@ -151,10 +173,9 @@ fn print_overlap(
     } else {
         FindingKind::Overlap
     };
-    findings.print(
-        unit,
+    findings.unit = unit;
+    findings.find(
         kind,
-        None,
         format_args!(
             "the sequence from 0x{start:x} to 0x{end:x} overlaps that from 0x{other_start:x} to \
              0x{other_end:x} in the unit at 0x{other_unit:x}"
@@ -169,41 +190,4 @@ fn print_overlap(
 struct DigestedFile {
     digest: [u8; 32],
     index: u64,
-}
-
-impl<R: Reader> Pieces for Check<R> {
-    /// Looks at some instructions of a unit, and after the last one at its files. After the last
-    /// unit follow the sequences that overlap, and the counts.
-    fn print_next(&mut self, output: &mut Output<'_>) -> Result<bool, AllocError> {
-        if let Some(mut unit) = self.unit.take() {
-            if unit.run_some(&mut self.sequences, &mut self.findings, output)? {
-                self.unit = Some(unit);
-            } else {
-                self.check_files(unit.offset(), unit.header(), output)?;
-            }
-            return Ok(true);
-        }
-        if let Some(unit) = self.walk.next_unit(output)? {
-            self.units = self.units.saturating_add(1);
-            let offset = unit.offset.0.into_u64();
-            match unit.program {
-                Ok(program) => {
-                    let unit = UnitCheck::new(offset, self.lowest, self.is_linked, program);
-                    self.unit = Some(unit);
-                }
-                Err(refusal) => {
-                    let kind = FindingKind::Header;
-                    self.findings
-                        .print(offset, kind, Some(offset), refusal, output);
-                }
-            }
-            return Ok(true);
-        }
-        // In an object file each section stands at 0, and so do its sequences.
-        if self.is_linked {
-            self.print_overlaps(output)?;
-        }
-        self.findings.print_counts(self.units, output);
-        Ok(false)
-    }
 }

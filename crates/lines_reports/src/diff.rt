@@ -5,9 +5,8 @@ use crate::path_numbers::PathNumbers;
 use gimli_core::Reader;
 use gimli_line::LineRow;
 use lines_inputs::{Input, PathSources, Printing, UnitRows, Walk, line_of};
-use lines_words::{JsonCount, JsonField, Output, PathText, Pieces, UnitChoice};
+use lines_words::{Json, Output, PathText, UnitChoice};
 use std::alloc::{AllocError, Global};
-use std::fmt;
 
 /// The code of each line of two programs.
 #[derive(Drop)]
@@ -17,7 +16,6 @@ pub struct Diff<R: Reader> {
     new: Side<R>,
     /// Whether the new program is read.
     is_new: bool,
-    is_json: bool,
     paths: PathNumbers,
 }
 
@@ -27,7 +25,6 @@ impl<R: Reader> Diff<R> {
         alloc: Global,
         old: &Input<R>,
         new: &Input<R>,
-        is_json: bool,
         output: &mut Output<'_>,
     ) -> Result<Diff<R>, AllocError> {
         Ok(Diff {
@@ -35,7 +32,6 @@ impl<R: Reader> Diff<R> {
             old: Side::new(alloc, old, output)?,
             new: Side::new(alloc, new, output)?,
             is_new: false,
-            is_json,
             paths: PathNumbers::new(alloc),
         })
     }
@@ -61,16 +57,18 @@ impl<R: Reader> Diff<R> {
         let old = self.old.coverage.count();
         let new = self.new.coverage.count();
         let count = differences.len();
-        if self.is_json {
-            output.print(format_args!(
-                "{{\"old_lines\":{old},\"new_lines\":{new},\"differences\":{count}}}"
-            ));
-        } else {
-            output.print(format_args!(
+        let fields = [
+            ("old_lines", Json::Number(old as u64)),
+            ("new_lines", Json::Number(new as u64)),
+            ("differences", Json::Number(count as u64)),
+        ];
+        output.print_item(
+            &fields,
+            format_args!(
                 "lines with code: {old} in the old program, {new} in the new one; differences: \
                  {count}"
-            ));
-        }
+            ),
+        );
         Ok(())
     }
 
@@ -78,24 +76,29 @@ impl<R: Reader> Diff<R> {
     fn print_change(&self, place: Place, change: Change, output: &mut Output<'_>) {
         let path = self.paths.path(place.path);
         let line = place.line;
-        if !self.is_json {
-            let path = PathText(path);
-            let change = ChangeText(change);
-            return output.print(format_args!("{path}:{line}  {change}"));
+        if output.is_json() {
+            let fields = [
+                ("path", Json::Bytes(Some(path))),
+                ("line", Json::Number(line)),
+                ("old_bytes", Json::Count(change.old)),
+                ("new_bytes", Json::Count(change.new)),
+            ];
+            output.add_fields("{", &fields);
+            return output.print("}");
         }
-        let path = JsonField::of_path(Some(path));
-        let old = JsonCount(change.old);
-        let new = JsonCount(change.new);
-        output.print(format_args!(
-            "{{{path},\"line\":{line},\"old_bytes\":{old},\"new_bytes\":{new}}}"
-        ));
+        let path = PathText(path);
+        output.add(format_args!("{path}:{line}  "));
+        match (change.old, change.new) {
+            (Some(old), Some(new)) => output.print(format_args!("{old} bytes, now {new}")),
+            (Some(old), None) => output.print(format_args!("{old} bytes, now no code")),
+            (None, Some(new)) => output.print(format_args!("no code, now {new} bytes")),
+            (None, None) => output.print("no code"),
+        }
     }
-}
 
-impl<R: Reader> Pieces for Diff<R> {
     /// Adds the code of the next unit. After the last one of the new program follow the lines that
     /// differ.
-    fn print_next(&mut self, output: &mut Output<'_>) -> Result<bool, AllocError> {
+    pub fn print_next(&mut self, output: &mut Output<'_>) -> Result<bool, AllocError> {
         if !self.is_new {
             return self.old.add_next(&mut self.paths, output);
         }
@@ -173,20 +176,5 @@ impl<R: Reader> Side<R> {
             line: line_of(row),
         };
         self.coverage.add(place, end.saturating_sub(row.address()))
-    }
-}
-
-/// How many bytes a line has in two programs, for people.
-#[derive(Clone, Copy)]
-struct ChangeText(Change);
-
-impl fmt::Display for ChangeText {
-    fn fmt<W: fmt::Write>(&self, f: &mut fmt::Formatter<W>) -> fmt::Result {
-        match (self.0.old, self.0.new) {
-            (Some(old), Some(new)) => write!(f, "{old} bytes, now {new}"),
-            (Some(old), None) => write!(f, "{old} bytes, now no code"),
-            (None, Some(new)) => write!(f, "no code, now {new} bytes"),
-            (None, None) => f.write_str("no code"),
-        }
     }
 }

@@ -1,51 +1,65 @@
 //! What a check has found, and what of it is told.
 
-use lines_words::{CheckChoice, FindingKind, Form, JsonOffset, Output, Style};
+use lines_words::{FindingKind, Json, Output, Style};
 use std::fmt;
 
-/// What was found so far, and what of it is told.
+/// What was found so far.
 #[derive(Clone, Copy)]
 pub(crate) struct Findings {
-    choice: CheckChoice,
+    /// The offset of the unit that is looked at.
+    pub(crate) unit: u64,
     /// How many there were of each kind.
     counts: [u64; 12],
 }
 
 impl Findings {
     /// Nothing was found.
-    pub(crate) fn new(choice: CheckChoice) -> Findings {
+    pub(crate) fn new() -> Findings {
         Findings {
-            choice,
+            unit: 0,
             counts: [0; 12],
         }
     }
 
-    /// Counts a finding in the unit at an offset, and prints the sentence where it is told; of a
-    /// fault the byte of the section, too, that it stands at. In sentences rows are counted from 1,
-    /// those that are left out not among them, and no character is one that JSON escapes.
-    pub(crate) fn print(
+    /// Counts a finding in the unit, and prints the sentence where it is told.
+    pub(crate) fn find(
         &mut self,
-        unit: u64,
         kind: FindingKind,
+        sentence: impl fmt::Display + Drop,
+        output: &mut Output<'_>,
+    ) {
+        self.find_at(None, kind, sentence, output);
+    }
+
+    /// The same, with the byte of the section that a fault stands at. In sentences rows are counted
+    /// from 1, those that are left out not among them, and no character is one that JSON escapes.
+    pub(crate) fn find_at(
+        &mut self,
         byte: Option<u64>,
+        kind: FindingKind,
         sentence: impl fmt::Display + Drop,
         output: &mut Output<'_>,
     ) {
         let (number, name, severity) = kind.entry();
         self.counts[number] = self.counts[number].saturating_add(1);
-        output.judge(self.choice, kind);
-        if !self.choice.is_all && !self.choice.counts(kind) {
+        let choice = output.check();
+        output.judge(choice, kind);
+        if !choice.is_all && !choice.counts(kind) {
             return;
         }
+        let unit = self.unit;
         let severity = severity.name();
-        if self.choice.form == Form::Json {
-            let byte = JsonOffset(byte);
-            return output.print(format_args!(
-                "{{\"unit\":\"0x{unit:x}\",\"severity\":\"{severity}\",\"kind\":\"{name}\",\
-                 \"byte\":{byte},\"message\":\"{sentence}\"}}"
-            ));
+        if output.is_json() {
+            let fields = [
+                ("unit", Json::Offset(Some(unit))),
+                ("severity", Json::Word(severity)),
+                ("kind", Json::Word(name)),
+                ("byte", Json::Offset(byte)),
+            ];
+            output.add_fields("{", &fields);
+            return output.print(format_args!(",\"message\":\"{sentence}\"}}"));
         }
-        let Style { begin, end } = output.screen().heading();
+        let Style { begin, end } = output.heading();
         output.print(format_args!(
             "{begin}unit at 0x{unit:x}:{end} {severity}: {sentence} [{name}]"
         ));
@@ -54,30 +68,30 @@ impl Findings {
     /// Prints how many findings of each kind there were in so many units, and how many of them
     /// count.
     pub(crate) fn print_counts(&self, units: u64, output: &mut Output<'_>) {
-        let is_json = self.choice.form == Form::Json;
         let mut findings = 0u64;
         for kind in FindingKind::ALL {
             let (number, name, severity) = kind.entry();
-            let count = self.counts[number];
-            if count == 0 {
-                continue;
-            }
-            if self.choice.counts(kind) {
-                findings = findings.saturating_add(count);
-            }
             let severity = severity.name();
-            if is_json {
-                output.print(format_args!(
-                    "{{\"severity\":\"{severity}\",\"kind\":\"{name}\",\"count\":{count}}}"
-                ));
-            } else {
-                output.print(format_args!("{name} ({severity}): {count}"));
+            let count = self.counts[number];
+            if count > 0 {
+                let fields = [
+                    ("severity", Json::Word(severity)),
+                    ("kind", Json::Word(name)),
+                    ("count", Json::Number(count)),
+                ];
+                output.print_item(&fields, format_args!("{name} ({severity}): {count}"));
+                if output.check().counts(kind) {
+                    findings = findings.saturating_add(count);
+                }
             }
         }
-        if is_json {
-            output.print(format_args!("{{\"units\":{units},\"findings\":{findings}}}"));
-        } else {
-            output.print(format_args!("units: {units}, findings: {findings}"));
-        }
+        let fields = [
+            ("units", Json::Number(units)),
+            ("findings", Json::Number(findings)),
+        ];
+        output.print_item(
+            &fields,
+            format_args!("units: {units}, findings: {findings}"),
+        );
     }
 }

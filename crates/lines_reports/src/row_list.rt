@@ -4,10 +4,10 @@ use gimli_core::Reader;
 use gimli_line::LineRow;
 use gimli_lookup::PathError;
 use lines_inputs::{
-    FlagLetters, Input, JsonFlags, PathSources, Printing, RowCount, UnitRows, Walk, column_of,
+    FlagLetters, Input, PathSources, Printing, RowCount, UnitRows, Walk, column_of, flags_of,
     line_of,
 };
-use lines_words::{Form, JsonField, Output, PathText, Pieces, UnitChoice, last_part};
+use lines_words::{Form, Json, JsonBytes, Output, PathText, UnitChoice, last_part};
 use std::alloc::{AllocError, Global};
 
 /// How many rows are printed before they are handed on.
@@ -90,13 +90,16 @@ impl<R: Reader> RowList<R> {
                 None
             }
         };
-        if self.form == Form::Json {
-            let path = JsonField::of_path(path.as_deref());
+        if matches!(self.form, Form::Json) {
+            let path = JsonBytes {
+                name: "path",
+                bytes: path.as_deref(),
+            };
             self.path = format!(in self.alloc; "{path}")?;
             return Ok(());
         }
         let path = match &path {
-            Some(path) if self.form == Form::Text => last_part(path),
+            Some(path) if matches!(self.form, Form::Text) => last_part(path),
             Some(path) => path.as_slice(),
             None => b"??",
         };
@@ -104,11 +107,9 @@ impl<R: Reader> RowList<R> {
         self.path = format!(in self.alloc; "{path}")?;
         Ok(())
     }
-}
 
-impl<R: Reader> Pieces for RowList<R> {
     /// Prints the headings of the next unit, or some of its rows.
-    fn print_next(&mut self, output: &mut Output<'_>) -> Result<bool, AllocError> {
+    pub(crate) fn print_next(&mut self, output: &mut Output<'_>) -> Result<bool, AllocError> {
         if let Some(mut unit) = self.unit.take() {
             if self.print_some(&mut unit, output)? {
                 self.unit = Some(unit);
@@ -118,10 +119,8 @@ impl<R: Reader> Pieces for RowList<R> {
         let Some(unit) = self.walk.next_rows(output)? else {
             return Ok(false);
         };
-        if self.form != Form::Json {
-            output.print_unit_heading(unit.offset, unit.header().version());
-            output.print_heading("           address     line  column  discr  isa  flags  file");
-        }
+        output.print_unit_heading(unit.offset, unit.header().version());
+        output.print_heading("           address     line  column  discr  isa  flags  file");
         self.file = None;
         self.unit = Some(unit);
         Ok(true)
@@ -149,17 +148,19 @@ fn print_text(row: &LineRow, path: &str, output: &mut Output<'_>) {
 
 /// Prints a row as a JSON object.
 fn print_json(offset: u64, row: &LineRow, path: &str, output: &mut Output<'_>) {
-    let address = row.address();
-    let op_index = row.op_index();
-    let file = row.file_index();
-    let line = line_of(row);
-    let column = column_of(row);
-    let discriminator = row.discriminator();
-    let isa = row.isa();
-    let flags = JsonFlags(*row);
-    output.print(format_args!(
-        "{{\"unit\":\"0x{offset:x}\",\"address\":\"0x{address:x}\",\"op_index\":{op_index},\
-         {path},\"file\":{file},\"line\":{line},\"column\":{column},\
-         \"discriminator\":{discriminator},\"isa\":{isa},\"flags\":{flags}}}"
-    ));
+    let flags = flags_of(row);
+    let fields = [
+        ("unit", Json::Offset(Some(offset))),
+        ("address", Json::Offset(Some(row.address()))),
+        ("op_index", Json::Number(row.op_index())),
+        ("path", Json::Written(path)),
+        ("file", Json::Number(row.file_index())),
+        ("line", Json::Number(line_of(row))),
+        ("column", Json::Number(column_of(row))),
+        ("discriminator", Json::Number(row.discriminator())),
+        ("isa", Json::Number(row.isa())),
+        ("flags", Json::Flags(&flags)),
+    ];
+    output.add_fields("{", &fields);
+    output.print("}");
 }

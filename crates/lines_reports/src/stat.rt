@@ -2,12 +2,12 @@
 
 use crate::path_numbers::PathNumbers;
 use crate::spent::Spent;
-use crate::tally::Tally;
+use crate::tally::{Share, Tally};
 use crate::unit_list::unit_bytes;
 use gimli_core::Reader;
 use gimli_line::LineRow;
 use lines_inputs::{Input, PathSources, Printing, UnitRows, Walk};
-use lines_words::{JsonField, Output, PathText, Pieces, UnitChoice};
+use lines_words::{Json, Output, PathText, UnitChoice};
 use std::alloc::{AllocError, Global};
 use std::collections::BTreeMap;
 use std::fmt;
@@ -21,7 +21,6 @@ pub struct Stat<R: Reader> {
     alloc: Global,
     walk: Walk<R>,
     sources: PathSources<R>,
-    is_json: bool,
     /// The bytes of the section.
     all: u64,
     tally: Tally,
@@ -46,7 +45,6 @@ impl<R: Reader> Stat<R> {
     pub fn new(
         alloc: Global,
         input: &Input<R>,
-        is_json: bool,
         output: &mut Output<'_>,
     ) -> Result<Stat<R>, AllocError> {
         let sources = PathSources::new(alloc, input)?;
@@ -54,7 +52,6 @@ impl<R: Reader> Stat<R> {
             alloc,
             walk: Walk::new(alloc, input, UnitChoice::All, Printing::Rare, output),
             sources,
-            is_json,
             all: input.length(),
             tally: Tally::new(),
             bytes: 0,
@@ -128,89 +125,87 @@ impl<R: Reader> Stat<R> {
             all,
             ..
         } = self;
-        if self.is_json {
-            return output.print(format_args!(
-                "{{\"units\":{units},\"rows\":{rows},\"sequences\":{ends},\
-                 \"not_statements\":{not_statements},\"bytes\":{all}}}"
-            ));
-        }
+        let fields = [
+            ("units", Json::Number(units as u64)),
+            ("rows", Json::Number(*rows)),
+            ("sequences", Json::Number(*ends)),
+            ("not_statements", Json::Number(*not_statements)),
+            ("bytes", Json::Number(*all)),
+        ];
         let whole = all.checked_div(*rows).unwrap_or(0);
         let rest = all.checked_rem(*rows).unwrap_or(0);
         let tenths = rest.saturating_mul(10).checked_div(*rows).unwrap_or(0);
-        output.print(format_args!(
-            "units: {units}, rows: {rows}, ends: {ends}, not statements: {not_statements}, \
-             bytes: {all}, a row: {whole}.{tenths}"
-        ));
+        output.print_item(
+            &fields,
+            format_args!(
+                "units: {units}, rows: {rows}, ends: {ends}, not statements: {not_statements}, \
+                 bytes: {all}, a row: {whole}.{tenths}"
+            ),
+        );
     }
 
     /// Prints what the bytes are spent on.
     fn print_shares(&self, output: &mut Output<'_>) {
-        if !self.is_json {
-            output.print_heading("what                   times     bytes  operands   share");
-        }
+        output.print_heading("what                   times     bytes  operands   share");
         for spent in Spent::ALL {
             let share = self.tally.share(spent);
-            let name = spent.name();
-            let times = share.times;
-            let bytes = share.bytes;
-            let operands = share.operands;
+            let Share {
+                times,
+                bytes,
+                operands,
+            } = share;
             if times == 0 {
                 continue;
             }
-            if self.is_json {
-                output.print(format_args!(
-                    "{{\"what\":\"{name}\",\"times\":{times},\"bytes\":{bytes},\
-                     \"operands\":{operands}}}"
-                ));
-            } else {
-                let percent = Percent(share.all_bytes(), self.all);
-                output.print(format_args!(
-                    "{name:<18}  {times:>8}  {bytes:>8}  {operands:>8}  {percent}"
-                ));
-            }
+            let name = spent.name();
+            let fields = [
+                ("what", Json::Word(name)),
+                ("times", Json::Number(times)),
+                ("bytes", Json::Number(bytes)),
+                ("operands", Json::Number(operands)),
+            ];
+            let percent = Percent(share.all_bytes(), self.all);
+            output.print_item(
+                &fields,
+                format_args!("{name:<18}  {times:>8}  {bytes:>8}  {operands:>8}  {percent}"),
+            );
         }
     }
 
     /// Prints the largest units.
     fn print_units(&self, output: &mut Output<'_>) {
-        if !self.is_json {
-            output.print_heading("largest units                 bytes             share");
-        }
+        output.print_heading("largest units                 bytes             share");
         for (bytes, offset) in self.units.iter().rev().take(LARGEST) {
-            if self.is_json {
-                output.print(format_args!("{{\"unit\":\"0x{offset:x}\",\"bytes\":{bytes}}}"));
-            } else {
-                let percent = Percent(*bytes, self.all);
-                output.print(format_args!(
-                    "0x{offset:08x}                {bytes:>12}            {percent}"
-                ));
-            }
+            let fields = [
+                ("unit", Json::Offset(Some(*offset))),
+                ("bytes", Json::Number(*bytes)),
+            ];
+            let percent = Percent(*bytes, self.all);
+            output.print_item(
+                &fields,
+                format_args!("0x{offset:08x}                {bytes:>12}            {percent}"),
+            );
         }
     }
 
     /// Prints the files with the most rows.
     fn print_files(&self, output: &mut Output<'_>) {
-        if !self.is_json {
-            output.print_heading("most rows");
-        }
+        output.print_heading("most rows");
         let all = self.rows.saturating_sub(self.ends);
         for (count, number) in self.largest.iter().rev().take(LARGEST) {
             let path = self.paths.path(*number);
-            if !self.is_json {
-                let path = PathText(path);
-                let percent = Percent(*count, all);
-                output.print(format_args!("{count:>9}  {path}  {percent}"));
-                continue;
-            }
-            let path = JsonField::of_path(Some(path));
-            output.print(format_args!("{{{path},\"rows\":{count}}}"));
+            let fields = [
+                ("path", Json::Bytes(Some(path))),
+                ("rows", Json::Number(*count)),
+            ];
+            let path = PathText(path);
+            let percent = Percent(*count, all);
+            output.print_item(&fields, format_args!("{count:>9}  {path}  {percent}"));
         }
     }
-}
 
-impl<R: Reader> Pieces for Stat<R> {
     /// Counts the next unit, whose fault is reported. After the last one everything is printed.
-    fn print_next(&mut self, output: &mut Output<'_>) -> Result<bool, AllocError> {
+    pub(crate) fn print_next(&mut self, output: &mut Output<'_>) -> Result<bool, AllocError> {
         if let Some(mut unit) = self.walk.next_rows(output)? {
             self.add_unit(&mut unit)?;
             unit.tell_fault(output);

@@ -36,9 +36,8 @@ pub(crate) struct UnitCheck<R: Reader> {
 }
 
 impl<R: Reader> UnitCheck<R> {
-    /// No instruction of the unit at an offset was looked at.
+    /// No instruction of a unit was looked at.
     pub(crate) fn new(
-        offset: u64,
         lowest: u64,
         is_linked: bool,
         program: IncompleteLineProgram<R>,
@@ -49,7 +48,6 @@ impl<R: Reader> UnitCheck<R> {
             program,
             executed: 0,
             rows: RowCheck {
-                unit: offset,
                 lowest,
                 is_linked,
                 rows: 0,
@@ -58,11 +56,6 @@ impl<R: Reader> UnitCheck<R> {
                 is_left_out: false,
             },
         }
-    }
-
-    /// The offset of the unit.
-    pub(crate) fn offset(&self) -> u64 {
-        self.rows.unit
     }
 
     /// The header, with the files that are defined so far.
@@ -132,16 +125,11 @@ impl<R: Reader> UnitCheck<R> {
         if error == Error::OutOfMemory {
             return Err(AllocError);
         }
-        let unit = self.rows.unit;
-        let byte = instruction_start(self.program.header(), self.executed).unwrap_or(unit);
+        let start = instruction_start(self.program.header(), self.executed);
+        let byte = start.unwrap_or(findings.unit);
         let rows = RowCount(self.rows.rows);
-        findings.print(
-            unit,
-            FindingKind::Program,
-            Some(byte),
-            format_args!("at byte 0x{byte:x}, after {rows}: {error}"),
-            output,
-        );
+        let sentence = format_args!("at byte 0x{byte:x}, after {rows}: {error}");
+        findings.find_at(Some(byte), FindingKind::Program, sentence, output);
         Ok(false)
     }
 }
@@ -170,8 +158,6 @@ fn set_address<R: Reader>(instruction: &LineInstruction<R>) -> Option<u64> {
 /// What is kept of the rows of a unit.
 #[derive(Clone, Copy)]
 struct RowCheck {
-    /// The offset of the unit.
-    unit: u64,
     /// An address below which there is no code.
     lowest: u64,
     /// Whether code has its addresses.
@@ -205,10 +191,8 @@ impl RowCheck {
         let rows = RowCount(self.rows);
         let is_dropped = address >= before || address == 0 && self.lowest > 0;
         if self.is_left_out && is_dropped {
-            findings.print(
-                self.unit,
+            findings.find(
                 FindingKind::Dropped,
-                None,
                 format_args!(
                     "after {rows}: the address 0x{address:x} stands for dropped code, and what \
                      follows is left out"
@@ -216,10 +200,8 @@ impl RowCheck {
                 output,
             );
         } else if self.is_left_out && self.is_linked {
-            findings.print(
-                self.unit,
+            findings.find(
                 FindingKind::GoesDown,
-                None,
                 format_args!(
                     "after {rows}: the address goes down from 0x{before:x} to 0x{address:x}, and \
                      what follows is left out"
@@ -255,7 +237,7 @@ impl RowCheck {
         self.is_left_out = false;
         self.rows_since_end = 0;
         self.start = None;
-        let unit = self.unit;
+        let unit = findings.unit;
         start.map(|start| Sequence { start, end, unit })
     }
 
@@ -279,10 +261,8 @@ impl RowCheck {
             } else {
                 FindingKind::BelowCode
             };
-            findings.print(
-                self.unit,
+            findings.find(
                 kind,
-                None,
                 format_args!(
                     "row {number}: a sequence begins at 0x{address:x}, below the lowest address of \
                      code, 0x{lowest:x}"
@@ -293,13 +273,10 @@ impl RowCheck {
         self.start = Some(self.start.unwrap_or(address).min(address));
         if !has_file {
             let file = row.file_index();
-            findings.print(
-                self.unit,
-                FindingKind::NoFile,
-                None,
-                format_args!("row {number} at 0x{address:x}: the header has no file {file}"),
-                output,
+            let sentence = format_args!(
+                "row {number} at 0x{address:x}: the header has no file {file}"
             );
+            findings.find(FindingKind::NoFile, sentence, output);
         }
     }
 
@@ -307,13 +284,8 @@ impl RowCheck {
     fn finish(&self, findings: &mut Findings, output: &mut Output<'_>) {
         if self.rows_since_end > 0 {
             let rows = RowCount(self.rows_since_end);
-            findings.print(
-                self.unit,
-                FindingKind::NoEnd,
-                None,
-                format_args!("no sequence ends after the last {rows}"),
-                output,
-            );
+            let sentence = format_args!("no sequence ends after the last {rows}");
+            findings.find(FindingKind::NoEnd, sentence, output);
         }
     }
 }

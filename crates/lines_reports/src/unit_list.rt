@@ -3,75 +3,73 @@
 use gimli_core::{Format, Reader, ReaderOffset};
 use gimli_line::LineProgramHeader;
 use lines_inputs::{Input, Printing, UnitRows, Walk};
-use lines_words::{Output, Pieces, UnitChoice};
+use lines_words::{Json, Output, UnitChoice};
 use std::alloc::{AllocError, Global};
 
 /// The units whose headers can be read.
 #[derive(Drop)]
 pub struct UnitList<R: Reader> {
     walk: Walk<R>,
-    is_json: bool,
 }
 
 impl<R: Reader> UnitList<R> {
     /// Prints what stands above the lines of units.
-    pub fn new(
-        alloc: Global,
-        input: &Input<R>,
-        is_json: bool,
-        output: &mut Output<'_>,
-    ) -> UnitList<R> {
-        if !is_json {
-            output.print_heading(
-                "    offset  version  format  address  files  sequences      rows     bytes",
-            );
-        }
+    pub fn new(alloc: Global, input: &Input<R>, output: &mut Output<'_>) -> UnitList<R> {
+        output.print_heading(
+            "    offset  version  format  address  files  sequences      rows     bytes",
+        );
         UnitList {
             walk: Walk::new(alloc, input, UnitChoice::All, Printing::Steady, output),
-            is_json,
         }
     }
 
-    /// Prints the line of a unit, with the files that are defined before the first fault of its
-    /// program.
-    fn print_unit(&self, unit: &UnitRows<R>, output: &mut Output<'_>) {
-        let offset = unit.offset;
-        let sequences = unit.ends;
-        let rows = unit.count;
-        let header = unit.header();
-        let version = header.version();
-        let format = match header.format() {
-            Format::Dwarf32 => 32,
-            Format::Dwarf64 => 64,
-        };
-        let address_size = header.address_size();
-        let files = header.file_names().len();
-        let bytes = unit_bytes(header);
-        if self.is_json {
-            return output.print(format_args!(
-                "{{\"unit\":\"0x{offset:x}\",\"version\":{version},\"format\":{format},\
-                 \"address_size\":{address_size},\"files\":{files},\"sequences\":{sequences},\
-                 \"rows\":{rows},\"bytes\":{bytes}}}"
-            ));
-        }
-        output.print(format_args!(
-            "0x{offset:08x}  {version:>7}  {format}-bit  {address_size:>7}  \
-             {files:>5}  {sequences:>9}  {rows:>8}  {bytes:>8}"
-        ));
-    }
-}
-
-impl<R: Reader> Pieces for UnitList<R> {
     /// Prints the line of the next unit. The fault of its program is reported.
-    fn print_next(&mut self, output: &mut Output<'_>) -> Result<bool, AllocError> {
+    pub(crate) fn print_next(&mut self, output: &mut Output<'_>) -> Result<bool, AllocError> {
         let Some(mut unit) = self.walk.next_rows(output)? else {
             return Ok(false);
         };
         unit.run()?;
-        self.print_unit(&unit, output);
+        print_unit(&unit, output);
         unit.tell_fault(output);
         Ok(true)
     }
+}
+
+/// Prints the line of a unit, with the files that are defined before the first fault of its
+/// program.
+fn print_unit<R: Reader>(unit: &UnitRows<R>, output: &mut Output<'_>) {
+    let UnitRows {
+        offset,
+        count: rows,
+        ends: sequences,
+        ..
+    } = unit;
+    let header = unit.header();
+    let version = u64::from(header.version());
+    let format = match header.format() {
+        Format::Dwarf32 => 32,
+        Format::Dwarf64 => 64,
+    };
+    let address_size = u64::from(header.address_size());
+    let files = header.file_names().len() as u64;
+    let bytes = unit_bytes(header);
+    let fields = [
+        ("unit", Json::Offset(Some(*offset))),
+        ("version", Json::Number(version)),
+        ("format", Json::Number(format)),
+        ("address_size", Json::Number(address_size)),
+        ("files", Json::Number(files)),
+        ("sequences", Json::Number(*sequences)),
+        ("rows", Json::Number(*rows)),
+        ("bytes", Json::Number(bytes)),
+    ];
+    output.print_item(
+        &fields,
+        format_args!(
+            "0x{offset:08x}  {version:>7}  {format}-bit  {address_size:>7}  {files:>5}  \
+             {sequences:>9}  {rows:>8}  {bytes:>8}"
+        ),
+    );
 }
 
 /// The bytes of a unit, those of its length among them.

@@ -43,17 +43,24 @@ enum Shape {
 }
 
 /// What has no place beside an argument.
+const CONFLICTS: [(&str, &[&str]); 7] = [
+    ("FILE", &["maps", "files"]),
+    ("pretty", &["json"]),
+    ("whole-paths", &["json"]),
+    ("basenames", &["relative-to"]),
+    ("index", &["functions"]),
+    ("maps", &["index", "functions", "raw", "line-str", "str"]),
+    ("files", &["index", "maps", "functions"]),
+];
+
+/// What has no place beside the argument of a name.
 fn conflicts_of(name: &str) -> &'static [&'static str] {
-    match name {
-        "FILE" => &["maps", "files"],
-        "pretty" => &["json"],
-        "whole-paths" => &["json"],
-        "basenames" => &["relative-to"],
-        "index" => &["functions"],
-        "maps" => &["index", "functions", "raw", "line-str", "str"],
-        "files" => &["index", "maps", "functions"],
-        _ => &[],
+    for (argument, others) in &CONFLICTS {
+        if *argument == name {
+            return others;
+        }
     }
+    &[]
 }
 
 /// What stands in the place of the file of the command `where`.
@@ -266,7 +273,11 @@ const COMMANDS: [Entry; 10] = [
 
 /// What the whole program takes.
 pub(crate) fn program<'a>(alloc: Global) -> Result<Command<'a>, AllocError> {
-    let mut program = Command::new(alloc, "lines")
+    let mut commands = Vec::new(alloc);
+    for entry in &COMMANDS {
+        commands.push(entry.command(alloc)?)?;
+    }
+    Command::new(alloc, "lines")
         .version(VERSION)
         .about("Looks into the line tables (.debug_line) of a program, DWARF versions 2 to 5.")
         .after_help(
@@ -276,11 +287,8 @@ pub(crate) fn program<'a>(alloc: Global) -> Result<Command<'a>, AllocError> {
         )
         .subcommand_required(true)
         .arg_required_else_help(true)
-        .bin_name("lines")?;
-    for entry in &COMMANDS {
-        program = program.subcommand(entry.command(alloc)?)?;
-    }
-    Ok(program)
+        .subcommands(commands)?
+        .bin_name("lines")
 }
 
 /// A command by itself; the whole program where no command has the name.
@@ -297,12 +305,14 @@ pub(crate) fn command<'a>(alloc: Global, name: &str) -> Result<Command<'a>, Allo
 impl Entry {
     /// The command.
     fn command<'a>(&self, alloc: Global) -> Result<Command<'a>, AllocError> {
-        let command = Command::new(alloc, self.name)
+        let mut arguments = Vec::new(alloc);
+        arguments.push(self.file(alloc)?)?;
+        push_all(alloc, &OF_FILE, &mut arguments)?;
+        push_all(alloc, self.arguments, &mut arguments)?;
+        Command::new(alloc, self.name)
             .about(self.about)
             .after_help(self.example)
-            .arg(self.file(alloc)?)?;
-        let command = with_arguments(alloc, command, &OF_FILE)?;
-        with_arguments(alloc, command, self.arguments)
+            .args(arguments)
     }
 
     /// The file. That of the command `where` may be left out where an index is named, and has no
@@ -321,18 +331,16 @@ impl Entry {
     }
 }
 
-/// A command that takes these too.
-fn with_arguments<'a>(
+/// Adds arguments to others.
+fn push_all<'a>(
     alloc: Global,
-    command: Command<'a>,
-    arguments: &[Argument],
-) -> Result<Command<'a>, AllocError> {
-    let mut command = command;
-    for argument in arguments {
-        let argument = argument.argument(alloc)?;
-        command = command.arg(argument)?;
+    more: &[Argument],
+    arguments: &mut Vec<Arg<'a>>,
+) -> Result<(), AllocError> {
+    for argument in more {
+        arguments.push(argument.argument(alloc)?)?;
     }
-    Ok(command)
+    Ok(())
 }
 
 impl Argument {
@@ -340,25 +348,22 @@ impl Argument {
     fn argument<'a>(self, alloc: Global) -> Result<Arg<'a>, AllocError> {
         let Argument(name, shape, help) = self;
         let word = Arg::new(alloc, name).help(help);
-        let argument = match shape {
-            Shape::Word => word,
-            Shape::Needed => word.required(true),
-            Shape::Words => word.action(ArgAction::Append).num_args(0..),
-            Shape::Flag => word.long(name).action(ArgAction::SetTrue),
-            Shape::LetterFlag(letter) => word.long(name).action(ArgAction::SetTrue).short(letter),
-            Shape::Option(value) => word.long(name).action(ArgAction::Set).value_name(value),
-            Shape::LetterOption(letter, value) => {
-                word.long(name)
-                    .short(letter)
-                    .action(ArgAction::Set)
-                    .value_name(value)
-            }
-            Shape::Options(value) => word.long(name).action(ArgAction::Append).value_name(value),
-            Shape::RawOption(value) => {
-                let option = word.long(name).action(ArgAction::Set).value_name(value);
-                return option.requires_arg("raw");
+        let option = match shape {
+            Shape::Word => return Ok(word),
+            Shape::Needed => return Ok(word.required(true)),
+            Shape::Words => return Ok(word.action(ArgAction::Append).num_args(0..)),
+            Shape::Flag | Shape::LetterFlag(_) => word.action(ArgAction::SetTrue),
+            Shape::Options(value) => word.action(ArgAction::Append).value_name(value),
+            Shape::Option(value) | Shape::LetterOption(_, value) | Shape::RawOption(value) => {
+                word.action(ArgAction::Set).value_name(value)
             }
         };
-        argument.conflicts_with_all(conflicts_of(name))
+        let option = option.long(name);
+        let option = match shape {
+            Shape::LetterFlag(letter) | Shape::LetterOption(letter, _) => option.short(letter),
+            Shape::RawOption(_) => return option.requires_arg("raw"),
+            _ => option,
+        };
+        option.conflicts_with_all(conflicts_of(name))
     }
 }

@@ -3,8 +3,6 @@
 ghost use Rattle.std.specs.Prelude.{◌≡◌, ◌<◌};
 ghost use Rattle.lines_words.specs.Findings.{is_denied, is_grave, is_in, number, severity};
 
-use crate::request::Form;
-
 /// How grave a finding is.
 #[derive(Clone, Copy)]
 pub enum Severity {
@@ -151,21 +149,9 @@ pub struct CheckChoice {
     pub allowed: KindSet,
     /// Whether what is only counted is told too.
     pub is_all: bool,
-    /// How it is told.
-    pub form: Form,
 }
 
 impl CheckChoice {
-    /// Nothing is denied or allowed.
-    pub fn new() -> CheckChoice {
-        CheckChoice {
-            denied: KindSet::new(),
-            allowed: KindSet::new(),
-            is_all: false,
-            form: Form::Text,
-        }
-    }
-
     /// Whether a finding of a kind makes the status 1.
     pub fn denies(self, kind: FindingKind) -> bool
         ensures { result ≡ is_denied self.allowed.0 self.denied.0 kind }

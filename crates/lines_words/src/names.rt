@@ -3,6 +3,7 @@
 //! A byte of a word that is no UTF-8 stands in the text as a character of a private area, by its
 //! number, and so does each byte of such a character. So each word of bytes has a text of its own.
 
+use crate::path_text::write_character;
 use std::alloc::{AllocError, Global};
 use std::fmt;
 
@@ -96,13 +97,12 @@ fn write_name<W: fmt::Write>(
     f: &mut fmt::Formatter<W>,
 ) -> fmt::Result {
     for character in name.chars() {
-        if let Some(byte) = byte_of(character) {
-            write!(f, "\\x{byte:02x}")?;
-        } else if character.is_control() && !(has_lines && character == '\n') {
-            let number = u32::from(character);
-            write!(f, "\\x{number:02x}")?;
-        } else {
-            f.write_char(character)?;
+        match byte_of(character) {
+            Some(byte) => write_character(char::from(byte), false, f)?,
+            None => {
+                let is_shown = !character.is_control() || has_lines && character == '\n';
+                write_character(character, is_shown, f)?;
+            }
         }
     }
     Ok(())

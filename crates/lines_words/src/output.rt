@@ -3,10 +3,12 @@
 ghost use Rattle.std.specs.Prelude.{◌≡◌, ◌≤◌, ◌↔◌, IfOk, true, false};
 ghost use Rattle.lines_words.specs.Findings.{is_denied};
 
+use crate::json::{Json, JsonBytes, JsonText};
 use crate::kinds::{CheckChoice, FindingKind};
 use crate::names::NameText;
-use crate::screen::{Screen, Style};
-use std::alloc::{AllocError, Global};
+use crate::request::{Form, Request};
+use line_text::Digits;
+use std::alloc::Global;
 use std::io::{ErrorKind, Write};
 use std::{fmt, io};
 
@@ -33,10 +35,46 @@ impl Verdict {
     }
 }
 
+/// What the outputs are shown on.
+#[derive(Clone, Copy)]
+pub struct Screen {
+    /// Whether standard output is a terminal.
+    pub is_out: bool,
+    /// Whether standard error is a terminal.
+    pub is_err: bool,
+    /// Whether terminals are shown colours.
+    pub is_coloured: bool,
+}
+
+/// What stands before and after a text that is set off on a terminal (ECMA-48, section 8.3.117).
+#[derive(Clone, Copy)]
+pub struct Style {
+    pub begin: &'static str,
+    pub end: &'static str,
+}
+
+impl Style {
+    /// Nothing is set off.
+    pub const PLAIN: Style = Style { begin: "", end: "" };
+
+    /// What begins so on a terminal with colours, and nothing elsewhere.
+    fn new(is_coloured: bool, begin: &'static str) -> Style {
+        if is_coloured {
+            Style {
+                begin,
+                end: "\u{1b}[0m",
+            }
+        } else {
+            Style::PLAIN
+        }
+    }
+}
+
 /// What a command prints on standard output and on standard error, kept until it is handed on: only
 /// what hands it on knows the writers. And what came of the command over the file of a name.
 #[derive(Drop)]
 pub struct Output<'o> {
+    request: &'o Request<'o>,
     name: &'o str,
     screen: Screen,
     out: Vec<u8>,
@@ -49,9 +87,15 @@ pub struct Output<'o> {
 }
 
 impl<'o> Output<'o> {
-    /// Nothing was printed yet.
-    pub fn new(alloc: Global, name: &'o str, screen: Screen) -> Output<'o> {
+    /// Nothing was printed yet of what a request asks for.
+    pub fn new(
+        alloc: Global,
+        request: &'o Request<'o>,
+        name: &'o str,
+        screen: Screen,
+    ) -> Output<'o> {
         Output {
+            request,
             name,
             screen,
             out: Vec::new(alloc),
@@ -67,9 +111,14 @@ impl<'o> Output<'o> {
         self.screen
     }
 
-    /// Goes on to a file of another name.
-    pub fn rename(&mut self, name: &'o str) {
-        self.name = name;
+    /// Whether a JSON object a line is printed.
+    pub fn is_json(&self) -> bool {
+        matches!(self.request.form, Form::Json)
+    }
+
+    /// What a check tells.
+    pub fn check(&self) -> CheckChoice {
+        self.request.check
     }
 
     /// Prints a line.
@@ -79,10 +128,24 @@ impl<'o> Output<'o> {
         }
     }
 
-    /// Prints a line of headings.
+    /// Prints a part of a line.
+    pub fn add(&mut self, part: impl fmt::Display + Drop) {
+        if write!(self.out, "{part}").is_err() {
+            self.is_incomplete = true;
+        }
+    }
+
+    /// How a heading on standard output is set off: bold on a terminal.
+    pub fn heading(&self) -> Style {
+        Style::new(self.screen.is_out && self.screen.is_coloured, "\u{1b}[1m")
+    }
+
+    /// Prints a line of headings, for people.
     pub fn print_heading(&mut self, heading: impl fmt::Display + Drop) {
-        let Style { begin, end } = self.screen.heading();
-        self.print(format_args!("{begin}{heading}{end}"));
+        if !self.is_json() {
+            let Style { begin, end } = self.heading();
+            self.print(format_args!("{begin}{heading}{end}"));
+        }
     }
 
     /// Prints the heading of the unit at an offset.
@@ -90,15 +153,70 @@ impl<'o> Output<'o> {
         self.print_heading(format_args!("unit at 0x{unit:x}, version {version}"));
     }
 
+    /// Prints an object of JSON with these fields, or for people a line.
+    pub fn print_item(&mut self, fields: &[(&str, Json<'_>)], line: impl fmt::Display + Drop) {
+        if self.is_json() {
+            self.add_fields("{", fields);
+            self.print("}");
+        } else {
+            self.print(line);
+        }
+    }
+
+    /// Prints fields of an object of JSON, with a text before the first of them.
+    pub fn add_fields(&mut self, first: &str, fields: &[(&str, Json<'_>)]) {
+        let mut before = first;
+        for (name, value) in fields {
+            self.add(format_args!("{before}\"{name}\":"));
+            self.add_value(name, *value);
+            before = ",";
+        }
+    }
+
+    /// Prints the value of a field.
+    fn add_value(&mut self, name: &str, value: Json<'_>) {
+        match value {
+            Json::Number(number) | Json::Count(Some(number)) => self.add(number),
+            Json::Offset(Some(offset)) => self.add(format_args!("\"0x{offset:x}\"")),
+            Json::Range(start, end) => self.add(format_args!("[\"0x{start:x}\",\"0x{end:x}\"]")),
+            Json::Holds(holds) => self.add(holds),
+            Json::Flags(flags) => self.add_flags(flags),
+            Json::Word(word) => self.add(format_args!("\"{word}\"")),
+            Json::Text(Some(bytes)) => self.add(JsonText(bytes)),
+            Json::Bytes(bytes) => self.add(JsonBytes { name, bytes }),
+            Json::Digits(Some(bytes)) => {
+                let digits = Digits(bytes);
+                self.add(format_args!("\"{digits}\""));
+            }
+            Json::Written(value) => self.add(value),
+            _ => self.add("null"),
+        }
+    }
+
+    /// Prints the words that hold.
+    fn add_flags(&mut self, flags: &[(bool, &str, char)]) {
+        let mut before = "[";
+        for (holds, name, _) in flags {
+            if *holds {
+                self.add(format_args!("{before}\"{name}\""));
+                before = ",";
+            }
+        }
+        self.add(if before == "[" { "[]" } else { "]" });
+    }
+
     /// Says a sentence on the file on standard error, which is no fault of it.
     pub fn note(&mut self, sentence: impl fmt::Display + Drop) {
         self.note_of(self.name, sentence);
     }
 
-    /// Says a sentence on a file on standard error.
+    /// Says a sentence on a file on standard error: red on a terminal.
     fn note_of(&mut self, name: &str, sentence: impl fmt::Display + Drop) {
         let name = NameText(name);
-        let Style { begin, end } = self.screen.fault();
+        let Style { begin, end } = Style::new(
+            self.screen.is_err && self.screen.is_coloured,
+            "\u{1b}[31m",
+        );
         if writeln!(self.err, "lines: {name}: {begin}{sentence}{end}").is_err() {
             self.is_incomplete = true;
         }
@@ -192,10 +310,4 @@ impl<'o> Output<'o> {
         out.flush()?;
         Ok(self.verdict.status())
     }
-}
-
-/// What prints piece by piece, so that each piece is handed on before the next one.
-pub trait Pieces {
-    /// Prints the next piece, and returns whether more may follow.
-    fn print_next(&mut self, output: &mut Output<'_>) -> Result<bool, AllocError>;
 }

@@ -10,10 +10,7 @@ pub struct PathText<'p>(pub &'p [u8]);
 
 impl fmt::Display for PathText<'_> {
     fn fmt<W: fmt::Write>(&self, f: &mut fmt::Formatter<W>) -> fmt::Result {
-        match str::from_utf8(self.0) {
-            Ok(text) if self.0.iter().all(|byte| is_plain(*byte)) => f.write_str(text),
-            _ => SourceText(self.0).write(false, f),
-        }
+        write_text(self.0, ' ', f)
     }
 }
 
@@ -24,39 +21,47 @@ pub struct SourceText<'t>(pub &'t [u8]);
 
 impl fmt::Display for SourceText<'_> {
     fn fmt<W: fmt::Write>(&self, f: &mut fmt::Formatter<W>) -> fmt::Result {
-        self.write(true, f)
+        write_text(self.0, '\t', f)
     }
 }
 
-impl SourceText<'_> {
-    /// Writes characters, or where the text isn't UTF-8 its bytes; what doesn't stand for itself by
-    /// its number.
-    fn write<W: fmt::Write>(&self, has_tabs: bool, f: &mut fmt::Formatter<W>) -> fmt::Result {
-        if let Ok(text) = str::from_utf8(self.0) {
-            for character in text.chars() {
-                if character.is_control() && !(has_tabs && character == '\t') {
-                    let number = u32::from(character);
-                    write!(f, "\\x{number:02x}")?;
-                } else {
-                    f.write_char(character)?;
-                }
-            }
-            return Ok(());
-        }
-        self.write_bytes(has_tabs, f)
+/// Writes characters, or where the text isn't UTF-8 its bytes; what doesn't stand for itself by its
+/// number, but for one character that is kept.
+fn write_text<W: fmt::Write>(text: &[u8], kept: char, f: &mut fmt::Formatter<W>) -> fmt::Result {
+    let Ok(characters) = str::from_utf8(text) else {
+        return write_bytes(text, kept, f);
+    };
+    if text.iter().all(|byte| is_plain(*byte)) {
+        return f.write_str(characters);
     }
+    for character in characters.chars() {
+        let is_shown = !character.is_control() || kept == character;
+        write_character(character, is_shown, f)?;
+    }
+    Ok(())
+}
 
-    /// Writes bytes.
-    fn write_bytes<W: fmt::Write>(&self, has_tabs: bool, f: &mut fmt::Formatter<W>) -> fmt::Result {
-        for byte in self.0 {
-            if is_plain(*byte) || has_tabs && *byte == b'\t' {
-                f.write_char(char::from(*byte))?;
-            } else {
-                write!(f, "\\x{byte:02x}")?;
-            }
-        }
-        Ok(())
+/// Writes bytes.
+fn write_bytes<W: fmt::Write>(bytes: &[u8], kept: char, f: &mut fmt::Formatter<W>) -> fmt::Result {
+    for byte in bytes {
+        let character = char::from(*byte);
+        let is_shown = is_plain(*byte) || kept == character;
+        write_character(character, is_shown, f)?;
     }
+    Ok(())
+}
+
+/// Writes a character as it is, or by its number.
+pub(crate) fn write_character<W: fmt::Write>(
+    character: char,
+    is_shown: bool,
+    f: &mut fmt::Formatter<W>,
+) -> fmt::Result {
+    if is_shown {
+        return f.write_char(character);
+    }
+    let number = u32::from(character);
+    write!(f, "\\x{number:02x}")
 }
 
 /// Whether a byte is printable ASCII.

@@ -14,12 +14,11 @@ use crate::kinds::{CheckChoice, KindSet};
 use crate::names::{MessageText, NameText};
 use crate::numbers::{parse_address, parse_code_address, parse_offset, parse_target};
 use crate::request::{
-    CodeAddress, CodeLine, Command, Form, LineNames, PathForm, PlaceForm, Request, SourceChoice,
-    SourcePlace, UnitChoice,
+    CodeAddress, Command, Form, LineNames, PathForm, Request, SourcePlace, UnitChoice,
 };
 use clap::error::ErrorKind;
 use clap::{ArgMatches, Error};
-use line_text::{AddressSize, parse_digits, parse_order, parse_size};
+use line_text::{parse_digits, parse_order, parse_size};
 use std::alloc::{AllocError, Global};
 
 /// How many lines the command `source` prints before a place and after it, where nothing is said.
@@ -72,17 +71,38 @@ fn request_of<'w>(alloc: Global, matches: &ArgMatches<'w>) -> Result<Request<'w>
     let Some((name, matches)) = matches.subcommand() else {
         return Err(Mistake::Word("", "a command"));
     };
+    let kind = kind_of(matches)?;
+    let bias = bias_of(matches)?;
+    let command = command_of(name, matches)?;
+    let context = context_of(matches)?;
+    let units = units_of(matches)?;
+    let check = CheckChoice {
+        denied: kinds_of(matches, "deny")?,
+        allowed: kinds_of(matches, "allow")?,
+        is_all: matches.get_flag("all"),
+    };
     Ok(Request {
+        command,
         file: file_of(matches),
-        kind: kind_of(matches)?,
+        kind,
         line_str: matches.get_str("line-str"),
         strings: matches.get_str("str"),
         source: matches.get_str("source"),
-        command: command_of(alloc, name, matches)?,
+        addresses: addresses_of(alloc, matches)?,
+        bias,
+        form: form_of(matches),
+        paths: path_form_of(matches),
+        has_function: matches.get_flag("functions"),
+        has_source: matches.get_flag("pretty"),
+        has_column: matches.get_flag("columns"),
+        has_range: matches.get_flag("range"),
+        context,
+        units,
+        check,
     })
 }
 
-/// How the file is read.
+/// How the file is read: an address of a raw section is so wide where its unit doesn't say.
 fn kind_of<'w>(matches: &ArgMatches<'w>) -> Result<Kind, Mistake<'w>> {
     let Some(word) = matches.get_str("raw") else {
         return Ok(Kind::Elf);
@@ -90,7 +110,10 @@ fn kind_of<'w>(matches: &ArgMatches<'w>) -> Result<Kind, Mistake<'w>> {
     let Some(order) = parse_order(word) else {
         return Err(Mistake::Word(word, "an order of bytes, little or big"));
     };
-    let address_size = address_size_of(matches)?;
+    let word = matches.get_str("address-size").unwrap_or("8");
+    let Some(address_size) = parse_size(word) else {
+        return Err(Mistake::Word(word, "an address size: 1, 2, 4 or 8"));
+    };
     Ok(Kind::Raw(Notation {
         order,
         address_size,
@@ -98,92 +121,40 @@ fn kind_of<'w>(matches: &ArgMatches<'w>) -> Result<Kind, Mistake<'w>> {
     }))
 }
 
-/// How wide an address is in a raw section.
-fn address_size_of<'w>(matches: &ArgMatches<'w>) -> Result<AddressSize, Mistake<'w>> {
-    let Some(word) = matches.get_str("address-size") else {
-        return Ok(AddressSize::Eight);
-    };
-    match parse_size(word) {
-        Some(size) => Ok(size),
-        None => Err(Mistake::Word(word, "an address size: 1, 2, 4 or 8")),
-    }
-}
-
 /// The command of a name.
-fn command_of<'w>(
-    alloc: Global,
-    name: &'w str,
-    matches: &ArgMatches<'w>,
-) -> Result<Command<'w>, Mistake<'w>> {
-    match name {
-        "where" => where_of(alloc, matches),
-        "index" => Ok(Command::Index {
-            out: matches.get_str("output"),
-        }),
+fn command_of<'w>(name: &'w str, matches: &ArgMatches<'w>) -> Result<Command<'w>, Mistake<'w>> {
+    Ok(match name {
+        "where" => where_of(matches),
+        "index" => Command::Index(matches.get_str("output")),
         "at" => {
             let (path, line) = target_of(matches)?;
-            Ok(Command::At(CodeLine {
-                path,
-                line,
-                has_column: matches.get_flag("columns"),
-                has_range: matches.get_flag("range"),
-                is_json: matches.get_flag("json"),
-            }))
+            Command::At(path, line)
         }
-        "source" => Ok(Command::Source(SourceChoice {
-            place: source_place_of(matches)?,
-            context: context_of(matches)?,
-            is_json: matches.get_flag("json"),
-        })),
-        "units" => Ok(Command::Units {
-            is_json: matches.get_flag("json"),
-        }),
-        "files" => Ok(Command::Files {
-            units: units_of(matches)?,
-            is_json: matches.get_flag("json"),
-        }),
-        "rows" => Ok(Command::Rows {
-            units: units_of(matches)?,
-            form: form_of(matches),
-        }),
-        "check" => Ok(Command::Check(CheckChoice {
-            denied: kinds_of(matches, "deny")?,
-            allowed: kinds_of(matches, "allow")?,
-            is_all: matches.get_flag("all"),
-            form: form_of(matches),
-        })),
-        "stat" => Ok(Command::Stat {
-            is_json: matches.get_flag("json"),
-        }),
-        "diff" => Ok(Command::Diff {
-            new: matches.get_str("NEW").unwrap_or(""),
-            is_json: matches.get_flag("json"),
-        }),
-        _ => Err(Mistake::Word(name, "a command")),
-    }
+        "source" => Command::Source(source_place_of(matches)?),
+        "units" => Command::Units,
+        "files" => Command::Files,
+        "rows" => Command::Rows(form_of(matches)),
+        "check" => Command::Check,
+        "stat" => Command::Stat,
+        "diff" => Command::Diff(matches.get_str("NEW").unwrap_or("")),
+        _ => return Err(Mistake::Word(name, "a command")),
+    })
 }
 
 /// The command `where`, by what it asks.
-fn where_of<'w>(alloc: Global, matches: &ArgMatches<'w>) -> Result<Command<'w>, Mistake<'w>> {
-    let form = place_form_of(matches)?;
+fn where_of<'w>(matches: &ArgMatches<'w>) -> Command<'w> {
     if let Some(index) = matches.get_str("index") {
-        let addresses = addresses_of(alloc, matches)?;
-        return Ok(Command::Ask {
-            index,
-            addresses,
-            form,
-        });
+        return Command::Ask(index);
     }
     if let Some(folder) = matches.get_str("maps") {
-        let names = LineNames::BuildIds(folder);
-        return Ok(Command::AskLines { names, form });
+        return Command::AskLines(LineNames::BuildIds(folder));
     }
     if matches.get_flag("files") {
-        let names = LineNames::Files;
-        return Ok(Command::AskLines { names, form });
+        return Command::AskLines(LineNames::Files);
     }
-    let addresses = addresses_of(alloc, matches)?;
-    Ok(Command::Where { addresses, form })
+    Command::Where {
+        has_function: matches.get_flag("functions"),
+    }
 }
 
 /// The file; empty where none is named. Beside an index the first word may be an address.
@@ -296,20 +267,13 @@ fn units_of<'w>(matches: &ArgMatches<'w>) -> Result<UnitChoice, Mistake<'w>>
     }
 }
 
-/// How places are printed.
-fn place_form_of<'w>(matches: &ArgMatches<'w>) -> Result<PlaceForm<'w>, Mistake<'w>> {
-    let paths = match matches.get_str("relative-to") {
+/// How much of a path is printed.
+fn path_form_of<'w>(matches: &ArgMatches<'w>) -> PathForm<'w> {
+    match matches.get_str("relative-to") {
         Some(directory) => PathForm::From(directory.trim_end_matches('/')),
         None if matches.get_flag("basenames") => PathForm::LastPart,
         None => PathForm::Whole,
-    };
-    Ok(PlaceForm {
-        is_json: matches.get_flag("json"),
-        has_function: matches.get_flag("functions"),
-        has_source: matches.get_flag("pretty"),
-        paths,
-        bias: bias_of(matches)?,
-    })
+    }
 }
 
 /// What is subtracted from each address, 0 where nothing is named.

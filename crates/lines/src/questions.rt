@@ -2,32 +2,33 @@
 
 use lines_answers::{Asked, asked_by};
 use lines_words::CodeAddress;
-use std::alloc::Global;
 use std::io;
-use std::io::{BufRead, Write};
+use std::io::{BufRead, BufReader};
+use std::rt::Stdin;
 
-/// The addresses that are named, or where none is, those that a reader has, one a line.
+/// The addresses that are named, or where none is, those of standard input, one a line.
 #[derive(Drop)]
-pub(crate) struct Questions<'q, I> {
+pub(crate) struct Questions<'q> {
     /// The named addresses that are left.
     named: &'q [CodeAddress<'q>],
     /// Where lines are read from, if none is named.
-    lines: Option<&'q mut I>,
+    lines: Option<BufReader<Stdin>>,
     /// The line that was read last, empty at the end.
     line: Vec<u8>,
 }
 
-impl<'q, I: BufRead> Questions<'q, I> {
+impl<'q> Questions<'q> {
     /// The questions from the first on.
-    pub(crate) fn new(
-        alloc: Global,
-        named: &'q [CodeAddress<'q>],
-        lines: &'q mut I,
-    ) -> io::Result<Questions<'q, I>> {
+    pub(crate) fn new(rt: &HostRuntime, named: &'q [CodeAddress<'q>]) -> io::Result<Questions<'q>> {
+        let lines = if named.is_empty() {
+            Some(BufReader::new(rt.alloc(), rt.stdin())?)
+        } else {
+            None
+        };
         let mut questions = Questions {
             named,
-            lines: named.is_empty().then_some(lines),
-            line: Vec::new(alloc),
+            lines,
+            line: Vec::new(rt.alloc()),
         };
         questions.read()?;
         Ok(questions)
@@ -35,19 +36,17 @@ impl<'q, I: BufRead> Questions<'q, I> {
 
     /// What is asked now; None at the end.
     pub(crate) fn current(&self) -> Option<Asked<'_>> {
-        if let Some(address) = self.named.first() {
-            return Some(Asked::Address(*address));
+        match self.named.first() {
+            Some(address) => Some(Asked::Address(*address)),
+            None => asked_by(&self.line),
         }
-        asked_by(&self.line)
     }
 
-    /// Goes on to the next question. What was printed is handed on before a line is read.
-    pub(crate) fn go_on<O: Write>(&mut self, out: &mut O) -> io::Result<()> {
+    /// Goes on to the next question.
+    pub(crate) fn go_on(&mut self) -> io::Result<()> {
         if let [_, rest @ ..] = self.named {
             self.named = rest;
-            return Ok(());
         }
-        out.flush()?;
         self.read()
     }
 

@@ -1,15 +1,9 @@
-//! Source files: where they are read from, and their lines.
+//! The lines of source files.
 
 use std::alloc::{AllocError, Global};
 
-/// Where source files are read from.
-pub trait SourceFiles {
-    /// The bytes of the file of a path; None where it can't be read.
-    fn source(&self, alloc: Global, path: &[u8]) -> Result<Option<Vec<u8>>, AllocError>;
-}
-
 /// The lines of a file, without their ends.
-pub fn lines_of(alloc: Global, file: &[u8]) -> Result<Vec<&[u8]>, AllocError> {
+pub(crate) fn lines_of(alloc: Global, file: &[u8]) -> Result<Vec<&[u8]>, AllocError> {
     if file.is_empty() {
         return Ok(Vec::new(alloc));
     }
@@ -19,7 +13,7 @@ pub fn lines_of(alloc: Global, file: &[u8]) -> Result<Vec<&[u8]>, AllocError> {
 
 /// A line of these, counted from 1; None where there is none of the number. The carriage return
 /// that Windows writes before a line's end is no part of it.
-pub fn line_at<'f>(lines: &[&'f [u8]], line: u64) -> Option<&'f [u8]> {
+pub(crate) fn line_at<'f>(lines: &[&'f [u8]], line: u64) -> Option<&'f [u8]> {
     let index = usize::try_from(line.checked_sub(1)?).ok()?;
     let text = *lines.get(index)?;
     Some(text.strip_suffix(b"\r").unwrap_or(text))

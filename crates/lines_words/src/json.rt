@@ -1,0 +1,111 @@
+//! Values and texts in JSON (RFC 8259).
+
+use line_text::Digits;
+use std::fmt;
+
+/// A value of a field of an object.
+#[derive(Clone, Copy)]
+pub enum Json<'v> {
+    /// A number.
+    Number(u64),
+    /// A number, or null where there is none.
+    Count(Option<u64>),
+    /// An offset or an address, as a string, or null where there is none.
+    Offset(Option<u64>),
+    /// Two addresses.
+    Range(u64, u64),
+    /// Whether something holds.
+    Holds(bool),
+    /// The words that hold.
+    Flags(&'v [(bool, &'static str, char)]),
+    /// A word that has nothing to escape.
+    Word(&'v str),
+    /// A text of bytes, or null where there is none.
+    Text(Option<&'v [u8]>),
+    /// The same; where it isn't UTF-8, a second field, with `_bytes` after the name, has its bytes
+    /// in hexadecimal digits.
+    Bytes(Option<&'v [u8]>),
+    /// Bytes in hexadecimal digits, or null where there are none.
+    Digits(Option<&'v [u8]>),
+    /// A value that is written already.
+    Written(&'v str),
+}
+
+/// Bytes as a string. Where they aren't UTF-8, each that isn't ASCII stands as U+FFFD.
+#[derive(Clone, Copy)]
+pub(crate) struct JsonText<'t>(pub(crate) &'t [u8]);
+
+impl fmt::Display for JsonText<'_> {
+    fn fmt<W: fmt::Write>(&self, f: &mut fmt::Formatter<W>) -> fmt::Result {
+        f.write_char('"')?;
+        match str::from_utf8(self.0) {
+            Ok(text) => write_characters(text, f)?,
+            Err(_) => write_ascii(self.0, f)?,
+        }
+        f.write_char('"')
+    }
+}
+
+/// Writes the characters of a string.
+fn write_characters<W: fmt::Write>(text: &str, f: &mut fmt::Formatter<W>) -> fmt::Result {
+    for character in text.chars() {
+        write_character(character, f)?;
+    }
+    Ok(())
+}
+
+/// Writes those bytes of a string that are ASCII, and what stands for the others.
+fn write_ascii<W: fmt::Write>(bytes: &[u8], f: &mut fmt::Formatter<W>) -> fmt::Result {
+    for byte in bytes {
+        let character = if byte.is_ascii() {
+            char::from(*byte)
+        } else {
+            '\u{fffd}'
+        };
+        write_character(character, f)?;
+    }
+    Ok(())
+}
+
+/// Writes a character of a string (section 7).
+fn write_character<W: fmt::Write>(character: char, f: &mut fmt::Formatter<W>) -> fmt::Result {
+    let escape = match character {
+        '"' => "\\\"",
+        '\\' => "\\\\",
+        '\n' => "\\n",
+        '\r' => "\\r",
+        '\t' => "\\t",
+        '\u{8}' => "\\b",
+        '\u{c}' => "\\f",
+        '\0'..='\u{1f}' => {
+            let number = u32::from(character);
+            return write!(f, "\\u{number:04x}");
+        }
+        _ => return f.write_char(character),
+    };
+    f.write_str(escape)
+}
+
+/// Bytes as the value of the field of a name, as `Json::Bytes` says.
+#[derive(Clone, Copy)]
+pub struct JsonBytes<'f> {
+    /// The name of the field.
+    pub name: &'f str,
+    /// The bytes.
+    pub bytes: Option<&'f [u8]>,
+}
+
+impl fmt::Display for JsonBytes<'_> {
+    fn fmt<W: fmt::Write>(&self, f: &mut fmt::Formatter<W>) -> fmt::Result {
+        let Some(bytes) = self.bytes else {
+            return f.write_str("null");
+        };
+        let text = JsonText(bytes);
+        if str::from_utf8(bytes).is_ok() {
+            return write!(f, "{text}");
+        }
+        let name = self.name;
+        let digits = Digits(bytes);
+        write!(f, "{text},\"{name}_bytes\":\"{digits}\"")
+    }
+}
