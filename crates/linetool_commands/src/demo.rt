@@ -8,7 +8,7 @@ ghost use Rattle.linetool_commands.specs.Demo.{IsAtStart};
 use crate::print::{finish, print_program};
 use crate::refusal::Refusal;
 use crate::section::program_at;
-use gimli_core::{Encoding, Format, LineEncoding, LittleEndian, Reader, RunTimeEndian};
+use gimli_core::{Encoding, Endianity, Format, LineEncoding, LittleEndian, Reader, RunTimeEndian};
 use gimli_line::IncompleteLineProgram;
 use gimli_write::{
     Address, DebugLine, EndianVec, Error, LineProgram, LineString, LineStringTable, PieceVec,
@@ -33,17 +33,12 @@ pub fn print_demo<O: Write>(alloc: Global, out: &mut O) -> Result<(), Refusal> {
     finish(outcome, out)
 }
 
-/// The same of the unit in pieces, of sixteen bytes each but the last.
+/// Prints the pieces of the unit, of sixteen bytes each but the last, and what is read of them.
 pub fn print_demo_pieces<O: Write>(alloc: Global, out: &mut O) -> Result<(), Refusal> {
     let mut section = DebugLine::from(PieceVec::<_, 16>::new(alloc, LittleEndian));
     write_demo(alloc, &mut section)?;
-    match section.0.into_vec() {
-        Ok(bytes) => {
-            let outcome = print_written(alloc, bytes.as_slice(), out);
-            finish(outcome, out)
-        }
-        Err(_) => Err(Refusal::Memory),
-    }
+    let outcome = print_pieces(alloc, section.0, out);
+    finish(outcome, out)
 }
 
 /// Writes the unit into a section.
@@ -87,6 +82,32 @@ fn print_unit<R: Reader, O: Write>(
         Ok(()) => print_program(program, out),
         Err(_) => Err(Refusal::Output),
     }
+}
+
+/// Prints pieces, each on a line, and the rows of the unit that their bytes are together.
+fn print_pieces<E: Endianity, const N: usize, O: Write>(
+    alloc: Global,
+    section: PieceVec<E, N>,
+    out: &mut O,
+) -> Result<(), Refusal> {
+    print_each_piece(&section, out)?;
+    match section.into_vec() {
+        Ok(bytes) => print_program(program_at(alloc, bytes.as_slice(), LOCATION)?, out),
+        Err(_) => Err(Refusal::Memory),
+    }
+}
+
+/// Prints pieces, each on a line.
+fn print_each_piece<E: Endianity, const N: usize, O: Write>(
+    section: &PieceVec<E, N>,
+    out: &mut O,
+) -> Result<(), Refusal> {
+    for piece in section.pieces() {
+        if print_bytes(piece, out).is_err() {
+            return Err(Refusal::Output);
+        }
+    }
+    Ok(())
 }
 
 /// The program of the unit: a file, and a sequence of two rows. Refused by `OutOfMemory` alone.
