@@ -21,9 +21,8 @@ import contracts
 
 TOP = os.path.dirname(os.path.dirname(os.path.realpath(__file__)))
 PAGES = ("*.md", "docs/*.md", "crates/*/*.md", "crates/*/data/*.md", "tried/*.md", "tried/*/*.md", "bindings/*/*.md")
-# The pages whose width is looked at, and the one among them that is still to be wrapped.
+# The pages whose width is looked at.
 NARROW = ("*.md", "docs/*.md", "crates/*/CALLING.md")
-STILL_WIDE = ("docs/ROWS.md",)
 WIDTH, CELL = 100, 300
 # What stands together on a line: a piece of code, a link, a name in quotes, a word.
 WORD = re.compile(r"(?:`[^`]*`|!?\[[^\]]*\]\([^)]*\)|\"[^\"]{1,70}\"|\S)+")
@@ -257,7 +256,7 @@ def main(words):
         for page in words[1:]:
             wrap(os.path.relpath(os.path.realpath(page), TOP))
         return
-    narrow = [it for it in found(NARROW) if it not in STILL_WIDE]
+    narrow = found(NARROW)
     told = [it for page in narrow for it in wide(page)] + [it for page in found(PAGES) for it in lost(page)]
     ends = files()
     words = words_of_sources() | OTHERS

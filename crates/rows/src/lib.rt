@@ -1,6 +1,6 @@
 //! Commands of rows: what is read, as text (headers, instructions, lookups over a section), builder
 //! scripts, which make a line program by the calls that a text names, and conversions.
-//! `docs/ROWS.md` has their words and what they print.
+//! `crates/vectors/ROWS.md` has their words and what they print.
 #![tactic(auto)]
 
 mod array_section;

@@ -21,7 +21,7 @@
 //! Other words, a bad script and a file that isn't one of rows: status 2, with a line on standard
 //! error.
 //!
-//! `docs/ROWS.md` has the files of rows, and the commands of a row.
+//! `crates/vectors/ROWS.md` has the files of rows, and the commands of a row.
 #![tactic(auto)]
 
 mod check;
