@@ -63,10 +63,8 @@ fn convert<R: Reader>(
     no_texts: R,
 ) -> ConvertResult<RoundTrip> {
     converted_programs_can_be_written();
-    let encoding = Encoding {
-        version: 5,
-        ..source.header().encoding()
-    };
+    let from = source.header().encoding();
+    let encoding = Encoding { version: 5, ..from };
     let mut strings = StringTable::default(alloc);
     let mut line_strings = LineStringTable::default(alloc);
     let (program, _files) = convert_program(

@@ -1,11 +1,10 @@
 //! The index of the lines of a program: made, opened, checked, and asked.
 #![tactic(auto)]
 
-use crate::where_is::{Program, program_of};
+use crate::where_is::program_of;
 use anyhow::{Result, bail};
-use gimli_core::Reader;
-use gimli_index::{LineIndex, MakeError, Place, write_index};
-use std::alloc::{AllocError, Global};
+use gimli_index::{LineIndex, Place, write_index};
+use std::alloc::Global;
 use std::fmt::Write;
 use std::fs;
 
@@ -18,7 +17,7 @@ pub fn start(rt: &HostRuntime, words: &[String]) -> Result<()> {
     let line = line.as_str().parse::<u64>()?;
     let address = u64::from_str_radix(address.as_str(), 16)?;
     let file = fs::read(rt, file.as_str())?;
-    let bytes = map_of(rt.alloc(), &program_of(rt.alloc(), &file)?)?;
+    let bytes = map_of(rt.alloc(), &file)?;
     let index = LineIndex::open(&bytes)?;
     index.check()?;
     let mut text = String::new(rt.alloc());
@@ -28,8 +27,9 @@ pub fn start(rt: &HostRuntime, words: &[String]) -> Result<()> {
     Ok(())
 }
 
-/// The bytes of the index of a program whose addresses have 8 bytes.
-fn map_of<R: Reader>(alloc: Global, program: &Program<R>) -> Result<Vec<u8>, MakeError> {
+/// The bytes of the index of an ELF file whose addresses have 8 bytes.
+fn map_of(alloc: Global, file: &[u8]) -> Result<Vec<u8>> {
+    let program = program_of(alloc, file)?;
     let mut bytes = Vec::new(alloc);
     write_index(
         alloc,
@@ -44,14 +44,10 @@ fn map_of<R: Reader>(alloc: Global, program: &Program<R>) -> Result<Vec<u8>, Mak
 }
 
 /// Adds the addresses at which the code of a line begins, or of the next line that has any.
-fn print_line(
-    index: LineIndex<'_>,
-    path: &str,
-    line: u64,
-    text: &mut String,
-) -> Result<(), AllocError> {
+fn print_line(index: LineIndex<'_>, path: &str, line: u64, text: &mut String) -> Result<()> {
     let Some(found) = index.addresses_of(path.as_bytes(), line) else {
-        return writeln!(text, "no code from line {line} on");
+        writeln!(text, "no code from line {line} on")?;
+        return Ok(());
     };
     let line = found.line();
     for address in found {
@@ -61,17 +57,15 @@ fn print_line(
 }
 
 /// Adds a place, and whether it is a statement.
-fn print_place(
-    alloc: Global,
-    place: Option<Place<'_>>,
-    text: &mut String,
-) -> Result<(), AllocError> {
+fn print_place(alloc: Global, place: Option<Place<'_>>, text: &mut String) -> Result<()> {
     let Some(place) = place else {
-        return writeln!(text, "??");
+        writeln!(text, "??")?;
+        return Ok(());
     };
     let path = String::from_utf8_lossy(alloc, place.path.unwrap_or(b"?"))?;
     let line = place.line;
     let column = place.column;
     let statement = if place.is_stmt { " statement" } else { "" };
-    writeln!(text, "{path}:{line}:{column}{statement}")
+    writeln!(text, "{path}:{line}:{column}{statement}")?;
+    Ok(())
 }

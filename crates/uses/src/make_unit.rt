@@ -11,7 +11,7 @@ use gimli_write::{
     Address, DebugLine, DebugLineStr, EndianVec, Error, FileId, FileInfo, LineProgram, LineString,
     LineStringTable, Result, StringTable, Writer,
 };
-use std::alloc::{AllocError, Global};
+use std::alloc::Global;
 use std::fmt::Write;
 
 /// Prints the bytes of a unit, and those of its texts.
@@ -27,23 +27,19 @@ pub fn start(rt: &HostRuntime) -> anyhow::Result<()> {
 }
 
 /// Adds a line with the name of a section and its bytes, in hexadecimal digits.
-pub fn print_bytes(
-    name: &str,
-    bytes: &[u8],
-    text: &mut String,
-) -> std::result::Result<(), AllocError> {
+pub fn print_bytes(name: &str, bytes: &[u8], text: &mut String) -> Result<()> {
     write!(text, "{name} ")?;
     for byte in bytes {
         write!(text, "{byte:02x}")?;
     }
-    writeln!(text)
+    writeln!(text)?;
+    Ok(())
 }
 
 /// Two functions of six bytes, one after the other.
 pub const AT_0X1000: [Address; 2] = [Address::Constant(0x1000), Address::Constant(0x1006)];
 
-/// Appends the unit of two functions of six bytes at these addresses, and its texts: these come
-/// last, since `write` may add one.
+/// Appends the unit of two functions of six bytes at these addresses, and its texts.
 pub fn write_unit<W: Writer, T: Writer>(
     alloc: Global,
     functions: [Address; 2],
@@ -51,30 +47,39 @@ pub fn write_unit<W: Writer, T: Writer>(
     texts: &mut DebugLineStr<T>,
 ) -> Result<()> {
     let mut line_strings = LineStringTable::default(alloc);
-    let program = build(alloc, functions, &mut line_strings)?;
-    let mut strings = StringTable::default(alloc);
-    program.write(lines, program.encoding(), &mut line_strings, &mut strings)?;
-    line_strings.write(texts)?;
-    Ok(())
+    let mut program = with_source(alloc, &mut line_strings)?;
+    write_program(
+        alloc,
+        &mut program,
+        functions,
+        lines,
+        texts,
+        &mut line_strings,
+    )
 }
 
-/// The program of two functions: of the first the lines 3 and 4 of `a.c`, of the second the lines 8
-/// and 9 of `inc/a.h`.
-fn build(
+/// Adds to a program of one file the lines 3 and 4 of `a.c` for the first function, and the lines 8
+/// and 9 of `inc/a.h` for the second. Its texts are written last, since `write` may add one.
+fn write_program<W: Writer, T: Writer>(
     alloc: Global,
+    program: &mut LineProgram,
     functions: [Address; 2],
+    lines: &mut DebugLine<W>,
+    texts: &mut DebugLineStr<T>,
     line_strings: &mut LineStringTable,
-) -> Result<LineProgram>
-    ensures { IfOk result (λ program. CanWrite program (texts_in [] line_strings.new)) }
+) -> Result<()>
+    requires { CanWrite program.old (texts_in [] line_strings.old) }
 {
-    let mut program = with_source(alloc, line_strings)?;
     let Some((source, _, _)) = program.files().next() else {
         return Err(Error::InvalidRange);
     };
-    let header = add_header(&mut program, line_strings)?;
-    add_function(&mut program, line_strings, source, functions[0], [3, 4])?;
-    add_function(&mut program, line_strings, header, functions[1], [8, 9])?;
-    Ok(program)
+    let header = add_header(program, line_strings)?;
+    add_function(program, line_strings, source, functions[0], [3, 4])?;
+    add_function(program, line_strings, header, functions[1], [8, 9])?;
+    let mut strings = StringTable::default(alloc);
+    program.write(lines, program.encoding(), line_strings, &mut strings)?;
+    line_strings.write(texts)?;
+    Ok(())
 }
 
 /// A program of the file `a.c` in the directory `/w`.

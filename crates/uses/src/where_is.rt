@@ -23,10 +23,24 @@ pub fn start(rt: &HostRuntime, words: &[String]) -> anyhow::Result<()> {
         bail!("usage: where_is FILE ADDRESS..");
     };
     let file = fs::read(rt, file.as_str())?;
-    let program = program_of(rt.alloc(), &file)?;
     let mut text = String::new(rt.alloc());
-    print_places(rt.alloc(), &program, addresses, &mut text)?;
+    print_places(rt.alloc(), &file, addresses, &mut text)?;
     print!(rt; "{text}")?;
+    Ok(())
+}
+
+/// Adds a line for each address of an ELF file.
+fn print_places(
+    alloc: Global,
+    file: &[u8],
+    addresses: &[String],
+    text: &mut String,
+) -> anyhow::Result<()> {
+    let program = program_of(alloc, file)?;
+    for address in addresses {
+        let address = u64::from_str_radix(address.as_str(), 16)?;
+        print_place(alloc, &program, address, text)?;
+    }
     Ok(())
 }
 
@@ -100,20 +114,6 @@ impl<R: Reader> Program<R> {
         };
         Paths::new(header, self.strings, Some(&directory)).of_row(alloc, row)
     }
-}
-
-/// Adds a line for each address.
-fn print_places<R: Reader>(
-    alloc: Global,
-    program: &Program<R>,
-    addresses: &[String],
-    text: &mut String,
-) -> anyhow::Result<()> {
-    for address in addresses {
-        let address = u64::from_str_radix(address.as_str(), 16)?;
-        print_place(alloc, program, address, text)?;
-    }
-    Ok(())
 }
 
 /// Adds the line of an address.

@@ -1,6 +1,7 @@
 -- A converted program can be written.
 use Rattle.std.proofs.Common.{rules, ℕ}
 use Rattle.std.specs.Prelude.{Option, Some, None}
+use Rattle.gimli_core.specs.declared.common.Encoding.{Encoding}
 use Rattle.gimli_bytes.specs.declared.address.Address.{Address}
 use Rattle.gimli_bytes.specs.declared.address.Address.TheVariants.{Constant}
 use Rattle.gimli_write.specs.convert.Conversion.{outcome_with}
@@ -13,7 +14,9 @@ itself a = Some (Constant a)
 
 pub round_trip-requires : goal.round_trip-requires
 round_trip-requires g c =
-    let source : Source = source_of g.R.Reader.bytes c.args.no_texts c.args.no_texts c.args.source c.args.name (Some _) None in
+    let from : Encoding = c.encoding-from.result in
+    let encoding : Encoding = record from { version = 5 } in
+    let source : Source = source_of g.R.Reader.bytes c.args.no_texts c.args.no_texts c.args.source c.args.name (Some encoding) None in
     let done : DoneConversion = record {
       convert_address = itself;
       source = source;

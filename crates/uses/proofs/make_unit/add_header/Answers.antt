@@ -1,17 +1,17 @@
 -- The texts of the directory and of the file are in the table, and those of the others still are.
-use Rattle.std.proofs.Common.{ℕ, zero, suc, Bool, true, false, if◌then◌else◌, List, [], ◌∷◌, ◌++◌}
-use Rattle.std.proofs.lemmas.List.Elements.{All-push, All-cons, All-head, All-tail}
+use Rattle.std.proofs.Common.{ℕ, zero, suc, ◌<◌, Bool, true, false, if◌then◌else◌, List, [], ◌∷◌, ◌++◌, length}
+use Rattle.std.proofs.lemmas.List.Elements.{All-push, All-cons, All-head, All-tail, All-weaker}
 use Rattle.std.proofs.lemmas.Option.{slice_get_within}
 use Rattle.std.specs.List.{list_any}
 use Rattle.std.specs.Prelude.{Some, All, IfSome}
-use Rattle.gimli_bytes.specs.Texts.{StringTables, texts_in}
+use Rattle.gimli_bytes.specs.Texts.{KeepsTexts, StringTables, texts_in}
 use Rattle.gimli_write.specs.Built.{Built}
 use Rattle.gimli_build.specs.Calls.{after_directory, after_file}
 use Rattle.gimli_write.specs.Conditions.{CanWrite}
 use Rattle.gimli_write.specs.LineText.{LineText, line_text_eq, IsWithin, HasNoZero}
 use Rattle.gimli_write.specs.Tables.{File, FileKey, Details, with_directory, with_details, with_file, has_file, index_of_file}
 use Rattle.gimli_write.proofs.ConvertSteps.{still_there, kept_then}
-use Rattle.gimli_write.proofs.Writable.{written_later}
+use Rattle.gimli_write.proofs.MappedTables.{within_where, if_some_where}
 use Rattle.uses.proofs.make_unit.add_header.Goals as goal
 
 directories_with : (P : LineText → Type 0) (ts : List LineText) (t : LineText) → All P ts → P t → All P (with_directory ts t)
@@ -45,8 +45,9 @@ directory_added p texts t there can = record {
   sources_end = can.sources_end;
 }
 
-file_added : (p : Built) (texts : StringTables) (key : FileKey) (d : Details) → IsWithin texts key.0 → IfSome d.source (IsWithin texts) → IfSome d.source HasNoZero
-    → CanWrite p texts → CanWrite (record (after_file key (Some d) p) { file_has_md5 = true }) texts
+file_added : (p : Built) (texts : StringTables) (key : FileKey) (d : Details)
+    → IsWithin texts key.0 → IfSome d.source (IsWithin texts) → IfSome d.source HasNoZero → CanWrite p texts
+    → CanWrite (record (after_file key (Some d) p) { file_has_md5 = true }) texts
 file_added p texts key d there source ends can = record {
   program = can.program;
   directories = can.directories;
@@ -55,11 +56,28 @@ file_added p texts key d there source ends can = record {
   sources_end = λ late has. files_with (λ (f : File). IfSome f.1.source HasNoZero) p.files key d (λ f h. ends) ends (can.sources_end late has);
 }
 
+-- with more texts
+written_later : (old new : List (List ℕ)) → KeepsTexts old new → (p : Built) → CanWrite p (texts_in [] old) → CanWrite p (texts_in [] new)
+written_later old new kept p can = record {
+  program = can.program;
+  directories = All-weaker (IsWithin (texts_in [] old)) (IsWithin (texts_in [] new)) (within_where [] old new still) p.directories can.directories;
+  paths =
+      All-weaker (λ (f : File). IsWithin (texts_in [] old) f.0.0) (λ (f : File). IsWithin (texts_in [] new) f.0.0)
+      (λ f so. within_where [] old new still f.0.0 so) p.files can.paths;
+  sources =
+      All-weaker (λ (f : File). IfSome f.1.source (IsWithin (texts_in [] old))) (λ (f : File). IfSome f.1.source (IsWithin (texts_in [] new)))
+      (λ f so. if_some_where [] old new still f.1.source so) p.files can.sources;
+  sources_end = can.sources_end;
+}
+  where
+    still : (i : ℕ) → i < length old → i < length new
+    still i lt = still_there old new i kept lt
+
 pub returns : goal.returns
 returns c =
-    let texts : StringTables = texts_in [] c.add-path.new.self in
+    let texts : StringTables = texts_in [] c.add-2.new.self in
     let kept = kept_then _ _ _ c.in_ok-include.ensures.stays c.in_ok-path.ensures.stays in
-    let can = written_later [] _ _ kept _ c.requires in
+    let can = written_later _ _ kept _ c.requires in
     let include = still_there _ _ _ c.in_ok-path.ensures.stays (slice_get_within _ _ _ c.in_ok-include.ensures.found) in
     let path = slice_get_within _ _ _ c.in_ok-path.ensures.found in
     rw c.in_ok-file.ensures.ok (file_added _ texts _ _ path tt tt (rw c.in_ok-directory.ensures.ok (directory_added _ texts _ include can)))
