@@ -25,7 +25,7 @@ fn covering<R: Reader>(alloc: Global, section: &DebugLine<R>, address: u64) -> R
 
 /// Whether a row is found over offsets of 32 bits.
 pub fn narrow_unit(alloc: Global) -> Found {
-    let owned = DebugLine::from(unit(alloc, HEADER, PROGRAM)?);
+    let owned = DebugLine::from(unit(alloc, HEADER, [PROGRAM, b""])?);
     let section = owned.borrow(|bytes| NarrowReader::new(alloc, bytes, RunTimeEndian::Little));
     let found = covering(alloc, &section, 0x1005)?;
     Ok(first_false(&[found == Some(0x1004)]))
@@ -121,7 +121,7 @@ fn unit_of_sequences(alloc: Global) -> ConvertResult<Vec<u8>> {
     for _ in 0..SEQUENCES {
         program.extend_from_slice(b"\x01\x02\x01\0\x01\x01")?;
     }
-    Ok(unit(alloc, HEADER, &program)?)
+    Ok(unit(alloc, HEADER, [&program, b""])?)
 }
 
 /// Whether line 1 begins at each second row of the first sequence, and at the row of each other.

@@ -6,7 +6,6 @@ use crate::units::{HEADER, HEADER_OF_THREE, program, slice, unit};
 use gimli_core::Error::AddressOverflow;
 use gimli_core::{Reader, Result};
 use gimli_line::{IncompleteLineProgram, LineRow};
-use gimli_write::ConvertResult;
 use std::alloc::Global;
 
 /// The end of a program, what its last instruction answers, and address, op_index and line of the
@@ -92,13 +91,11 @@ fn run<R: Reader>(row: &mut LineRow, program: &mut IncompleteLineProgram<R>) -> 
     last
 }
 
-/// Whether a program answers so on the row that the one before leaves. Its address is 0 after
+/// Whether a unit answers so on the row that the one before leaves. Its address is 0 after
 /// `rebase`, and under no tombstone.
-fn answers<R: Reader>(
-    mut before: IncompleteLineProgram<R>,
-    mut program: IncompleteLineProgram<R>,
-    case: &Case,
-) -> bool {
+fn answers<R: Reader>(alloc: Global, (before, unit): (R, R), case: &Case) -> Result<bool> {
+    let mut before = program(alloc, before, None)?;
+    let mut program = program(alloc, unit, None)?;
     let mut row = LineRow::new(before.header());
     let begun = run(&mut row, &mut before);
     let last = run(&mut row, &mut program);
@@ -106,24 +103,30 @@ fn answers<R: Reader>(
     let position = [row.address(), row.op_index(), line];
     row.rebase();
     let rebased = (row.address(), row.op_index(), row.is_under_tombstone());
-    begun.is_ok() && (last, position) == (case.1, case.2) && rebased == (0, 0, false)
+    Ok(begun.is_ok() && (last, position) == (case.1, case.2) && rebased == (0, 0, false))
 }
 
-/// Whether a case of a group passes.
-fn passes(alloc: Global, group: &Cases, case: &Case) -> ConvertResult<bool> {
-    let before = unit(alloc, HEADER_OF_THREE, group.0)?;
-    let after = unit(alloc, group.1, &[group.2, case.0].concat(alloc)?)?;
-    let before = program(alloc, slice(&before), None)?;
-    Ok(answers(before, program(alloc, slice(&after), None)?, case))
+/// The first case that fails of programs of this header with this front, after the unit before.
+fn first_wrong(
+    alloc: Global,
+    before: &[u8],
+    (header, front): (&'static [u8], &'static [u8]),
+    cases: &'static [Case],
+) -> Result<Option<usize>> {
+    for (at, case) in cases.iter().enumerate() {
+        let unit = unit(alloc, header, [front, case.0])?;
+        if !answers(alloc, (slice(before), slice(&unit)), case)? {
+            return Ok(Some(at));
+        }
+    }
+    Ok(None)
 }
 
 /// The first case of a group that fails.
 pub fn executed(alloc: Global) -> Found {
-    for group in CASES {
-        let failed = group
-            .3
-            .iter()
-            .position(|case| passes(alloc, &group, case) != Ok(true));
+    for (before, header, front, cases) in CASES {
+        let before = unit(alloc, HEADER_OF_THREE, [before, b""])?;
+        let failed = first_wrong(alloc, &before, (header, front), cases)?;
         if failed.is_some() {
             return Ok(failed);
         }

@@ -98,7 +98,8 @@ fn has<R: Reader>(found: Result<R>, wanted: &[u8]) -> bool {
 
 /// The first length, offset or text that is read otherwise.
 fn texts<R: Reader>(mut reader: R) -> Option<usize> {
-    let [one, two, nine] = [1, 2, 9].map(R::Offset::from_u8);
+    let offset = R::Offset::from_u8;
+    let (two, nine) = (offset(2), offset(9));
     first_false(&[
         reader.endian().is_big_endian(),
         length_of(&mut reader) == Ok((47, Dwarf32)),
@@ -111,7 +112,7 @@ fn texts<R: Reader>(mut reader: R) -> Option<usize> {
         has(reader.read_null_terminated_slice(), b"a.c"),
         number(reader.find(0)) == Ok(5),
         skipped(reader, two) == Ok(2),
-        reader.skip(one) == Ok(()),
+        reader.skip(offset(1)) == Ok(()),
         has(reader.split(two), b"\x06\x07"),
         reader.truncate(two) == Ok(()) && reader.len().into_u64() == 2,
         number(reader.find(0)) == Err(EOF_2),

@@ -18,11 +18,11 @@ pub const HEADER: &[u8] = b"\x04\0\x1b\0\0\0\x01\x01\x01\xfb\x0e\x0d\
 pub const HEADER_OF_THREE: &[u8] = b"\x04\0\x1b\0\0\0\x01\x03\x01\xfb\x0e\x0d\
     \0\x01\x01\x01\x01\0\0\0\x01\0\0\x01\0a.c\0\0\x07\x09\0";
 
-/// A unit: its length, a header and a program.
-pub fn unit(alloc: Global, header: &[u8], program: &[u8]) -> Result<Vec<u8>> {
-    let length = header.len().saturating_add(program.len());
-    let length = u32::try_from(length).unwrap_or(0).to_le_bytes();
-    [&length, header, program]
+/// A unit: its length, a header and the two parts of a program.
+pub fn unit(alloc: Global, header: &[u8], [front, rest]: [&[u8]; 2]) -> Result<Vec<u8>> {
+    let length = header.len().saturating_add(front.len());
+    let length = u32::try_from(length.saturating_add(rest.len())).unwrap_or(0);
+    [&length.to_le_bytes(), header, front, rest]
         .concat(alloc)
         .map_err(|_| Error::OutOfMemory)
 }
