@@ -22,9 +22,9 @@ use std::io::ErrorKind;
 /// terminal headings and faults are set off, and a long command prints how far it is. Fails where
 /// memory is missing, where standard input can't be read, and where standard output takes no more;
 /// what was printed before stands.
-pub(crate) fn perform(
+pub(crate) fn perform<'w>(
     rt: &HostRuntime,
-    request: &Request<'_>,
+    request: &'w Request<'w>,
     kind: Kind,
     files: Files<'_>,
 ) -> io::Result<u8>
@@ -58,9 +58,9 @@ pub(crate) fn perform(
 }
 
 /// Prints what a command asks for, but for `where` over an object file.
-fn print<R: Reader>(
+fn print<'w, R: Reader>(
     rt: &HostRuntime,
-    request: &Request<'_>,
+    request: &'w Request<'w>,
     input: &Input<R>,
     symbols: SymbolTable<'_>,
     output: &mut Output<'_>,
@@ -100,9 +100,9 @@ fn print<R: Reader>(
 }
 
 /// Prints what line programs hold, piece by piece.
-fn report<R: Reader>(
+fn report<'w, R: Reader>(
     rt: &HostRuntime,
-    request: &Request<'_>,
+    request: &'w Request<'w>,
     input: &Input<R>,
     output: &mut Output<'_>,
 ) -> io::Result<()> {
@@ -122,11 +122,11 @@ fn report<R: Reader>(
 
 /// Prints how the program that a request names differs from a new one, and returns the status: 0,
 /// or 1 where they differ, or something was refused. Fails as `perform` does.
-pub(crate) fn compare(
+pub(crate) fn compare<'w>(
     rt: &HostRuntime,
-    request: &Request<'_>,
+    request: &'w Request<'w>,
     old: &Inputs,
-    new_name: &str,
+    new_name: &'w str,
     new: &Inputs,
 ) -> io::Result<u8>
     ensures { IfOk result (λ status. status ≤ 1) }
@@ -139,12 +139,7 @@ pub(crate) fn compare(
     let Some(new) = program_of(rt, new, &mut new_output)? else {
         return finish(rt, new_output);
     };
-    let mut diff = Diff::new(
-        rt.alloc(),
-        &old.input(),
-        &new.input(),
-        &mut old_output,
-    )?;
+    let mut diff = Diff::new(rt.alloc(), &old.input(), &new.input(), &mut old_output)?;
     add_program(rt, &mut diff, &mut old_output)?;
     diff.begin_new();
     add_program(rt, &mut diff, &mut new_output)?;

@@ -21,7 +21,7 @@ use std::io::{BufRead, BufReader, ErrorKind, Write};
 use std::{fs, io};
 
 /// The index of a program by its name.
-fn index_of(rt: &HostRuntime, request: &Request<'_>, name: &str) -> io::Result<MadeIndex>
+fn index_of<'w>(rt: &HostRuntime, request: &'w Request<'w>, name: &'w str) -> io::Result<MadeIndex>
     ensures { IfOk result (λ made. made.status ≤ 1) }
 {
     let Some(inputs) = inputs_of(rt, request, name)? else {
@@ -44,10 +44,10 @@ fn index_of(rt: &HostRuntime, request: &Request<'_>, name: &str) -> io::Result<M
 /// Makes the index of a program, which is named so in messages. It is named by the build id where
 /// there is one, or else by the SHA-256 of the line programs. A fault of a unit is reported; what
 /// stands before it is in the index all the same. Fails where memory is missing.
-fn make_index(
+fn make_index<'w>(
     rt: &HostRuntime,
-    request: &Request<'_>,
-    name: &str,
+    request: &'w Request<'w>,
+    name: &'w str,
     kind: Kind,
     files: Files<'_>,
     build_id: Option<&[u8]>,
@@ -77,7 +77,11 @@ fn make_index(
 
 /// The build id of a program by its name, where it is a file that is an ELF file; None where it has
 /// none, and where it can't be read, which its reader reports.
-fn build_id_of(rt: &HostRuntime, request: &Request<'_>, name: &str) -> io::Result<Option<Vec<u8>>> {
+fn build_id_of<'w>(
+    rt: &HostRuntime,
+    request: &'w Request<'w>,
+    name: &'w str,
+) -> io::Result<Option<Vec<u8>>> {
     if !matches!(request.kind, Kind::Elf) || name == STANDARD_INPUT {
         return Ok(None);
     }
@@ -110,7 +114,7 @@ fn read_build_id(rt: &HostRuntime, name: &str) -> Result<Option<Vec<u8>>, Refusa
 
 /// What names the program of a request in its index; None where it can't be read, which is
 /// reported.
-fn identity_of(rt: &HostRuntime, request: &Request<'_>) -> io::Result<Option<Vec<u8>>> {
+fn identity_of<'w>(rt: &HostRuntime, request: &'w Request<'w>) -> io::Result<Option<Vec<u8>>> {
     let name = request.file;
     if let Some(id) = build_id_of(rt, request, name)? {
         return Ok(Some(id));
@@ -128,10 +132,10 @@ fn identity_of(rt: &HostRuntime, request: &Request<'_>) -> io::Result<Option<Vec
 }
 
 /// Writes the index of the program of a request, and returns the status of the program.
-pub(crate) fn write_index(
+pub(crate) fn write_index<'w>(
     rt: &HostRuntime,
-    request: &Request<'_>,
-    out: Option<&str>,
+    request: &'w Request<'w>,
+    out: Option<&'w str>,
 ) -> io::Result<u8> {
     let made = index_of(rt, request, request.file)?;
     let Some(bytes) = &made.bytes else {
@@ -179,7 +183,11 @@ fn write_file(rt: &HostRuntime, path: &str, bytes: &[u8]) -> io::Result<()> {
 }
 
 /// Prints the places of addresses by an index, and returns the status of the program.
-pub(crate) fn ask(rt: &HostRuntime, request: &Request<'_>, index: &str) -> io::Result<u8> {
+pub(crate) fn ask<'w>(
+    rt: &HostRuntime,
+    request: &'w Request<'w>,
+    index: &'w str,
+) -> io::Result<u8> {
     let Some(bytes) = read(rt, index)? else {
         return Ok(REFUSED);
     };
@@ -195,10 +203,10 @@ pub(crate) fn ask(rt: &HostRuntime, request: &Request<'_>, index: &str) -> io::R
 /// Prints the places of the addresses that a request names, or of those of standard input, by the
 /// bytes of an index of a name, and returns the status: 0, or 1 where something was reported. An
 /// index that isn't that of the program with this identity, where one is known, is refused.
-fn answer_by(
+fn answer_by<'w>(
     rt: &HostRuntime,
-    request: &Request<'_>,
-    name: &str,
+    request: &'w Request<'w>,
+    name: &'w str,
     index: &[u8],
     identity: Option<&[u8]>,
 ) -> io::Result<u8>
@@ -218,9 +226,9 @@ fn answer_by(
 }
 
 /// Answers questions by an index.
-fn answer_all(
+fn answer_all<'w>(
     rt: &HostRuntime,
-    request: &Request<'_>,
+    request: &'w Request<'w>,
     places: &IndexPlaces<'_, '_>,
     output: &mut Output<'_>,
 ) -> io::Result<()> {
@@ -239,10 +247,10 @@ fn answer_all(
 /// Prints the place of each line of standard input, which names what it asks and then an address,
 /// and returns the status: 0, or 1 where something was reported. Each line gets one line of answer.
 /// The indexes that were asked last are kept; one that can't be asked is reported once.
-pub(crate) fn ask_lines(
+pub(crate) fn ask_lines<'w>(
     rt: &HostRuntime,
-    request: &Request<'_>,
-    names: LineNames<'_>,
+    request: &'w Request<'w>,
+    names: LineNames<'w>,
 ) -> io::Result<u8>
     ensures { IfOk result (λ status. status ≤ 1) }
 {
@@ -275,10 +283,10 @@ pub(crate) fn ask_lines(
 }
 
 /// Prints the answer to a line without its ends.
-fn answer_line(
+fn answer_line<'w>(
     rt: &HostRuntime,
-    request: &Request<'_>,
-    names: LineNames<'_>,
+    request: &'w Request<'w>,
+    names: LineNames<'w>,
     line: &[u8],
     answers: &mut LineAnswers<'_>,
     output: &mut Output<'_>,
@@ -295,11 +303,11 @@ fn answer_line(
 }
 
 /// The index at a place: of a file that is an index, or of a program.
-fn index_at(
+fn index_at<'w>(
     rt: &HostRuntime,
-    request: &Request<'_>,
-    names: LineNames<'_>,
-    place: &str,
+    request: &'w Request<'w>,
+    names: LineNames<'w>,
+    place: &'w str,
 ) -> io::Result<MadeIndex> {
     let bytes = match names {
         LineNames::BuildIds(_) => read(rt, place)?,

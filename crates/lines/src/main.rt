@@ -75,7 +75,7 @@ fn explain(rt: &HostRuntime, error: &Error) -> io::Result<u8> {
 }
 
 /// Does what a request asks for, and returns the status of the program.
-fn run(rt: &HostRuntime, request: &Request<'_>) -> io::Result<u8> {
+fn run<'w>(rt: &HostRuntime, request: &'w Request<'w>) -> io::Result<u8> {
     match request.command {
         Command::Index(out) => return write_index(rt, request, out),
         Command::Ask(index) => return ask(rt, request, index),

@@ -11,9 +11,9 @@ use std::{fs, io, str};
 
 /// Prints the place of each address in an object file. Each section has rows of its own, which are
 /// kept until another section is asked for.
-pub(crate) fn locate_in_sections(
+pub(crate) fn locate_in_sections<'w>(
     rt: &HostRuntime,
-    request: &Request<'_>,
+    request: &'w Request<'w>,
     files: Files<'_>,
     output: &mut Output<'_>,
 ) -> io::Result<()> {
@@ -41,11 +41,11 @@ pub(crate) fn locate_in_sections(
 
 /// Prints the places of the addresses that follow each other in a section. False where it can't be
 /// read, which is reported.
-fn locate_in_section(
+fn locate_in_section<'w>(
     rt: &HostRuntime,
-    request: &Request<'_>,
+    request: &'w Request<'w>,
     files: Files<'_>,
-    name: &[u8],
+    name: &'w [u8],
     questions: &mut Questions<'_>,
     output: &mut Output<'_>,
 ) -> io::Result<bool> {
@@ -67,9 +67,9 @@ fn locate_in_section(
 }
 
 /// Answers questions up to the first that is asked of another section.
-pub(crate) fn answer_all<R: Reader>(
+pub(crate) fn answer_all<'w, R: Reader>(
     rt: &HostRuntime,
-    request: &Request<'_>,
+    request: &'w Request<'w>,
     places: &Places<'_, '_, R>,
     questions: &mut Questions<'_>,
     output: &mut Output<'_>,
@@ -94,10 +94,10 @@ pub(crate) fn answer_all<R: Reader>(
 }
 
 /// Prints the lines of a place or of a function, with the addresses of their rows.
-pub(crate) fn print_source<R: Reader>(
+pub(crate) fn print_source<'w, R: Reader>(
     rt: &HostRuntime,
-    request: &Request<'_>,
-    place: SourcePlace<'_>,
+    request: &'w Request<'w>,
+    place: SourcePlace<'w>,
     input: &Input<R>,
     functions: &Functions<'_>,
     output: &mut Output<'_>,

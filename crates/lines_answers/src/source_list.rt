@@ -167,7 +167,7 @@ impl<'l> SourceListing<'l> {
     fn print_json(
         self,
         line: u64,
-        text: Option<&[u8]>,
+        text: Option<&'l [u8]>,
         rows: &[SourceRow],
         output: &mut Output<'_>,
     ) {
