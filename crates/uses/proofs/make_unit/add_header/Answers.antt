@@ -1,14 +1,14 @@
 -- The texts of the directory and of the file are in the table, and those of the others still are.
-use Rattle.std.proofs.Common.{ℕ, zero, suc, ◌<◌, Bool, true, false, if◌then◌else◌, List, [], ◌∷◌, ◌++◌, length}
+use Rattle.std.proofs.Common.{ℕ, zero, suc, ◌<◌, Bool, true, false, if◌then◌else◌, List, [], ◌∷◌, ◌++◌, length, sym, subst, ◌∙◌}
 use Rattle.std.proofs.lemmas.List.Elements.{All-push, All-cons, All-head, All-tail, All-weaker}
 use Rattle.std.proofs.lemmas.Option.{slice_get_within}
 use Rattle.std.specs.List.{list_any}
-use Rattle.std.specs.Prelude.{Some, All, IfSome}
+use Rattle.std.specs.Prelude.{Some, None, All, IfSome}
 use Rattle.gimli_bytes.specs.Texts.{KeepsTexts, StringTables, texts_in}
 use Rattle.gimli_write.specs.Built.{Built}
 use Rattle.gimli_build.specs.Calls.{after_directory, after_file}
 use Rattle.gimli_write.specs.Conditions.{CanWrite}
-use Rattle.gimli_write.specs.LineText.{LineText, line_text_eq, IsWithin, HasNoZero}
+use Rattle.gimli_write.specs.LineText.{LineText, InLineStrings, line_text_eq, IsWithin, HasNoZero}
 use Rattle.gimli_write.specs.Tables.{File, FileKey, Details, with_directory, with_details, with_file, has_file, index_of_file}
 use Rattle.gimli_write.proofs.ConvertSteps.{still_there, kept_then}
 use Rattle.gimli_write.proofs.MappedTables.{within_where, if_some_where}
@@ -73,11 +73,23 @@ written_later old new kept p can = record {
     still : (i : ℕ) → i < length old → i < length new
     still i lt = still_there old new i kept lt
 
+-- a file of which the digest alone is known, that of an empty file
+abbrev digested : Details
+digested = record {
+  timestamp = 0;
+  size = 0;
+  md5 = 212 ∷ 29 ∷ 140 ∷ 217 ∷ 143 ∷ 0 ∷ 178 ∷ 4 ∷ 233 ∷ 128 ∷ 9 ∷ 152 ∷ 236 ∷ 248 ∷ 66 ∷ 126 ∷ [];
+  source = None;
+}
+
 pub returns : goal.returns
 returns c =
     let texts : StringTables = texts_in [] c.add-2.new.self in
     let kept = kept_then _ _ _ c.in_ok-include.ensures.stays c.in_ok-path.ensures.stays in
     let can = written_later _ _ kept _ c.requires in
     let include = still_there _ _ _ c.in_ok-path.ensures.stays (slice_get_within _ _ _ c.in_ok-include.ensures.found) in
-    let path = slice_get_within _ _ _ c.in_ok-path.ensures.found in
-    rw c.in_ok-file.ensures.ok (file_added _ texts _ _ path tt tt (rw c.in_ok-directory.ensures.ok (directory_added _ texts _ include can)))
+    let path = slice_get_within c.add-2.new.self c.in_ok-path.path.0 _ c.in_ok-path.ensures.found in
+    let directory = directory_added c.args.program.now texts (InLineStrings c.in_ok-include.include.0) include can in
+    subst (λ (p : Built). CanWrite (record p { file_has_md5 = true }) texts) (sym (c.program.view_is ∙ c.in_ok-file.ensures.ok))
+    (file_added c.add_directory.new.self texts (InLineStrings c.in_ok-path.path.0, c.in_ok-directory.directory) digested path tt tt
+    (rw c.in_ok-directory.ensures.ok directory))
