@@ -5,17 +5,8 @@ ghost use Rattle.std.specs.Prelude.{◌≡◌, ◌<◌, length, false, IfOk};
 
 use crate::check::{Found, first_false};
 use gimli_core::{Encoding, Format, LineEncoding};
-use gimli_write::{Address, BuiltItem, Error, FileId, LineProgram, LineRow, LineString, Result};
+use gimli_write::{Address, Error, FileId, LineProgram, LineRow, LineString, Result};
 use std::alloc::Global;
-
-/// The items of a program, in order.
-pub fn items_of(alloc: Global, program: &LineProgram) -> Result<Vec<BuiltItem>> {
-    let mut items = Vec::new(alloc);
-    for item in program.items() {
-        items.push(*item)?;
-    }
-    Ok(items)
-}
 
 /// A program of this version.
 fn program(alloc: Global, version: u16) -> Result<LineProgram>

@@ -5,7 +5,6 @@ ghost use Rattle.std.specs.Prelude.{◌≢◌, All};
 ghost use Rattle.gimli_write.specs.Conditions.{CanWrite};
 ghost use Rattle.gimli_write.specs.StringTables.{texts_in};
 
-use crate::builder::items_of;
 use crate::check::{Found, first_false};
 use crate::converted::{conversion_of, converted};
 use crate::units::{program, slice};
@@ -150,13 +149,9 @@ fn build_half<R: Reader>(conversion: &mut ConvertLineProgram<'_, '_, R>) -> Conv
 }
 
 /// Whether the rest of the items is built by `convert`.
-fn builds_rest<R: Reader>(
-    alloc: Global,
-    conversion: ConvertLineProgram<'_, '_, R>,
-) -> ConvertResult<bool> {
+fn builds_rest<R: Reader>(conversion: ConvertLineProgram<'_, '_, R>) -> ConvertResult<bool> {
     let (program, files) = conversion.convert(|address| Some(Address::Constant(address)))?;
-    let items = items_of(alloc, &program)?;
-    Ok((files.len(), items.len()) == (2 * ENTRIES + 1, ITEMS))
+    Ok((files.len(), program.items().count()) == (2 * ENTRIES + 1, ITEMS))
 }
 
 /// Whether a conversion is built in two halves.
@@ -165,7 +160,7 @@ fn is_built<R: Reader>(alloc: Global, source: IncompleteLineProgram<R>) -> Conve
     let mut strings = StringTable::default(alloc);
     let mut conversion = conversion_of(source, None, &mut line_strings, &mut strings)?;
     let count = build_half(&mut conversion)?;
-    Ok(count == ENTRIES && builds_rest(alloc, conversion)?)
+    Ok(count == ENTRIES && builds_rest(conversion)?)
 }
 
 /// Whether a program is read back after it was written behind three bytes. The working directory
@@ -187,7 +182,28 @@ fn is_read_back<E: Endianity>(
     Ok(counted && answer.rows.len() == 4 * ENTRIES + 1 && answer.offset == DebugLineOffset(3))
 }
 
-/// Whether a source is converted to version 5, copied, written and read back.
+/// How many items a copy of a program has.
+fn items_of_copy(program: &LineProgram) -> Result<usize> {
+    let copy = program.clone()?;
+    Ok(copy.items().count())
+}
+
+/// Whether a program is copied, written and read back.
+fn is_whole(
+    alloc: Global,
+    program: &LineProgram,
+    line_strings: &mut LineStringTable,
+    strings: &mut StringTable,
+) -> ConvertResult<bool>
+    requires { CanWrite program.now (texts_in strings.old line_strings.old) }
+{
+    let copied = items_of_copy(program)?;
+    let section = EndianVec::new(alloc, LittleEndian);
+    let back = is_read_back(program, section, line_strings, strings)?;
+    Ok(back && copied == ITEMS + ENTRIES + 1)
+}
+
+/// Whether a source is converted to version 5, and the program is whole.
 fn is_converted<R: Reader>(
     alloc: Global,
     source: IncompleteLineProgram<R>,
@@ -196,10 +212,8 @@ fn is_converted<R: Reader>(
     let mut line_strings = LineStringTable::default(alloc);
     let mut strings = StringTable::default(alloc);
     let (program, files) = converted(source, name, &mut line_strings, &mut strings)?;
-    let copied = items_of(alloc, &program.clone()?)?.len();
-    let section = EndianVec::new(alloc, LittleEndian);
-    let back = is_read_back(&program, section, &mut line_strings, &mut strings)?;
-    Ok(back && (files.len(), copied) == (2 * ENTRIES + 1, ITEMS + ENTRIES + 1))
+    let whole = is_whole(alloc, &program, &mut line_strings, &mut strings)?;
+    Ok(whole && files.len() == 2 * ENTRIES + 1)
 }
 
 /// The first of two that fails: a conversion in two halves, and one that is written.
