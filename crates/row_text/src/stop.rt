@@ -36,3 +36,9 @@ impl<T: Drop> From<AllocFailed<T>> for Stop {
         Stop::Memory
     }
 }
+
+impl From<Error> for Stop {
+    fn from(error: Error) -> Stop {
+        Stop::Refused(error)
+    }
+}

@@ -20,8 +20,8 @@ impl Lender for Slice<'_> {
 }
 
 /// What a command asks of a section or of one of its units.
-#[derive(Clone, Copy)]
-pub(crate) struct Asked<'w, R> {
+#[derive(Drop)]
+pub(crate) struct Asked<'w, R: Reader> {
     pub alloc: Global,
     /// How often a library call is made.
     pub attempts: Attempts,

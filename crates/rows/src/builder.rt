@@ -6,12 +6,12 @@ ghost use Rattle.gimli_write.specs.LineText.{line_text, HasNoZero, IsNotEmpty};
 ghost use Rattle.rows.specs.Within.{AreWithin, AreIds, texts_of};
 
 use crate::tables::{TableBytes, Tables};
-use crate::texts::{are_no_zeros, has_no_zero, is_name, is_not_empty, is_optional_name};
-use crate::unit::can_be_written;
-use gimli_core::{Encoding, RunTimeEndian};
+use crate::texts::{are_no_zeros, has_no_zero, is_name, is_not_empty, is_optional_name, is_within};
+use crate::unit::{read_program, write_program};
+use gimli_core::{Encoding, LineEncoding, RunTimeEndian};
 use gimli_write::{
-    Address, ConvertResult, DebugLine, DirectoryId, EndianVec, Error, FileId, FileInfo,
-    LineProgram, LineString, RoundTrip, Writer, round_trip,
+    Address, ConvertResult, DebugLine, DirectoryId, Error, FileId, FileInfo, LineProgram,
+    LineString, RoundTrip, Writer,
 };
 use row_text::{Arguments, Attempts, Form, Stop, digest_of};
 use std::alloc::Global;
@@ -42,6 +42,15 @@ impl Model for Builder {
     ghost view = { λ b. b.before };
 
     ghost invariant = { λ b. Stands b.program.directories b.directories.items (texts_of b.tables) };
+}
+
+/// The names of a new program.
+#[derive(Drop)]
+struct Names {
+    working_dir: LineString,
+    source_dir: Option<LineString>,
+    source_file: LineString,
+    info: Option<FileInfo>,
 }
 
 /// A call that builds an item.
@@ -186,48 +195,39 @@ impl Builder {
         } else {
             None
         };
-        let info = self.info(encoding, words);
-        let tables = &self.tables;
-        let can = LineProgram::accepts(encoding, line_encoding)
-            && is_name(&working_dir, tables)
-            && is_optional_name(&source_dir, tables)
-            && is_name(&source_file, tables);
-        if !words.may_call(can) {
-            return;
-        }
-        match LineProgram::new(
-            self.alloc,
-            encoding,
-            line_encoding,
+        let names = Names {
             working_dir,
             source_dir,
             source_file,
-            info,
-        ) {
-            Ok(program) => {
-                self.directories.clear();
-                self.program = program;
+            info: self.info(encoding, words),
+        };
+        if words.is_fine() {
+            match begin_program(self.alloc, &self.tables, encoding, line_encoding, names) {
+                Ok(program) => {
+                    self.directories.clear();
+                    self.program = program;
+                }
+                Err(stop) => words.refuse(stop),
             }
-            Err(error) => words.refuse(Stop::Refused(error)),
         }
     }
 
-    /// Adds a directory, and keeps its id.
+    /// Adds a directory.
     fn add_directory(&mut self, words: &mut Arguments<'_>) {
         let text = self.text(Form::Usual, self.encoding(), words);
-        let can = can_be_added(&self.program, &text) && is_name(&text, &self.tables);
-        if !words.may_call(can) {
-            return;
-        }
-        match self.program.add_directory(text) {
-            Ok(id) => {
-                self.keep();
-                if self.directories.push(id).is_err() {
-                    words.refuse(Stop::Memory);
-                }
+        if words.is_fine() {
+            if let Err(stop) = self.push_directory(text) {
+                words.refuse(stop);
             }
-            Err(error) => words.refuse(Stop::Refused(error)),
         }
+    }
+
+    /// Adds a directory of this text, and keeps its id.
+    fn push_directory(&mut self, text: LineString) -> Result<(), Stop> {
+        self.directories.reserve(1)?;
+        let id = add_directory(&mut self.program, &self.tables, text)?;
+        self.directories.push_reserved(id);
+        Ok(())
     }
 
     /// Adds a file to the directory of a number.
@@ -265,30 +265,20 @@ impl Builder {
         section: &mut DebugLine<W>,
         encoding: Encoding,
     ) -> Option<Stop> {
-        if !can_be_written(&self.program, &self.tables) {
-            return Some(Stop::Condition);
-        }
-        let line_strings = &mut self.tables.line_strings;
-        let strings = &mut self.tables.strings;
-        match self.program.write(section, encoding, line_strings, strings) {
-            Ok(_) => None,
-            Err(error) => Some(Stop::Refused(error)),
+        match write_program(&self.program, &mut self.tables, section, encoding) {
+            Some(Ok(_)) => None,
+            Some(Err(error)) => Some(Stop::Refused(error)),
+            None => Some(Stop::Condition),
         }
     }
 
-    /// What is read of the program's unit, in an empty section; None where it can't be written.
+    /// What is read back; None where the program can't be written.
     pub fn read_back(
         &mut self,
         order: RunTimeEndian,
         encoding: Encoding,
     ) -> Option<ConvertResult<RoundTrip>> {
-        if !can_be_written(&self.program, &self.tables) {
-            return None;
-        }
-        let mut section = DebugLine::from(EndianVec::new(self.alloc, order));
-        let line_strings = &mut self.tables.line_strings;
-        let strings = &mut self.tables.strings;
-        Some(round_trip(&self.program, &mut section, encoding, line_strings, strings))
+        read_program(self.alloc, &self.program, &mut self.tables, order, encoding)
     }
 
     /// The bytes of the tables; by a second call, where memory is refused to the first and attempts
@@ -299,6 +289,60 @@ impl Builder {
             bytes => bytes,
         }
     }
+}
+
+/// Begins a program.
+fn begin_program(
+    alloc: Global,
+    tables: &Tables,
+    encoding: Encoding,
+    line_encoding: LineEncoding,
+    names: Names,
+) -> Result<LineProgram, Stop>
+    ensures within { IfOk result (λ program.
+        AreWithin program.directories (texts_of tables.now)) }
+{
+    let Names {
+        working_dir,
+        source_dir,
+        source_file,
+        info,
+    } = names;
+    if !LineProgram::accepts(encoding, line_encoding)
+        || !is_name(&working_dir, tables)
+        || !is_optional_name(&source_dir, tables)
+        || !is_name(&source_file, tables)
+    {
+        return Err(Stop::Condition);
+    }
+    let program = LineProgram::new(
+        alloc,
+        encoding,
+        line_encoding,
+        working_dir,
+        source_dir,
+        source_file,
+        info,
+    )?;
+    Ok(program)
+}
+
+/// Adds a directory.
+fn add_directory(
+    program: &mut LineProgram,
+    tables: &Tables,
+    directory: LineString,
+) -> Result<DirectoryId, Stop>
+    requires { AreWithin program.old.directories (texts_of tables.now) }
+    ensures within { AreWithin program.new.directories (texts_of tables.now) }
+    ensures grows { length program.old.directories ≤ length program.new.directories }
+    ensures id { IfOk result (λ id. id < length program.new.directories) }
+{
+    if !can_be_added(program, &directory) || !is_within(&directory, tables) {
+        return Err(Stop::Condition);
+    }
+    let id = program.add_directory(directory)?;
+    Ok(id)
 }
 
 /// Whether a text may be the name of a directory or a file that is added.
@@ -395,28 +439,32 @@ fn file_id(alloc: Global, program: &LineProgram, words: &mut Arguments<'_>) -> O
     if let Some((id, _, _)) = program.files().nth(number as usize) {
         return Some(id);
     }
-    let id = scratch_file(alloc, number);
+    let id = match program.clone() {
+        Ok(mut scratch) => scratch_file(alloc, &mut scratch, number),
+        Err(_) => None,
+    };
     if id.is_none() {
         words.refuse(Stop::Memory);
     }
     id
 }
 
-/// The id of the file with this number, in a program that has so many and is thrown away.
-fn scratch_file(alloc: Global, number: u64) -> Option<FileId> {
-    let words = ["4", "32", "4", "1", "1", "1", "-5", "14", "w", "s"];
-    let mut scratch = Builder::empty(alloc, Attempts::One);
-    let mut words = Arguments::new(alloc, &words);
-    scratch.begin_program(&mut words);
-    for index in 0..=number {
-        let line = format!(in alloc; "{index} 0").ok()?;
-        let words: Vec<&str> = line.split(' ').collect(alloc).ok()?;
-        scratch.add_file(Arguments::new(alloc, &words));
+/// Adds files up to one of this number, each with a name of another length, and returns its id.
+fn scratch_file(alloc: Global, program: &mut LineProgram, number: u64) -> Option<FileId> {
+    for length in 1..2 * (LAST_FILE as usize) {
+        let name = LineString::String(vec![in alloc; b'f'; length].ok()?);
+        if !can_be_added(program, &name) {
+            return None;
+        }
+        let directory = program.default_directory();
+        match program.add_file(name, directory, None) {
+            // From version 5 on the numbers of files begin at 0.
+            Ok(id) if id.raw(5) == number => return Some(id),
+            Ok(_) => {}
+            Err(_) => return None,
+        }
     }
-    match scratch.program.files().nth(number as usize) {
-        Some((id, _, _)) => Some(id),
-        None => None,
-    }
+    None
 }
 
 /// Builds an item, if that is one.

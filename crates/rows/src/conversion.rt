@@ -13,7 +13,8 @@ use gimli_core::Reader;
 use gimli_write::conversion_laws::converted_programs_can_be_written;
 use gimli_write::{
     Address, ConvertError, ConvertLineHeader, ConvertLineRow, ConvertLineSequence,
-    ConvertLineSequenceEnd, ConvertResult, FileId, LineProgram, convert_program,
+    ConvertLineSequenceEnd, ConvertResult, FileId, LineProgram, LineStringTable, StringTable,
+    convert_program,
 };
 use row_text::{Attempts, Lines, Piece};
 
@@ -52,11 +53,19 @@ impl<R: Reader> Asked<'_, R> {
     fn print_read(&self, by_items: bool, lines: &mut Lines) -> Ending
         requires { IsTaken self.now.target }
     {
-        let mut tables = Tables::new(self.alloc);
-        if tables.strings.add(b"old").is_err() || tables.line_strings.add(b"old").is_err() {
-            lines.refuse();
-            return Ending::NotBegun;
+        match Tables::old(self.alloc) {
+            Ok(mut tables) => self.print_beside(by_items, &mut tables, lines),
+            Err(_) => {
+                lines.refuse();
+                Ending::NotBegun
+            }
         }
+    }
+
+    /// Prints what one conversion reads, with these tables.
+    fn print_beside(&self, by_items: bool, tables: &mut Tables, lines: &mut Lines) -> Ending
+        requires { IsTaken self.now.target }
+    {
         let begun = match self.program() {
             Ok(program) => ConvertLineHeader::new(
                 self.strings,
@@ -70,7 +79,10 @@ impl<R: Reader> Asked<'_, R> {
             Err(error) => Err(ConvertError::Read(error)),
         };
         let ending = match begun {
-            Ok(header) => print_after_header(by_items, header, &mut tables, lines),
+            Ok(header) => {
+                let strings = &mut tables.strings;
+                print_after_header(by_items, header, &mut tables.line_strings, strings, lines)
+            },
             Err(error) => {
                 put_refused(error, lines);
                 match error {
@@ -80,9 +92,7 @@ impl<R: Reader> Asked<'_, R> {
             }
         };
         match ending {
-            Ending::OutOfMemory(stands) => {
-                Ending::OutOfMemory(stands && tables.begin_with(b"old"))
-            }
+            Ending::OutOfMemory(stands) => { Ending::OutOfMemory(stands && tables.begin_old()) }
             ending => ending,
         }
     }
@@ -142,10 +152,11 @@ impl<R: Reader> Asked<'_, R> {
 fn print_after_header<R: Reader>(
     by_items: bool,
     header: ConvertLineHeader<R>,
-    tables: &mut Tables,
+    line_strings: &mut LineStringTable,
+    strings: &mut StringTable,
     lines: &mut Lines,
 ) -> Ending {
-    let mut converter = header.converter(&mut tables.line_strings, &mut tables.strings);
+    let mut converter = header.converter(line_strings, strings);
     for _turn in 0..u64::MAX {
         let end = if by_items {
             match converter.read_row() {

@@ -103,13 +103,7 @@ impl Script {
             ["next"] => {
                 self.finish(lines);
                 lines.put(&[Piece::Word("--")]);
-                let builder = Builder::empty(self.builder.alloc, self.builder.attempts);
-                *self = Script {
-                    number: self.number,
-                    status: self.status,
-                    stop: self.stop,
-                    ..Script::new(builder)
-                };
+                self.begin_anew();
             }
             ["order", ..] => self.order = rest.order(),
             ["writer", ..] => self.target = rest.target(),
@@ -126,6 +120,18 @@ impl Script {
         if self.stop.is_none() {
             self.stop = stop;
         }
+    }
+
+    /// Goes on with a script without a call.
+    fn begin_anew(&mut self) {
+        self.builder = Builder::empty(self.builder.alloc, self.builder.attempts);
+        self.order = RunTimeEndian::Little;
+        self.target = Target::Vector;
+        self.prefix.clear();
+        self.unit = None;
+        self.reads_back = false;
+        self.has_program = false;
+        self.is_ended = false;
     }
 
     /// Makes a call, and tells how it ends the script, if it does. The program is begun once, and

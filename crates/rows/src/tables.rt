@@ -36,14 +36,22 @@ impl Tables {
         }
     }
 
-    /// Whether the first text of both is this one.
-    pub fn begin_with(&self, text: &[u8]) -> bool {
+    /// Tables with the text `old` each.
+    pub fn old(alloc: Global) -> Result<Tables> {
+        let mut tables = Tables::new(alloc);
+        tables.strings.add(b"old")?;
+        tables.line_strings.add(b"old")?;
+        Ok(tables)
+    }
+
+    /// Whether the first text of both is `old`.
+    pub fn begin_old(&self) -> bool {
         let strings = &self.strings;
         let line_strings = &self.line_strings;
         strings.count() != 0
             && line_strings.count() != 0
-            && strings.get(StringId(0)) == text
-            && line_strings.get(LineStringId(0)) == text
+            && strings.get(StringId(0)) == b"old".as_slice()
+            && line_strings.get(LineStringId(0)) == b"old".as_slice()
     }
 
     /// The bytes of both.

@@ -16,9 +16,9 @@ impl Target {
     ghost use Rattle.std.specs.Prelude.{IsTrue};
     ghost use Rattle.rows.specs.Taken.{IsTaken};
 
-    /// The target that the next word names, where one is asked for: `-` for the source's own, or the version, the format
-    /// and the size of an address, and after them what lines are encoded by, if it isn't as in the
-    /// source. All are numbers with commas between.
+    /// The target that the next word names, where one is asked for: `-` for the source's own, or
+    /// the version, the format and the size of an address, and after them what lines are encoded
+    /// by, if it isn't as in the source. All are numbers with commas between.
     pub fn parse(alloc: Global, is_asked: bool, words: &mut Arguments<'_>) -> Target {
         let mut target = Target {
             encoding: None,

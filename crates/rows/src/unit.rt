@@ -1,6 +1,6 @@
-//! Whether programs can be written.
+//! Programs that are written, and read back.
 
-ghost use Rattle.std.specs.Prelude.{◌≡◌, true, IsTrue, IfSome, All};
+ghost use Rattle.std.specs.Prelude.{◌≡◌, ◌≤◌, true, length, IsTrue, IfSome, All};
 ghost use Rattle.std.specs.Option.{option_map};
 ghost use Rattle.gimli_write.specs.LineText.{line_text, HasNoZero, IsWithin};
 ghost use Rattle.gimli_write.specs.Conditions.{CanWrite};
@@ -8,10 +8,63 @@ ghost use Rattle.rows.specs.Within.{AreWithin, IsFileWritable, texts_of};
 
 use crate::tables::Tables;
 use crate::texts::{has_no_zero, is_within};
-use gimli_write::{LineProgram, LineString};
+use gimli_core::{DebugLineOffset, Encoding, RunTimeEndian};
+use gimli_write::{
+    ConvertResult, DebugLine, EndianVec, LineProgram, LineString, Result, RoundTrip, Writer,
+    round_trip,
+};
+use std::alloc::Global;
+
+/// Writes a program; None where it can't be written. Requires directories that are in these tables.
+pub(crate) fn write_program<W: Writer>(
+    program: &LineProgram,
+    tables: &mut Tables,
+    section: &mut DebugLine<W>,
+    encoding: Encoding,
+) -> Option<Result<DebugLineOffset>>
+    requires { AreWithin program.now.directories (texts_of tables.old) }
+    ensures strings { length tables.old.strings ≤ length tables.new.strings }
+    ensures line_strings { length tables.old.line_strings ≤ length tables.new.line_strings }
+{
+    if !can_be_written(program, tables) {
+        return None;
+    }
+    Some(program.write(
+        section,
+        encoding,
+        &mut tables.line_strings,
+        &mut tables.strings,
+    ))
+}
+
+/// What is read of a program's unit, in an empty section; None where it can't be written. Requires
+/// directories that are in these tables.
+pub(crate) fn read_program(
+    alloc: Global,
+    program: &LineProgram,
+    tables: &mut Tables,
+    order: RunTimeEndian,
+    encoding: Encoding,
+) -> Option<ConvertResult<RoundTrip>>
+    requires { AreWithin program.now.directories (texts_of tables.old) }
+    ensures strings { length tables.old.strings ≤ length tables.new.strings }
+    ensures line_strings { length tables.old.line_strings ≤ length tables.new.line_strings }
+{
+    if !can_be_written(program, tables) {
+        return None;
+    }
+    let mut section = DebugLine::from(EndianVec::new(alloc, order));
+    Some(round_trip(
+        program,
+        &mut section,
+        encoding,
+        &mut tables.line_strings,
+        &mut tables.strings,
+    ))
+}
 
 /// Whether a program can be written with these tables. Requires directories that are in them.
-pub(crate) fn can_be_written(program: &LineProgram, tables: &Tables) -> bool
+fn can_be_written(program: &LineProgram, tables: &Tables) -> bool
     requires { AreWithin program.now.directories (texts_of tables.now) }
     ensures { IsTrue result → CanWrite program.now (texts_of tables.now) }
 {

@@ -1,5 +1,5 @@
 use Rattle.rows.proofs.WithinLemmas.{strings_kept-longer, line_strings_kept-longer}
-use Rattle.rows.proofs.builder.Builder.read_back.Goals as goal
+use Rattle.rows.proofs.unit.read_program.Goals as goal
 
 pub returns-clause-strings : goal.returns-clause-strings
 returns-clause-strings c = strings_kept-longer c.round_trip.ensures.tables_kept

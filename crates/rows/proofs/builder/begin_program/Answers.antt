@@ -3,7 +3,7 @@ use Rattle.gimli_write.specs.LineText.{line_text}
 use Rattle.gimli_write.specs.Built.{Built}
 use Rattle.rows.specs.Within.{AreWithin, texts_of}
 use Rattle.rows.proofs.WithinLemmas.{within_first}
-use Rattle.rows.proofs.builder.Builder.begin_program.Goals as goal
+use Rattle.rows.proofs.builder.begin_program.Goals as goal
 
 pub returns : goal.returns
 returns c =

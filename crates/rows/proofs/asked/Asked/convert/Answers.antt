@@ -5,7 +5,7 @@ use Rattle.gimli_bytes.specs.declared.address.Address.TheVariants.{Constant}
 use Rattle.gimli_write.specs.convert.Conversion.{outcome_with}
 use Rattle.gimli_write.specs.convert.DoneConversions.{DoneConversion}
 use Rattle.gimli_write.specs.convert.Preparation.{handed_of}
-use Rattle.rows.proofs.conversion.Asked.convert.Goals as goal
+use Rattle.rows.proofs.asked.Asked.convert.Goals as goal
 
 pub returns : goal.returns
 returns g c =
