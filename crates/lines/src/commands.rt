@@ -139,13 +139,25 @@ pub(crate) fn compare<'w>(
     let Some(new) = program_of(rt, new, &mut new_output)? else {
         return finish(rt, new_output);
     };
-    let mut diff = Diff::new(rt.alloc(), &old.input(), &new.input(), &mut old_output)?;
-    add_program(rt, &mut diff, &mut old_output)?;
-    diff.begin_new();
-    add_program(rt, &mut diff, &mut new_output)?;
+    let old = &old.input();
+    compare_inputs(rt, old, &new.input(), &mut old_output, &mut new_output)?;
     let old_status = finish(rt, old_output)?;
     let new_status = finish(rt, new_output)?;
     Ok(old_status.max(new_status))
+}
+
+/// Prints how a program differs from a new one.
+fn compare_inputs<R: Reader>(
+    rt: &HostRuntime,
+    old: &Input<R>,
+    new: &Input<R>,
+    old_output: &mut Output<'_>,
+    new_output: &mut Output<'_>,
+) -> io::Result<()> {
+    let mut diff = Diff::new(rt.alloc(), old, new, old_output)?;
+    add_program(rt, &mut diff, old_output)?;
+    diff.begin_new();
+    add_program(rt, &mut diff, new_output)
 }
 
 /// Adds the code of a program to what is compared, unit by unit.

@@ -53,8 +53,7 @@ fn locate_in_section<'w>(
         Ok(Some(program)) => {
             let functions = Functions::new(rt.alloc(), program.symbols(), program.section())?;
             let input = &program.input();
-            let places = Places::new(rt.alloc(), input, functions, request, Some(name), output)?;
-            answer_all(rt, request, &places, questions, output)?;
+            locate(rt, request, input, functions, name, questions, output)?;
             return Ok(true);
         }
         Ok(None) => {
@@ -64,6 +63,20 @@ fn locate_in_section<'w>(
         Err(refusal) => tell_refusal(refusal, output)?,
     }
     Ok(false)
+}
+
+/// Prints the places of the addresses that follow each other in a section, by its rows.
+fn locate<'w, R: Reader>(
+    rt: &HostRuntime,
+    request: &'w Request<'w>,
+    input: &Input<R>,
+    functions: Functions<'_>,
+    section: &'w [u8],
+    questions: &mut Questions<'_>,
+    output: &mut Output<'_>,
+) -> io::Result<()> {
+    let places = Places::new(rt.alloc(), input, functions, request, Some(section), output)?;
+    answer_all(rt, request, &places, questions, output)
 }
 
 /// Answers questions up to the first that is asked of another section.

@@ -194,8 +194,7 @@ impl<R: Reader> Search<'_, R> {
                 ("range", Json::Range(address, end)),
                 ("is_stmt", Json::Holds(is_stmt)),
             ];
-            output.add_fields("{", &fields);
-            return output.print("}");
+            return output.print_object(&fields);
         }
         output.add(format_args!("0x{address:x}"));
         if self.request.has_range {

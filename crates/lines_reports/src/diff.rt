@@ -62,13 +62,14 @@ impl<R: Reader> Diff<R> {
             ("new_lines", Json::Number(new as u64)),
             ("differences", Json::Number(count as u64)),
         ];
-        output.print_item(
-            &fields,
-            format_args!(
+        if output.is_json() {
+            output.print_object(&fields);
+        } else {
+            output.print(format_args!(
                 "lines with code: {old} in the old program, {new} in the new one; differences: \
                  {count}"
-            ),
-        );
+            ));
+        }
         Ok(())
     }
 
@@ -83,8 +84,7 @@ impl<R: Reader> Diff<R> {
                 ("old_bytes", Json::Count(change.old)),
                 ("new_bytes", Json::Count(change.new)),
             ];
-            output.add_fields("{", &fields);
-            return output.print("}");
+            return output.print_object(&fields);
         }
         let path = PathText(path);
         output.add(format_args!("{path}:{line}  "));

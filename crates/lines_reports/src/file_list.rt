@@ -4,7 +4,7 @@ use gimli_core::{Reader, ReaderOffset};
 use gimli_line::{FileEntry, LineProgramHeader};
 use gimli_lookup::{PathError, StringSections};
 use line_text::Digits;
-use lines_inputs::{Input, PathSources, Printing, UnitRows, Walk};
+use lines_inputs::{Input, PathFault, PathSources, Printing, UnitRows, Walk};
 use lines_words::{Json, Output, PathText, UnitChoice};
 use std::alloc::{AllocError, Global};
 
@@ -51,7 +51,8 @@ impl<R: Reader> FileList<R> {
                 },
                 Err(fault) => Err(fault),
             };
-            self.print_entry(unit, "directory", index, path, None, output)?;
+            let fault = self.begin_entry(unit.offset, "directory", index, path, output)?;
+            end_entry(unit.offset, "directory", index, fault, output);
         }
         Ok(())
     }
@@ -65,21 +66,23 @@ impl<R: Reader> FileList<R> {
                 continue;
             };
             let path = self.sources.of_file(self.alloc, header, file);
-            self.print_entry(unit, "file", index, path, Some(file), output)?;
+            let fault = self.begin_entry(unit.offset, "file", index, path, output)?;
+            self.add_details(header, file, output);
+            end_entry(unit.offset, "file", index, fault, output);
         }
         Ok(())
     }
 
-    /// Prints a directory or a file of a unit. Why it has no path is reported.
-    fn print_entry(
+    /// Prints what stands first in the line of a directory or a file of the unit at an offset, and
+    /// returns why it has no path.
+    fn begin_entry(
         &self,
-        unit: &UnitRows<R>,
+        unit: u64,
         kind: &str,
         index: u64,
         path: Result<Vec<u8>, PathError>,
-        file: Option<&FileEntry<R>>,
         output: &mut Output<'_>,
-    ) -> Result<(), AllocError> {
+    ) -> Result<Option<PathFault>, AllocError> {
         let (path, fault) = match path {
             Ok(path) => (Some(path), None),
             Err(PathError::OutOfMemory) => return Err(AllocError),
@@ -88,7 +91,7 @@ impl<R: Reader> FileList<R> {
         let path = path.as_deref();
         if output.is_json() {
             let fields = [
-                ("unit", Json::Offset(Some(unit.offset))),
+                ("unit", Json::Offset(Some(unit))),
                 (kind, Json::Number(index)),
                 ("path", Json::Bytes(path)),
             ];
@@ -97,14 +100,7 @@ impl<R: Reader> FileList<R> {
             let path = PathText(path.unwrap_or(b"??"));
             output.add(format_args!("{kind} {index}  {path}"));
         }
-        if let Some(file) = file {
-            self.add_details(unit.header(), file, output);
-        }
-        output.print(if output.is_json() { "}" } else { "" });
-        if let Some(fault) = fault {
-            output.tell_of_unit(unit.offset, format_args!("{kind} {index}: {fault}"));
-        }
-        Ok(())
+        Ok(fault)
     }
 
     /// Prints what a header says of a file beside its path. For people a time and a size of 0 are
@@ -159,6 +155,15 @@ impl<R: Reader> FileList<R> {
         self.print_directories(&unit, output)?;
         self.print_files(&unit, output)?;
         Ok(true)
+    }
+}
+
+/// Ends the line of a directory or a file of the unit at an offset. Why it has no path is reported.
+fn end_entry(unit: u64, kind: &str, index: u64, fault: Option<PathFault>, output: &mut Output<'_>) {
+    let end = if output.is_json() { "}" } else { "" };
+    output.print(end);
+    if let Some(fault) = fault {
+        output.tell_of_unit(unit, format_args!("{kind} {index}: {fault}"));
     }
 }
 

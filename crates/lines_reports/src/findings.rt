@@ -79,7 +79,11 @@ impl Findings {
                     ("kind", Json::Word(name)),
                     ("count", Json::Number(count)),
                 ];
-                output.print_item(&fields, format_args!("{name} ({severity}): {count}"));
+                if output.is_json() {
+                    output.print_object(&fields);
+                } else {
+                    output.print(format_args!("{name} ({severity}): {count}"));
+                }
                 if output.check().counts(kind) {
                     findings = findings.saturating_add(count);
                 }
@@ -89,9 +93,10 @@ impl Findings {
             ("units", Json::Number(units)),
             ("findings", Json::Number(findings)),
         ];
-        output.print_item(
-            &fields,
-            format_args!("units: {units}, findings: {findings}"),
-        );
+        if output.is_json() {
+            output.print_object(&fields);
+        } else {
+            output.print(format_args!("units: {units}, findings: {findings}"));
+        }
     }
 }

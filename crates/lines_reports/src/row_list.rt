@@ -159,8 +159,8 @@ fn print_json(offset: u64, row: &LineRow, path: &str, output: &mut Output<'_>) {
         ("column", Json::Number(column_of(row))),
         ("discriminator", Json::Number(row.discriminator())),
         ("isa", Json::Number(row.isa())),
-        ("flags", Json::Flags(&flags)),
     ];
     output.add_fields("{", &fields);
+    output.add_fields(",", &[("flags", Json::Flags(&flags))]);
     output.print("}");
 }

@@ -135,13 +135,14 @@ impl<R: Reader> Stat<R> {
         let whole = all.checked_div(*rows).unwrap_or(0);
         let rest = all.checked_rem(*rows).unwrap_or(0);
         let tenths = rest.saturating_mul(10).checked_div(*rows).unwrap_or(0);
-        output.print_item(
-            &fields,
-            format_args!(
+        if output.is_json() {
+            output.print_object(&fields);
+        } else {
+            output.print(format_args!(
                 "units: {units}, rows: {rows}, ends: {ends}, not statements: {not_statements}, \
                  bytes: {all}, a row: {whole}.{tenths}"
-            ),
-        );
+            ));
+        }
     }
 
     /// Prints what the bytes are spent on.
@@ -165,10 +166,13 @@ impl<R: Reader> Stat<R> {
                 ("operands", Json::Number(operands)),
             ];
             let percent = Percent(share.all_bytes(), self.all);
-            output.print_item(
-                &fields,
-                format_args!("{name:<18}  {times:>8}  {bytes:>8}  {operands:>8}  {percent}"),
-            );
+            if output.is_json() {
+                output.print_object(&fields);
+            } else {
+                output.print(format_args!(
+                    "{name:<18}  {times:>8}  {bytes:>8}  {operands:>8}  {percent}"
+                ));
+            }
         }
     }
 
@@ -181,10 +185,13 @@ impl<R: Reader> Stat<R> {
                 ("bytes", Json::Number(*bytes)),
             ];
             let percent = Percent(*bytes, self.all);
-            output.print_item(
-                &fields,
-                format_args!("0x{offset:08x}                {bytes:>12}            {percent}"),
-            );
+            if output.is_json() {
+                output.print_object(&fields);
+            } else {
+                output.print(format_args!(
+                    "0x{offset:08x}                {bytes:>12}            {percent}"
+                ));
+            }
         }
     }
 
@@ -200,7 +207,11 @@ impl<R: Reader> Stat<R> {
             ];
             let path = PathText(path);
             let percent = Percent(*count, all);
-            output.print_item(&fields, format_args!("{count:>9}  {path}  {percent}"));
+            if output.is_json() {
+                output.print_object(&fields);
+            } else {
+                output.print(format_args!("{count:>9}  {path}  {percent}"));
+            }
         }
     }
 

@@ -63,13 +63,14 @@ fn print_unit<R: Reader>(unit: &UnitRows<R>, output: &mut Output<'_>) {
         ("rows", Json::Number(*rows)),
         ("bytes", Json::Number(bytes)),
     ];
-    output.print_item(
-        &fields,
-        format_args!(
+    if output.is_json() {
+        output.print_object(&fields);
+    } else {
+        output.print(format_args!(
             "0x{offset:08x}  {version:>7}  {format}-bit  {address_size:>7}  {files:>5}  \
              {sequences:>9}  {rows:>8}  {bytes:>8}"
-        ),
-    );
+        ));
+    }
 }
 
 /// The bytes of a unit, those of its length among them.

@@ -153,14 +153,10 @@ impl<'o> Output<'o> {
         self.print_heading(format_args!("unit at 0x{unit:x}, version {version}"));
     }
 
-    /// Prints an object of JSON with these fields, or for people a line.
-    pub fn print_item(&mut self, fields: &[(&str, Json<'_>)], line: impl fmt::Display + Drop) {
-        if self.is_json() {
-            self.add_fields("{", fields);
-            self.print("}");
-        } else {
-            self.print(line);
-        }
+    /// Prints an object of JSON with these fields.
+    pub fn print_object(&mut self, fields: &[(&str, Json<'_>)]) {
+        self.add_fields("{", fields);
+        self.print("}");
     }
 
     /// Prints fields of an object of JSON, with a text before the first of them.
