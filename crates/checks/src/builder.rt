@@ -102,13 +102,12 @@ fn has_rows(alloc: Global, version: u16) -> Result<bool> {
 
 /// The first version in which a current row is another.
 pub fn current_rows(alloc: Global) -> Found {
-    let versions = [4, 5, 6];
-    Ok(
-        versions
-            .as_slice()
-            .iter()
-            .position(|version| has_rows(alloc, *version) != Ok(true)),
-    )
+    for version in [4, 5, 6] {
+        if !has_rows(alloc, version)? {
+            return Ok(Some(usize::from(version)));
+        }
+    }
+    Ok(None)
 }
 
 fn set_size(program: &mut LineProgram, file: FileId, size: u64)

@@ -128,6 +128,18 @@ fn is_whole(
 
 /// The same of a source that is converted.
 fn is_written<R: Reader>(
+    source: IncompleteLineProgram<R>,
+    name: R,
+    calls: usize,
+    line_strings: &mut LineStringTable,
+    strings: &mut StringTable,
+) -> ConvertResult<Option<bool>> {
+    let (program, _) = converted(source, name, line_strings, strings)?;
+    Ok(is_whole(&program, strings, line_strings, calls)?)
+}
+
+/// The same of tables of texts that are empty.
+fn is_unit<R: Reader>(
     alloc: Global,
     source: IncompleteLineProgram<R>,
     name: R,
@@ -135,8 +147,7 @@ fn is_written<R: Reader>(
 ) -> ConvertResult<Option<bool>> {
     let mut strings = StringTable::default(alloc);
     let mut line_strings = LineStringTable::default(alloc);
-    let (program, _) = converted(source, name, &mut line_strings, &mut strings)?;
-    Ok(is_whole(&program, &mut strings, &mut line_strings, calls)?)
+    is_written(source, name, calls, &mut line_strings, &mut strings)
 }
 
 /// The first number of calls at which a unit isn't written by the writer's own calls, or a call
@@ -145,7 +156,7 @@ pub fn own_writer(alloc: Global) -> Found {
     let mut refused = 0;
     for calls in 0..60 {
         let source = program(alloc, slice(TWO_ADDRESSES), Some(slice(b"/w")))?;
-        match is_written(alloc, source, slice(b"q"), calls)? {
+        match is_unit(alloc, source, slice(b"q"), calls)? {
             Some(false) if refused == calls => refused = calls.saturating_add(1),
             Some(true) if refused > 20 => {}
             _ => return Ok(Some(calls)),
@@ -176,9 +187,20 @@ fn keeps_texts<R: Reader>(
     ]))
 }
 
+/// The same with tables of texts that are empty before.
+fn starts<R: Reader>(
+    alloc: Global,
+    program: IncompleteLineProgram<R>,
+) -> ConvertResult<Option<usize>> {
+    let mut strings = StringTable::default(alloc);
+    let mut line_strings = LineStringTable::default(alloc);
+    keeps_texts(program, &mut line_strings, &mut strings)
+}
+
 /// The same of the unit with two addresses.
 pub fn refused(alloc: Global) -> Found {
-    let source = program(alloc, slice(TWO_ADDRESSES), Some(slice(b"/w")))?;
-    let mut strings = StringTable::default(alloc);
-    keeps_texts(source, &mut LineStringTable::default(alloc), &mut strings)
+    starts(
+        alloc,
+        program(alloc, slice(TWO_ADDRESSES), Some(slice(b"/w")))?,
+    )
 }

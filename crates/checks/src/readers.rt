@@ -1,7 +1,7 @@
 //! Each call of a reader that reads a number, over lent bytes and over a reader of one's own that
-//! has the default bodies alone: what it answers, one after the other, so that what each takes shows
-//! in the next. Numbers are worked out by hand, LEB128 numbers are the examples of DWARF 5, section
-//! 7.6. And orders of bytes.
+//! has the default bodies alone: what it answers, one after the other, so that what each takes
+//! shows in the next; and orders of bytes. Numbers are worked out by hand, LEB128 numbers are the
+//! examples of DWARF 5, section 7.6.
 
 use crate::check::{Found, first_false};
 use crate::narrow::NarrowReader;
