@@ -1,13 +1,14 @@
 //! The cost of building and writing: `write SEQUENCES` builds a program of so many sequences of
 //! 1,000 rows (version 4, 32-bit format), writes it into an `EndianVec`, and drops it; seven times.
 //!
-//! Standard output has the length of each section and a sum of its bytes.
+//! Standard output has the length of each section and a sum of its bytes, standard error the times.
 
 ghost use Rattle.std.specs.Prelude.{OnOk, IfOk};
 ghost use Rattle.gimli_bytes.specs.Texts.{no_texts};
 ghost use Rattle.gimli_build.specs.Conditions.{CanWrite};
 
-use crate::{parse, print_sum};
+use crate::sums::print_sum;
+use crate::words::parse_count;
 use gimli_build::LineProgram;
 use gimli_bytes::{Address, DebugLine, EndianVec, LineStringTable, Result, StringTable};
 use gimli_core::LittleEndian;
@@ -16,6 +17,7 @@ use linetool_commands::one_file_program;
 use std::alloc::Global;
 use std::io;
 use std::io::ErrorKind;
+use std::time::Instant;
 
 /// How often a program is built and written.
 const TIMES: u64 = 7;
@@ -23,22 +25,36 @@ const TIMES: u64 = 7;
 /// How many rows a sequence has.
 const ROWS: u64 = 1000;
 
-/// Builds and writes programs of so many sequences, and prints what each was.
+/// Measures so many sequences.
 pub fn run(rt: &HostRuntime, sequences: &str) -> io::Result<()> {
-    let sequences = parse(sequences)?;
+    let sequences = parse_count(sequences)?;
     for _ in 0..TIMES {
-        match build_and_write(rt.alloc(), sequences) {
-            Ok(section) => print_sum(rt, &section)?,
-            Err(_) => return Err(io::Error::from(ErrorKind::OutOfMemory)),
-        }
+        measure(rt, sequences)?;
     }
     Ok(())
 }
 
-/// The section of a program of so many sequences.
-fn build_and_write(alloc: Global, sequences: u64) -> Result<Vec<u8>> {
-    let program = build(alloc, sequences)?;
-    write(alloc, &program)
+/// Builds and writes one program, and prints what it was.
+fn measure(rt: &HostRuntime, sequences: u64) -> io::Result<()> {
+    let begin = Instant::now(rt)?;
+    let Ok(program) = build(rt.alloc(), sequences) else {
+        return Err(io::Error::from(ErrorKind::OutOfMemory));
+    };
+    let build_time = begin.elapsed(rt)?.as_nanos();
+    measure_writing(rt, &program, build_time)
+}
+
+/// Writes a program that took so long to build, and prints what it was.
+fn measure_writing(rt: &HostRuntime, program: &LineProgram, build_time: u128) -> io::Result<()>
+    requires { CanWrite program.now no_texts }
+{
+    let begin = Instant::now(rt)?;
+    let Ok(section) = write(rt.alloc(), program) else {
+        return Err(io::Error::from(ErrorKind::OutOfMemory));
+    };
+    let write_time = begin.elapsed(rt)?.as_nanos();
+    eprintln!(rt; "build_ns {build_time} write_ns {write_time}")?;
+    print_sum(rt, section.as_slice())
 }
 
 /// The section of a program.

@@ -4,7 +4,7 @@
 use crate::check::{Found, first_false};
 use gimli_core::{DwEhPe, Error as ReadError};
 use gimli_write::{ConvertError, Error, Result};
-use std::alloc::Global;
+use std::alloc::{AllocError, Global};
 use std::fmt::{Display, Write};
 
 /// Errors of writing.
@@ -76,11 +76,14 @@ pub fn texts(alloc: Global) -> Result<String> {
     Ok(text)
 }
 
-/// The first refusal that doesn't become the converter's own variant of it.
+/// The first refusal that doesn't become the converter's own variant of it, or one of memory
+/// `OutOfMemory`.
 pub fn turned() -> Found {
     let (read, write) = (ReadError::LineRangeZero, Error::UnsupportedVersion(6));
     Ok(first_false(&[
         ConvertError::from(read) == ConvertError::Read(read),
         ConvertError::from(write) == ConvertError::Write(write),
+        ConvertError::from(AllocError) == ConvertError::OutOfMemory,
+        Error::from(AllocError) == Error::OutOfMemory,
     ]))
 }

@@ -18,7 +18,7 @@ type Cases = (&'static [u8], &'static [u8], &'static [u8], &'static [Case]);
 
 const OVER: Result<bool> = Err(AddressOverflow);
 
-const CASES: [Cases; 3] = [
+const CASES: [Cases; 4] = [
     // Operation 2 of address 0, and a tombstone: no advance moves the address or op_index, until an
     // address is set that is none.
     (
@@ -26,9 +26,11 @@ const CASES: [Cases; 3] = [
         HEADER_OF_THREE,
         b"\0\x05\x02\xfe\xff\xff\xff",
         &[
+            (b"", Ok(false), [0, 2, 1]),
             (b"\x02\x02", Ok(false), [0, 2, 1]),
             (b"\x4b", Ok(true), [0, 2, 2]),
             (b"\x08", Ok(false), [0, 2, 1]),
+            (b"\x09\x05\0", Ok(false), [0, 2, 1]),
             (b"\x02\x02\0\x05\x02\x10\0\0\0", Ok(false), [16, 0, 1]),
         ],
     ),
@@ -60,6 +62,16 @@ const CASES: [Cases; 3] = [
             (b"\x08", OVER, [0xffff_fffd, 0, 1]),
             (b"\x4b", OVER, [0xffff_fffd, 0, 2]),
             (b"\x09\x0a\0", OVER, [0xffff_fffd, 0, 1]),
+        ],
+    ),
+    // So does op_index, but not at a fixed advance.
+    (
+        b"",
+        HEADER_OF_THREE,
+        b"\0\x05\x02\xfd\xff\xff\xff\x02\x02",
+        &[
+            (b"\x02\x08", OVER, [0xffff_fffd, 1, 1]),
+            (b"\x09\x0a\0", OVER, [0xffff_fffd, 2, 1]),
         ],
     ),
 ];

@@ -1,8 +1,8 @@
 -- The program has one directory and one file, whose texts are in the table.
 use Rattle.std.proofs.Common.{◌≡◌, List, [], ◌∷◌, sym, subst, ap}
 use Rattle.std.proofs.lemmas.List.Elements.{All-nil, All-cons}
-use Rattle.std.specs.Prelude.{ℕ, false, All, IfSome}
-use Rattle.gimli_bytes.specs.Texts.{StringTables, texts_in}
+use Rattle.std.specs.Prelude.{false, All, IfSome}
+use Rattle.gimli_bytes.specs.Texts.{StringTables}
 use Rattle.gimli_write.specs.Built.{Built}
 use Rattle.gimli_write.specs.Conditions.{CanWrite}
 use Rattle.gimli_write.specs.LineText.{LineText, line_text, IsWithin, HasNoZero}
