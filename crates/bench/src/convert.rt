@@ -5,8 +5,7 @@
 //! Standard output has the length of each section that was written, and a sum of its bytes.
 
 use crate::order::{CONVERT, OrderOf};
-use crate::sums::print_sum;
-use crate::words::{parse_count, parse_offset};
+use crate::{parse, print_sum};
 use gimli_core::{DebugLineOffset, EndianSlice, Reader};
 use gimli_line::{DebugLine, IncompleteLineProgram};
 use gimli_write::conversion_laws::converted_programs_can_be_written;
@@ -19,21 +18,16 @@ use std::{fs, io};
 
 /// Converts the unit at an offset so many times, and prints what was written each time.
 pub fn run(rt: &HostRuntime, path: &str, offset: &str, times: &str) -> io::Result<()> {
-    let offset = parse_offset(offset)?;
-    let times = parse_count(times)?;
+    let offset = DebugLineOffset(parse(offset)? as usize);
+    let times = parse(times)?;
     let section = fs::read(rt, path)?;
     for _ in 0..times {
-        pass(rt, &section, offset)?;
+        match converted_unit(rt.alloc(), &section, offset) {
+            Ok(bytes) => print_sum(rt, &bytes)?,
+            Err(_) => return Err(io::Error::from(ErrorKind::InvalidData)),
+        }
     }
     Ok(())
-}
-
-/// Converts the unit at an offset once, and prints what was written.
-fn pass(rt: &HostRuntime, section: &[u8], offset: DebugLineOffset) -> io::Result<()> {
-    match converted_unit(rt.alloc(), section, offset) {
-        Ok(bytes) => print_sum(rt, bytes.as_slice()),
-        Err(_) => Err(io::Error::from(ErrorKind::InvalidData)),
-    }
 }
 
 /// The unit at an offset, as it is written after its conversion.

@@ -8,11 +8,12 @@
 //! | `open` | opens one index, with bytes after it | starts | |
 //! | `find` | finds 10,000 addresses at random | those found | lines and sizes of paths |
 
+use crate::lookup::Tally;
 use crate::order::{INDEX, OrderOf};
-use crate::words::parse_count;
+use crate::parse;
 use gimli_compilation::{CompilationSections, Compilations};
-use gimli_core::{EndianSlice, Error};
-use gimli_index::{LineIndex, MakeError, write_index};
+use gimli_core::{EndianSlice, Reader};
+use gimli_index::{LineIndex, write_index};
 use gimli_line::DebugLine;
 use gimli_lookup::{SectionLookup, StringSections};
 use std::alloc::Global;
@@ -22,72 +23,52 @@ use std::{fs, io};
 /// How many addresses are found each time.
 const ADDRESSES: u64 = 10_000;
 
-/// Bytes in the order of this work.
-type Slice<'s> = EndianSlice<'s, OrderOf<INDEX>>;
-
-/// What was counted.
-#[derive(Clone, Copy, Default)]
-struct Tally {
-    count: u64,
-    sum: u64,
-}
-
-/// Does some work so many times on a section, and prints what it counted.
+/// Does some work so many times on a section, and prints what the last time counted.
 pub fn run(rt: &HostRuntime, path: &str, work: &str, times: &str) -> io::Result<()> {
-    let times = parse_count(times)?;
+    let times = parse(times)?;
     let section = fs::read(rt, path)?;
-    let tally = measure(rt.alloc(), &section, work, times)?;
-    let count = tally.count;
-    let sum = tally.sum;
-    println!(rt; "count {count} sum {sum}")
-}
-
-/// What the last time of the work counted.
-fn measure(alloc: Global, section: &[u8], work: &str, times: u64) -> io::Result<Tally> {
-    let told = match work {
-        "section" => lookups(alloc, section, times),
-        _ => works(alloc, section, work, times),
-    };
-    match told {
-        Ok(tally) => Ok(tally),
-        Err(_) => Err(io::Error::from(ErrorKind::InvalidData)),
+    let line = DebugLine::new(&section, OrderOf::<INDEX>);
+    let none = EndianSlice::new(&[], OrderOf::<INDEX>);
+    match do_work(rt.alloc(), &line, none, work, times) {
+        Some(tally) => println!(rt; "count {} sum {}", tally.count, tally.sum),
+        None => Err(io::Error::from(ErrorKind::InvalidData)),
     }
 }
 
-/// The lookup of a section.
-fn lookup_of(alloc: Global, section: &[u8]) -> Result<SectionLookup<Slice<'_>>, MakeError> {
-    let section = DebugLine::new(section, OrderOf::<INDEX>);
-    match SectionLookup::new(&section, alloc, 8, 0) {
-        Ok(lookup) => Ok(lookup),
-        Err(_) => Err(MakeError::OutOfMemory),
+/// Does the work so many times. `none` is a reader of no bytes. None where the section or memory
+/// refuses it.
+fn do_work<R: Reader>(
+    alloc: Global,
+    section: &DebugLine<R>,
+    none: R,
+    work: &str,
+    times: u64,
+) -> Option<Tally> {
+    if work == "section" {
+        return lookups(alloc, section, times);
+    }
+    let lookup = SectionLookup::new(section, alloc, 8, 0).ok()?;
+    let mut bytes = index_of(alloc, &lookup, none)?;
+    bytes.extend_from_slice(&[0; 8]).ok()?;
+    match work {
+        "make" => indexes(alloc, &lookup, none, times),
+        "open" => Some(openings(&bytes, times)),
+        _ => Some(findings(&bytes, times)),
     }
 }
 
 /// Makes a lookup so many times.
-fn lookups(alloc: Global, section: &[u8], times: u64) -> Result<Tally, MakeError> {
+fn lookups<R: Reader>(alloc: Global, section: &DebugLine<R>, times: u64) -> Option<Tally> {
     let mut tally = Tally::default();
     for _ in 0..times {
-        let lookup = lookup_of(alloc, section)?;
+        let lookup = SectionLookup::new(section, alloc, 8, 0).ok()?;
         tally.count = lookup.units().len() as u64;
     }
-    Ok(tally)
-}
-
-/// Does the work so many times over one lookup.
-fn works(alloc: Global, section: &[u8], work: &str, times: u64) -> Result<Tally, MakeError> {
-    let lookup = lookup_of(alloc, section)?;
-    let mut bytes = index_of(alloc, &lookup)?;
-    bytes.extend_from_slice(&[0; 8])?;
-    match work {
-        "make" => indexes(alloc, &lookup, times),
-        "open" => Ok(openings(bytes.as_slice(), times)),
-        _ => Ok(findings(bytes.as_slice(), times)),
-    }
+    Some(tally)
 }
 
 /// The index of a lookup. Its strings stand in its section.
-fn index_of(alloc: Global, lookup: &SectionLookup<Slice<'_>>) -> Result<Vec<u8>, MakeError> {
-    let none = EndianSlice::new(&[], OrderOf::<INDEX>);
+fn index_of<R: Reader>(alloc: Global, lookup: &SectionLookup<R>, none: R) -> Option<Vec<u8>> {
     let strings = StringSections {
         debug_line_str: none,
         debug_str: none,
@@ -99,29 +80,26 @@ fn index_of(alloc: Global, lookup: &SectionLookup<Slice<'_>>) -> Result<Vec<u8>,
         debug_line_str: none,
         debug_str_offsets: none,
     };
-    let Ok(compilations) = Compilations::new(alloc, &sections) else {
-        return Err(MakeError::OutOfMemory);
-    };
+    let compilations = Compilations::new(alloc, &sections).ok()?;
     let mut bytes = Vec::new(alloc);
-    write_index(alloc, lookup, &strings, &compilations, 8, b"", &mut bytes)?;
-    Ok(bytes)
+    write_index(alloc, lookup, &strings, &compilations, 8, b"", &mut bytes).ok()?;
+    Some(bytes)
 }
 
 /// Makes the index of a lookup so many times.
-fn indexes(
+fn indexes<R: Reader>(
     alloc: Global,
-    lookup: &SectionLookup<Slice<'_>>,
+    lookup: &SectionLookup<R>,
+    none: R,
     times: u64,
-) -> Result<Tally, MakeError> {
+) -> Option<Tally> {
     let mut tally = Tally::default();
     for _ in 0..times {
-        let bytes = index_of(alloc, lookup)?;
+        let bytes = index_of(alloc, lookup, none)?;
         tally.sum = bytes.len() as u64;
-        if let Ok(index) = LineIndex::open(bytes.as_slice()) {
-            tally.count = index.len() as u64;
-        }
+        tally.count = opening(&bytes).map_or(0, |index| index.len() as u64);
     }
-    Ok(tally)
+    Some(tally)
 }
 
 /// Opens an index.
@@ -148,9 +126,7 @@ fn findings(bytes: &[u8], times: u64) -> Tally {
     let Ok(index) = LineIndex::open(bytes) else {
         return tally;
     };
-    let Some(last) = index.len().checked_sub(1) else {
-        return tally;
-    };
+    let last = index.len().saturating_sub(1);
     let (Some(first), Some(last)) = (index.get(0), index.get(last)) else {
         return tally;
     };
@@ -172,11 +148,7 @@ fn find_all(index: &LineIndex<'_>, lowest: u64, length: u64) -> Tally {
         let address = lowest.wrapping_add((random >> 11).checked_rem(length).unwrap_or(0));
         if let Some(place) = index.find(address) {
             let size = place.path.map_or(0, |path| path.len());
-            tally.count = tally.count.wrapping_add(1);
-            tally.sum = tally
-                .sum
-                .wrapping_add(u64::from(place.line))
-                .wrapping_add(size as u64);
+            tally.add(u64::from(place.line).wrapping_add(size as u64));
         }
     }
     tally

@@ -18,11 +18,8 @@ mod index;
 mod lookup;
 mod order;
 mod read;
-mod sums;
-mod words;
 mod write;
 
-use read::What;
 use std::io::ErrorKind;
 use std::process::ExitCode;
 use std::{env, io};
@@ -34,7 +31,8 @@ fn main(rt: HostRuntime) -> ExitCode {
     }
 }
 
-/// Does the work that the words after the program's name tell.
+/// Does the work that the words after the program's name tell; for `stored` each kind of work, on
+/// the files of the stored run.
 fn start(rt: &HostRuntime) -> io::Result<()> {
     let arguments: Vec<String> = env::args(rt)?.collect(rt.alloc())?;
     let mut words = Vec::new(rt.alloc());
@@ -42,13 +40,9 @@ fn start(rt: &HostRuntime) -> io::Result<()> {
         words.push(word.as_str())?;
     }
     match words.as_slice() {
-        ["stored"] => perform_stored(rt),
-        words => perform(rt, words),
+        ["stored"] => {}
+        words => return perform(rt, words),
     }
-}
-
-/// Does each kind of work, on the files of the stored run.
-fn perform_stored(rt: &HostRuntime) -> io::Result<()> {
     perform(rt, &["read", "two_units.section", "2"])?;
     perform(rt, &["write", "2"])?;
     perform(rt, &["convert", "unit.section", "0", "2"])?;
@@ -59,12 +53,30 @@ fn perform_stored(rt: &HostRuntime) -> io::Result<()> {
 /// Does the work that words tell.
 fn perform(rt: &HostRuntime, words: &[&str]) -> io::Result<()> {
     match words {
-        ["read", path, times] => read::run(rt, path, times, What::Rows),
-        ["read", path, times, "sequences"] => read::run(rt, path, times, What::Sequences),
+        ["read", path, times] => read::run(rt, path, times, read::What::Rows),
+        ["read", path, times, "sequences"] => read::run(rt, path, times, read::What::Sequences),
         ["write", sequences] => write::run(rt, sequences),
         ["convert", path, offset, times] => convert::run(rt, path, offset, times),
         ["index", path, work, times] => index::run(rt, path, work, times),
         ["lookup", path, offset, work, times] => lookup::run(rt, path, offset, work, times),
         _ => Err(io::Error::from(ErrorKind::InvalidInput)),
     }
+}
+
+/// How many times, how many sequences, or the offset of a unit.
+fn parse(word: &str) -> io::Result<u64> {
+    match word.parse::<u64>() {
+        Ok(number) => Ok(number),
+        Err(_) => Err(io::Error::from(ErrorKind::InvalidInput)),
+    }
+}
+
+/// Prints the length of a section that was written, and a sum in which each byte and its place
+/// count.
+fn print_sum(rt: &HostRuntime, section: &[u8]) -> io::Result<()> {
+    let mut sum: u64 = 0;
+    for byte in section {
+        sum = sum.rotate_left(1).wrapping_add(u64::from(*byte));
+    }
+    println!(rt; "bytes {} sum {sum}", section.len())
 }

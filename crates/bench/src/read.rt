@@ -2,14 +2,13 @@
 //! and `read FILE TIMES sequences` splits all units into their sequences.
 //!
 //! Standard output has the counts and a checksum, over every register or over the bounds of the
-//! sequences; standard error has the time of each pass.
+//! sequences.
 
 use crate::order::{OrderOf, READ};
-use crate::words::parse_count;
+use crate::parse;
 use gimli_core::{DebugLineOffset, Reader};
 use gimli_line::{ColumnType, DebugLine, IncompleteLineProgram, LineRow};
 use std::alloc::Global;
-use std::time::Instant;
 use std::{fs, io};
 
 /// What is counted in a unit.
@@ -19,40 +18,23 @@ pub enum What {
     Sequences,
 }
 
-/// Makes so many passes over a section of a file.
+/// Makes so many passes over a section of a file, and prints what each counted.
 pub fn run(rt: &HostRuntime, path: &str, times: &str, what: What) -> io::Result<()> {
-    let times = parse_count(times)?;
+    let times = parse(times)?;
     let section = fs::read(rt, path)?;
-    make_passes(rt, &section, times, what)
-}
-
-/// Makes so many passes, and prints what each counted.
-fn make_passes(rt: &HostRuntime, section: &[u8], times: u64, what: What) -> io::Result<()> {
     let name = match what {
         What::Rows => "rows",
         What::Sequences => "sequences",
     };
     for _ in 0..times {
-        let begin = Instant::now(rt)?;
-        let total = measure(rt.alloc(), section, what);
-        let nanos = begin.elapsed(rt)?.as_nanos();
+        let line = DebugLine::new(&section, OrderOf::<READ>);
+        let total = pass(rt.alloc(), &line, section.len(), what);
         println!(rt;
             "units {} {name} {} sum {}",
             total.units, total.count, total.sum
         )?;
-        eprintln!(rt; "{nanos} ns")?;
     }
     Ok(())
-}
-
-/// One pass over all units of these bytes.
-fn measure(alloc: Global, section: &[u8], what: What) -> Total {
-    pass(
-        alloc,
-        &DebugLine::new(section, OrderOf::<READ>),
-        section.len(),
-        what,
-    )
 }
 
 /// One pass over all units of a section of this length.

@@ -1,14 +1,13 @@
 //! The cost of building and writing: `write SEQUENCES` builds a program of so many sequences of
 //! 1,000 rows (version 4, 32-bit format), writes it into an `EndianVec`, and drops it; seven times.
 //!
-//! Standard output has the length of each section and a sum of its bytes, standard error the times.
+//! Standard output has the length of each section and a sum of its bytes.
 
 ghost use Rattle.std.specs.Prelude.{OnOk, IfOk};
 ghost use Rattle.gimli_bytes.specs.Texts.{no_texts};
 ghost use Rattle.gimli_build.specs.Conditions.{CanWrite};
 
-use crate::sums::print_sum;
-use crate::words::parse_count;
+use crate::{parse, print_sum};
 use gimli_build::LineProgram;
 use gimli_bytes::{Address, DebugLine, EndianVec, LineStringTable, Result, StringTable};
 use gimli_core::LittleEndian;
@@ -17,7 +16,6 @@ use linetool_commands::one_file_program;
 use std::alloc::Global;
 use std::io;
 use std::io::ErrorKind;
-use std::time::Instant;
 
 /// How often a program is built and written.
 const TIMES: u64 = 7;
@@ -25,36 +23,22 @@ const TIMES: u64 = 7;
 /// How many rows a sequence has.
 const ROWS: u64 = 1000;
 
-/// Measures so many sequences.
+/// Builds and writes programs of so many sequences, and prints what each was.
 pub fn run(rt: &HostRuntime, sequences: &str) -> io::Result<()> {
-    let sequences = parse_count(sequences)?;
+    let sequences = parse(sequences)?;
     for _ in 0..TIMES {
-        measure(rt, sequences)?;
+        match build_and_write(rt.alloc(), sequences) {
+            Ok(section) => print_sum(rt, &section)?,
+            Err(_) => return Err(io::Error::from(ErrorKind::OutOfMemory)),
+        }
     }
     Ok(())
 }
 
-/// Builds and writes one program, and prints what it was.
-fn measure(rt: &HostRuntime, sequences: u64) -> io::Result<()> {
-    let begin = Instant::now(rt)?;
-    let Ok(program) = build(rt.alloc(), sequences) else {
-        return Err(io::Error::from(ErrorKind::OutOfMemory));
-    };
-    let build_time = begin.elapsed(rt)?.as_nanos();
-    measure_writing(rt, &program, build_time)
-}
-
-/// Writes a program that took so long to build, and prints what it was.
-fn measure_writing(rt: &HostRuntime, program: &LineProgram, build_time: u128) -> io::Result<()>
-    requires { CanWrite program.now no_texts }
-{
-    let begin = Instant::now(rt)?;
-    let Ok(section) = write(rt.alloc(), program) else {
-        return Err(io::Error::from(ErrorKind::OutOfMemory));
-    };
-    let write_time = begin.elapsed(rt)?.as_nanos();
-    eprintln!(rt; "build_ns {build_time} write_ns {write_time}")?;
-    print_sum(rt, section.as_slice())
+/// The section of a program of so many sequences.
+fn build_and_write(alloc: Global, sequences: u64) -> Result<Vec<u8>> {
+    let program = build(alloc, sequences)?;
+    write(alloc, &program)
 }
 
 /// The section of a program.
