@@ -1,5 +1,6 @@
 //! Rows and scripts as text: what a file of rows says, when an output is the expected one, the
-//! words of a script, and the lines that a command prints. `crates/vectors/ROWS.md` has the language.
+//! words of a script, and the lines that a command prints. `crates/vectors/ROWS.md` has the
+//! language.
 #![tactic(auto)]
 
 mod arguments;
