@@ -30,7 +30,8 @@ pub fn start<R: Env + Files, O: Write + Drop, E: Write>(
 /// The words after the program's name, each after a zero byte. One that isn't UTF-8 is taken for an
 /// empty word, which is no command, no number and the name of no file.
 pub fn words_after_name<R: Env>(alloc: Global, rt: &R) -> Result<String, AllocError> {
-    let mut room = vec![in alloc; 0u8; LONGEST_WORD]?;
+    let mut room = Vec::new(alloc);
+    room.resize(LONGEST_WORD, 0u8)?;
     let mut text = String::new(alloc);
     for i in 1..usize::MAX {
         let length = match rt.arg(i, &mut room) {
