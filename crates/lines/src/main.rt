@@ -75,21 +75,21 @@ fn explain(rt: &HostRuntime, error: &Error) -> io::Result<u8> {
 }
 
 /// Does what a request asks for, and returns the status of the program.
-fn run<'w>(rt: &HostRuntime, request: &'w Request<'w>) -> io::Result<u8> {
+fn run(rt: &HostRuntime, request: &Request<'_>) -> io::Result<u8> {
     match request.command {
-        Command::Index(out) => return write_index(rt, request, out),
-        Command::Ask(index) => return ask(rt, request, index),
-        Command::AskLines(names) => return ask_lines(rt, request, names),
+        Command::Index(out) => return write_index(rt, &*request, out),
+        Command::Ask(index) => return ask(rt, &*request, index),
+        Command::AskLines(names) => return ask_lines(rt, &*request, names),
         _ => {}
     }
     let Some(inputs) = inputs_of(rt, request, request.file)? else {
         return Ok(REFUSED);
     };
     let Command::Diff(new) = request.command else {
-        return perform(rt, request, inputs.kind, inputs.files());
+        return perform(rt, &*request, inputs.kind, inputs.files());
     };
     match inputs_of(rt, request, new)? {
-        Some(new_inputs) => compare(rt, request, &inputs, new, &new_inputs),
+        Some(new_inputs) => compare(rt, &*request, &inputs, new, &new_inputs),
         None => Ok(REFUSED),
     }
 }

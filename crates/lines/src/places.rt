@@ -26,7 +26,7 @@ pub(crate) fn locate_in_sections<'w>(
         };
         if let Asked::Address(CodeAddress::InSection { section, .. }) = asked {
             let name = Vec::from_slice(alloc, section.as_bytes())?;
-            if locate_in_section(rt, request, files, &name, &mut questions, output)? {
+            if locate_in_section(rt, &*request, files, &name, &mut questions, output)? {
                 continue;
             }
             printer.print_unknown(None, None, output);
