@@ -1,7 +1,7 @@
 //! The program `lines`: what the line tables of a program say.
 #![tactic(auto)]
 
-ghost use Rattle.std.specs.Prelude.{◌≤◌, IfOk};
+ghost use Rattle.std.specs.Prelude.{◌≡◌, ◌≤◌, ◌↔◌, IfOk};
 
 mod arguments;
 mod commands;
@@ -16,7 +16,7 @@ use crate::indexes::{ask, ask_lines, write_index};
 use crate::inputs::inputs_of;
 use clap::Error;
 use clap::error::ErrorKind as WordsError;
-use lines_words::{Command, Output, Request, Screen};
+use lines_words::{Command, Output, Request, Screen, Verdict};
 use std::io::{ErrorKind, IsTerminal, Write};
 use std::process::ExitCode;
 use std::{env, io};
@@ -121,7 +121,9 @@ pub(crate) fn hand_on(rt: &HostRuntime, output: &mut Output<'_>) -> io::Result<(
 /// Hands on what a command printed, and returns the status of the program: 0, or 1 where something
 /// was reported, or a check found what is denied.
 pub(crate) fn finish(rt: &HostRuntime, output: Output<'_>) -> io::Result<u8>
-    ensures { IfOk result (λ status. status ≤ 1) }
+    ensures bound { IfOk result (λ status. status ≤ 1) }
+    ensures exact { IfOk result
+        (λ status. (status ≡ 1) ↔ (output.entry.verdict ≡ Verdict.Faulty)) }
 {
     output.finish(&mut rt.stdout(), &mut rt.stderr())
 }
