@@ -121,16 +121,16 @@ impl<'o> Output<'o> {
         self.request.check
     }
 
-    /// Prints a line.
+    /// Prints a line; nothing where what stands before it could not be kept.
     pub fn print(&mut self, line: impl fmt::Display + Drop) {
-        if writeln!(self.out, "{line}").is_err() {
+        if self.is_incomplete || writeln!(self.out, "{line}").is_err() {
             self.is_incomplete = true;
         }
     }
 
-    /// Prints a part of a line.
+    /// Prints a part of a line; nothing where what stands before it could not be kept.
     pub fn add(&mut self, part: impl fmt::Display + Drop) {
-        if write!(self.out, "{part}").is_err() {
+        if self.is_incomplete || write!(self.out, "{part}").is_err() {
             self.is_incomplete = true;
         }
     }
