@@ -15,7 +15,7 @@ use gimli_bytes::{LineStringTable, StringTable};
 impl LineProgram {
     /// Whether `write` takes the program with these tables: it isn't a placeholder, each of its
     /// texts is in itself or in these tables, and no source that is written has a zero byte, which
-    /// would end it (DWARF 5, section 6.2.4.1, `DW_LNCT_LLVM_source`).
+    /// would end it (DWARF 5, section 7.5.5, class string).
     pub fn can_write(&self, line_strings: &LineStringTable, strings: &StringTable) -> bool
         ensures { IsTrue result ↔ CanWrite self.now (texts_in strings.now line_strings.now) }
     {
