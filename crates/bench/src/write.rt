@@ -3,16 +3,12 @@
 //!
 //! Standard output has the length of each section and a sum of its bytes.
 
-ghost use Rattle.std.specs.Prelude.{OnOk, IfOk};
-ghost use Rattle.gimli_bytes.specs.Texts.{no_texts};
-ghost use Rattle.gimli_build.specs.Conditions.{CanWrite};
-
 use crate::{parse, print_sum};
 use gimli_build::LineProgram;
-use gimli_bytes::{Address, DebugLine, EndianVec, LineStringTable, Result, StringTable};
+use gimli_bytes::{DebugLine, EndianVec, LineStringTable, Result, StringTable};
 use gimli_core::LittleEndian;
 use line_text::AddressSize;
-use linetool_commands::one_file_program;
+use linetool_commands::{begin_at, end_at, one_file_program, put_row};
 use std::alloc::Global;
 use std::io;
 use std::io::ErrorKind;
@@ -42,26 +38,20 @@ fn build_and_write(alloc: Global, sequences: u64) -> Result<Vec<u8>> {
 }
 
 /// The section of a program.
-fn write(alloc: Global, program: &LineProgram) -> Result<Vec<u8>>
-    requires { CanWrite program.now no_texts }
-{
+fn write(alloc: Global, program: &LineProgram) -> Result<Vec<u8>> {
     let mut strings = StringTable::default(alloc);
     let mut line_strings = LineStringTable::default(alloc);
     let mut section = DebugLine::from(EndianVec::new(alloc, LittleEndian));
-    program.write(
-        &mut section,
-        program.encoding(),
-        &mut line_strings,
-        &mut strings,
-    )?;
+    if program.can_write(&line_strings, &strings) {
+        let encoding = program.encoding();
+        program.write(&mut section, encoding, &mut line_strings, &mut strings)?;
+    }
     let DebugLine(bytes) = section;
     Ok(bytes.into_vec())
 }
 
 /// A program of so many sequences.
-fn build(alloc: Global, sequences: u64) -> Result<LineProgram>
-    ensures { IfOk result (λ program. CanWrite program no_texts) }
-{
+fn build(alloc: Global, sequences: u64) -> Result<LineProgram> {
     let mut program = one_file_program(alloc, AddressSize::Eight)?;
     let mut seed: u64 = 1;
     for i in 0..sequences {
@@ -71,42 +61,23 @@ fn build(alloc: Global, sequences: u64) -> Result<LineProgram>
 }
 
 /// Builds a sequence, and returns the seed of the next one.
-fn put_sequence(program: &mut LineProgram, i: u64, seed: u64) -> Result<u64>
-    requires can { CanWrite program.old no_texts }
-    ensures can { OnOk result (CanWrite program.new no_texts) }
-{
+fn put_sequence(program: &mut LineProgram, i: u64, seed: u64) -> Result<u64> {
     let mut seed = seed;
-    program.set_address(Address::Constant(i.wrapping_mul(0x10000)))?;
+    begin_at(program, i.wrapping_mul(0x10000))?;
     for _ in 0..ROWS {
         seed = seed
             .wrapping_mul(6364136223846793005)
             .wrapping_add(1442695040888963407);
-        put_row(program, seed)?;
+        move_on(program, seed);
+        put_row(program)?;
     }
     let end = program.row().address_offset.wrapping_add(4);
-    if program.can_end_sequence(end) {
-        program.end_sequence(end)?;
-    }
+    end_at(program, end)?;
     Ok(seed)
 }
 
-/// Builds a row, if it can be built.
-fn put_row(program: &mut LineProgram, seed: u64) -> Result<()>
-    requires can { CanWrite program.old no_texts }
-    ensures can { OnOk result (CanWrite program.new no_texts) }
-{
-    move_on(program, seed);
-    if program.can_generate_row() {
-        program.generate_row()?;
-    }
-    Ok(())
-}
-
 /// Moves the current row on by what the bits of the seed say.
-fn move_on(program: &mut LineProgram, seed: u64)
-    requires can { CanWrite program.old no_texts }
-    ensures can { CanWrite program.new no_texts }
-{
+fn move_on(program: &mut LineProgram, seed: u64) {
     let row = program.row();
     row.address_offset = row.address_offset.wrapping_add((seed >> 33) & 15);
     row.line = 1 + ((seed >> 40) & 63) + ((seed >> 50) & 7);

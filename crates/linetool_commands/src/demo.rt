@@ -1,10 +1,5 @@
 //! A unit that is built, written, and read again.
 
-ghost use Rattle.std.specs.Prelude.{◌≡◌, [], OnOk, IfErr, IfOk};
-ghost use Rattle.gimli_write.specs.StringTables.{no_texts};
-ghost use Rattle.gimli_write.specs.Conditions.{CanWrite};
-ghost use Rattle.linetool_commands.specs.Demo.{IsAtStart};
-
 use crate::print::{finish, print_program};
 use crate::refusal::Refusal;
 use crate::section::program_at;
@@ -54,13 +49,16 @@ fn write_program<W: Writer>(
     alloc: Global,
     program: &LineProgram,
     section: &mut DebugLine<W>,
-) -> Result<(), Refusal>
-    requires { CanWrite program.now no_texts }
-{
+) -> Result<(), Refusal> {
     let mut strings = StringTable::default(alloc);
     let mut line_strings = LineStringTable::default(alloc);
-    let encoding = program.encoding();
-    match program.write(section, encoding, &mut line_strings, &mut strings) {
+    let outcome = if program.can_write(&line_strings, &strings) {
+        let encoding = program.encoding();
+        program.write(section, encoding, &mut line_strings, &mut strings)
+    } else {
+        Err(Error::InvalidRange)
+    };
+    match outcome {
         Ok(_) => Ok(()),
         Err(Error::OutOfMemory) => Err(Refusal::Memory),
         Err(_) => Err(Refusal::Header),
@@ -110,90 +108,62 @@ fn print_each_piece<E: Endianity, const N: usize, O: Write>(
     Ok(())
 }
 
-/// The program of the unit: a file, and a sequence of two rows. Refused by `OutOfMemory` alone.
-fn demo_program(alloc: Global) -> Result<LineProgram, Error>
-    ensures ok { IfOk result (λ program. CanWrite program no_texts) }
-    ensures err { IfErr result (λ e. e ≡ Error.OutOfMemory) }
-{
+/// The program of the unit: a file, and a sequence of a row at the address, a row 4 bytes and 2
+/// lines further on, and an end 4 bytes later.
+fn demo_program(alloc: Global) -> Result<LineProgram, Error> {
     let mut program = one_file_program(alloc, AddressSize::Four)?;
     put_rows(&mut program)?;
     Ok(program)
 }
 
-/// A program of version 4 without rows: the working directory `/w`, and the file `a.c`. Fails only
-/// with `OutOfMemory`.
-pub fn one_file_program(alloc: Global, address_size: AddressSize) -> Result<LineProgram, Error>
-    ensures can { IfOk result (λ program. CanWrite program no_texts) }
-    ensures start { IfOk result IsAtStart }
-    ensures err { IfErr result (λ e. e ≡ Error.OutOfMemory) }
-{
-    let mut program = empty_program(alloc, address_size)?;
-    put_file(&mut program, alloc)?;
-    Ok(program)
-}
-
-/// A program of version 4 whose working directory is `/w`. Refused by `OutOfMemory` alone.
-fn empty_program(alloc: Global, address_size: AddressSize) -> Result<LineProgram, Error>
-    ensures can { IfOk result (λ program. CanWrite program no_texts) }
-    ensures files { IfOk result (λ program. program.files ≡ []) }
-    ensures start { IfOk result IsAtStart }
-    ensures err { IfErr result (λ e. e ≡ Error.OutOfMemory) }
-{
+/// A program of version 4 without rows: the working directory `/w`, and the file `a.c`.
+pub fn one_file_program(alloc: Global, address_size: AddressSize) -> Result<LineProgram, Error> {
     let encoding = Encoding {
         address_size: address_size.bytes(),
         format: Format::Dwarf32,
         version: 4,
     };
-    let working_dir = LineString::String(b"/w".to_vec(alloc)?);
-    let source_file = LineString::String(b"a.c".to_vec(alloc)?);
-    LineProgram::new(
-        alloc,
-        encoding,
-        LineEncoding::default(),
-        working_dir,
-        None,
-        source_file,
-        None,
-    )
-}
-
-/// Adds the file `a.c`. Refused by `OutOfMemory` alone.
-fn put_file(program: &mut LineProgram, alloc: Global) -> Result<(), Error>
-    requires can { CanWrite program.old no_texts }
-    requires files { program.old.files ≡ [] }
-    requires start { IsAtStart program.old }
-    ensures can { OnOk result (CanWrite program.new no_texts) }
-    ensures start { OnOk result (IsAtStart program.new) }
-    ensures err { IfErr result (λ e. e ≡ Error.OutOfMemory) }
-{
+    let lines = LineEncoding::default();
+    let directory = LineString::String(b"/w".to_vec(alloc)?);
+    let file = LineString::String(b"a.c".to_vec(alloc)?);
     let name = LineString::String(b"a.c".to_vec(alloc)?);
+    let mut program = LineProgram::new(alloc, encoding, lines, directory, None, name, None)?;
     let directory = program.default_directory();
-    program.add_file(name, directory, None)?;
-    Ok(())
+    program.add_file(file, directory, None)?;
+    Ok(program)
 }
 
-/// A row at the address, a row 4 bytes and 2 lines further on, and an end 4 bytes later. Refused by
-/// `OutOfMemory` alone.
-fn put_rows(program: &mut LineProgram) -> Result<(), Error>
-    requires can { CanWrite program.old no_texts }
-    requires start { IsAtStart program.old }
-    ensures can { OnOk result (CanWrite program.new no_texts) }
-    ensures err { IfErr result (λ e. e ≡ Error.OutOfMemory) }
-{
-    program.set_address(Address::Constant(0x1000))?;
-    program.generate_row()?;
-    move_on(program);
-    program.generate_row()?;
-    program.end_sequence(8)
-}
-
-/// Moves the current row 4 bytes and 2 lines on from the start.
-fn move_on(program: &mut LineProgram)
-    ensures { program.new ≡ record program.old {
-      row = record program.old.row { address_offset = 4; line = 3 };
-    } }
-{
+/// Adds the sequence.
+fn put_rows(program: &mut LineProgram) -> Result<(), Error> {
+    begin_at(program, 0x1000)?;
+    put_row(program)?;
     let row = program.row();
     row.address_offset = 4;
     row.line = 3;
+    put_row(program)?;
+    end_at(program, 8)
+}
+
+/// Sets the address of the next row.
+pub fn begin_at(program: &mut LineProgram, address: u64) -> Result<(), Error> {
+    if program.is_none() {
+        return Err(Error::InvalidRange);
+    }
+    program.set_address(Address::Constant(address))
+}
+
+/// Adds the current row, if it can follow.
+pub fn put_row(program: &mut LineProgram) -> Result<(), Error> {
+    if program.is_none() || !program.can_generate_row() {
+        return Err(Error::InvalidRange);
+    }
+    program.generate_row()
+}
+
+/// Ends the sequence, if it can end there.
+pub fn end_at(program: &mut LineProgram, address_offset: u64) -> Result<(), Error> {
+    if program.is_none() || !program.can_end_sequence(address_offset) {
+        return Err(Error::InvalidRange);
+    }
+    program.end_sequence(address_offset)
 }

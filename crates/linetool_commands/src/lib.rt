@@ -14,7 +14,7 @@ mod units;
 mod words;
 
 pub use commands::run;
-pub use demo::one_file_program;
+pub use demo::{begin_at, end_at, one_file_program, put_row};
 pub use entry::{start, words_after_name};
 pub use refusal::Refusal;
 pub use words::{Command, Numbers, Query};

@@ -5,10 +5,9 @@ use crate::rows::print_row;
 use anyhow::{Result, bail};
 use gimli_core::{DebugLineOffset, Encoding, EndianSlice, LittleEndian, Reader};
 use gimli_line::{DebugLine, IncompleteLineProgram};
-use gimli_write::conversion_laws::converted_programs_can_be_written;
 use gimli_write::{
-    Address, ConvertResult, EndianVec, LineStringTable, RoundTrip, StringTable, convert_program,
-    round_trip,
+    Address, ConvertError, ConvertResult, EndianVec, Error, LineStringTable, RoundTrip,
+    StringTable, convert_program, round_trip,
 };
 use std::alloc::Global;
 use std::fs;
@@ -62,7 +61,6 @@ fn convert<R: Reader>(
     name: Option<R>,
     no_texts: R,
 ) -> ConvertResult<RoundTrip> {
-    converted_programs_can_be_written();
     let from = source.header().encoding();
     let encoding = Encoding { version: 5, ..from };
     let mut strings = StringTable::default(alloc);
@@ -80,5 +78,9 @@ fn convert<R: Reader>(
     )?;
     let mut lines = gimli_write::DebugLine::from(EndianVec::new(alloc, LittleEndian));
     let of = program.encoding();
-    round_trip(&program, &mut lines, of, &mut line_strings, &mut strings)
+    if program.can_write(&line_strings, &strings) {
+        round_trip(&program, &mut lines, of, &mut line_strings, &mut strings)
+    } else {
+        Err(ConvertError::Write(Error::InvalidRange))
+    }
 }

@@ -2,10 +2,6 @@
 //! built, and written.
 #![tactic(auto)]
 
-ghost use Rattle.std.specs.Prelude.{[], IfOk, OnOk};
-ghost use Rattle.gimli_write.specs.StringTables.{texts_in};
-ghost use Rattle.gimli_write.specs.Conditions.{CanWrite};
-
 use gimli_core::{Encoding, Format, LineEncoding, LittleEndian};
 use gimli_write::{
     Address, DebugLine, DebugLineStr, EndianVec, Error, FileId, FileInfo, LineProgram, LineString,
@@ -67,25 +63,24 @@ fn write_program<W: Writer, T: Writer>(
     lines: &mut DebugLine<W>,
     texts: &mut DebugLineStr<T>,
     line_strings: &mut LineStringTable,
-) -> Result<()>
-    requires { CanWrite program.old (texts_in [] line_strings.old) }
-{
+) -> Result<()> {
     let Some((source, _, _)) = program.files().next() else {
         return Err(Error::InvalidRange);
     };
     let header = add_header(program, line_strings)?;
-    add_function(program, line_strings, source, functions[0], [3, 4])?;
-    add_function(program, line_strings, header, functions[1], [8, 9])?;
+    add_function(program, source, functions[0], [3, 4])?;
+    add_function(program, header, functions[1], [8, 9])?;
     let mut strings = StringTable::default(alloc);
+    if !program.can_write(line_strings, &strings) {
+        return Err(Error::InvalidRange);
+    }
     program.write(lines, program.encoding(), line_strings, &mut strings)?;
     line_strings.write(texts)?;
     Ok(())
 }
 
 /// A program of the file `a.c` in the directory `/w`.
-fn with_source(alloc: Global, line_strings: &mut LineStringTable) -> Result<LineProgram>
-    ensures { IfOk result (λ program. CanWrite program (texts_in [] line_strings.new)) }
-{
+fn with_source(alloc: Global, line_strings: &mut LineStringTable) -> Result<LineProgram> {
     let encoding = Encoding {
         address_size: 8,
         format: Format::Dwarf32,
@@ -94,15 +89,14 @@ fn with_source(alloc: Global, line_strings: &mut LineStringTable) -> Result<Line
     let directory = LineString::new(b"/w", encoding, line_strings)?;
     let path = LineString::new(b"a.c", encoding, line_strings)?;
     let lines = LineEncoding::default();
-    let program = LineProgram::new(alloc, encoding, lines, directory, None, path, None)?;
-    Ok(program)
+    LineProgram::new(alloc, encoding, lines, directory, None, path, None)
 }
 
 /// Adds the file `a.h` in the directory `inc`, with the MD5 digest of an empty file.
-fn add_header(program: &mut LineProgram, line_strings: &mut LineStringTable) -> Result<FileId>
-    requires { CanWrite program.old (texts_in [] line_strings.old) }
-    ensures { OnOk result (CanWrite program.new (texts_in [] line_strings.new)) }
-{
+fn add_header(program: &mut LineProgram, line_strings: &mut LineStringTable) -> Result<FileId> {
+    if program.is_none() {
+        return Err(Error::InvalidRange);
+    }
     let info = FileInfo {
         timestamp: 0,
         size: 0,
@@ -120,28 +114,30 @@ fn add_header(program: &mut LineProgram, line_strings: &mut LineStringTable) -> 
 /// Adds a function of six bytes: a line of a file, and another one for its last byte.
 fn add_function(
     program: &mut LineProgram,
-    line_strings: &LineStringTable,
     file: FileId,
     address: Address,
     lines: [u64; 2],
-) -> Result<()>
-    requires { CanWrite program.old (texts_in [] line_strings.now) }
-    ensures { OnOk result (CanWrite program.new (texts_in [] line_strings.now)) }
-{
-    program.set_address(address)?;
-    for (offset, line) in [(0, lines[0]), (5, lines[1])] {
-        let row = program.row();
-        row.file = file;
-        row.address_offset = offset;
-        row.line = line;
-        if !program.can_generate_row() {
-            return Err(Error::InvalidRange);
-        }
-        program.generate_row()?;
-    }
-    if !program.can_end_sequence(6) {
+) -> Result<()> {
+    if program.is_none() {
         return Err(Error::InvalidRange);
     }
-    program.end_sequence(6)?;
-    Ok(())
+    program.set_address(address)?;
+    add_row(program, file, 0, lines[0])?;
+    add_row(program, file, 5, lines[1])?;
+    if program.is_none() || !program.can_end_sequence(6) {
+        return Err(Error::InvalidRange);
+    }
+    program.end_sequence(6)
+}
+
+/// Adds a row, if it can follow the one before it.
+fn add_row(program: &mut LineProgram, file: FileId, offset: u64, line: u64) -> Result<()> {
+    let row = program.row();
+    row.file = file;
+    row.address_offset = offset;
+    row.line = line;
+    if program.is_none() || !program.can_generate_row() {
+        return Err(Error::InvalidRange);
+    }
+    program.generate_row()
 }
