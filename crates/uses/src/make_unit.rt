@@ -89,7 +89,8 @@ fn with_source(alloc: Global, line_strings: &mut LineStringTable) -> Result<Line
     let directory = LineString::new(b"/w", encoding, line_strings)?;
     let path = LineString::new(b"a.c", encoding, line_strings)?;
     let lines = LineEncoding::default();
-    LineProgram::new(alloc, encoding, lines, directory, None, path, None)
+    let program = LineProgram::new(alloc, encoding, lines, directory, None, path, None)?;
+    Ok(program)
 }
 
 /// Adds the file `a.h` in the directory `inc`, with the MD5 digest of an empty file.
