@@ -65,7 +65,7 @@ impl Session<'_> {
     fn print_program(&mut self, program: &Program<'_>, files: Files<'_>) -> io::Result<()> {
         let input = &program.input();
         match self.run.request.command {
-            Command::Where if !input.is_linked => self.locate_in_sections(files),
+            Command::Where { .. } if !input.is_linked => self.locate_in_sections(files),
             _ => self.print(input, program.symbols()),
         }
     }
@@ -75,7 +75,7 @@ impl Session<'_> {
         let Run { rt, request } = self.run;
         let alloc = rt.alloc();
         match request.command {
-            Command::Where => {
+            Command::Where { .. } => {
                 let functions = Functions::new(alloc, symbols, None)?;
                 let is_told = self.begin_reading(input)?;
                 let output = &mut self.output;

@@ -1,9 +1,9 @@
 //! The bytes of the files that a request names.
 
 use crate::session::Run;
-use debug_files::{Found, Missing, Wanted};
+use debug_files::{Found, Missing, PathSections, Source, Wanted};
 use lines_inputs::InputError;
-use lines_words::{Command, Files, Form, Kind, NameText, Notation, Request};
+use lines_words::{Files, Kind, NameText, Notation, UnitFiles};
 use std::io::{Read, Write};
 use std::{fmt, fs, io};
 
@@ -30,53 +30,58 @@ impl Run<'_> {
         };
         let line_str = read_named(rt, request.line_str)?;
         let strings = read_named(rt, request.strings)?;
-        match (found, line_str, strings) {
-            (Some(found), Some(line_str), Some(strings)) => Ok(Some(Inputs {
-                kind: kind_of(request.kind, &found),
-                found,
-                line_str,
-                strings,
-            })),
-            _ => Ok(None),
-        }
+        let (Some(found), Some(line_str), Some(strings)) = (found, line_str, strings) else {
+            return Ok(None);
+        };
+        let kind = match &found {
+            Found::Whole(_) => request.kind,
+            Found::Sections(source) => Kind::Raw(notation_of(source)),
+        };
+        Ok(Some(Inputs {
+            kind,
+            found,
+            line_str,
+            strings,
+        }))
     }
 
     /// The sections of a program that the request needs, of its own file or of its debug file; None
     /// where there are none, which is reported.
     fn sections_of(self, name: &str) -> io::Result<Option<Found>> {
-        if !can_be_opened(self.rt, name)? {
+        let Run { rt, request } = self;
+        if !can_be_opened(rt, name)? {
             return Ok(None);
         }
-        match debug_files::source_of(self.rt, name, wanted_by(self.request)) {
+        let wanted = if request.command.prints_functions() {
+            Wanted::Symbols
+        } else if request.command.prints_whole_paths() {
+            Wanted::Paths
+        } else if request.command.prints_paths() {
+            Wanted::Names
+        } else {
+            Wanted::Lines
+        };
+        match debug_files::source_of(rt, name, wanted) {
             Ok(found) => Ok(Some(found)),
             Err(missing) => {
-                report_missing(self.rt, name, &missing);
+                report_missing(rt, name, &missing);
                 Ok(None)
             }
         }
     }
 }
 
-/// How what was found is read, where a file that is read whole is of a kind.
-fn kind_of(kind: Kind, found: &Found) -> Kind {
-    match found {
-        Found::Whole(_) => kind,
-        Found::Sections(it) => {
-            Kind::Raw(Notation::new(it.is_big_endian, it.address_size, it.lowest))
-        }
-    }
+/// How the numbers of a program's sections are read.
+fn notation_of(source: &Source) -> Notation {
+    Notation::new(source.is_big_endian, source.address_size, source.lowest)
 }
 
-/// The sections that a request needs. The command `rows` prints whole paths only where they are
-/// asked for.
-fn wanted_by(request: &Request<'_>) -> Wanted {
-    match request.command {
-        Command::Where if request.has_function => Wanted::Symbols,
-        Command::Source(_) => Wanted::Symbols,
-        Command::Rows(Form::Text) => Wanted::Names,
-        Command::Units => Wanted::Lines,
-        Command::Ask(_) => Wanted::Lines,
-        _ => Wanted::Paths,
+/// The sections of units.
+fn units_of(paths: &PathSections) -> UnitFiles<'_> {
+    UnitFiles {
+        info: &paths.info,
+        abbreviations: &paths.abbreviations,
+        string_offsets: &paths.string_offsets,
     }
 }
 
@@ -89,9 +94,11 @@ impl Inputs {
                 file,
                 line_str: &self.line_str,
                 strings: &self.strings,
-                info: &[],
-                abbreviations: &[],
-                string_offsets: &[],
+                units: UnitFiles {
+                    info: &[],
+                    abbreviations: &[],
+                    string_offsets: &[],
+                },
                 symbols: &[],
                 symbol_names: &[],
             },
@@ -99,9 +106,7 @@ impl Inputs {
                 file: &source.lines,
                 line_str: named_or(&self.line_str, &source.paths.line_str),
                 strings: named_or(&self.strings, &source.paths.strings),
-                info: &source.paths.info,
-                abbreviations: &source.paths.abbreviations,
-                string_offsets: &source.paths.string_offsets,
+                units: units_of(&source.paths),
                 symbols: &source.symbols,
                 symbol_names: &source.symbol_names,
             },

@@ -51,9 +51,9 @@ impl<'i> OtherSections<'i> {
         OtherSections {
             line_str: SectionBytes::Lent(files.line_str),
             strings: SectionBytes::Lent(files.strings),
-            info: SectionBytes::Lent(files.info),
-            abbreviations: SectionBytes::Lent(files.abbreviations),
-            string_offsets: SectionBytes::Lent(files.string_offsets),
+            info: SectionBytes::Lent(files.units.info),
+            abbreviations: SectionBytes::Lent(files.units.abbreviations),
+            string_offsets: SectionBytes::Lent(files.units.string_offsets),
             symbols: SectionBytes::Lent(files.symbols),
             symbol_names: SectionBytes::Lent(files.symbol_names),
         }

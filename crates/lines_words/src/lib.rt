@@ -24,6 +24,6 @@ pub use output::{Output, Screen, Style};
 pub use path_text::{ColumnMark, PathText, SourceText, last_part, shown_path};
 pub use request::{
     CodeAddress, Command, Files, Form, Kind, LineNames, Notation, PathForm, Request, SourcePlace,
-    UnitChoice,
+    UnitChoice, UnitFiles,
 };
 pub use words::{message_of, parse};

@@ -50,7 +50,7 @@ pub struct Request<'w> {
 #[derive(Clone, Copy)]
 pub enum Command<'w> {
     /// Prints the places in the source of addresses.
-    Where,
+    Where { has_function: bool },
     /// The same by an index, a file that is named.
     Ask(&'w str),
     /// The same of lines of standard input, which say what they ask.
@@ -74,6 +74,27 @@ pub enum Command<'w> {
     Stat,
     /// Prints which lines have other code in a new program, a file that is named.
     Diff(&'w str),
+}
+
+impl Command<'_> {
+    /// Whether paths are printed: the texts are read for these alone.
+    pub fn prints_paths(&self) -> bool {
+        !matches!(self, Command::Units | Command::Ask(_))
+    }
+
+    /// Whether whole paths are printed: the sections of units are read for these alone. The command
+    /// `rows` prints the last part of each for people.
+    pub fn prints_whole_paths(&self) -> bool {
+        self.prints_paths() && !matches!(self, Command::Rows(Form::Text))
+    }
+
+    /// Whether names of functions are printed: symbols are read for these alone.
+    pub fn prints_functions(&self) -> bool {
+        matches!(
+            self,
+            Command::Where { has_function: true } | Command::Source(_)
+        )
+    }
 }
 
 /// What a line names before an address.
@@ -176,16 +197,23 @@ pub struct Files<'i> {
     pub line_str: &'i [u8],
     /// The section `.debug_str`.
     pub strings: &'i [u8],
-    /// The section `.debug_info`.
-    pub info: &'i [u8],
-    /// The section `.debug_abbrev`.
-    pub abbreviations: &'i [u8],
-    /// The section `.debug_str_offsets`.
-    pub string_offsets: &'i [u8],
+    /// The sections that say where compilations ran.
+    pub units: UnitFiles<'i>,
     /// The section `.symtab`, or else `.dynsym`.
     pub symbols: &'i [u8],
     /// The names of these, `.strtab` or `.dynstr`.
     pub symbol_names: &'i [u8],
+}
+
+/// The sections that say where compilations ran; no bytes where none is known.
+#[derive(Clone, Copy)]
+pub struct UnitFiles<'i> {
+    /// `.debug_info`
+    pub info: &'i [u8],
+    /// `.debug_abbrev`
+    pub abbreviations: &'i [u8],
+    /// `.debug_str_offsets`
+    pub string_offsets: &'i [u8],
 }
 
 impl Notation {

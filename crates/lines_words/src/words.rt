@@ -151,7 +151,9 @@ fn where_of<'w>(matches: &ArgMatches<'w>) -> Command<'w> {
         (Some(index), _) => Command::Ask(index),
         (None, Some(folder)) => Command::AskLines(LineNames::BuildIds(folder)),
         _ if matches.get_flag("files") => Command::AskLines(LineNames::Files),
-        _ => Command::Where,
+        _ => Command::Where {
+            has_function: matches.get_flag("functions"),
+        },
     }
 }
 
