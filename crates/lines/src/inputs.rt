@@ -1,8 +1,9 @@
 //! The bytes of the files that a request names.
 
+use crate::session::Run;
 use debug_files::{Found, Missing, PathSections, Source, Wanted};
 use lines_inputs::InputError;
-use lines_words::{Files, Kind, NameText, Notation, Request, SymbolFiles, UnitFiles};
+use lines_words::{Files, Kind, NameText, Notation, UnitFiles};
 use std::io::{Read, Write};
 use std::{fmt, fs, io};
 
@@ -18,75 +19,104 @@ pub(crate) struct Inputs {
     strings: Vec<u8>,
 }
 
-/// Reads a file, and those that a request names beside it; None where there is one that can't be
-/// read, which is reported.
-pub(crate) fn inputs_of(
-    rt: &HostRuntime,
-    request: &Request<'_>,
-    name: &str,
-) -> io::Result<Option<Inputs>> {
-    let found = match request.kind {
-        Kind::Raw(_) => read(rt, name)?.map(Found::Whole),
-        Kind::Elf if name == STANDARD_INPUT => read(rt, name)?.map(Found::Whole),
-        Kind::Elf => sections_of(rt, request, name)?,
-    };
-    let line_str = read_named(rt, request.line_str)?;
-    let strings = read_named(rt, request.strings)?;
-    match (found, line_str, strings) {
-        (Some(found), Some(line_str), Some(strings)) => {
-            let kind = match &found {
-                Found::Whole(_) => request.kind,
-                Found::Sections(source) => Kind::Raw(notation_of(source)),
-            };
-            Ok(Some(Inputs {
-                kind,
-                found,
-                line_str,
-                strings,
-            }))
+impl Run<'_> {
+    /// Reads a file, and those that the request names beside it; None where there is one that can't
+    /// be read, which is reported.
+    pub(crate) fn inputs_of(self, name: &str) -> io::Result<Option<Inputs>> {
+        let Run { rt, request } = self;
+        let found = match request.kind {
+            Kind::Elf if name != STANDARD_INPUT => self.sections_of(name)?,
+            _ => read(rt, name)?.map(Found::Whole),
+        };
+        let line_str = read_named(rt, request.line_str)?;
+        let strings = read_named(rt, request.strings)?;
+        let (Some(found), Some(line_str), Some(strings)) = (found, line_str, strings) else {
+            return Ok(None);
+        };
+        let kind = match &found {
+            Found::Whole(_) => request.kind,
+            Found::Sections(source) => Kind::Raw(notation_of(source)),
+        };
+        Ok(Some(Inputs {
+            kind,
+            found,
+            line_str,
+            strings,
+        }))
+    }
+
+    /// The sections of a program that the request needs, of its own file or of its debug file; None
+    /// where there are none, which is reported.
+    fn sections_of(self, name: &str) -> io::Result<Option<Found>> {
+        let Run { rt, request } = self;
+        if !can_be_opened(rt, name)? {
+            return Ok(None);
         }
-        _ => Ok(None),
+        let wanted = if request.command.prints_functions() {
+            Wanted::Symbols
+        } else if request.command.prints_whole_paths() {
+            Wanted::Paths
+        } else if request.command.prints_paths() {
+            Wanted::Names
+        } else {
+            Wanted::Lines
+        };
+        match debug_files::source_of(rt, name, wanted) {
+            Ok(found) => Ok(Some(found)),
+            Err(missing) => {
+                report_missing(rt, name, &missing);
+                Ok(None)
+            }
+        }
+    }
+}
+
+/// How the numbers of a program's sections are read.
+fn notation_of(source: &Source) -> Notation {
+    Notation::new(source.is_big_endian, source.address_size, source.lowest)
+}
+
+/// The sections of units.
+fn units_of(paths: &PathSections) -> UnitFiles<'_> {
+    UnitFiles {
+        info: &paths.info,
+        abbreviations: &paths.abbreviations,
+        string_offsets: &paths.string_offsets,
     }
 }
 
 impl Inputs {
-    /// The bytes of the files.
+    /// The bytes of the files. Sections of texts that are named apart take the place of a program's
+    /// own.
     pub(crate) fn files(&self) -> Files<'_> {
         match &self.found {
             Found::Whole(file) => Files {
                 file,
                 line_str: &self.line_str,
                 strings: &self.strings,
-                units: UnitFiles::NONE,
-                symbols: SymbolFiles::NONE,
+                units: UnitFiles {
+                    info: &[],
+                    abbreviations: &[],
+                    string_offsets: &[],
+                },
+                symbols: &[],
+                symbol_names: &[],
             },
-            Found::Sections(source) => files_of(source, &self.line_str, &self.strings),
+            Found::Sections(source) => Files {
+                file: &source.lines,
+                line_str: named_or(&self.line_str, &source.paths.line_str),
+                strings: named_or(&self.strings, &source.paths.strings),
+                units: units_of(&source.paths),
+                symbols: &source.symbols,
+                symbol_names: &source.symbol_names,
+            },
         }
     }
 }
 
-/// The sections of a program that a request needs, of its own file or of its debug file; None where
-/// there are none, which is reported.
-fn sections_of(rt: &HostRuntime, request: &Request<'_>, name: &str) -> io::Result<Option<Found>> {
-    let wanted = if request.command.prints_functions() {
-        Wanted::Symbols
-    } else if request.command.prints_whole_paths() {
-        Wanted::Paths
-    } else if request.command.prints_paths() {
-        Wanted::Names
-    } else {
-        Wanted::Lines
-    };
-    if !can_be_opened(rt, name)? {
-        return Ok(None);
-    }
-    match debug_files::source_of(rt, name, wanted) {
-        Ok(found) => Ok(Some(found)),
-        Err(missing) => {
-            report_missing(rt, name, &missing);
-            Ok(None)
-        }
-    }
+/// A section that is named apart, or else the program's own.
+fn named_or<'s>(named: &'s [u8], own: &'s [u8]) -> &'s [u8] {
+    if named.is_empty() { own } else { named }
 }
 
 /// Reports why a program has no sections that are read.
@@ -109,40 +139,6 @@ pub(crate) fn report(rt: &HostRuntime, name: &str, reason: impl fmt::Display + D
     let name = NameText(name);
     // Where standard error can't be written to, the status still says it.
     let _ = writeln!(rt.stderr(), "lines: {name}: {reason}");
-}
-
-/// How the numbers of a program's sections are read.
-fn notation_of(source: &Source) -> Notation {
-    Notation::new(source.is_big_endian, source.address_size, source.lowest)
-}
-
-/// The sections of a program. Those of texts that are named apart take the place of its own.
-fn files_of<'i>(source: &'i Source, line_str: &'i [u8], strings: &'i [u8]) -> Files<'i> {
-    let paths = &source.paths;
-    Files {
-        file: &source.lines,
-        line_str: named_or(line_str, &paths.line_str),
-        strings: named_or(strings, &paths.strings),
-        units: units_of(paths),
-        symbols: SymbolFiles {
-            symbols: &source.symbols,
-            names: &source.symbol_names,
-        },
-    }
-}
-
-/// The sections of units.
-fn units_of(paths: &PathSections) -> UnitFiles<'_> {
-    UnitFiles {
-        info: &paths.info,
-        abbreviations: &paths.abbreviations,
-        string_offsets: &paths.string_offsets,
-    }
-}
-
-/// A section that is named apart, or else the program's own.
-fn named_or<'s>(named: &'s [u8], own: &'s [u8]) -> &'s [u8] {
-    if named.is_empty() { own } else { named }
 }
 
 /// Whether a name can be opened: the files of the kit take text alone. One that can't is reported.

@@ -1,25 +1,23 @@
 //! The program `lines`: what the line tables of a program say.
 #![tactic(auto)]
 
-ghost use Rattle.std.specs.Prelude.{◌≡◌, ◌≤◌, ◌↔◌, IfOk};
-
-mod arguments;
 mod commands;
 mod indexes;
 mod inputs;
 mod places;
 mod questions;
+mod session;
 
-use crate::arguments::arguments;
-use crate::commands::{compare, perform};
-use crate::indexes::{ask, ask_lines, write_index};
-use crate::inputs::inputs_of;
+use crate::session::Run;
 use clap::Error;
 use clap::error::ErrorKind as WordsError;
-use lines_words::{Command, Output, Request, Screen, Verdict};
-use std::io::{ErrorKind, IsTerminal, Write};
+use lines_words::Command;
+use std::env::{Env, FillError};
+use std::io::{self, ErrorKind, Write};
 use std::process::ExitCode;
-use std::{env, io};
+
+/// The most bytes of one word that Linux hands to a program.
+const LONGEST_WORD: usize = 131_072;
 
 /// The status for words that are none of the program's.
 const USAGE: u8 = 2;
@@ -54,9 +52,28 @@ fn start(rt: &HostRuntime) -> io::Result<u8> {
         words.push(word.as_str())?;
     }
     match lines_words::parse(alloc, &words) {
-        Ok(request) => run(rt, &request),
+        Ok(request) => perform(Run {
+            rt,
+            request: &request,
+        }),
         Err(error) => explain(rt, &error),
     }
+}
+
+/// The words of the program, each as text, as `text_of_word` has it.
+fn arguments(rt: &HostRuntime) -> io::Result<Vec<String>> {
+    let alloc = rt.alloc();
+    let mut room = vec![in alloc; 0u8; LONGEST_WORD]?;
+    let mut arguments = Vec::new(alloc);
+    for index in 0..usize::MAX {
+        let length = match rt.arg(index, &mut room) {
+            Ok(length) => length,
+            Err(FillError::TooLong) => return Err(io::Error::from(io::ErrorKind::InvalidInput)),
+            Err(FillError::NotPresent) => break,
+        };
+        arguments.push(lines_words::text_of_word(alloc, &room[..length])?)?;
+    }
+    Ok(arguments)
 }
 
 /// Prints what is said of words that ask for nothing, or of help, and returns the status.
@@ -75,55 +92,21 @@ fn explain(rt: &HostRuntime, error: &Error) -> io::Result<u8> {
 }
 
 /// Does what a request asks for, and returns the status of the program.
-fn run(rt: &HostRuntime, request: &Request<'_>) -> io::Result<u8> {
-    match request.command {
-        Command::Index(out) => return write_index(rt, &*request, out),
-        Command::Ask(index) => return ask(rt, &*request, index),
-        Command::AskLines(names) => return ask_lines(rt, &*request, names),
+fn perform(run: Run<'_>) -> io::Result<u8> {
+    match run.request.command {
+        Command::Index(out) => return run.write_index(out),
+        Command::Ask(index) => return run.ask(index),
+        Command::AskLines(names) => return run.ask_lines(names),
         _ => {}
     }
-    let Some(inputs) = inputs_of(rt, request, request.file)? else {
+    let Some(inputs) = run.inputs_of(run.request.file)? else {
         return Ok(REFUSED);
     };
-    let Command::Diff(new) = request.command else {
-        return perform(rt, &*request, inputs.kind, inputs.files());
+    let Command::Diff(new) = run.request.command else {
+        return run.perform(inputs.kind, inputs.files());
     };
-    match inputs_of(rt, request, new)? {
-        Some(new_inputs) => compare(rt, &*request, &inputs, new, &new_inputs),
+    match run.inputs_of(new)? {
+        Some(new_inputs) => run.compare(&inputs, new, &new_inputs),
         None => Ok(REFUSED),
     }
-}
-
-/// What the outputs are shown on. A terminal is shown colours, unless the variable `NO_COLOR` has a
-/// text, or `TERM` says that it knows none.
-pub(crate) fn screen(rt: &HostRuntime) -> Screen {
-    let is_refused = match env::var(rt, "NO_COLOR") {
-        Ok(text) => !text.is_empty(),
-        Err(_) => false,
-    };
-    let is_dumb = match env::var(rt, "TERM") {
-        Ok(name) => name.as_str() == "dumb",
-        Err(_) => false,
-    };
-    Screen {
-        is_out: rt.stdout().is_terminal(),
-        is_err: rt.stderr().is_terminal(),
-        is_coloured: !is_refused && !is_dumb,
-    }
-}
-
-/// Hands on what a command printed. Fails where standard output takes no more, and where memory is
-/// missing.
-pub(crate) fn hand_on(rt: &HostRuntime, output: &mut Output<'_>) -> io::Result<()> {
-    output.hand_on(&mut rt.stdout(), &mut rt.stderr())
-}
-
-/// Hands on what a command printed, and returns the status of the program: 0, or 1 where something
-/// was reported, or a check found what is denied.
-pub(crate) fn finish(rt: &HostRuntime, output: Output<'_>) -> io::Result<u8>
-    ensures bound { IfOk result (λ status. status ≤ 1) }
-    ensures exact { IfOk result
-        (λ status. (status ≡ 1) ↔ (output.entry.verdict ≡ Verdict.Faulty)) }
-{
-    output.finish(&mut rt.stdout(), &mut rt.stderr())
 }

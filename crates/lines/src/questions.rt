@@ -2,8 +2,7 @@
 
 use lines_answers::{Asked, asked_by};
 use lines_words::CodeAddress;
-use std::io;
-use std::io::{BufRead, BufReader};
+use std::io::{self, BufRead, BufReader};
 use std::rt::Stdin;
 
 /// The addresses that are named, or where none is, those of standard input, one a line.

@@ -1,8 +1,6 @@
 //! The names of code, by the symbols of a program.
 
-use crate::section_source::SectionSource;
-use elf_sections::{CodeSymbol, ElfError, SectionBytes, SymbolTable};
-use lines_words::SymbolFiles;
+use elf_sections::{CodeSymbol, SymbolTable};
 use std::alloc::{AllocError, Global};
 
 /// A symbol that is a function (`STT_FUNC`).
@@ -10,47 +8,6 @@ const FUNCTION: u8 = 2;
 
 /// A function that chooses another as the program begins (`STT_GNU_IFUNC`).
 const CHOOSING: u8 = 10;
-
-/// The sections of symbols.
-#[derive(Drop)]
-pub(crate) struct SymbolSections<'i> {
-    symbols: SectionBytes<'i>,
-    names: SectionBytes<'i>,
-}
-
-impl<'i> SymbolSections<'i> {
-    /// Those of these bytes.
-    pub(crate) fn lent(files: SymbolFiles<'i>) -> SymbolSections<'i> {
-        SymbolSections {
-            symbols: SectionBytes::Lent(files.symbols),
-            names: SectionBytes::Lent(files.names),
-        }
-    }
-
-    /// Those of an ELF file: all symbols, or else those for linking when it runs. One that is
-    /// missing or can't be read counts as empty. Fails only with `OutOfMemory`.
-    pub(crate) fn of_elf(source: SectionSource<'i>) -> Result<SymbolSections<'i>, ElfError> {
-        let symbols = source.readable(b".symtab")?;
-        if symbols.as_slice().is_empty() {
-            return Ok(SymbolSections {
-                symbols: source.readable(b".dynsym")?,
-                names: source.readable(b".dynstr")?,
-            });
-        }
-        let names = source.readable(b".strtab")?;
-        Ok(SymbolSections { symbols, names })
-    }
-
-    /// The symbols.
-    pub(crate) fn table(&self, is_big_endian: bool, address_size: u8) -> SymbolTable<'_> {
-        SymbolTable::new(
-            is_big_endian,
-            address_size,
-            self.symbols.as_slice(),
-            self.names.as_slice(),
-        )
-    }
-}
 
 /// The code of a function. Of several that begin at one address the greatest counts, and of these
 /// the first in the table.

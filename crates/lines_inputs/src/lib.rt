@@ -2,24 +2,20 @@
 //! of its files, its units and their rows.
 #![tactic(auto)]
 
-mod fields;
 mod functions;
 mod input;
 mod input_error;
 mod lookup;
 mod path_sources;
 mod program;
-mod section_source;
 mod unit_rows;
-mod unit_sections;
 mod walk;
 
-pub use fields::{FlagLetters, column_of, flags_of, line_of};
 pub use functions::Functions;
 pub use input::{Input, NOT_LINKED};
 pub use input_error::{InputError, tell_refusal};
 pub use lookup::{Covering, look_up, look_up_any, look_up_each};
 pub use path_sources::{PathFault, PathSources};
 pub use program::Program;
-pub use unit_rows::{RowCount, UnitRows};
+pub use unit_rows::{FlagLetters, RowCount, UnitRows, column_of, flags_of, line_of};
 pub use walk::{Printing, Walk, show_reading};

@@ -1,4 +1,3 @@
-pub mod Choice
 pub mod Findings
 pub mod LineQuestions
 pub mod Words

@@ -6,276 +6,90 @@ use std::alloc::{AllocError, Global};
 /// The version of the program.
 const VERSION: &str = "1.0";
 
-/// What is said of a command, and what it takes beside its file.
-#[derive(Clone, Copy)]
-struct Entry {
-    name: &'static str,
-    about: &'static str,
-    example: &'static str,
-    arguments: &'static [Argument],
-}
-
-/// What commands take: its name, how it is written, and its help.
-#[derive(Clone, Copy)]
-struct Argument(&'static str, Shape, &'static str);
-
-/// How an argument is written.
-#[derive(Clone, Copy)]
-enum Shape {
-    /// A word that may be left out.
-    Word,
-    /// A word that has to be there.
-    Needed,
-    /// Any number of words.
-    Words,
-    /// An option without a value.
-    Flag,
-    /// One that may be written as a letter.
-    LetterFlag(char),
-    /// An option with a value of this name.
-    Option(&'static str),
-    /// One that may be written as a letter.
-    LetterOption(char, &'static str),
-    /// One that may come several times.
-    Options(&'static str),
-    /// One that stands beside the option `raw`.
-    RawOption(&'static str),
-}
-
-/// What has no place beside an argument.
-const CONFLICTS: [(&str, &[&str]); 7] = [
-    ("FILE", &["maps", "files"]),
-    ("pretty", &["json"]),
-    ("whole-paths", &["json"]),
-    ("basenames", &["relative-to"]),
-    ("index", &["functions"]),
-    ("maps", &["index", "functions", "raw", "line-str", "str"]),
-    ("files", &["index", "maps", "functions"]),
+/// The commands: the name of each and what is said of it, then a line for each thing that it takes
+/// beside its file and `json`, and last what is said at the end. Such a line has a name; a letter,
+/// or a stroke for none; how it is written, which `argument` reads; and help.
+const COMMANDS: [&str; 10] = [
+    "where Prints path:line:column of each address, ??:0:0 where there is none
+ADDRESS - words An address in hexadecimal digits, or in an object file SECTION+OFFSET; without one \
+    they are read from standard input
+functions f flag Prints the name of the function that holds the address, before the path
+pretty - flag Prints the line of source below each answer, with a mark at the column
+source - SOURCE Reads this source file in the place of those that paths name
+basenames - flag Prints the last component of each path
+relative-to - DIR Prints paths that begin with this directory without it
+bias - ADDRESS Subtracts this from each address, for a program that was loaded elsewhere
+index - INDEX Asks an index in the place of FILE, which may be left out; where it is named, the \
+    index has to be its own
+maps - DIR Reads lines of a build id and an address, and asks DIR/xx/rest.lines of each
+files - flag Reads lines of a file and an address, in the place of FILE
+>Example: lines where a.out 401136 0x40113D",
+    "index Writes an index of the lines, for where --index and where --maps
+output o OUT Where the index goes; without it to FILE with .lines after it, and - is standard output
+>Example: lines index a.out -o a.out.lines",
+    "at Prints the addresses to break at for a line, or for the next one that has code
+PATH:LINE - needed A line of each file whose path ends so, by whole parts
+columns - flag Prints the column after the line
+range - flag Prints where the row of each address ends, after its beginning
+>Example: lines at a.out src/main.c:12",
+    "source Prints the source of a line or of a function, with the addresses of each line
+PLACE - needed A line of each file whose path ends so, PATH:LINE, or else the name of a function, \
+    as its symbol has it
+context C N Prints so many lines before it and after it (3 if unsaid)
+source - SOURCE Reads this source file in the place of those that paths name
+>Example: lines source -C 5 a.out src/main.c:12",
+    "units Prints a line for each unit
+>Example: lines units a.out",
+    "files Prints the directories and files of the units
+UNIT - word The offset of a unit, as the command units prints it
+>Example: lines files a.out 0x8d",
+    "rows Prints the rows of the units
+UNIT - word The offset of a unit, as the command units prints it
+whole-paths - flag Prints whole paths
+>Example: lines rows --whole-paths a.out 0x8d",
+    "check Prints what is wrong, lost or odd; the status is 1 for faults and lost rows
+deny - KIND Makes the status 1 for these too: a kind, or fault, lost, odd or usual
+allow - KIND Only counts these, whatever --deny says: a kind, or fault, lost or odd
+all - flag Tells what is usual or allowed too
+>Kinds: header, program, no-path, no-file (fault); goes-down, below-code, no-end (lost); \
+    same-path, overlap (odd); file-0, merged, dropped (usual)
+Example: lines check --deny odd --allow overlap a.out",
+    "stat Prints what the bytes of the line programs are spent on
+>Example: lines stat a.out",
+    "diff Prints the lines that have other code in a new program; the status is 1 for any
+NEW - needed The new program; FILE is the old one
+>Example: lines diff a.out.old a.out",
 ];
 
-/// What has no place beside the argument of a name.
+/// What each command takes but for `index`, after all else.
+const JSON: &str = "json - flag Prints a JSON object a line";
+
+/// What every command takes first: its file, and how that is read.
+const OF_FILE: &str = "\
+FILE - needed An ELF file, or with --raw a section .debug_line; - is standard input
+raw - little|big FILE is a section .debug_line alone, in this order of bytes
+address-size - N With --raw: the bytes of an address up to version 4: 1, 2, 4 or 8 (8 if unsaid)
+line-str - FILE The section .debug_line_str
+str - FILE The section .debug_str";
+
+/// What has no place beside the option of a name.
 fn conflicts_of(name: &str) -> &'static [&'static str] {
-    for (argument, others) in &CONFLICTS {
-        if *argument == name {
-            return others;
-        }
+    match name {
+        "pretty" => &["json"],
+        "whole-paths" => &["json"],
+        "basenames" => &["relative-to"],
+        "index" => &["functions"],
+        "maps" => &["index", "functions", "raw", "line-str", "str"],
+        "files" => &["index", "maps", "functions"],
+        _ => &[],
     }
-    &[]
 }
-
-/// What stands in the place of the file of the command `where`.
-const INSTEAD_OF_FILE: [&str; 3] = ["index", "maps", "files"];
-
-/// How the file of each command is read.
-const OF_FILE: [Argument; 4] = [
-    Argument(
-        "raw",
-        Shape::Option("little|big"),
-        "FILE is a section .debug_line alone, in this order of bytes",
-    ),
-    Argument(
-        "address-size",
-        Shape::RawOption("N"),
-        "With --raw: the bytes of an address up to version 4: 1, 2, 4 or 8 (8 if unsaid)",
-    ),
-    Argument(
-        "line-str",
-        Shape::Option("FILE"),
-        "The section .debug_line_str",
-    ),
-    Argument("str", Shape::Option("FILE"), "The section .debug_str"),
-];
-
-const JSON: Argument = Argument("json", Shape::Flag, "Prints a JSON object a line");
-
-const SOURCE: Argument = Argument(
-    "source",
-    Shape::Option("SOURCE"),
-    "Reads this source file in the place of those that paths name",
-);
-
-const UNIT: Argument = Argument(
-    "UNIT",
-    Shape::Word,
-    "The offset of a unit, as the command units prints it",
-);
-
-/// What the command `where` takes.
-const OF_WHERE: [Argument; 11] = [
-    Argument(
-        "ADDRESS",
-        Shape::Words,
-        "An address in hexadecimal digits, or in an object file SECTION+OFFSET; without one they \
-         are read from standard input",
-    ),
-    Argument(
-        "functions",
-        Shape::LetterFlag('f'),
-        "Prints the name of the function that holds the address, before the path",
-    ),
-    Argument(
-        "pretty",
-        Shape::Flag,
-        "Prints the line of source below each answer, with a mark at the column",
-    ),
-    SOURCE,
-    Argument(
-        "basenames",
-        Shape::Flag,
-        "Prints the last component of each path",
-    ),
-    Argument(
-        "relative-to",
-        Shape::Option("DIR"),
-        "Prints paths that begin with this directory without it",
-    ),
-    Argument(
-        "bias",
-        Shape::Option("ADDRESS"),
-        "Subtracts this from each address, for a program that was loaded elsewhere",
-    ),
-    Argument(
-        "index",
-        Shape::Option("INDEX"),
-        "Asks an index in the place of FILE, which may be left out; where it is named, the index \
-         has to be its own",
-    ),
-    Argument(
-        "maps",
-        Shape::Option("DIR"),
-        "Reads lines of a build id and an address, and asks DIR/xx/rest.lines of each",
-    ),
-    Argument(
-        "files",
-        Shape::Flag,
-        "Reads lines of a file and an address, in the place of FILE",
-    ),
-    JSON,
-];
-
-/// The commands.
-const COMMANDS: [Entry; 10] = [
-    Entry {
-        name: "where",
-        about: "Prints path:line:column of each address, ??:0:0 where there is none",
-        example: "Example: lines where a.out 401136 0x40113D",
-        arguments: &OF_WHERE,
-    },
-    Entry {
-        name: "index",
-        about: "Writes an index of the lines, for where --index and where --maps",
-        example: "Example: lines index a.out -o a.out.lines",
-        arguments: &[Argument(
-            "output",
-            Shape::LetterOption('o', "OUT"),
-            "Where the index goes; without it to FILE with .lines after it, and - is standard \
-             output",
-        )],
-    },
-    Entry {
-        name: "at",
-        about: "Prints the addresses to break at for a line, or for the next one that has code",
-        example: "Example: lines at a.out src/main.c:12",
-        arguments: &[
-            Argument(
-                "PATH:LINE",
-                Shape::Needed,
-                "A line of each file whose path ends so, by whole parts",
-            ),
-            Argument("columns", Shape::Flag, "Prints the column after the line"),
-            Argument(
-                "range",
-                Shape::Flag,
-                "Prints where the row of each address ends, after its beginning",
-            ),
-            JSON,
-        ],
-    },
-    Entry {
-        name: "source",
-        about: "Prints the source of a line or of a function, with the addresses of each line",
-        example: "Example: lines source -C 5 a.out src/main.c:12",
-        arguments: &[
-            Argument(
-                "PLACE",
-                Shape::Needed,
-                "A line of each file whose path ends so, PATH:LINE, or else the name of a \
-                 function, as its symbol has it",
-            ),
-            Argument(
-                "context",
-                Shape::LetterOption('C', "N"),
-                "Prints so many lines before it and after it (3 if unsaid)",
-            ),
-            SOURCE,
-            JSON,
-        ],
-    },
-    Entry {
-        name: "units",
-        about: "Prints a line for each unit",
-        example: "Example: lines units a.out",
-        arguments: &[JSON],
-    },
-    Entry {
-        name: "files",
-        about: "Prints the directories and files of the units",
-        example: "Example: lines files a.out 0x8d",
-        arguments: &[UNIT, JSON],
-    },
-    Entry {
-        name: "rows",
-        about: "Prints the rows of the units",
-        example: "Example: lines rows --whole-paths a.out 0x8d",
-        arguments: &[
-            UNIT,
-            Argument("whole-paths", Shape::Flag, "Prints whole paths"),
-            JSON,
-        ],
-    },
-    Entry {
-        name: "check",
-        about: "Prints what is wrong, lost or odd; the status is 1 for faults and lost rows",
-        example: "Kinds: header, program, no-path, no-file (fault); goes-down, below-code, no-end \
-                  (lost); same-path, overlap (odd); file-0, merged, dropped (usual)\n\
-                  Example: lines check --deny odd --allow overlap a.out",
-        arguments: &[
-            Argument(
-                "deny",
-                Shape::Options("KIND"),
-                "Makes the status 1 for these too: a kind, or fault, lost, odd or usual",
-            ),
-            Argument(
-                "allow",
-                Shape::Options("KIND"),
-                "Only counts these, whatever --deny says: a kind, or fault, lost or odd",
-            ),
-            Argument("all", Shape::Flag, "Tells what is usual or allowed too"),
-            JSON,
-        ],
-    },
-    Entry {
-        name: "stat",
-        about: "Prints what the bytes of the line programs are spent on",
-        example: "Example: lines stat a.out",
-        arguments: &[JSON],
-    },
-    Entry {
-        name: "diff",
-        about: "Prints the lines that have other code in a new program; the status is 1 for any",
-        example: "Example: lines diff a.out.old a.out",
-        arguments: &[
-            Argument("NEW", Shape::Needed, "The new program; FILE is the old one"),
-            JSON,
-        ],
-    },
-];
 
 /// What the whole program takes.
 pub(crate) fn program<'a>(alloc: Global) -> Result<Command<'a>, AllocError> {
     let mut commands = Vec::new(alloc);
-    for entry in &COMMANDS {
-        commands.push(entry.command(alloc)?)?;
+    for text in &COMMANDS {
+        commands.push(command_of(alloc, text)?)?;
     }
     Command::new(alloc, "lines")
         .version(VERSION)
@@ -293,77 +107,60 @@ pub(crate) fn program<'a>(alloc: Global) -> Result<Command<'a>, AllocError> {
 
 /// A command by itself; the whole program where no command has the name.
 pub(crate) fn command<'a>(alloc: Global, name: &str) -> Result<Command<'a>, AllocError> {
-    for entry in &COMMANDS {
-        if entry.name == name {
+    for text in &COMMANDS {
+        if first_word(text).0 == name {
             let usage = format!(in alloc; "lines {name}")?;
-            return entry.command(alloc)?.bin_name(&usage);
+            return command_of(alloc, text)?.bin_name(&usage);
         }
     }
     program(alloc)
 }
 
-impl Entry {
-    /// The command.
-    fn command<'a>(&self, alloc: Global) -> Result<Command<'a>, AllocError> {
-        let mut arguments = Vec::new(alloc);
-        arguments.push(self.file(alloc)?)?;
-        push_all(alloc, &OF_FILE, &mut arguments)?;
-        push_all(alloc, self.arguments, &mut arguments)?;
-        Command::new(alloc, self.name)
-            .about(self.about)
-            .after_help(self.example)
-            .args(arguments)
+/// The command of a text.
+fn command_of<'a>(alloc: Global, text: &'static str) -> Result<Command<'a>, AllocError> {
+    let (text, example) = text.split_once("\n>").unwrap_or((text, ""));
+    let (head, rows) = text.split_once('\n').unwrap_or((text, ""));
+    let (name, about) = first_word(head);
+    let mut arguments = Vec::new(alloc);
+    let json = if name == "index" { "" } else { JSON };
+    for row in OF_FILE.lines().chain(rows.lines()).chain(json.lines()) {
+        arguments.push(argument(alloc, name, row)?)?;
     }
+    Command::new(alloc, name)
+        .about(about)
+        .after_help(example)
+        .args(arguments)
+}
 
-    /// The file. That of the command `where` may be left out where an index is named, and has no
-    /// place beside lines that say what they ask.
-    fn file<'a>(&self, alloc: Global) -> Result<Arg<'a>, AllocError> {
-        let mut file = Arg::new(alloc, "FILE").help(
-            "An ELF file, or with --raw a section .debug_line; - is standard input",
-        );
-        if self.name == "where" {
-            for other in &INSTEAD_OF_FILE {
-                file = file.required_unless_present(other)?;
-            }
-            return file.conflicts_with_all(conflicts_of("FILE"));
-        }
-        Ok(file.required(true))
+/// What a line says that a command takes. The file of the command `where` may be left out where
+/// something stands in its place.
+fn argument<'a>(alloc: Global, command: &str, row: &'static str) -> Result<Arg<'a>, AllocError> {
+    let (name, row) = first_word(row);
+    let (letter, row) = first_word(row);
+    let (shape, help) = first_word(row);
+    let word = Arg::new(alloc, name).help(help);
+    let word = match shape {
+        "word" => word,
+        "needed" => word.required(command != "where"),
+        "words" => word.action(ArgAction::Append).num_args(0..),
+        "flag" => word.action(ArgAction::SetTrue).long(name),
+        "KIND" => word.action(ArgAction::Append).long(name).value_name(shape),
+        _ => word.action(ArgAction::Set).long(name).value_name(shape),
+    };
+    let word = match letter.chars().next() {
+        Some(letter) if letter != '-' => word.short(letter),
+        _ => word,
+    };
+    match name {
+        "FILE" if command == "where" => word
+            .required_unless_present_any(&["index", "maps", "files"])?
+            .conflicts_with_all(&["maps", "files"]),
+        "address-size" => word.requires_arg("raw"),
+        _ => word.conflicts_with_all(conflicts_of(name)),
     }
 }
 
-/// Adds arguments to others.
-fn push_all<'a>(
-    alloc: Global,
-    more: &[Argument],
-    arguments: &mut Vec<Arg<'a>>,
-) -> Result<(), AllocError> {
-    for argument in more {
-        arguments.push(argument.argument(alloc)?)?;
-    }
-    Ok(())
-}
-
-impl Argument {
-    /// The argument.
-    fn argument<'a>(self, alloc: Global) -> Result<Arg<'a>, AllocError> {
-        let Argument(name, shape, help) = self;
-        let word = Arg::new(alloc, name).help(help);
-        let option = match shape {
-            Shape::Word => return Ok(word),
-            Shape::Needed => return Ok(word.required(true)),
-            Shape::Words => return Ok(word.action(ArgAction::Append).num_args(0..)),
-            Shape::Flag | Shape::LetterFlag(_) => word.action(ArgAction::SetTrue),
-            Shape::Options(value) => word.action(ArgAction::Append).value_name(value),
-            Shape::Option(value) | Shape::LetterOption(_, value) | Shape::RawOption(value) => {
-                word.action(ArgAction::Set).value_name(value)
-            }
-        };
-        let option = option.long(name);
-        let option = match shape {
-            Shape::LetterFlag(letter) | Shape::LetterOption(letter, _) => option.short(letter),
-            Shape::RawOption(_) => return option.requires_arg("raw"),
-            _ => option,
-        };
-        option.conflicts_with_all(conflicts_of(name))
-    }
+/// The first word of a text, and what stands after it.
+fn first_word(text: &'static str) -> (&'static str, &'static str) {
+    text.split_once(' ').unwrap_or((text, ""))
 }

@@ -1,5 +1,6 @@
 //! Values and texts in JSON (RFC 8259).
 
+use crate::path_text::Writing;
 use line_text::Digits;
 use std::fmt;
 
@@ -38,52 +39,9 @@ pub(crate) struct JsonText<'t>(pub(crate) &'t [u8]);
 impl fmt::Display for JsonText<'_> {
     fn fmt<W: fmt::Write>(&self, f: &mut fmt::Formatter<W>) -> fmt::Result {
         f.write_char('"')?;
-        match str::from_utf8(self.0) {
-            Ok(text) => write_characters(text, f)?,
-            Err(_) => write_ascii(self.0, f)?,
-        }
+        Writing::Json.write_text(self.0, f)?;
         f.write_char('"')
     }
-}
-
-/// Writes the characters of a string.
-fn write_characters<W: fmt::Write>(text: &str, f: &mut fmt::Formatter<W>) -> fmt::Result {
-    for character in text.chars() {
-        write_character(character, f)?;
-    }
-    Ok(())
-}
-
-/// Writes those bytes of a string that are ASCII, and what stands for the others.
-fn write_ascii<W: fmt::Write>(bytes: &[u8], f: &mut fmt::Formatter<W>) -> fmt::Result {
-    for byte in bytes {
-        let character = if byte.is_ascii() {
-            char::from(*byte)
-        } else {
-            '\u{fffd}'
-        };
-        write_character(character, f)?;
-    }
-    Ok(())
-}
-
-/// Writes a character of a string (section 7).
-fn write_character<W: fmt::Write>(character: char, f: &mut fmt::Formatter<W>) -> fmt::Result {
-    let escape = match character {
-        '"' => "\\\"",
-        '\\' => "\\\\",
-        '\n' => "\\n",
-        '\r' => "\\r",
-        '\t' => "\\t",
-        '\u{8}' => "\\b",
-        '\u{c}' => "\\f",
-        '\0'..='\u{1f}' => {
-            let number = u32::from(character);
-            return write!(f, "\\u{number:04x}");
-        }
-        _ => return f.write_char(character),
-    };
-    f.write_str(escape)
 }
 
 /// Bytes as the value of the field of a name, as `Json::Bytes` says.

@@ -4,7 +4,6 @@
 //! prints.
 #![tactic(auto)]
 
-mod files;
 mod grammar;
 mod json;
 mod kinds;
@@ -16,15 +15,15 @@ mod path_text;
 mod request;
 mod words;
 
-pub use files::{Files, Kind, Notation, SymbolFiles, UnitFiles};
 pub use json::{Json, JsonBytes};
 pub use kinds::{CheckChoice, FindingKind, KindSet, Severity};
 pub use line_question::{build_id_of, map_path, parse_line_question};
 pub use names::{NameText, bytes_of_word, text_of_word};
 pub use numbers::{parse_address, parse_code_address, parse_offset, parse_place, parse_target};
-pub use output::{Output, Screen, Style, Verdict};
+pub use output::{Output, Screen, Style};
 pub use path_text::{ColumnMark, PathText, SourceText, last_part, shown_path};
 pub use request::{
-    CodeAddress, Command, Form, LineNames, PathForm, Request, SourcePlace, UnitChoice,
+    CodeAddress, Command, Files, Form, Kind, LineNames, Notation, PathForm, Request, SourcePlace,
+    UnitChoice, UnitFiles,
 };
 pub use words::{message_of, parse};

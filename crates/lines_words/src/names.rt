@@ -3,9 +3,10 @@
 //! A byte of a word that is no UTF-8 stands in the text as a character of a private area, by its
 //! number, and so does each byte of such a character. So each word of bytes has a text of its own.
 
-use crate::path_text::write_character;
+use crate::path_text::Writing;
 use std::alloc::{AllocError, Global};
 use std::fmt;
+use std::fmt::{Display, Formatter, Write};
 
 /// The number that a byte counts from in the private area.
 const FIRST: u32 = 0x10_fe00;
@@ -26,7 +27,10 @@ pub fn bytes_of_word(alloc: Global, text: &str) -> Result<Vec<u8>, AllocError> {
     for character in text.chars() {
         match byte_of(character) {
             Some(byte) => bytes.push(byte)?,
-            None => push_character(character, &mut bytes)?,
+            None => {
+                let mut room = [0; 4];
+                bytes.extend_from_slice(character.encode_utf8(&mut room).as_bytes())?;
+            }
         }
     }
     Ok(bytes)
@@ -54,13 +58,6 @@ fn push_bytes(bytes: &[u8], text: &mut String) -> Result<(), AllocError> {
     Ok(())
 }
 
-/// Appends the bytes of a character.
-fn push_character(character: char, bytes: &mut Vec<u8>) -> Result<(), AllocError> {
-    let mut room = [0; 4];
-    bytes.extend_from_slice(character.encode_utf8(&mut room).as_bytes())?;
-    Ok(())
-}
-
 /// The byte that a character stands for.
 fn byte_of(character: char) -> Option<u8> {
     match u32::from(character).checked_sub(FIRST) {
@@ -74,9 +71,9 @@ fn byte_of(character: char) -> Option<u8> {
 #[derive(Clone, Copy)]
 pub struct NameText<'n>(pub &'n str);
 
-impl fmt::Display for NameText<'_> {
-    fn fmt<W: fmt::Write>(&self, f: &mut fmt::Formatter<W>) -> fmt::Result {
-        write_name(self.0, false, f)
+impl Display for NameText<'_> {
+    fn fmt<W: Write>(&self, f: &mut Formatter<W>) -> fmt::Result {
+        write_name(self.0, Writing::Shown(' '), f)
     }
 }
 
@@ -84,25 +81,18 @@ impl fmt::Display for NameText<'_> {
 #[derive(Clone, Copy)]
 pub(crate) struct MessageText<'m>(pub(crate) &'m str);
 
-impl fmt::Display for MessageText<'_> {
-    fn fmt<W: fmt::Write>(&self, f: &mut fmt::Formatter<W>) -> fmt::Result {
-        write_name(self.0, true, f)
+impl Display for MessageText<'_> {
+    fn fmt<W: Write>(&self, f: &mut Formatter<W>) -> fmt::Result {
+        write_name(self.0, Writing::Shown('\n'), f)
     }
 }
 
 /// Writes the characters of a word, or of lines of words.
-fn write_name<W: fmt::Write>(
-    name: &str,
-    has_lines: bool,
-    f: &mut fmt::Formatter<W>,
-) -> fmt::Result {
+fn write_name<W: Write>(name: &str, writing: Writing, f: &mut Formatter<W>) -> fmt::Result {
     for character in name.chars() {
         match byte_of(character) {
-            Some(byte) => write_character(char::from(byte), false, f)?,
-            None => {
-                let is_shown = !character.is_control() || has_lines && character == '\n';
-                write_character(character, is_shown, f)?;
-            }
+            Some(byte) => writing.write(char::from(byte), true, f)?,
+            None => writing.write(character, false, f)?,
         }
     }
     Ok(())

@@ -12,29 +12,6 @@ use std::alloc::Global;
 use std::io::{ErrorKind, Write};
 use std::{fmt, io};
 
-/// Whether something was refused, or found that is denied.
-#[derive(Clone, Copy)]
-pub enum Verdict {
-    /// Nothing.
-    Clean,
-    /// Something was reported on standard error, or a check found what is denied.
-    Faulty,
-}
-
-impl Verdict {
-    /// The status of the program.
-    pub fn status(self) -> u8
-        ensures bound { result ≤ 1 }
-        ensures clean { self ≡ Verdict.Clean → result ≡ 0 }
-        ensures faulty { self ≡ Verdict.Faulty → result ≡ 1 }
-    {
-        match self {
-            Verdict::Clean => 0,
-            Verdict::Faulty => 1,
-        }
-    }
-}
-
 /// What the outputs are shown on.
 #[derive(Clone, Copy)]
 pub struct Screen {
@@ -59,11 +36,9 @@ impl Style {
 
     /// What begins so on a terminal with colours, and nothing elsewhere.
     fn new(is_coloured: bool, begin: &'static str) -> Style {
+        let end = "\u{1b}[0m";
         if is_coloured {
-            Style {
-                begin,
-                end: "\u{1b}[0m",
-            }
+            Style { begin, end }
         } else {
             Style::PLAIN
         }
@@ -81,19 +56,15 @@ pub struct Output<'o> {
     err: Vec<u8>,
     /// How far the command is, for standard error.
     progress: Vec<u8>,
-    verdict: Verdict,
+    /// Whether something was reported on standard error, or a check found what is denied.
+    is_faulty: bool,
     /// Whether something could not be kept, since memory is missing.
     is_incomplete: bool,
 }
 
 impl<'o> Output<'o> {
     /// Nothing was printed yet of what a request asks for.
-    pub fn new(
-        alloc: Global,
-        request: &'o Request<'o>,
-        name: &'o str,
-        screen: Screen,
-    ) -> Output<'o> {
+    pub fn new(alloc: Global, request: &'o Request<'o>, name: &'o str, screen: Screen) -> Self {
         Output {
             request,
             name,
@@ -101,7 +72,7 @@ impl<'o> Output<'o> {
             out: Vec::new(alloc),
             err: Vec::new(alloc),
             progress: Vec::new(alloc),
-            verdict: Verdict::Clean,
+            is_faulty: false,
             is_incomplete: false,
         }
     }
@@ -121,11 +92,9 @@ impl<'o> Output<'o> {
         self.request.check
     }
 
-    /// Prints a line; nothing where what stands before it could not be kept.
+    /// Prints a line, as `add` does.
     pub fn print(&mut self, line: impl fmt::Display + Drop) {
-        if self.is_incomplete || writeln!(self.out, "{line}").is_err() {
-            self.is_incomplete = true;
-        }
+        self.add(format_args!("{line}\n"));
     }
 
     /// Prints a part of a line; nothing where what stands before it could not be kept.
@@ -220,7 +189,7 @@ impl<'o> Output<'o> {
 
     /// Reports a sentence on the file.
     pub fn tell(&mut self, sentence: impl fmt::Display + Drop)
-        ensures { self.new.verdict ≡ Verdict.Faulty }
+        ensures { self.new.is_faulty ≡ true }
     {
         self.note(sentence);
         self.refuse();
@@ -228,7 +197,7 @@ impl<'o> Output<'o> {
 
     /// Reports a sentence on another file.
     pub fn tell_of(&mut self, name: &str, sentence: impl fmt::Display + Drop)
-        ensures { self.new.verdict ≡ Verdict.Faulty }
+        ensures { self.new.is_faulty ≡ true }
     {
         self.note_of(name, sentence);
         self.refuse();
@@ -236,27 +205,27 @@ impl<'o> Output<'o> {
 
     /// Reports a sentence on the unit at an offset.
     pub fn tell_of_unit(&mut self, unit: u64, sentence: impl fmt::Display + Drop)
-        ensures { self.new.verdict ≡ Verdict.Faulty }
+        ensures { self.new.is_faulty ≡ true }
     {
         self.tell(format_args!("unit at 0x{unit:x}: {sentence}"));
     }
 
     /// Ends the command as one that was refused.
     pub fn refuse(&mut self)
-        ensures { self.new.verdict ≡ Verdict.Faulty }
+        ensures { self.new.is_faulty ≡ true }
     {
-        self.verdict = Verdict::Faulty;
+        self.is_faulty = true;
     }
 
     /// Ends the command as one that was refused exactly where a choice denies a kind of findings.
     pub fn judge(&mut self, choice: CheckChoice, kind: FindingKind)
         ensures denied { is_denied choice.allowed.0 choice.denied.0 kind ≡ true
-            → self.new.verdict ≡ Verdict.Faulty }
+            → self.new.is_faulty ≡ true }
         ensures other { is_denied choice.allowed.0 choice.denied.0 kind ≡ false
-            → self.new.verdict ≡ self.old.verdict }
+            → self.new.is_faulty ≡ self.old.is_faulty }
     {
         if choice.denies(kind) {
-            self.verdict = Verdict::Faulty;
+            self.is_faulty = true;
         }
     }
 
@@ -270,14 +239,13 @@ impl<'o> Output<'o> {
 
     /// Clears what shows how far the command is.
     pub fn clear(&mut self) {
-        let blanks = "";
-        self.show(format_args!("{blanks:40}"));
+        self.show(format_args!("{:40}", ""));
     }
 
     /// Hands on what was printed. Fails where standard output takes no more, and where something
     /// could not be kept.
     pub fn hand_on<O: Write, E: Write>(&mut self, out: &mut O, err: &mut E) -> io::Result<()>
-        ensures { self.new.verdict ≡ self.old.verdict }
+        ensures { self.new.is_faulty ≡ self.old.is_faulty }
     {
         // Where standard error can't be written to, the status still says it.
         let _ = err.write_all(&self.err);
@@ -300,10 +268,10 @@ impl<'o> Output<'o> {
     pub fn finish<O: Write, E: Write>(mut self, out: &mut O, err: &mut E) -> io::Result<u8>
         ensures bound { IfOk result (λ status. status ≤ 1) }
         ensures exact { IfOk result
-            (λ status. (status ≡ 1) ↔ (self.entry.verdict ≡ Verdict.Faulty)) }
+            (λ status. (status ≡ 1) ↔ (self.entry.is_faulty ≡ true)) }
     {
         self.hand_on(out, err)?;
         out.flush()?;
-        Ok(self.verdict.status())
+        Ok(if self.is_faulty { 1 } else { 0 })
     }
 }

@@ -2,15 +2,102 @@
 
 use crate::request::PathForm;
 use std::fmt;
+use std::fmt::{Display, Formatter, Write};
+
+/// How the characters of a text are written. A text that isn't UTF-8 has bytes in the place of
+/// those that aren't ASCII.
+#[derive(Clone, Copy)]
+pub(crate) enum Writing {
+    /// As they are, but what could change a terminal, a control character other than this one and a
+    /// byte, as `\x` and two hexadecimal digits.
+    Shown(char),
+    /// As in a string of JSON (RFC 8259, section 7), and a byte as U+FFFD.
+    Json,
+    /// As blanks that are as wide, but for tabs.
+    Blank,
+}
+
+impl Writing {
+    /// Writes a text.
+    pub(crate) fn write_text<W: Write>(self, text: &[u8], f: &mut Formatter<W>) -> fmt::Result {
+        match (str::from_utf8(text), self) {
+            (Ok(plain), Writing::Shown(_)) if text.iter().all(|byte| is_plain(*byte)) => {
+                f.write_str(plain)
+            }
+            (Ok(characters), _) => self.write_characters(characters, f),
+            (Err(_), _) => self.write_bytes(text, f),
+        }
+    }
+
+    /// Writes characters.
+    fn write_characters<W: Write>(self, characters: &str, f: &mut Formatter<W>) -> fmt::Result {
+        for character in characters.chars() {
+            self.write(character, false, f)?;
+        }
+        Ok(())
+    }
+
+    /// Writes bytes of a text that isn't UTF-8.
+    fn write_bytes<W: Write>(self, bytes: &[u8], f: &mut Formatter<W>) -> fmt::Result {
+        for byte in bytes {
+            self.write(char::from(*byte), !byte.is_ascii(), f)?;
+        }
+        Ok(())
+    }
+
+    /// Writes a character, or a byte by the character of its number.
+    pub(crate) fn write<W: Write>(
+        self,
+        character: char,
+        is_byte: bool,
+        f: &mut Formatter<W>,
+    ) -> fmt::Result {
+        let is_shown = !is_byte && !character.is_control();
+        let number = u32::from(character);
+        match self {
+            Writing::Json if is_byte => f.write_char('\u{fffd}'),
+            Writing::Json => write_in_json(character, f),
+            Writing::Blank if is_shown => f.write_char(' '),
+            Writing::Blank if character == '\t' => f.write_char('\t'),
+            Writing::Blank => f.write_str("    "),
+            Writing::Shown(kept) if is_shown || kept == character => f.write_char(character),
+            Writing::Shown(_) => write!(f, "\\x{number:02x}"),
+        }
+    }
+}
+
+/// Writes a character of a string of JSON.
+fn write_in_json<W: Write>(character: char, f: &mut Formatter<W>) -> fmt::Result {
+    let escape = match character {
+        '"' => "\\\"",
+        '\\' => "\\\\",
+        '\n' => "\\n",
+        '\r' => "\\r",
+        '\t' => "\\t",
+        '\u{8}' => "\\b",
+        '\u{c}' => "\\f",
+        '\0'..='\u{1f}' => {
+            let number = u32::from(character);
+            return write!(f, "\\u{number:04x}");
+        }
+        _ => return f.write_char(character),
+    };
+    f.write_str(escape)
+}
+
+/// Whether a byte is printable ASCII.
+fn is_plain(byte: u8) -> bool {
+    byte == b' ' || byte.is_ascii_graphic()
+}
 
 /// A path as text. What could change a terminal stands as `\x` and two hexadecimal digits: a
 /// control character, and in a path that isn't UTF-8 each byte that isn't ASCII.
 #[derive(Clone, Copy)]
 pub struct PathText<'p>(pub &'p [u8]);
 
-impl fmt::Display for PathText<'_> {
-    fn fmt<W: fmt::Write>(&self, f: &mut fmt::Formatter<W>) -> fmt::Result {
-        write_text(self.0, ' ', f)
+impl Display for PathText<'_> {
+    fn fmt<W: Write>(&self, f: &mut Formatter<W>) -> fmt::Result {
+        Writing::Shown(' ').write_text(self.0, f)
     }
 }
 
@@ -19,54 +106,10 @@ impl fmt::Display for PathText<'_> {
 #[derive(Clone, Copy)]
 pub struct SourceText<'t>(pub &'t [u8]);
 
-impl fmt::Display for SourceText<'_> {
-    fn fmt<W: fmt::Write>(&self, f: &mut fmt::Formatter<W>) -> fmt::Result {
-        write_text(self.0, '\t', f)
+impl Display for SourceText<'_> {
+    fn fmt<W: Write>(&self, f: &mut Formatter<W>) -> fmt::Result {
+        Writing::Shown('\t').write_text(self.0, f)
     }
-}
-
-/// Writes characters, or where the text isn't UTF-8 its bytes; what doesn't stand for itself by its
-/// number, but for one character that is kept.
-fn write_text<W: fmt::Write>(text: &[u8], kept: char, f: &mut fmt::Formatter<W>) -> fmt::Result {
-    let Ok(characters) = str::from_utf8(text) else {
-        return write_bytes(text, kept, f);
-    };
-    if text.iter().all(|byte| is_plain(*byte)) {
-        return f.write_str(characters);
-    }
-    for character in characters.chars() {
-        let is_shown = !character.is_control() || kept == character;
-        write_character(character, is_shown, f)?;
-    }
-    Ok(())
-}
-
-/// Writes bytes.
-fn write_bytes<W: fmt::Write>(bytes: &[u8], kept: char, f: &mut fmt::Formatter<W>) -> fmt::Result {
-    for byte in bytes {
-        let character = char::from(*byte);
-        let is_shown = is_plain(*byte) || kept == character;
-        write_character(character, is_shown, f)?;
-    }
-    Ok(())
-}
-
-/// Writes a character as it is, or by its number.
-pub(crate) fn write_character<W: fmt::Write>(
-    character: char,
-    is_shown: bool,
-    f: &mut fmt::Formatter<W>,
-) -> fmt::Result {
-    if is_shown {
-        return f.write_char(character);
-    }
-    let number = u32::from(character);
-    write!(f, "\\x{number:02x}")
-}
-
-/// Whether a byte is printable ASCII.
-fn is_plain(byte: u8) -> bool {
-    byte == b' ' || byte.is_ascii_graphic()
 }
 
 /// The mark below a column of a line of source. A column counts bytes from 1 on (DWARF 5, section
@@ -79,50 +122,21 @@ pub struct ColumnMark<'t> {
     pub column: u64,
 }
 
-impl fmt::Display for ColumnMark<'_> {
-    fn fmt<W: fmt::Write>(&self, f: &mut fmt::Formatter<W>) -> fmt::Result {
+impl Display for ColumnMark<'_> {
+    fn fmt<W: Write>(&self, f: &mut Formatter<W>) -> fmt::Result {
         let before = usize::try_from(self.column.saturating_sub(1)).unwrap_or(usize::MAX);
         match str::from_utf8(self.text) {
-            Ok(text) => write_below_characters(text, before, f)?,
-            Err(_) => write_below_bytes(self.text, before, f)?,
+            Ok(text) => {
+                let end = text.floor_char_boundary(before);
+                Writing::Blank.write_characters(text.get(..end).unwrap_or(text), f)?;
+            }
+            Err(_) => {
+                let bytes = self.text.get(..before).unwrap_or(self.text);
+                Writing::Blank.write_bytes(bytes, f)?;
+            }
         }
         f.write_char('^')
     }
-}
-
-/// Writes blanks as wide as the characters that end before a byte, and the tabs among them.
-fn write_below_characters<W: fmt::Write>(
-    text: &str,
-    before: usize,
-    f: &mut fmt::Formatter<W>,
-) -> fmt::Result {
-    for (offset, character) in text.char_indices() {
-        if offset.saturating_add(character.len_utf8()) > before {
-            break;
-        }
-        match character {
-            '\t' => f.write_char('\t')?,
-            _ if character.is_control() => f.write_str("    ")?,
-            _ => f.write_char(' ')?,
-        }
-    }
-    Ok(())
-}
-
-/// Writes blanks as wide as so many bytes, and the tabs among them.
-fn write_below_bytes<W: fmt::Write>(
-    bytes: &[u8],
-    before: usize,
-    f: &mut fmt::Formatter<W>,
-) -> fmt::Result {
-    for byte in bytes.iter().take(before) {
-        match *byte {
-            b'\t' => f.write_char('\t')?,
-            byte if is_plain(byte) => f.write_char(' ')?,
-            _ => f.write_str("    ")?,
-        }
-    }
-    Ok(())
 }
 
 /// What is printed of a path. The directory is the one that paths are printed from; a path is

@@ -2,8 +2,9 @@
 
 ghost use Rattle.std.specs.Prelude.{◌≡◌, ◌⊎◌, ◌↔◌, IsTrue};
 
-use crate::files::Kind;
 use crate::kinds::CheckChoice;
+use gimli_core::RunTimeEndian;
+use line_text::AddressSize;
 
 /// What the words ask for: a command over a file, and how it is done. What a command doesn't take
 /// is as if it weren't said.
@@ -84,19 +85,15 @@ impl Command<'_> {
     /// Whether whole paths are printed: the sections of units are read for these alone. The command
     /// `rows` prints the last part of each for people.
     pub fn prints_whole_paths(&self) -> bool {
-        match self {
-            Command::Rows(form) => !matches!(form, Form::Text),
-            _ => self.prints_paths(),
-        }
+        self.prints_paths() && !matches!(self, Command::Rows(Form::Text))
     }
 
     /// Whether names of functions are printed: symbols are read for these alone.
     pub fn prints_functions(&self) -> bool {
-        match self {
-            Command::Where { has_function } => *has_function,
-            Command::Source(_) => true,
-            _ => false,
-        }
+        matches!(
+            self,
+            Command::Where { has_function: true } | Command::Source(_)
+        )
     }
 }
 
@@ -166,6 +163,74 @@ impl UnitChoice {
         match self {
             UnitChoice::All => true,
             UnitChoice::At(chosen) => chosen == offset,
+        }
+    }
+}
+
+/// How the bytes of a file are read.
+#[derive(Clone, Copy)]
+pub enum Kind {
+    /// An ELF file, which says its order of bytes and its address size.
+    Elf,
+    /// Sections by themselves: `.debug_line`, and those that it goes with.
+    Raw(Notation),
+}
+
+/// How the numbers of a section are read.
+#[derive(Clone, Copy)]
+pub struct Notation {
+    /// The order of bytes.
+    pub order: RunTimeEndian,
+    /// How wide an address is, where the unit doesn't say.
+    pub address_size: AddressSize,
+    /// An address below which there is no code, 0 where none is known.
+    pub lowest: u64,
+}
+
+/// The bytes of the files that a request names: a file, and of a raw section those that it goes
+/// with. No bytes stand for one that isn't known.
+#[derive(Clone, Copy)]
+pub struct Files<'i> {
+    /// The file.
+    pub file: &'i [u8],
+    /// The section `.debug_line_str`.
+    pub line_str: &'i [u8],
+    /// The section `.debug_str`.
+    pub strings: &'i [u8],
+    /// The sections that say where compilations ran.
+    pub units: UnitFiles<'i>,
+    /// The section `.symtab`, or else `.dynsym`.
+    pub symbols: &'i [u8],
+    /// The names of these, `.strtab` or `.dynstr`.
+    pub symbol_names: &'i [u8],
+}
+
+/// The sections that say where compilations ran; no bytes where none is known.
+#[derive(Clone, Copy)]
+pub struct UnitFiles<'i> {
+    /// `.debug_info`
+    pub info: &'i [u8],
+    /// `.debug_abbrev`
+    pub abbreviations: &'i [u8],
+    /// `.debug_str_offsets`
+    pub string_offsets: &'i [u8],
+}
+
+impl Notation {
+    /// How the numbers of a program are read, whose addresses have 4 bytes or 8.
+    pub fn new(is_big_endian: bool, address_size: u8, lowest: u64) -> Notation {
+        let order = match is_big_endian {
+            true => RunTimeEndian::Big,
+            false => RunTimeEndian::Little,
+        };
+        let address_size = match address_size {
+            4 => AddressSize::Four,
+            _ => AddressSize::Eight,
+        };
+        Notation {
+            order,
+            address_size,
+            lowest,
         }
     }
 }

@@ -3,18 +3,13 @@
 //! [`parse`] reads them by `clap`. What isn't words of the program, and a question for help or the
 //! version, is an error of `clap`, whose text and status are for the user.
 
-ghost use Rattle.std.specs.Prelude.{◌≡◌, ℕ, List, IfOk, IsOk, Some, codes};
-ghost use Rattle.clap.specs.Words.{first_value, found_of};
-ghost use Rattle.lines_words.specs.Words.{NamesAddress, NamesOffset, NamesTarget};
-ghost use Rattle.lines_words.specs.Choice.{ChoosesUnits, NamesBias};
-
-use crate::files::{Kind, Notation};
 use crate::grammar::{command, program};
 use crate::kinds::{CheckChoice, KindSet};
 use crate::names::{MessageText, NameText};
 use crate::numbers::{parse_address, parse_code_address, parse_offset, parse_target};
 use crate::request::{
-    CodeAddress, Command, Form, LineNames, PathForm, Request, SourcePlace, UnitChoice,
+    CodeAddress, Command, Form, Kind, LineNames, Notation, PathForm, Request, SourcePlace,
+    UnitChoice,
 };
 use clap::error::ErrorKind;
 use clap::{ArgMatches, Error};
@@ -31,16 +26,21 @@ const MOST_CONTEXT: u64 = 100_000;
 pub fn parse<'w>(alloc: Global, words: &'w [&'w str]) -> Result<Request<'w>, Error> {
     let mut grammar = program(alloc)?;
     let matches = grammar.try_get_matches_from_mut(words)?;
-    let mistake = match request_of(alloc, &matches) {
-        Ok(request) => return Ok(request),
-        Err(Mistake::Memory) => return Err(Error::from(AllocError)),
+    match request_of(alloc, &matches) {
+        Ok(request) => Ok(request),
+        Err(Mistake::Memory) => Err(Error::from(AllocError)),
         Err(Mistake::Word(word, wanted)) => {
-            let word = NameText(word);
-            format!(in alloc; "'{word}' is not {wanted}")?
+            let command = matches.subcommand_name().unwrap_or("");
+            Err(mistake_of(alloc, command, word, wanted)?)
         }
-    };
-    let mut command = command(alloc, matches.subcommand_name().unwrap_or(""))?;
-    Err(command.error(ErrorKind::ValueValidation, &mistake)?)
+    }
+}
+
+/// The error that a word of a command isn't what must stand in its place.
+fn mistake_of(alloc: Global, name: &str, word: &str, wanted: &str) -> Result<Error, AllocError> {
+    let word = NameText(word);
+    let mistake = format!(in alloc; "'{word}' is not {wanted}")?;
+    command(alloc, name)?.error(ErrorKind::ValueValidation, &mistake)
 }
 
 /// What is said of words that ask for nothing, or of help. A control character, and a byte that is
@@ -81,14 +81,17 @@ fn request_of<'w>(alloc: Global, matches: &ArgMatches<'w>) -> Result<Request<'w>
         allowed: kinds_of(matches, "allow")?,
         is_all: matches.get_flag("all"),
     };
+    // Beside an index the first word may be an address, and then no file is named.
+    let word = matches.get_str("FILE").unwrap_or("");
+    let first = matches.get_str("index").and(parse_address(word));
     Ok(Request {
         command,
-        file: file_of(matches),
+        file: if first.is_some() { "" } else { word },
         kind,
         line_str: matches.get_str("line-str"),
         strings: matches.get_str("str"),
         source: matches.get_str("source"),
-        addresses: addresses_of(alloc, matches)?,
+        addresses: addresses_of(alloc, first, matches)?,
         bias,
         form: form_of(matches),
         paths: path_form_of(matches),
@@ -107,13 +110,12 @@ fn kind_of<'w>(matches: &ArgMatches<'w>) -> Result<Kind, Mistake<'w>> {
     let Some(word) = matches.get_str("raw") else {
         return Ok(Kind::Elf);
     };
-    let Some(order) = parse_order(word) else {
-        return Err(Mistake::Word(word, "an order of bytes, little or big"));
-    };
+    let order = parse_order(word).ok_or(Mistake::Word(word, "an order of bytes, little or big"))?;
     let word = matches.get_str("address-size").unwrap_or("8");
-    let Some(address_size) = parse_size(word) else {
-        return Err(Mistake::Word(word, "an address size: 1, 2, 4 or 8"));
-    };
+    let address_size = parse_size(word).ok_or(Mistake::Word(
+        word,
+        "an address size: 1, 2, 4 or 8",
+    ))?;
     Ok(Kind::Raw(Notation {
         order,
         address_size,
@@ -127,7 +129,9 @@ fn command_of<'w>(name: &'w str, matches: &ArgMatches<'w>) -> Result<Command<'w>
         "where" => where_of(matches),
         "index" => Command::Index(matches.get_str("output")),
         "at" => {
-            let (path, line) = target_of(matches)?;
+            let word = matches.get_str("PATH:LINE").unwrap_or("");
+            let wanted = Mistake::Word(word, "a path, a colon and a line");
+            let (path, line) = parse_target(word).ok_or(wanted)?;
             Command::At(path, line)
         }
         "source" => Command::Source(source_place_of(matches)?),
@@ -143,54 +147,34 @@ fn command_of<'w>(name: &'w str, matches: &ArgMatches<'w>) -> Result<Command<'w>
 
 /// The command `where`, by what it asks.
 fn where_of<'w>(matches: &ArgMatches<'w>) -> Command<'w> {
-    if let Some(index) = matches.get_str("index") {
-        return Command::Ask(index);
-    }
-    if let Some(folder) = matches.get_str("maps") {
-        return Command::AskLines(LineNames::BuildIds(folder));
-    }
-    if matches.get_flag("files") {
-        return Command::AskLines(LineNames::Files);
-    }
-    Command::Where {
-        has_function: matches.get_flag("functions"),
+    match (matches.get_str("index"), matches.get_str("maps")) {
+        (Some(index), _) => Command::Ask(index),
+        (None, Some(folder)) => Command::AskLines(LineNames::BuildIds(folder)),
+        _ if matches.get_flag("files") => Command::AskLines(LineNames::Files),
+        _ => Command::Where {
+            has_function: matches.get_flag("functions"),
+        },
     }
 }
 
-/// The file; empty where none is named. Beside an index the first word may be an address.
-fn file_of<'w>(matches: &ArgMatches<'w>) -> &'w str {
-    match first_address(matches) {
-        Some(_) => "",
-        None => matches.get_str("FILE").unwrap_or(""),
-    }
-}
-
-/// The address that stands in the place of the file, beside an index.
-fn first_address(matches: &ArgMatches<'_>) -> Option<u64> {
-    matches.get_str("index")?;
-    parse_address(matches.get_str("FILE")?)
-}
-
-/// The addresses that are named; beside an index the first word may be one.
+/// The addresses that are named, after the first of them.
 fn addresses_of<'w>(
     alloc: Global,
+    first: Option<u64>,
     matches: &ArgMatches<'w>,
 ) -> Result<Vec<CodeAddress<'w>>, Mistake<'w>> {
     let mut addresses = Vec::new(alloc);
-    if let Some(first) = first_address(matches) {
+    if let Some(first) = first {
         let first = CodeAddress::Linked(first);
         addresses.push(first).map_err(AllocError::from)?;
     }
     for word in matches.get_strs("ADDRESS").unwrap_or(&[]) {
-        match parse_code_address(word) {
-            Some(address) => addresses.push(address).map_err(AllocError::from)?,
-            None => {
-                return Err(Mistake::Word(
-                    word,
-                    "an address, up to 16 hexadecimal digits with or without 0x, or SECTION+OFFSET",
-                ));
-            }
-        }
+        let wanted = Mistake::Word(
+            word,
+            "an address, up to 16 hexadecimal digits with or without 0x, or SECTION+OFFSET",
+        );
+        let address = parse_code_address(word).ok_or(wanted)?;
+        addresses.push(address).map_err(AllocError::from)?;
     }
     Ok(addresses)
 }
@@ -206,36 +190,15 @@ fn kinds_of<'w>(matches: &ArgMatches<'w>, option: &str) -> Result<KindSet, Mista
     Ok(kinds)
 }
 
-/// The line of a path that is named.
-fn target_of<'w>(matches: &ArgMatches<'w>) -> Result<(&'w str, u64), Mistake<'w>>
-    ensures named { IfOk result (λ target. (word : List ℕ)
-        × (first_value (found_of matches.now) (codes "PATH:LINE") ≡ Some word)
-        × NamesTarget word target.0.now target.1) }
-    ensures found { (word path : List ℕ) (line : ℕ)
-        → first_value (found_of matches.now) (codes "PATH:LINE") ≡ Some word
-        → NamesTarget word path line → IsOk result }
-{
-    let wanted = "a path, a colon and a line";
-    let Some(word) = matches.get_str("PATH:LINE") else {
-        return Err(Mistake::Word("", wanted));
-    };
-    match parse_target(word) {
-        Some(target) => Ok(target),
-        None => Err(Mistake::Word(word, wanted)),
-    }
-}
-
 /// The line of a path that is named, or else the function of a name.
 fn source_place_of<'w>(matches: &ArgMatches<'w>) -> Result<SourcePlace<'w>, Mistake<'w>> {
     let word = matches.get_str("PLACE").unwrap_or("");
-    if word.is_empty() {
-        return Err(Mistake::Word(
-            word,
-            "a path, a colon and a line, or the name of a function",
-        ));
-    }
     match parse_target(word) {
         Some((path, line)) => Ok(SourcePlace::Line { path, line }),
+        None if word.is_empty() => Err(Mistake::Word(
+            word,
+            "a path, a colon and a line, or the name of a function",
+        )),
         None => Ok(SourcePlace::Function(word)),
     }
 }
@@ -252,19 +215,12 @@ fn context_of<'w>(matches: &ArgMatches<'w>) -> Result<u64, Mistake<'w>> {
 }
 
 /// The unit that is named, or all of them.
-fn units_of<'w>(matches: &ArgMatches<'w>) -> Result<UnitChoice, Mistake<'w>>
-    ensures named { IfOk result (ChoosesUnits (first_value (found_of matches.now) (codes "UNIT"))) }
-    ensures found { (word : List ℕ) (offset : ℕ)
-        → first_value (found_of matches.now) (codes "UNIT") ≡ Some word
-        → NamesOffset word offset → IsOk result }
-{
+fn units_of<'w>(matches: &ArgMatches<'w>) -> Result<UnitChoice, Mistake<'w>> {
     let Some(word) = matches.get_str("UNIT") else {
         return Ok(UnitChoice::All);
     };
-    match parse_offset(word) {
-        Some(offset) => Ok(UnitChoice::At(offset)),
-        None => Err(Mistake::Word(word, "an offset, decimal or hexadecimal after 0x")),
-    }
+    let wanted = Mistake::Word(word, "an offset, decimal or hexadecimal after 0x");
+    Ok(UnitChoice::At(parse_offset(word).ok_or(wanted)?))
 }
 
 /// How much of a path is printed.
@@ -277,22 +233,12 @@ fn path_form_of<'w>(matches: &ArgMatches<'w>) -> PathForm<'w> {
 }
 
 /// What is subtracted from each address, 0 where nothing is named.
-fn bias_of<'w>(matches: &ArgMatches<'w>) -> Result<u64, Mistake<'w>>
-    ensures named { IfOk result (NamesBias (first_value (found_of matches.now) (codes "bias"))) }
-    ensures found { (word : List ℕ) (address : ℕ)
-        → first_value (found_of matches.now) (codes "bias") ≡ Some word
-        → NamesAddress word address → IsOk result }
-{
+fn bias_of<'w>(matches: &ArgMatches<'w>) -> Result<u64, Mistake<'w>> {
     let Some(word) = matches.get_str("bias") else {
         return Ok(0);
     };
-    match parse_address(word) {
-        Some(bias) => Ok(bias),
-        None => Err(Mistake::Word(
-            word,
-            "an address, up to 16 hexadecimal digits with or without 0x",
-        )),
-    }
+    let wanted = "an address, up to 16 hexadecimal digits with or without 0x";
+    parse_address(word).ok_or(Mistake::Word(word, wanted))
 }
 
 /// How the output is written. Only the command `rows` has whole paths.
