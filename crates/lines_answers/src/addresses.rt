@@ -2,8 +2,8 @@
 
 use gimli_core::{Error, Reader};
 use gimli_index::PathEnd;
-use gimli_line::LineRow;
-use gimli_lookup::{Addresses, SectionLookup};
+use gimli_line::{LineRow, OneShotLineRows};
+use gimli_lookup::{Addresses, SectionLookup, join_addresses};
 use lines_inputs::{Input, PathSources, column_of, line_of, look_up};
 use lines_words::{Json, NameText, Output, PathText, Request, bytes_of_word};
 use std::alloc::{AllocError, Global};
@@ -21,29 +21,16 @@ pub fn print_addresses<R: Reader>(
     line: u64,
     output: &mut Output<'_>,
 ) -> Result<(), AllocError> {
+    let sources = PathSources::new(alloc, input)?;
     let lookup = look_up(alloc, input, output)?;
     let search = Search {
         alloc,
         input,
+        sources: &sources,
         lookup: &lookup,
         request,
-        line,
     };
-    let files = search.find_files(path)?;
-    if files.is_empty() {
-        let end = NameText(path);
-        output.note(format_args!("no file's path ends with {end}"));
-    }
-    let mut is_found = false;
-    for PathFiles { path, files } in &files {
-        if search.print_of_path(path, files, output)? {
-            is_found = true;
-        }
-    }
-    if !is_found {
-        output.refuse();
-    }
-    Ok(())
+    search.print(path, line, output)
 }
 
 /// A file of a unit.
@@ -88,29 +75,43 @@ fn add_file(
 struct Search<'s, R: Reader> {
     alloc: Global,
     input: &'s Input<R>,
+    sources: &'s PathSources<R>,
     lookup: &'s SectionLookup<R>,
     request: &'s Request<'s>,
-    /// The line that is asked for.
-    line: u64,
 }
 
 impl<R: Reader> Search<'_, R> {
+    /// Prints the addresses of a line in the files whose path ends so.
+    fn print(&self, path: &str, line: u64, output: &mut Output<'_>) -> Result<(), AllocError> {
+        let end = bytes_of_word(self.alloc, path)?;
+        let all = self.find_files(PathEnd::new(&end))?;
+        if all.is_empty() {
+            let end = NameText(path);
+            output.note(format_args!("no file's path ends with {end}"));
+        }
+        let mut is_found = false;
+        for PathFiles { path, files } in &all {
+            is_found |= self.print_of_path(path, files, line, output)?;
+        }
+        if !is_found {
+            output.refuse();
+        }
+        Ok(())
+    }
+
     /// The files that are meant in all units. One that has no path is passed over.
-    fn find_files(self, end: &str) -> Result<Vec<PathFiles>, AllocError> {
-        let sources = PathSources::new(self.alloc, self.input)?;
-        let end = bytes_of_word(self.alloc, end)?;
-        let end = PathEnd::new(&end);
+    fn find_files(&self, end: PathEnd<'_>) -> Result<Vec<PathFiles>, AllocError> {
         let mut files = Vec::new(self.alloc);
         for (unit, kept) in self.lookup.units().iter().enumerate() {
             let Some(header) = kept.header() else {
                 continue;
             };
-            let last = header.file_names().len() as u64;
-            for index in 0..=last {
-                if let Some(path) = sources.known_path(self.alloc, header, index)? {
-                    if end.is_end_of(&path) {
+            for index in 0..=header.file_names().len() as u64 {
+                match self.sources.known_path(self.alloc, header, index)? {
+                    Some(path) if end.is_end_of(&path) => {
                         add_file(self.alloc, &mut files, path, SeenFile { unit, index })?;
                     }
+                    _ => {}
                 }
             }
         }
@@ -119,64 +120,68 @@ impl<R: Reader> Search<'_, R> {
 
     /// Prints the addresses in the files of one path, and returns whether there is any.
     fn print_of_path(
-        self,
+        &self,
         path: &[u8],
         files: &[SeenFile],
+        line: u64,
         output: &mut Output<'_>,
     ) -> Result<bool, AllocError> {
-        let found = self.addresses_of(files)?;
-        let first = found.iter().map(|found| found.line).min();
-        let asked = self.line;
-        if first == Some(asked) {
-            self.print_statements(path, asked, files, &found, output)?;
-            return Ok(true);
-        }
-        let others = self.columns_of(files, asked, false)?;
-        for (address, column) in &others {
-            self.print_address(path, asked, false, *address, Some(*column), output);
-        }
-        if !others.is_empty() {
-            return Ok(true);
-        }
-        let text = PathText(path);
-        match first {
-            Some(line) => {
-                output.note(format_args!(
-                    "no code at line {asked} of {text}; the next is line {line}"
-                ));
-                self.print_statements(path, line, files, &found, output)?;
+        let found = self.addresses_of(files, line)?;
+        let next = found.as_ref().map(|found| found.line);
+        if next != Some(line) {
+            if self.print_others(path, files, line, output)? {
+                return Ok(true);
             }
-            None => output.note(format_args!("no code from line {asked} on in {text}")),
+            let text = PathText(path);
+            match next {
+                Some(next) => output.note(format_args!(
+                    "no code at line {line} of {text}; the next is line {next}"
+                )),
+                None => output.note(format_args!("no code from line {line} on in {text}")),
+            }
         }
-        Ok(first.is_some())
+        match &found {
+            Some(found) => self.print_statements(path, files, found, output),
+            None => Ok(false),
+        }
     }
 
-    /// Prints the statements of a line.
-    fn print_statements(
-        self,
+    /// Prints the rows of a line that are no statements, and returns whether there is any.
+    fn print_others(
+        &self,
         path: &[u8],
-        line: u64,
         files: &[SeenFile],
-        found: &[Addresses],
+        line: u64,
         output: &mut Output<'_>,
-    ) -> Result<(), AllocError> {
-        let columns = if self.request.has_column || output.is_json() {
-            self.columns_of(files, line, true)?
-        } else {
-            BTreeMap::new(self.alloc)
-        };
-        for found in found.iter().filter(|found| found.line == line) {
-            for address in &found.addresses {
-                let column = columns.get(address).copied();
-                self.print_address(path, line, true, *address, column, output);
-            }
+    ) -> Result<bool, AllocError> {
+        let others = self.columns_of(files, line, false)?;
+        for (address, column) in &others {
+            self.print_address(path, line, false, *address, Some(*column), output);
         }
-        Ok(())
+        Ok(!others.is_empty())
+    }
+
+    /// Prints the statements of a line, and returns true.
+    fn print_statements(
+        &self,
+        path: &[u8],
+        files: &[SeenFile],
+        found: &Addresses,
+        output: &mut Output<'_>,
+    ) -> Result<bool, AllocError> {
+        let has_column = self.request.has_column || output.is_json();
+        let files = if has_column { files } else { &[] };
+        let columns = self.columns_of(files, found.line, true)?;
+        for address in &found.addresses {
+            let column = columns.get(address).copied();
+            self.print_address(path, found.line, true, *address, column, output);
+        }
+        Ok(true)
     }
 
     /// Prints an address of a line.
     fn print_address(
-        self,
+        &self,
         path: &[u8],
         line: u64,
         is_stmt: bool,
@@ -210,70 +215,59 @@ impl<R: Reader> Search<'_, R> {
     }
 
     /// Where the row ends that covers the addresses from one on; there where none does.
-    fn end_of_row(self, address: u64) -> u64 {
+    fn end_of_row(&self, address: u64) -> u64 {
         match self.lookup.find(address) {
             Some(found) if found.row.address() == address => found.next.address(),
             _ => address,
         }
     }
 
-    /// The addresses in each file: those of the first line from the asked one on that has any.
-    fn addresses_of(self, files: &[SeenFile]) -> Result<Vec<Addresses>, AllocError> {
-        let mut found = Vec::new(self.alloc);
+    /// The addresses in files: those of the first line from the asked one on that has any.
+    fn addresses_of(&self, files: &[SeenFile], line: u64) -> Result<Option<Addresses>, AllocError> {
+        let mut found = None;
         for file in files {
-            if let Some(addresses) = self.addresses_in(*file)? {
-                found.push(addresses)?;
+            let in_file = addresses_in(self.lookup, *file, line)?;
+            match join_addresses(found, in_file) {
+                Ok(joined) => found = joined,
+                Err(_) => return Err(AllocError),
             }
         }
         Ok(found)
     }
 
-    /// The addresses in one file.
-    fn addresses_in(self, file: SeenFile) -> Result<Option<Addresses>, AllocError> {
-        if file.unit >= self.lookup.units().len() {
-            return Ok(None);
-        }
-        match self
-            .lookup
-            .addresses_of_file(file.unit, file.index, self.line)
-        {
-            Ok(found) => Ok(found),
-            Err(_) => Err(AllocError),
-        }
-    }
-
     /// The columns of rows of a line, by their addresses: of those that are statements, or of those
-    /// that aren't.
+    /// that aren't. The faults of the units were reported before.
     fn columns_of(
-        self,
+        &self,
         files: &[SeenFile],
         line: u64,
         is_stmt: bool,
     ) -> Result<BTreeMap<u64, u64>, AllocError> {
         let mut columns = BTreeMap::new(self.alloc);
+        let size = self.input.address_size.bytes();
         for file in files {
-            self.add_columns(*file, line, is_stmt, &mut columns)?;
+            if let Some(unit) = self.lookup.units().get(file.unit) {
+                let lines = &self.input.lines;
+                match lines.program(self.alloc, unit.offset(), size, None, None) {
+                    Ok(program) => {
+                        self.add_columns(&mut program.rows(), *file, line, is_stmt, &mut columns)?;
+                    }
+                    Err(_) => return Err(AllocError),
+                }
+            }
         }
         Ok(columns)
     }
 
-    /// Adds the columns of rows of a line in one file. The faults of the unit were reported before.
+    /// Adds the columns of rows of a line in one file.
     fn add_columns(
-        self,
+        &self,
+        rows: &mut OneShotLineRows<R>,
         file: SeenFile,
         line: u64,
         is_stmt: bool,
         columns: &mut BTreeMap<u64, u64>,
     ) -> Result<(), AllocError> {
-        let Some(unit) = self.lookup.units().get(file.unit) else {
-            return Ok(());
-        };
-        let size = self.input.address_size.bytes();
-        let lines = &self.input.lines;
-        let Ok(program) = lines.program(self.alloc, unit.offset(), size, None, None) else {
-            return Err(AllocError);
-        };
-        let mut rows = program.rows();
         for _ in 0..u64::MAX {
             match rows.next_row() {
                 Ok(Some((_, row))) => {
@@ -292,11 +286,26 @@ impl<R: Reader> Search<'_, R> {
 
     /// Whether code of a row is sure to be there: a statement was found before, and any other row
     /// of a unit must be the one that covers its address.
-    fn is_code(self, unit: usize, row: &LineRow) -> bool {
+    fn is_code(&self, unit: usize, row: &LineRow) -> bool {
         match self.lookup.find(row.address()) {
             _ if row.is_stmt() => true,
             Some(found) => found.unit == unit && found.row == *row,
             None => false,
         }
+    }
+}
+
+/// The addresses in one file.
+fn addresses_in<R: Reader>(
+    lookup: &SectionLookup<R>,
+    file: SeenFile,
+    line: u64,
+) -> Result<Option<Addresses>, AllocError> {
+    if file.unit >= lookup.units().len() {
+        return Ok(None);
+    }
+    match lookup.addresses_of_file(file.unit, file.index, line) {
+        Ok(found) => Ok(found),
+        Err(_) => Err(AllocError),
     }
 }

@@ -40,13 +40,13 @@ pub(crate) fn print_place(
         return printer.print_unknown(Some(address), None, output);
     };
     let found = FoundPlace {
-        address,
+        address: Some(address),
         function: None,
         path: place.path.ok(),
         line: u64::from(place.line),
         column: u64::from(place.column),
     };
-    printer.print_found(found, &[], output);
+    printer.print(found, Some(&[]), output);
     if let Err(fault) = place.path {
         let fault = PathReason(fault);
         output.tell_of_unit(

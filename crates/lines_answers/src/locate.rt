@@ -60,14 +60,9 @@ impl<'r, 'n, R: Reader> Places<'r, 'n, R> {
         section: Option<&'r [u8]>,
         output: &mut Output<'_>,
     ) -> Result<Places<'r, 'n, R>, AllocError> {
-        let lookup = if request.addresses.is_empty() || section.is_some() {
-            look_up_any(alloc, input, output)?
-        } else {
-            let addresses = unmoved(alloc, request)?;
-            look_up_each(alloc, input, addresses, output)?
-        };
-        let sources = PathSources::new(alloc, input)?;
         let printer = PlacePrinter::new(alloc, request)?;
+        let sources = PathSources::new(alloc, input)?;
+        let lookup = rows_for(alloc, input, request, section.is_some(), output)?;
         Ok(Places {
             alloc,
             lookup,
@@ -114,7 +109,7 @@ impl<'r, 'n, R: Reader> Places<'r, 'n, R> {
         };
         let (line, column) = line_and_column(&found);
         let place = FoundPlace {
-            address,
+            address: Some(address),
             function,
             path: path.as_deref(),
             line,
@@ -125,11 +120,9 @@ impl<'r, 'n, R: Reader> Places<'r, 'n, R> {
             self.tell_fault(address, &found, fault, output);
         }
         match path {
-            Some(path) if self.printer.request.has_source => Ok(Answered::Above(SourceLine {
-                path,
-                line,
-                column,
-            })),
+            Some(path) if self.printer.request.has_source => {
+                Ok(Answered::Above(SourceLine { path, line, column }))
+            }
             _ => Ok(Answered::Whole),
         }
     }
@@ -146,7 +139,7 @@ impl<'r, 'n, R: Reader> Places<'r, 'n, R> {
             ("discriminator", Json::Number(found.row.discriminator())),
             ("flags", Json::Flags(&flags)),
         ];
-        self.printer.print_found(place, &fields, output);
+        self.printer.print(place, Some(&fields), output);
     }
 
     /// The whole path of the file of a row. Refused as `PathError` says.
@@ -168,16 +161,24 @@ impl<'r, 'n, R: Reader> Places<'r, 'n, R> {
     ) {
         let fault = self.sources.fault(fault);
         if let Some(unit) = self.lookup.units().get(found.unit) {
-            output.tell_of_unit(
-                unit.offset().0.into_u64(),
-                format_args!("at address 0x{address:x}: {fault}"),
-            );
+            let offset = unit.offset().0.into_u64();
+            output.tell_of_unit(offset, format_args!("at address 0x{address:x}: {fault}"));
         }
     }
 }
 
-/// The addresses that are looked for, before the program was moved by a bias.
-fn unmoved(alloc: Global, request: &Request<'_>) -> Result<Vec<u64>, AllocError> {
+/// The rows for the addresses of a request, which are looked for as they were before the program
+/// was moved by a bias; or those for any address.
+fn rows_for<R: Reader>(
+    alloc: Global,
+    input: &Input<R>,
+    request: &Request<'_>,
+    is_any: bool,
+    output: &mut Output<'_>,
+) -> Result<Covering<R>, AllocError> {
+    if is_any || request.addresses.is_empty() {
+        return look_up_any(alloc, input, output);
+    }
     let mut unmoved = Vec::new(alloc);
     for address in &request.addresses {
         if let CodeAddress::Linked(address) = *address {
@@ -186,7 +187,7 @@ fn unmoved(alloc: Global, request: &Request<'_>) -> Result<Vec<u64>, AllocError>
             }
         }
     }
-    Ok(unmoved)
+    look_up_each(alloc, input, unmoved, output)
 }
 
 /// The line and the column that are shown: those of the row that covers the address, which is the
@@ -206,16 +207,15 @@ pub fn print_below(
     output: &mut Output<'_>,
 ) -> Result<(), AllocError> {
     let lines = lines_of(alloc, file)?;
-    if let Some(text) = line_at(&lines, place.line) {
-        let shown = SourceText(text);
-        output.print(format_args!("  {shown}"));
-        if place.column > 0 {
-            let mark = ColumnMark {
-                text,
-                column: place.column,
-            };
-            output.print(format_args!("  {mark}"));
-        }
+    let Some(text) = line_at(&lines, place.line) else {
+        return Ok(());
+    };
+    let shown = SourceText(text);
+    output.print(format_args!("  {shown}"));
+    if place.column > 0 {
+        let column = place.column;
+        let mark = ColumnMark { text, column };
+        output.print(format_args!("  {mark}"));
     }
     Ok(())
 }

@@ -73,8 +73,8 @@ fn index_of_input<R: Reader>(
     ensures { IfOk result (λ made. IfSome made (λ made.
         IsMade R.bytes R.big R.Offset.limit input.now identity.now made.items)) }
 {
-    let lookup = look_up(alloc, input, output)?;
     let sources = PathSources::new(alloc, input)?;
+    let lookup = look_up(alloc, input, output)?;
     let mut bytes = Vec::new(alloc);
     let size = u16::from(input.address_size.bytes());
     let strings = sources.strings();

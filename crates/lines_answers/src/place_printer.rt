@@ -9,7 +9,8 @@ use std::alloc::{AllocError, Global};
 /// The place of an address.
 #[derive(Clone, Copy)]
 pub(crate) struct FoundPlace<'p> {
-    pub(crate) address: u64,
+    /// The address; None where none was asked for.
+    pub(crate) address: Option<u64>,
     /// The name of the function that holds it.
     pub(crate) function: Option<&'p [u8]>,
     /// The whole path; None where it isn't known.
@@ -36,26 +37,37 @@ impl<'r> PlacePrinter<'r> {
         Ok(PlacePrinter { request, directory })
     }
 
-    /// Prints a place, whose JSON object has more fields.
-    pub(crate) fn print_found(
+    /// Prints a place. Its JSON object has the line, the column, and more fields; where more is
+    /// None, none of these.
+    pub(crate) fn print(
         &self,
         place: FoundPlace<'_>,
-        more: &[(&str, Json<'_>)],
+        more: Option<&[(&str, Json<'_>)]>,
         output: &mut Output<'_>,
     ) {
         let line = place.line;
         let column = place.column;
         let path = place.path.map(|path| shown_path(path, self.request.paths, &self.directory));
-        self.begin(Some(place.address), path, place.function, output);
-        if output.is_json() {
+        if !output.is_json() {
+            if self.request.has_function {
+                let name = PathText(place.function.unwrap_or(b"??"));
+                output.add(format_args!("{name} at "));
+            }
+            let path = PathText(path.unwrap_or(b"??"));
+            return output.print(format_args!("{path}:{line}:{column}"));
+        }
+        let address = Json::Offset(place.address);
+        output.add_fields("{", &[("address", address), ("path", Json::Bytes(path))]);
+        if self.request.has_function {
+            output.add_fields(",", &[("function", Json::Text(place.function))]);
+        }
+        if let Some(more) = more {
             let line = Json::Number(line);
             let column = Json::Number(column);
             output.add_fields(",", &[("line", line), ("column", column)]);
             output.add_fields(",", more);
-            return output.print("}");
         }
-        let path = PathText(path.unwrap_or(b"??"));
-        output.print(format_args!("{path}:{line}:{column}"));
+        output.print("}");
     }
 
     /// Prints that there is no place of an address, or of what is none.
@@ -65,31 +77,14 @@ impl<'r> PlacePrinter<'r> {
         function: Option<&[u8]>,
         output: &mut Output<'_>,
     ) {
-        self.begin(address, None, function, output);
-        let rest = if output.is_json() { "}" } else { "??:0:0" };
-        output.print(rest);
-    }
-
-    /// Prints what stands first in a line: in an object of JSON the address, the path and the name
-    /// of the function, where names are shown, and else that alone.
-    fn begin(
-        &self,
-        address: Option<u64>,
-        path: Option<&[u8]>,
-        function: Option<&[u8]>,
-        output: &mut Output<'_>,
-    ) {
-        let has_function = self.request.has_function;
-        if output.is_json() {
-            let address = Json::Offset(address);
-            output.add_fields("{", &[("address", address), ("path", Json::Bytes(path))]);
-            if has_function {
-                output.add_fields(",", &[("function", Json::Text(function))]);
-            }
-        } else if has_function {
-            let name = PathText(function.unwrap_or(b"??"));
-            output.add(format_args!("{name} at "));
-        }
+        let place = FoundPlace {
+            address,
+            function,
+            path: None,
+            line: 0,
+            column: 0,
+        };
+        self.print(place, None, output);
     }
 
     /// Prints that what is asked is no address of this file, which is reported.

@@ -26,15 +26,6 @@ impl SourceRow {
     }
 }
 
-/// What is looked for.
-#[derive(Drop)]
-enum Wanted {
-    /// Lines about one, in the files whose path ends with the components of another.
-    Line { end: Vec<u8>, line: u64 },
-    /// The rows at these addresses.
-    Code { start: u64, end: u64 },
-}
-
 /// The rows of a place, which are found unit by unit.
 #[derive(Drop)]
 pub struct SourceRows<'w, R: Reader> {
@@ -42,13 +33,18 @@ pub struct SourceRows<'w, R: Reader> {
     place: SourcePlace<'w>,
     /// How many lines before the asked one and after it are wanted.
     context: u64,
-    wanted: Wanted,
+    /// The components that paths end with, where a line is asked for.
+    end: Vec<u8>,
+    /// The addresses of the function, where one is asked for.
+    code: (u64, u64),
     /// An address below which there is no code.
     lowest: u64,
     walk: Walk<R>,
     sources: PathSources<R>,
     /// The paths of files, each once; its number is its place here.
     paths: IndexSet<Vec<u8>>,
+    /// The numbers of the paths of the unit's files; None where their rows aren't wanted.
+    numbers: BTreeMap<u64, Option<usize>>,
     rows: Vec<SourceRow>,
 }
 
@@ -62,31 +58,30 @@ impl<'w, R: Reader> SourceRows<'w, R> {
         context: u64,
         output: &mut Output<'_>,
     ) -> Result<Option<SourceRows<'w, R>>, AllocError> {
-        let sources = PathSources::new(alloc, input)?;
-        let wanted = match place {
-            SourcePlace::Line { path, line } => Wanted::Line {
-                end: bytes_of_word(alloc, path)?,
-                line,
-            },
+        let (end, code) = match place {
+            SourcePlace::Line { path, .. } => (bytes_of_word(alloc, path)?, (0, 0)),
             SourcePlace::Function(name) => {
                 let word = bytes_of_word(alloc, name)?;
-                let Some((start, end)) = functions.range_of(&word) else {
+                let Some(code) = functions.range_of(&word) else {
                     let name = NameText(name);
                     output.tell(format_args!("no function has the name {name}"));
                     return Ok(None);
                 };
-                Wanted::Code { start, end }
+                (word, code)
             }
         };
+        let sources = PathSources::new(alloc, input)?;
         Ok(Some(SourceRows {
             alloc,
             place,
             context,
-            wanted,
+            end,
+            code,
             lowest: input.lowest,
             walk: Walk::new(alloc, input, UnitChoice::All, Printing::Rare, output),
             sources,
             paths: IndexSet::new(alloc),
+            numbers: BTreeMap::new(alloc),
             rows: Vec::new(alloc),
         }))
     }
@@ -99,13 +94,16 @@ impl<'w, R: Reader> SourceRows<'w, R> {
         Some((path, self.rows.get(start..end).unwrap_or(&[])))
     }
 
-    /// Adds the rows of a unit that are wanted.
-    fn add_unit(&mut self, unit: &mut UnitRows<R>) -> Result<(), AllocError> {
-        let mut numbers = BTreeMap::new(self.alloc);
-        if matches!(self.wanted, Wanted::Line { .. }) {
-            let last = unit.header().file_names().len() as u64;
-            for index in 0..=last {
-                self.number_of(unit.header(), index, &mut numbers)?;
+    /// Adds the rows of a unit that are wanted. Its fault is reported.
+    fn add_unit(
+        &mut self,
+        unit: &mut UnitRows<R>,
+        output: &mut Output<'_>,
+    ) -> Result<bool, AllocError> {
+        self.numbers = BTreeMap::new(self.alloc);
+        if matches!(self.place, SourcePlace::Line { .. }) {
+            for index in 0..=unit.header().file_names().len() as u64 {
+                self.number_of(unit.header(), index)?;
             }
         }
         for _ in 0..u64::MAX {
@@ -113,17 +111,11 @@ impl<'w, R: Reader> SourceRows<'w, R> {
                 break;
             };
             if self.is_near(&row) {
-                if let Some(path) = self.number_of(unit.header(), row.file_index(), &mut numbers)? {
-                    self.rows.push(SourceRow {
-                        path,
-                        line: line_of(&row),
-                        address: row.address(),
-                        is_stmt: row.is_stmt(),
-                    })?;
-                }
+                self.add_row(unit.header(), &row)?;
             }
         }
-        Ok(())
+        unit.tell_fault(output);
+        Ok(true)
     }
 
     /// Whether a row may be wanted.
@@ -133,12 +125,26 @@ impl<'w, R: Reader> SourceRows<'w, R> {
         if row.end_sequence() || address < self.lowest {
             return false;
         }
-        match &self.wanted {
-            Wanted::Line { line: asked, .. } => {
-                line > 0 && line.abs_diff(*asked) <= self.context
+        match self.place {
+            SourcePlace::Line { line: asked, .. } => {
+                line > 0 && line.abs_diff(asked) <= self.context
             }
-            Wanted::Code { start, end } => *start <= address && address < *end,
+            SourcePlace::Function(_) => self.code.0 <= address && address < self.code.1,
         }
+    }
+
+    /// Adds a row, where those of its file are wanted.
+    fn add_row(&mut self, header: &LineProgramHeader<R>, row: &LineRow) -> Result<(), AllocError> {
+        let Some(path) = self.number_of(header, row.file_index())? else {
+            return Ok(());
+        };
+        self.rows.push(SourceRow {
+            path,
+            line: line_of(row),
+            address: row.address(),
+            is_stmt: row.is_stmt(),
+        })?;
+        Ok(())
     }
 
     /// The number of the path of a file; None where it has none, or its rows aren't wanted. Those
@@ -147,17 +153,18 @@ impl<'w, R: Reader> SourceRows<'w, R> {
         &mut self,
         header: &LineProgramHeader<R>,
         index: u64,
-        numbers: &mut BTreeMap<u64, Option<usize>>,
     ) -> Result<Option<usize>, AllocError> {
-        if let Some(number) = numbers.get(&index).copied() {
+        if let Some(number) = self.numbers.get(&index).copied() {
             return Ok(number);
         }
-        let path = self.sources.known_path(self.alloc, header, index)?;
-        let number = match path.filter(|path| self.wanted.includes(path)) {
-            Some(path) => Some(self.paths.insert_full(path)?.0),
-            None => None,
+        let is_any = matches!(self.place, SourcePlace::Function(_));
+        let number = match self.sources.known_path(self.alloc, header, index)? {
+            Some(path) if is_any || PathEnd::new(&self.end).is_end_of(&path) => {
+                Some(self.paths.insert_full(path)?.0)
+            }
+            _ => None,
         };
-        numbers.insert(index, number)?;
+        self.numbers.insert(index, number)?;
         Ok(number)
     }
 
@@ -166,15 +173,10 @@ impl<'w, R: Reader> SourceRows<'w, R> {
         self.rows.sort()?;
         let mut distinct: Vec<SourceRow> = Vec::new(self.alloc);
         for row in &self.rows {
-            let mut row = *row;
-            if let Some(before) = distinct.pop() {
-                if before.is_beside(&row) {
-                    row.is_stmt = row.is_stmt || before.is_stmt;
-                } else {
-                    distinct.push(before)?;
-                }
+            match distinct.last_mut() {
+                Some(before) if before.is_beside(row) => before.is_stmt |= row.is_stmt,
+                _ => distinct.push(*row)?,
             }
-            distinct.push(row)?;
         }
         self.rows = distinct;
         Ok(())
@@ -184,11 +186,14 @@ impl<'w, R: Reader> SourceRows<'w, R> {
     /// follow. After the last one the rows are put in order; that no file has the place is
     /// reported.
     pub fn add_next(&mut self, output: &mut Output<'_>) -> Result<bool, AllocError> {
-        if let Some(mut unit) = self.walk.next_rows(output)? {
-            self.add_unit(&mut unit)?;
-            unit.tell_fault(output);
-            return Ok(true);
+        match self.walk.next_rows(output)? {
+            Some(mut unit) => self.add_unit(&mut unit, output),
+            None => self.finish(output),
         }
+    }
+
+    /// Puts the rows in order, and reports that no file has the place.
+    fn finish(&mut self, output: &mut Output<'_>) -> Result<bool, AllocError> {
         self.sort()?;
         if self.paths.is_empty() {
             match self.place {
@@ -203,15 +208,5 @@ impl<'w, R: Reader> SourceRows<'w, R> {
             }
         }
         Ok(false)
-    }
-}
-
-impl Wanted {
-    /// Whether rows of a path may be wanted.
-    fn includes(&self, path: &[u8]) -> bool {
-        match self {
-            Wanted::Line { end, .. } => PathEnd::new(end).is_end_of(path),
-            Wanted::Code { .. } => true,
-        }
     }
 }

@@ -5,13 +5,6 @@ use crate::source_text::{line_at, lines_of};
 use lines_words::{Json, Output, PathText, SourcePlace, SourceText, Style};
 use std::alloc::{AllocError, Global};
 
-/// The first line of several, and the last.
-#[derive(Clone, Copy)]
-struct LineRange {
-    first: u64,
-    last: u64,
-}
-
 /// Prints the lines of a file about one that is asked for, or else about its rows. Where the file
 /// can't be read, that is said, and the lines are printed without their texts.
 pub fn print_lines(
@@ -29,11 +22,16 @@ pub fn print_lines(
     }
     let file = file.unwrap_or(Vec::new(alloc));
     let lines = lines_of(alloc, &file)?;
-    let asked = match place {
-        SourcePlace::Line { line, .. } => Some(line),
-        SourcePlace::Function(_) => None,
+    let (asked, ranges) = match place {
+        SourcePlace::Line { line, .. } => {
+            let range = (
+                line.saturating_sub(context).max(1),
+                line.saturating_add(context),
+            );
+            (Some(line), Vec::from_slice(alloc, &[range])?)
+        }
+        SourcePlace::Function(_) => (None, ranges_of(alloc, rows, context)?),
     };
-    let ranges = ranges_of(alloc, asked, rows, context)?;
     let listing = SourceListing {
         path,
         lines: &lines,
@@ -44,39 +42,23 @@ pub fn print_lines(
     Ok(())
 }
 
-/// The lines that are printed: so many before the asked one and after it, or before each row and
-/// after it, where ranges that meet are one.
+/// The lines that are printed about rows, each range by its first line and its last: so many before
+/// each row and after it, where ranges that meet are one.
 fn ranges_of(
     alloc: Global,
-    asked: Option<u64>,
     rows: &[SourceRow],
     context: u64,
-) -> Result<Vec<LineRange>, AllocError> {
-    let mut ranges: Vec<LineRange> = Vec::new(alloc);
-    if let Some(line) = asked {
-        ranges.push(range_about(line, context))?;
-        return Ok(ranges);
-    }
+) -> Result<Vec<(u64, u64)>, AllocError> {
+    let mut ranges: Vec<(u64, u64)> = Vec::new(alloc);
     for row in rows.iter().filter(|row| row.line > 0) {
-        let mut next = range_about(row.line, context);
-        if let Some(before) = ranges.pop() {
-            if next.first <= before.last.saturating_add(1) {
-                next.first = before.first;
-            } else {
-                ranges.push(before)?;
-            }
+        let first = row.line.saturating_sub(context).max(1);
+        let last = row.line.saturating_add(context);
+        match ranges.last_mut() {
+            Some(before) if first <= before.1.saturating_add(1) => before.1 = last,
+            _ => ranges.push((first, last))?,
         }
-        ranges.push(next)?;
     }
     Ok(ranges)
-}
-
-/// So many lines before one and after it.
-fn range_about(line: u64, context: u64) -> LineRange {
-    LineRange {
-        first: line.saturating_sub(context).max(1),
-        last: line.saturating_add(context),
-    }
 }
 
 /// Lines of a file, with their rows.
@@ -93,48 +75,36 @@ struct SourceListing<'l> {
 
 impl<'l> SourceListing<'l> {
     /// Prints the lines of ranges.
-    fn print(self, ranges: &[LineRange], output: &mut Output<'_>) {
+    fn print(self, ranges: &[(u64, u64)], output: &mut Output<'_>) {
         output.print_heading(PathText(self.path));
-        for (number, range) in ranges.iter().enumerate() {
+        for (number, (first, last)) in ranges.iter().enumerate() {
             if number > 0 && !output.is_json() {
                 output.print("...");
             }
-            self.print_range(*range, output);
-        }
-    }
-
-    /// Prints the lines of a range that have a text or rows, and the one that is asked for.
-    fn print_range(self, range: LineRange, output: &mut Output<'_>) {
-        for line in range.first..=range.last {
-            let text = line_at(self.lines, line);
-            let rows = self.rows_of(line);
-            if text.is_none() && rows.is_empty() && self.asked != Some(line) {
-                continue;
-            }
-            if output.is_json() {
-                self.print_json(line, text, rows, output);
-            } else {
-                self.print_line(line, text, rows, output);
+            for line in *first..=*last {
+                self.print_line(line, output);
             }
         }
     }
 
-    /// The rows of a line.
-    fn rows_of(self, line: u64) -> &'l [SourceRow] {
-        let rows = self.rows;
-        let start = rows.partition_point(|row| row.line < line);
-        let end = rows.partition_point(|row| row.line <= line);
-        rows.get(start..end).unwrap_or(&[])
+    /// Prints a line that has a text or rows, or is asked for.
+    fn print_line(self, line: u64, output: &mut Output<'_>) {
+        let text = line_at(self.lines, line);
+        let start = self.rows.partition_point(|row| row.line < line);
+        let end = self.rows.partition_point(|row| row.line <= line);
+        let rows = self.rows.get(start..end).unwrap_or(&[]);
+        if text.is_none() && rows.is_empty() && self.asked != Some(line) {
+            return;
+        }
+        if output.is_json() {
+            self.print_json(line, text, rows, output);
+        } else {
+            self.print_text(line, text.unwrap_or(b""), rows, output);
+        }
     }
 
     /// Prints a line beside its first row, and the other rows below it.
-    fn print_line(
-        self,
-        line: u64,
-        text: Option<&[u8]>,
-        rows: &[SourceRow],
-        output: &mut Output<'_>,
-    ) {
+    fn print_text(self, line: u64, text: &[u8], rows: &[SourceRow], output: &mut Output<'_>) {
         let is_asked = self.asked == Some(line);
         let mark = if is_asked { '>' } else { ' ' };
         let Style { begin, end } = if is_asked {
@@ -143,22 +113,19 @@ impl<'l> SourceListing<'l> {
             Style::PLAIN
         };
         output.add(format_args!("{begin}{mark}{line:>6}"));
-        match (rows.first(), text) {
-            (Some(row), _) => add_row(*row, output),
-            (None, Some(text)) if !text.is_empty() => output.add(format_args!("{:23}", "")),
-            _ => {}
+        match rows.first() {
+            Some(row) => add_row(row, output),
+            None if !text.is_empty() => output.add("                       "),
+            None => {}
         }
-        match text {
-            Some(text) if !text.is_empty() => {
-                let text = SourceText(text);
-                output.add(format_args!("  {text}"));
-            }
-            _ => {}
+        if !text.is_empty() {
+            let text = SourceText(text);
+            output.add(format_args!("  {text}"));
         }
         output.print(end);
         for row in rows.iter().skip(1) {
             output.add("       ");
-            add_row(*row, output);
+            add_row(row, output);
             output.print("");
         }
     }
@@ -193,7 +160,7 @@ impl<'l> SourceListing<'l> {
 }
 
 /// Prints the address of a row, and `s` for a statement or a stroke.
-fn add_row(row: SourceRow, output: &mut Output<'_>) {
+fn add_row(row: &SourceRow, output: &mut Output<'_>) {
     let address = row.address;
     let letter = if row.is_stmt { 's' } else { '-' };
     output.add(format_args!("  0x{address:<16x}  {letter}"));

@@ -2,16 +2,16 @@
 
 use crate::coverage::{Change, Coverage, Place};
 use crate::path_numbers::PathNumbers;
+use crate::reading::Reading;
 use gimli_core::Reader;
-use gimli_line::LineRow;
-use lines_inputs::{Input, PathSources, Printing, UnitRows, Walk, line_of};
+use gimli_line::{LineProgramHeader, LineRow};
+use lines_inputs::{Input, Printing, UnitRows, line_of};
 use lines_words::{Json, Output, PathText, UnitChoice};
 use std::alloc::{AllocError, Global};
 
 /// The code of each line of two programs.
 #[derive(Drop)]
 pub struct Diff<R: Reader> {
-    alloc: Global,
     old: Side<R>,
     new: Side<R>,
     /// Whether the new program is read.
@@ -27,10 +27,11 @@ impl<R: Reader> Diff<R> {
         new: &Input<R>,
         output: &mut Output<'_>,
     ) -> Result<Diff<R>, AllocError> {
+        let old = Side::new(alloc, old, output)?;
+        let new = Side::new(alloc, new, output)?;
         Ok(Diff {
-            alloc,
-            old: Side::new(alloc, old, output)?,
-            new: Side::new(alloc, new, output)?,
+            old,
+            new,
             is_new: false,
             paths: PathNumbers::new(alloc),
         })
@@ -44,17 +45,15 @@ impl<R: Reader> Diff<R> {
     /// Prints each line that has another number of bytes of code in the new program than in the old
     /// one, and how many lines there are. The command ends as refused where there is a difference.
     fn print_differences(&self, output: &mut Output<'_>) -> Result<(), AllocError> {
-        let differences = self
-            .old
-            .coverage
-            .differences(self.alloc, &self.new.coverage)?;
+        let Side { reading, coverage } = &self.old;
+        let differences = coverage.differences(reading.alloc, &self.new.coverage)?;
         for (place, change) in &differences {
             self.print_change(*place, *change, output);
         }
         if !differences.is_empty() {
             output.refuse();
         }
-        let old = self.old.coverage.count();
+        let old = coverage.count();
         let new = self.new.coverage.count();
         let count = differences.len();
         let fields = [
@@ -113,10 +112,7 @@ impl<R: Reader> Diff<R> {
 /// One of two programs, and how many bytes of code each of its lines has.
 #[derive(Drop)]
 struct Side<R: Reader> {
-    walk: Walk<R>,
-    sources: PathSources<R>,
-    /// An address below which there is no code.
-    lowest: u64,
+    reading: Reading<R>,
     coverage: Coverage,
 }
 
@@ -127,24 +123,30 @@ impl<R: Reader> Side<R> {
         input: &Input<R>,
         output: &mut Output<'_>,
     ) -> Result<Side<R>, AllocError> {
-        let sources = PathSources::new(alloc, input)?;
-        Ok(Side {
-            walk: Walk::new(alloc, input, UnitChoice::All, Printing::Rare, output),
-            sources,
-            lowest: input.lowest,
-            coverage: Coverage::new(alloc),
-        })
+        let reading = Reading::new(alloc, input, UnitChoice::All, Printing::Rare, output)?;
+        let coverage = Coverage::new(alloc);
+        Ok(Side { reading, coverage })
     }
 
-    /// Adds the code of the next unit, whose fault is reported. False where there is none.
+    /// Adds the code of the next unit. False where there is none.
     fn add_next(
         &mut self,
         paths: &mut PathNumbers,
         output: &mut Output<'_>,
     ) -> Result<bool, AllocError> {
-        let Some(mut unit) = self.walk.next_rows(output)? else {
-            return Ok(false);
-        };
+        match self.reading.walk.next_rows(output)? {
+            Some(mut unit) => self.add_unit(&mut unit, paths, output),
+            None => Ok(false),
+        }
+    }
+
+    /// Adds the code of a unit, whose fault is reported.
+    fn add_unit(
+        &mut self,
+        unit: &mut UnitRows<R>,
+        paths: &mut PathNumbers,
+        output: &mut Output<'_>,
+    ) -> Result<bool, AllocError> {
         paths.begin_unit();
         let mut before: Option<LineRow> = None;
         for _ in 0..u64::MAX {
@@ -152,7 +154,7 @@ impl<R: Reader> Side<R> {
                 break;
             };
             if let Some(before) = &before {
-                self.add_row(&unit, before, row.address(), paths)?;
+                self.add_row(unit.header(), before, row.address(), paths)?;
             }
             before = (!row.end_sequence()).then_some(row);
         }
@@ -163,16 +165,16 @@ impl<R: Reader> Side<R> {
     /// Adds the code of a row up to an address.
     fn add_row(
         &mut self,
-        unit: &UnitRows<R>,
+        header: &LineProgramHeader<R>,
         row: &LineRow,
         end: u64,
         paths: &mut PathNumbers,
     ) -> Result<(), AllocError> {
-        if row.address() < self.lowest || end <= row.address() {
+        if row.address() < self.reading.lowest || end <= row.address() {
             return Ok(());
         }
         let place = Place {
-            path: paths.number_of(unit.header(), row.file_index(), &self.sources)?,
+            path: paths.number_of(header, row.file_index(), &self.reading.sources)?,
             line: line_of(row),
         };
         self.coverage.add(place, end.saturating_sub(row.address()))

@@ -21,22 +21,13 @@ impl Findings {
         }
     }
 
-    /// Counts a finding in the unit, and prints the sentence where it is told.
+    /// Counts a finding in the unit, and prints the sentence where it is told, with the byte of the
+    /// section that a fault stands at. In sentences rows are counted from 1, those that are left
+    /// out not among them, and no character is one that JSON escapes.
     pub(crate) fn find(
         &mut self,
         kind: FindingKind,
-        sentence: impl fmt::Display + Drop,
-        output: &mut Output<'_>,
-    ) {
-        self.find_at(None, kind, sentence, output);
-    }
-
-    /// The same, with the byte of the section that a fault stands at. In sentences rows are counted
-    /// from 1, those that are left out not among them, and no character is one that JSON escapes.
-    pub(crate) fn find_at(
-        &mut self,
         byte: Option<u64>,
-        kind: FindingKind,
         sentence: impl fmt::Display + Drop,
         output: &mut Output<'_>,
     ) {
@@ -73,20 +64,21 @@ impl Findings {
             let (number, name, severity) = kind.entry();
             let severity = severity.name();
             let count = self.counts[number];
-            if count > 0 {
-                let fields = [
-                    ("severity", Json::Word(severity)),
-                    ("kind", Json::Word(name)),
-                    ("count", Json::Number(count)),
-                ];
-                if output.is_json() {
-                    output.print_object(&fields);
-                } else {
-                    output.print(format_args!("{name} ({severity}): {count}"));
-                }
-                if output.check().counts(kind) {
-                    findings = findings.saturating_add(count);
-                }
+            if count == 0 {
+                continue;
+            }
+            let fields = [
+                ("severity", Json::Word(severity)),
+                ("kind", Json::Word(name)),
+                ("count", Json::Number(count)),
+            ];
+            if output.is_json() {
+                output.print_object(&fields);
+            } else {
+                output.print(format_args!("{name} ({severity}): {count}"));
+            }
+            if output.check().counts(kind) {
+                findings = findings.saturating_add(count);
             }
         }
         let fields = [

@@ -1,28 +1,33 @@
 //! What is printed of line programs, piece by piece.
 
 use crate::check::Check;
-use crate::file_list::FileList;
+use crate::file_list::print_unit_files;
+use crate::reading::Reading;
 use crate::row_list::RowList;
 use crate::stat::Stat;
-use crate::unit_list::UnitList;
+use crate::unit_list::{print_heading, print_unit};
 use gimli_core::Reader;
-use lines_inputs::Input;
-use lines_words::{Command, Output, Request};
+use lines_inputs::{Input, Printing, UnitRows};
+use lines_words::{Command, Output, Request, UnitChoice};
 use std::alloc::{AllocError, Global};
 
 /// What a command prints of line programs.
 #[derive(Drop)]
-pub enum Report<R: Reader> {
-    /// Of `units`.
-    Units(UnitList<R>),
-    /// Of `files`.
-    Files(FileList<R>),
-    /// Of `rows`.
-    Rows(RowList<R>),
-    /// Of `check`.
+pub struct Report<R: Reader> {
+    reading: Reading<R>,
+    /// The unit whose rows are read.
+    unit: Option<UnitRows<R>>,
+    task: Task<R>,
+}
+
+/// What is printed, by the commands of these names.
+#[derive(Drop)]
+enum Task<R: Reader> {
+    Units,
+    Files,
+    Rows(RowList),
     Check(Check<R>),
-    /// Of `stat`.
-    Stat(Stat<R>),
+    Stat(Stat),
 }
 
 impl<R: Reader> Report<R> {
@@ -33,26 +38,77 @@ impl<R: Reader> Report<R> {
         request: &Request<'_>,
         output: &mut Output<'_>,
     ) -> Result<Option<Report<R>>, AllocError> {
-        Ok(Some(match request.command {
-            Command::Units => Report::Units(UnitList::new(alloc, input, output)),
-            Command::Files => { Report::Files(FileList::new(alloc, input, request.units, output)?) }
-            Command::Rows(form) => {
-                Report::Rows(RowList::new(alloc, input, request.units, form, output)?)
-            }
-            Command::Check => Report::Check(Check::new(alloc, input, output)?),
-            Command::Stat => Report::Stat(Stat::new(alloc, input, output)?),
+        let (printing, units) = match request.command {
+            Command::Units => (Printing::Steady, UnitChoice::All),
+            Command::Files | Command::Rows(_) => (Printing::Steady, request.units),
+            Command::Check | Command::Stat => (Printing::Rare, UnitChoice::All),
             _ => return Ok(None),
+        };
+        let reading = Reading::new(alloc, input, units, printing, output)?;
+        let task = match request.command {
+            Command::Files => Task::Files,
+            Command::Rows(form) => Task::Rows(RowList::new(alloc, form)),
+            Command::Check => Task::Check(Check::new(alloc)),
+            Command::Stat => Task::Stat(Stat::new(alloc)),
+            _ => {
+                print_heading(output);
+                Task::Units
+            }
+        };
+        Ok(Some(Report {
+            reading,
+            unit: None,
+            task,
         }))
     }
 
     /// Prints the next piece, and returns whether more may follow.
     pub fn print_next(&mut self, output: &mut Output<'_>) -> Result<bool, AllocError> {
-        match self {
-            Report::Units(list) => list.print_next(output),
-            Report::Files(list) => list.print_next(output),
-            Report::Rows(list) => list.print_next(output),
-            Report::Check(check) => check.print_next(output),
-            Report::Stat(stat) => stat.print_next(output),
+        if let Task::Check(check) = &mut self.task {
+            return check.print_next(&mut self.reading, output);
         }
+        let is_new = self.unit.is_none();
+        if is_new {
+            self.unit = self.reading.walk.next_rows(output)?;
+        }
+        match &mut self.unit {
+            Some(unit) => {
+                if !self.task.print_unit(&self.reading, unit, is_new, output)? {
+                    self.unit = None;
+                }
+                Ok(true)
+            }
+            None => {
+                if let Task::Stat(stat) = &mut self.task {
+                    stat.finish(self.reading.length, output)?;
+                }
+                Ok(false)
+            }
+        }
+    }
+}
+
+impl<R: Reader> Task<R> {
+    /// Prints the next piece of a unit, whose fault is reported, and returns whether more of it
+    /// follows.
+    fn print_unit(
+        &mut self,
+        reading: &Reading<R>,
+        unit: &mut UnitRows<R>,
+        is_new: bool,
+        output: &mut Output<'_>,
+    ) -> Result<bool, AllocError> {
+        match self {
+            Task::Rows(list) if is_new => {
+                list.begin(unit, output);
+                return Ok(true);
+            }
+            Task::Rows(list) => return list.print_some(reading, unit, output),
+            Task::Units => print_unit(unit, output)?,
+            Task::Files => print_unit_files(reading, unit, output)?,
+            Task::Stat(stat) => stat.add_unit(reading, unit, output)?,
+            Task::Check(_) => {}
+        }
+        Ok(false)
     }
 }

@@ -1,57 +1,47 @@
 //! The command `rows`: the rows of units.
 
+use crate::reading::Reading;
 use gimli_core::Reader;
 use gimli_line::LineRow;
 use gimli_lookup::PathError;
-use lines_inputs::{
-    FlagLetters, Input, PathSources, Printing, RowCount, UnitRows, Walk, column_of, flags_of,
-    line_of,
-};
-use lines_words::{Form, Json, JsonBytes, Output, PathText, UnitChoice, last_part};
+use lines_inputs::{FlagLetters, RowCount, UnitRows, column_of, flags_of, line_of};
+use lines_words::{Form, Json, JsonBytes, Output, PathText, last_part};
 use std::alloc::{AllocError, Global};
 
 /// How many rows are printed before they are handed on.
 const SOME: u64 = 1024;
 
-/// The rows of units, one after the other.
+/// How the rows of units are printed.
 #[derive(Drop)]
-pub struct RowList<R: Reader> {
-    alloc: Global,
+pub(crate) struct RowList {
     form: Form,
-    walk: Walk<R>,
-    sources: PathSources<R>,
-    /// The unit whose rows are printed.
-    unit: Option<UnitRows<R>>,
     /// The file of the last row.
     file: Option<u64>,
     /// How the path of that file is printed.
     path: String,
 }
 
-impl<R: Reader> RowList<R> {
+impl RowList {
     /// No row was printed.
-    pub fn new(
-        alloc: Global,
-        input: &Input<R>,
-        units: UnitChoice,
-        form: Form,
-        output: &mut Output<'_>,
-    ) -> Result<RowList<R>, AllocError> {
-        let sources = PathSources::new(alloc, input)?;
-        Ok(RowList {
-            alloc,
+    pub(crate) fn new(alloc: Global, form: Form) -> RowList {
+        RowList {
             form,
-            walk: Walk::new(alloc, input, units, Printing::Steady, output),
-            sources,
-            unit: None,
             file: None,
             path: String::new(alloc),
-        })
+        }
+    }
+
+    /// Prints the headings of a unit.
+    pub(crate) fn begin<R: Reader>(&mut self, unit: &UnitRows<R>, output: &mut Output<'_>) {
+        output.print_unit_heading(unit.offset, unit.header().version());
+        output.print_heading("           address     line  column  discr  isa  flags  file");
+        self.file = None;
     }
 
     /// Prints some rows of a unit. False after the last one, and after a fault, which is reported.
-    fn print_some(
+    pub(crate) fn print_some<R: Reader>(
         &mut self,
+        reading: &Reading<R>,
         unit: &mut UnitRows<R>,
         output: &mut Output<'_>,
     ) -> Result<bool, AllocError> {
@@ -61,7 +51,7 @@ impl<R: Reader> RowList<R> {
                 return Ok(false);
             };
             if self.file != Some(row.file_index()) {
-                self.look_up(unit, &row, output)?;
+                self.look_up(reading, unit, &row, output)?;
             }
             match self.form {
                 Form::Json => print_json(unit.offset, &row, &self.path, output),
@@ -73,18 +63,19 @@ impl<R: Reader> RowList<R> {
 
     /// Keeps how the path of a row's file is printed. Where it has none, that is reported once for
     /// rows of one file that follow each other.
-    fn look_up(
+    fn look_up<R: Reader>(
         &mut self,
+        reading: &Reading<R>,
         unit: &UnitRows<R>,
         row: &LineRow,
         output: &mut Output<'_>,
     ) -> Result<(), AllocError> {
         self.file = Some(row.file_index());
-        let path = match self.sources.of_row(self.alloc, unit.header(), row) {
+        let path = match reading.sources.of_row(reading.alloc, unit.header(), row) {
             Ok(path) => Some(path),
             Err(PathError::OutOfMemory) => return Err(AllocError),
             Err(fault) => {
-                let fault = self.sources.fault(fault);
+                let fault = reading.sources.fault(fault);
                 let rows = RowCount(unit.count.saturating_sub(1));
                 output.tell_of_unit(unit.offset, format_args!("after {rows}: {fault}"));
                 None
@@ -95,7 +86,7 @@ impl<R: Reader> RowList<R> {
                 name: "path",
                 bytes: path.as_deref(),
             };
-            self.path = format!(in self.alloc; "{path}")?;
+            self.path = format!(in reading.alloc; "{path}")?;
             return Ok(());
         }
         let path = match &path {
@@ -104,26 +95,8 @@ impl<R: Reader> RowList<R> {
             None => b"??",
         };
         let path = PathText(path);
-        self.path = format!(in self.alloc; "{path}")?;
+        self.path = format!(in reading.alloc; "{path}")?;
         Ok(())
-    }
-
-    /// Prints the headings of the next unit, or some of its rows.
-    pub(crate) fn print_next(&mut self, output: &mut Output<'_>) -> Result<bool, AllocError> {
-        if let Some(mut unit) = self.unit.take() {
-            if self.print_some(&mut unit, output)? {
-                self.unit = Some(unit);
-            }
-            return Ok(true);
-        }
-        let Some(unit) = self.walk.next_rows(output)? else {
-            return Ok(false);
-        };
-        output.print_unit_heading(unit.offset, unit.header().version());
-        output.print_heading("           address     line  column  discr  isa  flags  file");
-        self.file = None;
-        self.unit = Some(unit);
-        Ok(true)
     }
 }
 

@@ -7,7 +7,8 @@ ghost use Rattle.lines_reports.specs.Spent.{number, spent_on};
 use gimli_core::Reader;
 use gimli_line::LineInstruction;
 
-/// What bytes of a section are spent on; instructions by DWARF 5, sections 6.2.5.1 to 6.2.5.3.
+/// What bytes of a section are spent on, in the order of a unit's parts and of opcodes;
+/// instructions by DWARF 5, sections 6.2.5.1 to 6.2.5.3.
 #[derive(Clone, Copy)]
 pub enum Spent {
     /// The header of a unit, without its tables.
@@ -56,75 +57,39 @@ pub enum Spent {
     Unread,
 }
 
+/// Their names, in the same order: of an instruction that of its opcode.
+pub(crate) const NAMES: [&str; 22] = [
+    "header",
+    "tables",
+    "special",
+    "copy",
+    "advance_pc",
+    "advance_line",
+    "set_file",
+    "set_column",
+    "negate_stmt",
+    "set_basic_block",
+    "const_add_pc",
+    "fixed_advance_pc",
+    "set_prologue_end",
+    "set_epilogue_begin",
+    "set_isa",
+    "unknown_standard",
+    "end_sequence",
+    "set_address",
+    "define_file",
+    "set_discriminator",
+    "unknown_extended",
+    "unread",
+];
+
 impl Spent {
-    /// All of them, in the order of a unit's parts and of opcodes.
-    pub const ALL: [Spent; 22] = [
-        Spent::Header,
-        Spent::Tables,
-        Spent::Special,
-        Spent::Copy,
-        Spent::AdvancePc,
-        Spent::AdvanceLine,
-        Spent::SetFile,
-        Spent::SetColumn,
-        Spent::NegateStatement,
-        Spent::SetBasicBlock,
-        Spent::ConstAddPc,
-        Spent::FixedAddPc,
-        Spent::SetPrologueEnd,
-        Spent::SetEpilogueBegin,
-        Spent::SetIsa,
-        Spent::UnknownStandard,
-        Spent::EndSequence,
-        Spent::SetAddress,
-        Spent::DefineFile,
-        Spent::SetDiscriminator,
-        Spent::UnknownExtended,
-        Spent::Unread,
-    ];
-
-    /// Its place among all, and its name: of an instruction that of its opcode.
-    fn entry(self) -> (usize, &'static str)
-        ensures number { result.0 ≡ number self }
-        ensures bound { result.0 < 22 }
-    {
-        match self {
-            Spent::Header => (0, "header"),
-            Spent::Tables => (1, "tables"),
-            Spent::Special => (2, "special"),
-            Spent::Copy => (3, "copy"),
-            Spent::AdvancePc => (4, "advance_pc"),
-            Spent::AdvanceLine => (5, "advance_line"),
-            Spent::SetFile => (6, "set_file"),
-            Spent::SetColumn => (7, "set_column"),
-            Spent::NegateStatement => (8, "negate_stmt"),
-            Spent::SetBasicBlock => (9, "set_basic_block"),
-            Spent::ConstAddPc => (10, "const_add_pc"),
-            Spent::FixedAddPc => (11, "fixed_advance_pc"),
-            Spent::SetPrologueEnd => (12, "set_prologue_end"),
-            Spent::SetEpilogueBegin => (13, "set_epilogue_begin"),
-            Spent::SetIsa => (14, "set_isa"),
-            Spent::UnknownStandard => (15, "unknown_standard"),
-            Spent::EndSequence => (16, "end_sequence"),
-            Spent::SetAddress => (17, "set_address"),
-            Spent::DefineFile => (18, "define_file"),
-            Spent::SetDiscriminator => (19, "set_discriminator"),
-            Spent::UnknownExtended => (20, "unknown_extended"),
-            Spent::Unread => (21, "unread"),
-        }
-    }
-
     /// Its place among all.
     pub fn number(self) -> usize
         ensures number { result ≡ number self }
         ensures bound { result < 22 }
     {
-        self.entry().0
-    }
-
-    /// Its name.
-    pub fn name(self) -> &'static str {
-        self.entry().1
+        self as usize
     }
 
     /// The opcode of an instruction.

@@ -1,13 +1,14 @@
 //! The command `stat`: what the bytes of the section are spent on.
 
 use crate::path_numbers::PathNumbers;
-use crate::spent::Spent;
+use crate::reading::Reading;
+use crate::spent::NAMES;
 use crate::tally::{Share, Tally};
 use crate::unit_list::unit_bytes;
 use gimli_core::Reader;
 use gimli_line::LineRow;
-use lines_inputs::{Input, PathSources, Printing, UnitRows, Walk};
-use lines_words::{Json, Output, PathText, UnitChoice};
+use lines_inputs::UnitRows;
+use lines_words::{Json, Output, PathText};
 use std::alloc::{AllocError, Global};
 use std::collections::BTreeMap;
 use std::fmt;
@@ -17,12 +18,7 @@ const LARGEST: usize = 10;
 
 /// What the bytes of the section are spent on, and its largest units and files.
 #[derive(Drop)]
-pub struct Stat<R: Reader> {
-    alloc: Global,
-    walk: Walk<R>,
-    sources: PathSources<R>,
-    /// The bytes of the section.
-    all: u64,
+pub(crate) struct Stat {
     tally: Tally,
     /// The bytes of the units that can be read.
     bytes: u64,
@@ -34,25 +30,16 @@ pub struct Stat<R: Reader> {
     /// The bytes of each unit, with its offset.
     units: Vec<(u64, u64)>,
     paths: PathNumbers,
+    /// The rows of each file of a unit, by its index.
+    of_unit: BTreeMap<u64, u64>,
     /// The rows of each path, by its number.
     files: BTreeMap<usize, u64>,
-    /// The same, the most rows first.
-    largest: Vec<(u64, usize)>,
 }
 
-impl<R: Reader> Stat<R> {
+impl Stat {
     /// Nothing was counted.
-    pub fn new(
-        alloc: Global,
-        input: &Input<R>,
-        output: &mut Output<'_>,
-    ) -> Result<Stat<R>, AllocError> {
-        let sources = PathSources::new(alloc, input)?;
-        Ok(Stat {
-            alloc,
-            walk: Walk::new(alloc, input, UnitChoice::All, Printing::Rare, output),
-            sources,
-            all: input.length(),
+    pub(crate) fn new(alloc: Global) -> Stat {
+        Stat {
             tally: Tally::new(),
             bytes: 0,
             rows: 0,
@@ -60,69 +47,64 @@ impl<R: Reader> Stat<R> {
             not_statements: 0,
             units: Vec::new(alloc),
             paths: PathNumbers::new(alloc),
+            of_unit: BTreeMap::new(alloc),
             files: BTreeMap::new(alloc),
-            largest: Vec::new(alloc),
-        })
+        }
     }
 
-    /// Counts a unit.
-    fn add_unit(&mut self, unit: &mut UnitRows<R>) -> Result<(), AllocError> {
+    /// Counts a unit, whose fault is reported.
+    pub(crate) fn add_unit<R: Reader>(
+        &mut self,
+        reading: &Reading<R>,
+        unit: &mut UnitRows<R>,
+        output: &mut Output<'_>,
+    ) -> Result<(), AllocError> {
         let bytes = unit_bytes(unit.header());
         self.bytes = self.bytes.saturating_add(bytes);
         self.units.push((bytes, unit.offset))?;
         self.tally.add_unit(unit.header(), bytes);
-        let mut files = BTreeMap::new(self.alloc);
+        self.of_unit = BTreeMap::new(reading.alloc);
         for _ in 0..u64::MAX {
             let Some(row) = unit.next_row()? else {
                 break;
             };
-            self.add_row(&row, &mut files)?;
+            self.add_row(&row)?;
         }
         self.rows = self.rows.saturating_add(unit.count);
         self.ends = self.ends.saturating_add(unit.ends);
         self.paths.begin_unit();
-        for (file, count) in &files {
-            let number = self.paths.number_of(unit.header(), *file, &self.sources)?;
-            let before = self.files.get(&number).copied().unwrap_or(0);
-            self.files.insert(number, before.saturating_add(*count))?;
+        for (file, count) in &self.of_unit {
+            let number = self
+                .paths
+                .number_of(unit.header(), *file, &reading.sources)?;
+            count_more(&mut self.files, number, *count)?;
         }
+        unit.tell_fault(output);
         Ok(())
     }
 
     /// Counts a row that is no end.
-    fn add_row(&mut self, row: &LineRow, files: &mut BTreeMap<u64, u64>) -> Result<(), AllocError> {
+    fn add_row(&mut self, row: &LineRow) -> Result<(), AllocError> {
         if row.end_sequence() {
             return Ok(());
         }
         let other = u64::from(!row.is_stmt());
         self.not_statements = self.not_statements.saturating_add(other);
-        let file = row.file_index();
-        let count = files.get(&file).copied().unwrap_or(0);
-        files.insert(file, count.saturating_add(1))?;
-        Ok(())
+        count_more(&mut self.of_unit, row.file_index(), 1)
     }
 
-    /// Puts the largest units and files first.
-    fn sort(&mut self) -> Result<(), AllocError> {
-        for (number, count) in &self.files {
-            self.largest.push((*count, *number))?;
-        }
+    /// Prints what was counted in a section of so many bytes.
+    pub(crate) fn finish(&mut self, all: u64, output: &mut Output<'_>) -> Result<(), AllocError> {
+        self.tally.add_unread(all.saturating_sub(self.bytes));
+        self.print_shares(all, output);
         self.units.sort()?;
-        self.largest.sort()?;
-        Ok(())
-    }
-
-    /// Prints what was counted.
-    fn print(&self, output: &mut Output<'_>) {
-        self.print_shares(output);
-        self.print_units(output);
-        self.print_files(output);
+        self.print_units(all, output);
+        self.print_files(output)?;
         let units = self.units.len();
         let Stat {
             rows,
             ends,
             not_statements,
-            all,
             ..
         } = self;
         let fields = [
@@ -130,7 +112,7 @@ impl<R: Reader> Stat<R> {
             ("rows", Json::Number(*rows)),
             ("sequences", Json::Number(*ends)),
             ("not_statements", Json::Number(*not_statements)),
-            ("bytes", Json::Number(*all)),
+            ("bytes", Json::Number(all)),
         ];
         let whole = all.checked_div(*rows).unwrap_or(0);
         let rest = all.checked_rem(*rows).unwrap_or(0);
@@ -143,29 +125,29 @@ impl<R: Reader> Stat<R> {
                  bytes: {all}, a row: {whole}.{tenths}"
             ));
         }
+        Ok(())
     }
 
     /// Prints what the bytes are spent on.
-    fn print_shares(&self, output: &mut Output<'_>) {
+    fn print_shares(&self, all: u64, output: &mut Output<'_>) {
         output.print_heading("what                   times     bytes  operands   share");
-        for spent in Spent::ALL {
-            let share = self.tally.share(spent);
+        for (name, share) in NAMES.iter().zip(&self.tally.shares) {
             let Share {
                 times,
                 bytes,
                 operands,
-            } = share;
+            } = *share;
             if times == 0 {
                 continue;
             }
-            let name = spent.name();
+            let name = *name;
             let fields = [
                 ("what", Json::Word(name)),
                 ("times", Json::Number(times)),
                 ("bytes", Json::Number(bytes)),
                 ("operands", Json::Number(operands)),
             ];
-            let percent = Percent(share.all_bytes(), self.all);
+            let percent = Percent(share.all_bytes(), all);
             if output.is_json() {
                 output.print_object(&fields);
             } else {
@@ -177,14 +159,14 @@ impl<R: Reader> Stat<R> {
     }
 
     /// Prints the largest units.
-    fn print_units(&self, output: &mut Output<'_>) {
+    fn print_units(&self, all: u64, output: &mut Output<'_>) {
         output.print_heading("largest units                 bytes             share");
         for (bytes, offset) in self.units.iter().rev().take(LARGEST) {
             let fields = [
                 ("unit", Json::Offset(Some(*offset))),
                 ("bytes", Json::Number(*bytes)),
             ];
-            let percent = Percent(*bytes, self.all);
+            let percent = Percent(*bytes, all);
             if output.is_json() {
                 output.print_object(&fields);
             } else {
@@ -196,10 +178,15 @@ impl<R: Reader> Stat<R> {
     }
 
     /// Prints the files with the most rows.
-    fn print_files(&self, output: &mut Output<'_>) {
+    fn print_files(&self, output: &mut Output<'_>) -> Result<(), AllocError> {
         output.print_heading("most rows");
+        let mut largest = Vec::new(*self.units.allocator());
+        for (number, count) in &self.files {
+            largest.push((*count, *number))?;
+        }
+        largest.sort()?;
         let all = self.rows.saturating_sub(self.ends);
-        for (count, number) in self.largest.iter().rev().take(LARGEST) {
+        for (count, number) in largest.iter().rev().take(LARGEST) {
             let path = self.paths.path(*number);
             let fields = [
                 ("path", Json::Bytes(Some(path))),
@@ -213,21 +200,19 @@ impl<R: Reader> Stat<R> {
                 output.print(format_args!("{count:>9}  {path}  {percent}"));
             }
         }
+        Ok(())
     }
+}
 
-    /// Counts the next unit, whose fault is reported. After the last one everything is printed.
-    pub(crate) fn print_next(&mut self, output: &mut Output<'_>) -> Result<bool, AllocError> {
-        if let Some(mut unit) = self.walk.next_rows(output)? {
-            self.add_unit(&mut unit)?;
-            unit.tell_fault(output);
-            return Ok(true);
-        }
-        let rest = self.all.saturating_sub(self.bytes);
-        self.tally.add_unread(rest);
-        self.sort()?;
-        self.print(output);
-        Ok(false)
-    }
+/// Counts so many more of a key.
+fn count_more<K: Copy + Ord>(
+    counts: &mut BTreeMap<K, u64>,
+    key: K,
+    more: u64,
+) -> Result<(), AllocError> {
+    let before = counts.get(&key).copied().unwrap_or(0);
+    counts.insert(key, before.saturating_add(more))?;
+    Ok(())
 }
 
 /// A share of a whole, in percent and as a bar.

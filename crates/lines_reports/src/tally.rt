@@ -55,7 +55,8 @@ impl Share {
 /// What the bytes of units are spent on.
 #[derive(Clone, Copy)]
 pub struct Tally {
-    shares: [Share; 22],
+    /// By the numbers of what they are spent on.
+    pub(crate) shares: [Share; 22],
 }
 
 impl Tally {

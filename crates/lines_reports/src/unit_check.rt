@@ -32,132 +32,6 @@ pub(crate) struct UnitCheck<R: Reader> {
     row: LineRow,
     /// How many instructions were executed.
     executed: u64,
-    rows: RowCheck,
-}
-
-impl<R: Reader> UnitCheck<R> {
-    /// No instruction of a unit was looked at.
-    pub(crate) fn new(
-        lowest: u64,
-        is_linked: bool,
-        program: IncompleteLineProgram<R>,
-    ) -> UnitCheck<R> {
-        UnitCheck {
-            instructions: program.header().instructions(),
-            row: LineRow::new(program.header()),
-            program,
-            executed: 0,
-            rows: RowCheck {
-                lowest,
-                is_linked,
-                rows: 0,
-                rows_since_end: 0,
-                start: None,
-                is_left_out: false,
-            },
-        }
-    }
-
-    /// The header, with the files that are defined so far.
-    pub(crate) fn header(&self) -> &LineProgramHeader<R> {
-        self.program.header()
-    }
-
-    /// Executes some instructions, prints what is found, and adds sequences to others. False after
-    /// the last instruction, and after a fault.
-    pub(crate) fn run_some(
-        &mut self,
-        sequences: &mut Vec<Sequence>,
-        findings: &mut Findings,
-        output: &mut Output<'_>,
-    ) -> Result<bool, AllocError> {
-        for _ in 0..SOME {
-            let instruction = match self.instructions.next_instruction(self.program.header()) {
-                Ok(Some(instruction)) => instruction,
-                Ok(None) => {
-                    self.rows.finish(findings, output);
-                    return Ok(false);
-                }
-                Err(fault) => return self.stop(fault, findings, output),
-            };
-            let set = set_address(&instruction);
-            let before = self.row.address();
-            match self.row.execute(instruction, &mut self.program) {
-                Ok(is_made) => {
-                    let after = self.row.address();
-                    self.rows
-                        .look_at_address(set, before, after, findings, output);
-                    if is_made {
-                        self.take_row(sequences, findings, output)?;
-                    }
-                }
-                Err(fault) => return self.stop(fault, findings, output),
-            }
-            self.executed = self.executed.saturating_add(1);
-        }
-        Ok(true)
-    }
-
-    /// Looks at the row that is made, and goes on to the next one.
-    fn take_row(
-        &mut self,
-        sequences: &mut Vec<Sequence>,
-        findings: &mut Findings,
-        output: &mut Output<'_>,
-    ) -> Result<(), AllocError> {
-        let file = self.row.file_index();
-        let has_file = self.program.header().file(file).is_some();
-        if let Some(sequence) = self.rows.take_row(&self.row, has_file, findings, output) {
-            sequences.push(sequence)?;
-        }
-        self.row.reset(self.program.header());
-        Ok(())
-    }
-
-    /// Prints the fault of the next instruction, which ends the program. Missing memory is no fault
-    /// of it.
-    fn stop(
-        &self,
-        error: Error,
-        findings: &mut Findings,
-        output: &mut Output<'_>,
-    ) -> Result<bool, AllocError> {
-        if error == Error::OutOfMemory {
-            return Err(AllocError);
-        }
-        let start = instruction_start(self.program.header(), self.executed);
-        let byte = start.unwrap_or(findings.unit);
-        let rows = RowCount(self.rows.rows);
-        let sentence = format_args!("at byte 0x{byte:x}, after {rows}: {error}");
-        findings.find_at(Some(byte), FindingKind::Program, sentence, output);
-        Ok(false)
-    }
-}
-
-/// The offset in the section of the instruction that follows so many others of a program. None
-/// where fewer can be read.
-fn instruction_start<R: Reader>(header: &LineProgramHeader<R>, before: u64) -> Option<u64> {
-    let end = header.next_unit_offset()?;
-    let mut instructions = header.instructions();
-    let mut rest = header.raw_program_buf();
-    for _ in 0..before {
-        let instruction = instructions.next_instruction(header).ok()??;
-        instruction_bytes(&instruction, &mut rest).ok()?;
-    }
-    end.0.into_u64().checked_sub(rest.len().into_u64())
-}
-
-/// The address that an instruction sets, where it does.
-fn set_address<R: Reader>(instruction: &LineInstruction<R>) -> Option<u64> {
-    match instruction {
-        LineInstruction::SetAddress(address) => Some(*address),
-        _ => None,
-    }
-}
-
-/// What is kept of the rows of a unit.
-#[derive(Clone, Copy)]
-struct RowCheck {
     /// An address below which there is no code.
     lowest: u64,
     /// Whether code has its addresses.
@@ -172,87 +46,150 @@ struct RowCheck {
     is_left_out: bool,
 }
 
-impl RowCheck {
+impl<R: Reader> UnitCheck<R> {
+    /// No instruction of a unit was looked at.
+    pub(crate) fn new(
+        lowest: u64,
+        is_linked: bool,
+        program: IncompleteLineProgram<R>,
+    ) -> UnitCheck<R> {
+        UnitCheck {
+            instructions: program.header().instructions(),
+            row: LineRow::new(program.header()),
+            program,
+            executed: 0,
+            lowest,
+            is_linked,
+            rows: 0,
+            rows_since_end: 0,
+            start: None,
+            is_left_out: false,
+        }
+    }
+
+    /// The header, with the files that are defined so far.
+    pub(crate) fn header(&self) -> &LineProgramHeader<R> {
+        self.program.header()
+    }
+
+    /// Executes some instructions, prints what is found, and adds sequences to others. False after
+    /// the last instruction, and after a fault. Missing memory is no fault.
+    pub(crate) fn run_some(
+        &mut self,
+        sequences: &mut Vec<Sequence>,
+        findings: &mut Findings,
+        output: &mut Output<'_>,
+    ) -> Result<bool, AllocError> {
+        for _ in 0..SOME {
+            match self.execute_next(findings, output) {
+                Ok(Some(true)) => {
+                    if let Some(sequence) = self.take_row(findings, output) {
+                        sequences.push(sequence)?;
+                    }
+                    self.row.reset(self.program.header());
+                }
+                Ok(Some(false)) => {}
+                Ok(None) => {
+                    self.finish(findings, output);
+                    return Ok(false);
+                }
+                Err(Error::OutOfMemory) => return Err(AllocError),
+                Err(fault) => {
+                    self.stop(fault, findings, output);
+                    return Ok(false);
+                }
+            }
+            self.executed = self.executed.saturating_add(1);
+        }
+        Ok(true)
+    }
+
+    /// Executes the next instruction, and returns whether it makes a row; None at the end.
+    fn execute_next(
+        &mut self,
+        findings: &mut Findings,
+        output: &mut Output<'_>,
+    ) -> Result<Option<bool>, Error> {
+        let Some(instruction) = self.instructions.next_instruction(self.program.header())? else {
+            return Ok(None);
+        };
+        let set = match instruction {
+            LineInstruction::SetAddress(address) => Some(address),
+            _ => None,
+        };
+        let before = self.row.address();
+        let is_made = self.row.execute(instruction, &mut self.program)?;
+        if let Some(address) = set {
+            self.look_at_address(address, before, findings, output);
+        }
+        Ok(Some(is_made))
+    }
+
+    /// Prints the fault of the next instruction, which ends the program.
+    fn stop(&self, fault: Error, findings: &mut Findings, output: &mut Output<'_>) {
+        let start = instruction_start(self.program.header(), self.executed);
+        let byte = start.unwrap_or(findings.unit);
+        let rows = RowCount(self.rows);
+        let sentence = format_args!("at byte 0x{byte:x}, after {rows}: {fault}");
+        findings.find(FindingKind::Program, Some(byte), sentence, output);
+    }
+
     /// Looks at an address that was set. It is a tombstone for the rows that follow where the
     /// address of the row isn't it: then code was dropped, or addresses go down. In an object file
     /// each section stands at 0, so that they may.
     fn look_at_address(
         &mut self,
-        set: Option<u64>,
+        address: u64,
         before: u64,
-        after: u64,
         findings: &mut Findings,
         output: &mut Output<'_>,
     ) {
-        let Some(address) = set else {
-            return;
-        };
-        self.is_left_out = address != after;
+        self.is_left_out = address != self.row.address();
         let rows = RowCount(self.rows);
         let is_dropped = address >= before || address == 0 && self.lowest > 0;
         if self.is_left_out && is_dropped {
-            findings.find(
-                FindingKind::Dropped,
-                format_args!(
-                    "after {rows}: the address 0x{address:x} stands for dropped code, and what \
-                     follows is left out"
-                ),
-                output,
+            let sentence = format_args!(
+                "after {rows}: the address 0x{address:x} stands for dropped code, and what \
+                 follows is left out"
             );
+            findings.find(FindingKind::Dropped, None, sentence, output);
         } else if self.is_left_out && self.is_linked {
-            findings.find(
-                FindingKind::GoesDown,
-                format_args!(
-                    "after {rows}: the address goes down from 0x{before:x} to 0x{address:x}, and \
-                     what follows is left out"
-                ),
-                output,
+            let sentence = format_args!(
+                "after {rows}: the address goes down from 0x{before:x} to 0x{address:x}, and \
+                 what follows is left out"
             );
+            findings.find(FindingKind::GoesDown, None, sentence, output);
         }
     }
 
-    /// Looks at a row, and returns the sequence that it ends. One that begins below the lowest
-    /// address of code is dead, and one without an address between overlaps nothing.
-    fn take_row(
-        &mut self,
-        row: &LineRow,
-        has_file: bool,
-        findings: &mut Findings,
-        output: &mut Output<'_>,
-    ) -> Option<Sequence> {
-        let end = row.address();
+    /// Looks at the row that is made, and returns the sequence that it ends. One that begins below
+    /// the lowest address of code is dead, and one without an address between overlaps nothing.
+    fn take_row(&mut self, findings: &mut Findings, output: &mut Output<'_>) -> Option<Sequence> {
+        let end = self.row.address();
         if !self.is_left_out {
             self.rows = self.rows.saturating_add(1);
         }
-        if !row.end_sequence() {
+        if !self.row.end_sequence() {
             if !self.is_left_out {
-                self.begin_at(row, has_file, findings, output);
+                self.begin_at(findings, output);
             }
             return None;
         }
-        let start = self
-            .start
-            .filter(|start| *start < end && *start >= self.lowest);
-        let start = start.filter(|_| !self.is_left_out);
+        let unit = findings.unit;
+        let start = self.start.filter(|_| !self.is_left_out);
+        let start = start.filter(|start| *start < end && *start >= self.lowest);
         self.is_left_out = false;
         self.rows_since_end = 0;
         self.start = None;
-        let unit = findings.unit;
         start.map(|start| Sequence { start, end, unit })
     }
 
     /// Keeps the least address of the rows of a sequence, and looks at the first one, and at the
     /// file of each.
-    fn begin_at(
-        &mut self,
-        row: &LineRow,
-        has_file: bool,
-        findings: &mut Findings,
-        output: &mut Output<'_>,
-    ) {
+    fn begin_at(&mut self, findings: &mut Findings, output: &mut Output<'_>) {
         self.rows_since_end = self.rows_since_end.saturating_add(1);
         let number = self.rows;
-        let address = row.address();
+        let address = self.row.address();
         let lowest = self.lowest;
         if self.start.is_none() && address < lowest {
             // Code that is dropped is at address 0 too.
@@ -261,22 +198,19 @@ impl RowCheck {
             } else {
                 FindingKind::BelowCode
             };
-            findings.find(
-                kind,
-                format_args!(
-                    "row {number}: a sequence begins at 0x{address:x}, below the lowest address of \
-                     code, 0x{lowest:x}"
-                ),
-                output,
+            let sentence = format_args!(
+                "row {number}: a sequence begins at 0x{address:x}, below the lowest address of \
+                 code, 0x{lowest:x}"
             );
+            findings.find(kind, None, sentence, output);
         }
         self.start = Some(self.start.unwrap_or(address).min(address));
-        if !has_file {
-            let file = row.file_index();
+        let file = self.row.file_index();
+        if self.program.header().file(file).is_none() {
             let sentence = format_args!(
                 "row {number} at 0x{address:x}: the header has no file {file}"
             );
-            findings.find(FindingKind::NoFile, sentence, output);
+            findings.find(FindingKind::NoFile, None, sentence, output);
         }
     }
 
@@ -285,7 +219,20 @@ impl RowCheck {
         if self.rows_since_end > 0 {
             let rows = RowCount(self.rows_since_end);
             let sentence = format_args!("no sequence ends after the last {rows}");
-            findings.find(FindingKind::NoEnd, sentence, output);
+            findings.find(FindingKind::NoEnd, None, sentence, output);
         }
     }
+}
+
+/// The offset in the section of the instruction that follows so many others of a program. None
+/// where fewer can be read.
+fn instruction_start<R: Reader>(header: &LineProgramHeader<R>, before: u64) -> Option<u64> {
+    let end = header.next_unit_offset()?;
+    let mut instructions = header.instructions();
+    let mut rest = header.raw_program_buf();
+    for _ in 0..before {
+        let instruction = instructions.next_instruction(header).ok()??;
+        instruction_bytes(&instruction, &mut rest).ok()?;
+    }
+    end.0.into_u64().checked_sub(rest.len().into_u64())
 }

@@ -2,48 +2,30 @@
 
 use gimli_core::{Format, Reader, ReaderOffset};
 use gimli_line::LineProgramHeader;
-use lines_inputs::{Input, Printing, UnitRows, Walk};
-use lines_words::{Json, Output, UnitChoice};
-use std::alloc::{AllocError, Global};
+use lines_inputs::UnitRows;
+use lines_words::{Json, Output};
+use std::alloc::AllocError;
 
-/// The units whose headers can be read.
-#[derive(Drop)]
-pub struct UnitList<R: Reader> {
-    walk: Walk<R>,
-}
-
-impl<R: Reader> UnitList<R> {
-    /// Prints what stands above the lines of units.
-    pub fn new(alloc: Global, input: &Input<R>, output: &mut Output<'_>) -> UnitList<R> {
-        output.print_heading(
-            "    offset  version  format  address  files  sequences      rows     bytes",
-        );
-        UnitList {
-            walk: Walk::new(alloc, input, UnitChoice::All, Printing::Steady, output),
-        }
-    }
-
-    /// Prints the line of the next unit. The fault of its program is reported.
-    pub(crate) fn print_next(&mut self, output: &mut Output<'_>) -> Result<bool, AllocError> {
-        let Some(mut unit) = self.walk.next_rows(output)? else {
-            return Ok(false);
-        };
-        unit.run()?;
-        print_unit(&unit, output);
-        unit.tell_fault(output);
-        Ok(true)
-    }
+/// Prints what stands above the lines of units.
+pub(crate) fn print_heading(output: &mut Output<'_>) {
+    output.print_heading(
+        "    offset  version  format  address  files  sequences      rows     bytes",
+    );
 }
 
 /// Prints the line of a unit, with the files that are defined before the first fault of its
-/// program.
-fn print_unit<R: Reader>(unit: &UnitRows<R>, output: &mut Output<'_>) {
+/// program, which is reported.
+pub(crate) fn print_unit<R: Reader>(
+    unit: &mut UnitRows<R>,
+    output: &mut Output<'_>,
+) -> Result<(), AllocError> {
+    unit.run()?;
     let UnitRows {
         offset,
         count: rows,
         ends: sequences,
         ..
-    } = unit;
+    } = &*unit;
     let header = unit.header();
     let version = u64::from(header.version());
     let format = match header.format() {
@@ -68,9 +50,11 @@ fn print_unit<R: Reader>(unit: &UnitRows<R>, output: &mut Output<'_>) {
     } else {
         output.print(format_args!(
             "0x{offset:08x}  {version:>7}  {format}-bit  {address_size:>7}  {files:>5}  \
-             {sequences:>9}  {rows:>8}  {bytes:>8}"
+         {sequences:>9}  {rows:>8}  {bytes:>8}"
         ));
     }
+    unit.tell_fault(output);
+    Ok(())
 }
 
 /// The bytes of a unit, those of its length among them.
