@@ -133,6 +133,17 @@ impl<'a> Arguments<'a> {
         }
     }
 
+    /// What a word says, or something else where it says nothing.
+    fn found<T: Copy>(&mut self, found: Option<T>, other: T) -> T {
+        match found {
+            Some(found) => found,
+            None => {
+                self.refuse(Stop::Bad);
+                other
+            }
+        }
+    }
+
     /// All words that are left. Where numbers are asked for, they must be that, and are taken.
     pub fn numbers(&mut self, is_asked: bool) -> &'a [&'a str] {
         let numbers = self.rest;
@@ -144,6 +155,11 @@ impl<'a> Arguments<'a> {
         numbers
     }
 
+    /// A number of eight bits.
+    fn byte(&mut self) -> u8 {
+        self.number(0xff) as u8
+    }
+
     /// A number of eight bits with a sign.
     fn signed(&mut self) -> i8 {
         let word = self.word();
@@ -151,52 +167,36 @@ impl<'a> Arguments<'a> {
             Some(digits) => 0i64.checked_sub_unsigned(parse_number(digits).unwrap_or(u64::MAX)),
             None => i64::try_from(parse_number(word).unwrap_or(u64::MAX)).ok(),
         };
-        match number {
-            Some(number) if -128 <= number && number <= 127 => number as i8,
-            _ => {
-                self.refuse(Stop::Bad);
-                0
-            }
-        }
+        let number = number.and_then(|number| i8::try_from(number).ok());
+        self.found(number, 0)
     }
 
     /// An order of bytes.
     pub fn order(&mut self) -> RunTimeEndian {
-        match parse_order(self.word()) {
-            Some(order) => order,
-            None => {
-                self.refuse(Stop::Bad);
-                RunTimeEndian::Little
-            }
-        }
+        let order = parse_order(self.word());
+        self.found(order, RunTimeEndian::Little)
     }
 
     /// The size of an address.
     pub fn address_size(&mut self) -> AddressSize {
-        match parse_size(self.word()) {
-            Some(size) => size,
-            None => {
-                self.refuse(Stop::Bad);
-                AddressSize::Eight
-            }
-        }
+        let size = parse_size(self.word());
+        self.found(size, AddressSize::Eight)
     }
 
     /// What a program is written into.
     pub fn target(&mut self) -> Target {
-        match self.word() {
-            "vec" => return Target::Vector,
-            "array" => return Target::Array(self.number(LONGEST_ARRAY) as usize),
-            "pieces" => {}
-            _ => self.refuse(Stop::Bad),
-        }
-        match self.number(16) {
-            1 => return Target::Bytes,
-            4 => return Target::Words,
-            16 => return Target::Lines,
-            _ => self.refuse(Stop::Bad),
-        }
-        Target::Vector
+        let target = match self.word() {
+            "vec" => Some(Target::Vector),
+            "array" => Some(Target::Array(self.number(LONGEST_ARRAY) as usize)),
+            "pieces" => match self.number(16) {
+                1 => Some(Target::Bytes),
+                4 => Some(Target::Words),
+                16 => Some(Target::Lines),
+                _ => None,
+            },
+            _ => None,
+        };
+        self.found(target, Target::Vector)
     }
 
     /// All that is left, as bytes.
@@ -215,16 +215,13 @@ impl<'a> Arguments<'a> {
     pub fn encoding(&mut self) -> Encoding {
         let version = self.number(0xffff) as u16;
         let format = match self.number(64) {
-            32 => Format::Dwarf32,
-            64 => Format::Dwarf64,
-            _ => {
-                self.refuse(Stop::Bad);
-                Format::Dwarf32
-            }
+            32 => Some(Format::Dwarf32),
+            64 => Some(Format::Dwarf64),
+            _ => None,
         };
         Encoding {
-            address_size: self.number(0xff) as u8,
-            format,
+            format: self.found(format, Format::Dwarf32),
+            address_size: self.byte(),
             version,
         }
     }
@@ -232,18 +229,12 @@ impl<'a> Arguments<'a> {
     /// What rows are encoded by.
     pub fn line_encoding(&mut self) -> LineEncoding {
         LineEncoding {
-            minimum_instruction_length: self.number(0xff) as u8,
-            maximum_operations_per_instruction: self.number(0xff) as u8,
+            minimum_instruction_length: self.byte(),
+            maximum_operations_per_instruction: self.byte(),
             default_is_stmt: self.number(1) == 1,
             line_base: self.signed(),
-            line_range: self.number(0xff) as u8,
+            line_range: self.byte(),
         }
-    }
-
-    /// A text.
-    pub fn text(&mut self) -> Vec<u8> {
-        let word = self.word();
-        self.text_of(word)
     }
 
     /// A text and where it is kept: in this form, or where that is the usual one, as letters before
@@ -256,34 +247,29 @@ impl<'a> Arguments<'a> {
             (Form::Usual, Some(("p:", word))) => (Form::Strings, word),
             _ => (form, all),
         };
-        (form, self.text_of(word))
-    }
-
-    /// The text of a word.
-    fn text_of(&mut self, word: &str) -> Vec<u8> {
         match parse_text(self.alloc, word) {
-            Ok(text) => text,
+            Ok(text) => (form, text),
             Err(stop) => {
                 self.refuse(stop);
-                Vec::new(self.alloc)
+                (form, Vec::new(self.alloc))
             }
         }
     }
 
     /// A text, or none for the word `-`; none without a word too, where none is asked for.
     pub fn optional_text(&mut self, is_asked: bool) -> Option<Vec<u8>> {
-        if is_asked && !self.takes("-") {
-            Some(self.text())
-        } else {
-            None
+        if !is_asked || self.takes("-") {
+            return None;
         }
+        let (_, text) = self.text_in(Form::Inside);
+        Some(text)
     }
 
     /// An MD5 digest in 32 hexadecimal digits; zeros where no word is left.
     pub fn md5(&mut self) -> [u8; 16] {
         let mut bytes = Vec::new(self.alloc);
         let mut digest = [0; 16];
-        if !self.rest.is_empty() {
+        if !self.is_empty() {
             match push_bytes(&mut bytes, self.word()) {
                 Ok(()) if bytes.len() == 16 => digest.copy_from_slice(bytes.as_slice()),
                 Ok(()) => self.refuse(Stop::Bad),
@@ -293,13 +279,12 @@ impl<'a> Arguments<'a> {
         digest
     }
 
-    /// A number, or 0 where no word is left.
-    pub fn optional_number(&mut self) -> u64 {
-        if self.rest.is_empty() {
-            0
-        } else {
-            self.number(u64::MAX)
+    /// A number, or none where no word is left.
+    pub fn optional_number(&mut self) -> Option<u64> {
+        if self.is_empty() {
+            return None;
         }
+        Some(self.number(u64::MAX))
     }
 
     /// Some of these letters alone, or `-` for none.

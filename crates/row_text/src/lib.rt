@@ -5,7 +5,6 @@
 
 mod arguments;
 mod comparison;
-mod digest;
 mod lines;
 mod parts;
 mod repeat;
@@ -15,11 +14,8 @@ mod words;
 
 pub use arguments::{Arguments, Form, Target};
 pub use comparison::is_expected;
-pub use digest::digest_of;
 pub use lines::{Lines, Piece};
 pub use repeat::repeat_lines;
-pub use row_file::{
-    CONVERSION_WORDS, Fault, Input, RowCommand, TestRow, parse_rows, words_before_parts,
-};
+pub use row_file::{CONVERSION_WORDS, Input, RowCommand, TestRow, parse_rows, words_before_parts};
 pub use stop::{Attempts, Stop};
 pub use words::parse_number;

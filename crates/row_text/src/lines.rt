@@ -2,9 +2,9 @@
 
 use gimli_core::Error;
 use gimli_line::LineRow;
-use line_text::{BytesLine, Digits, RowLine, Text, print_bytes};
+use line_text::{BytesLine, Digits, RowLine, Text, Words};
 use std::alloc::{AllocError, Global};
-use std::fmt::Display;
+use std::fmt::{Debug, Display};
 use std::io::Write;
 
 /// A piece of a line.
@@ -12,8 +12,8 @@ use std::io::Write;
 pub enum Piece<'a> {
     /// Letters.
     Word(&'a str),
-    /// Letters, where something holds.
-    If(bool, &'static str),
+    /// The letters of each that holds, or others for none.
+    Flags(&'a [(bool, &'static str)], &'static str),
     /// A number in decimal digits.
     Number(u64),
     /// One that may be below zero.
@@ -28,6 +28,8 @@ pub enum Piece<'a> {
     Bytes(&'a [u8]),
     /// A text as a script has it.
     Text(&'a [u8]),
+    /// What the line of a row says.
+    Row(LineRow),
 }
 
 /// Lines, as bytes. Where memory is refused to one, no later one is printed.
@@ -46,51 +48,41 @@ impl Lines {
         }
     }
 
-    /// Prints a part of a line.
-    pub fn add(&mut self, pieces: &[Piece<'_>]) {
+    /// Prints a text, with a piece in the place of each `%`.
+    pub fn print(&mut self, text: &str, pieces: &[Piece<'_>]) {
+        let mut words = text.split('%');
+        self.write(words.next().unwrap_or("").as_bytes());
         for piece in pieces {
-            if !self.is_refused {
-                let out = &mut self.bytes;
-                let done = match *piece {
-                    Piece::Word(word) | Piece::If(true, word) => out.write_all(word.as_bytes()),
-                    Piece::If(false, _) => Ok(()),
-                    Piece::Number(number) => write!(out, "{number}"),
-                    Piece::Signed(number) => write!(out, "{number}"),
-                    Piece::Hex(number) => write!(out, "{number:x}"),
-                    Piece::Address(address) => write!(out, "{address:016x}"),
-                    Piece::Digits(bytes) => {
-                        let digits = Digits(bytes);
-                        write!(out, "{digits}")
-                    }
-                    Piece::Bytes(bytes) => {
-                        let line = BytesLine(bytes);
-                        write!(out, "{line}")
-                    }
-                    Piece::Text(text) => {
-                        let text = Text(text);
-                        write!(out, "{text}")
-                    }
-                };
-                self.is_refused = done.is_err();
-            }
+            self.add(*piece);
+            self.write(words.next().unwrap_or("").as_bytes());
         }
     }
 
-    /// Prints a line.
-    pub fn put(&mut self, pieces: &[Piece<'_>]) {
-        self.add(pieces);
-        self.add(&[Piece::Word("\n")]);
+    /// Prints a piece.
+    fn add(&mut self, piece: Piece<'_>) {
+        if self.is_refused {
+            return;
+        }
+        let out = &mut self.bytes;
+        let done = match piece {
+            Piece::Word(word) => out.write_all(word.as_bytes()),
+            Piece::Number(number) => write!(out, "{number}"),
+            Piece::Signed(number) => write!(out, "{number}"),
+            Piece::Hex(number) => write!(out, "{number:x}"),
+            Piece::Address(address) => write!(out, "{address:016x}"),
+            Piece::Flags(flags, none) => put(out, Words(flags, none)),
+            Piece::Digits(bytes) => put(out, Digits(bytes)),
+            Piece::Bytes(bytes) => put(out, BytesLine(bytes)),
+            Piece::Text(text) => put(out, Text(text)),
+            Piece::Row(row) => put(out, RowLine(row)),
+        };
+        self.is_refused = done.is_err();
     }
 
-    /// Prints the line of a row.
-    pub fn put_row(&mut self, row: LineRow) {
-        self.put_value("", RowLine(row));
-    }
-
-    /// Prints the line of a value, after a word.
-    pub fn put_value(&mut self, word: &str, value: impl Display + Drop) {
+    /// Prints the line of an error after a word: its variant.
+    pub fn put_error<E: Debug + Copy>(&mut self, word: &str, error: E) {
         if !self.is_refused {
-            self.is_refused = writeln!(self.bytes, "{word}{value}").is_err();
+            self.is_refused = writeln!(self.bytes, "{word}{error:?}").is_err();
         }
     }
 
@@ -98,32 +90,12 @@ impl Lines {
     /// version, a size or a form.
     pub fn put_refusal(&mut self, word: &str, error: Error) {
         match error {
-            Error::UnexpectedEof(_) => self.put(&[Piece::Word(word), Piece::Word("UnexpectedEof")]),
+            Error::UnexpectedEof(_) => self.print("%UnexpectedEof\n", &[Piece::Word(word)]),
             Error::UnknownForm(form) => {
                 let form = Piece::Number(u64::from(form.0));
-                self.put(&[
-                    Piece::Word(word),
-                    Piece::Word("UnknownForm("),
-                    form,
-                    Piece::Word(")"),
-                ]);
+                self.print("%UnknownForm(%)\n", &[Piece::Word(word), form]);
             }
-            error => self.put_value(word, format_args!("{error:?}")),
-        }
-    }
-
-    /// Prints bytes, sixteen a line.
-    pub fn put_bytes(&mut self, bytes: &[u8]) {
-        if !self.is_refused {
-            self.is_refused = print_bytes(bytes, &mut self.bytes).is_err();
-        }
-    }
-
-    /// Prints the lines of a text, each after a word.
-    pub fn put_each(&mut self, word: &str, text: &[u8]) {
-        for line in text.split_inclusive(|byte| *byte == b'\n') {
-            self.add(&[Piece::Word(word)]);
-            self.write(line);
+            error => self.put_error(word, error),
         }
     }
 
@@ -157,4 +129,9 @@ impl Lines {
             Ok(self.bytes)
         }
     }
+}
+
+/// Prints a value.
+fn put<D: Display + Drop>(out: &mut Vec<u8>, value: D) -> std::io::Result<()> {
+    write!(out, "{value}")
 }

@@ -17,59 +17,64 @@ struct Part<'t> {
 
 /// The parts that were defined so far.
 #[derive(Drop)]
-pub struct Parts<'t>(Vec<Part<'t>>);
+pub struct Parts<'t> {
+    alloc: Global,
+    parts: Vec<Part<'t>>,
+}
 
 impl<'t> Parts<'t> {
     /// No part.
     pub fn new(alloc: Global) -> Parts<'t> {
-        Parts(Vec::new(alloc))
+        Parts {
+            alloc,
+            parts: Vec::new(alloc),
+        }
     }
 
     /// Defines a part by its name and its bytes. Refused where the part before isn't ended.
-    pub fn define(&mut self, alloc: Global, line: &'t str) -> Result<(), Stop> {
+    pub fn define(&mut self, line: &'t str) -> Result<(), Stop> {
         self.finish()?;
         let (name, text) = line.split_once(char::is_whitespace).unwrap_or((line, ""));
-        let little = Expansion::new(alloc, RunTimeEndian::Little);
-        let big = Expansion::new(alloc, RunTimeEndian::Big);
-        self.put_part(alloc, Part { name, little, big }, text)
+        let little = Expansion::new(self.alloc, RunTimeEndian::Little);
+        let big = Expansion::new(self.alloc, RunTimeEndian::Big);
+        self.put_part(Part { name, little, big }, text)
     }
 
     /// Adds bytes to the last part.
-    pub fn extend_last(&mut self, alloc: Global, text: &str) -> Result<(), Stop> {
-        match self.0.pop() {
-            Some(part) => self.put_part(alloc, part, text),
+    pub fn extend_last(&mut self, text: &str) -> Result<(), Stop> {
+        match self.parts.pop() {
+            Some(part) => self.put_part(part, text),
             None => Err(Stop::Bad),
         }
     }
 
     /// Appends bytes to a part, and makes it the last one. The bytes may name the parts before it.
-    fn put_part(&mut self, alloc: Global, part: Part<'t>, text: &str) -> Result<(), Stop> {
-        let mut part = part;
-        part.little.put_text(alloc, self, text)?;
-        part.big.put_text(alloc, self, text)?;
-        self.0.push(part)?;
+    fn put_part(&mut self, mut part: Part<'t>, text: &str) -> Result<(), Stop> {
+        part.little.put_text(self, text)?;
+        part.big.put_text(self, text)?;
+        self.parts.push(part)?;
         Ok(())
     }
 
     /// Refused where the last part has a unit that isn't ended.
     pub fn finish(&self) -> Result<(), Stop> {
-        match self.0.last() {
+        match self.parts.last() {
             Some(part) => part.little.finish(),
             None => Ok(()),
         }
     }
 
     /// The bytes that a text says.
-    pub fn expand(&self, alloc: Global, text: &str, order: RunTimeEndian) -> Result<Vec<u8>, Stop> {
-        let mut expansion = Expansion::new(alloc, order);
-        expansion.put_text(alloc, self, text)?;
+    pub fn expand(&self, text: &str, order: RunTimeEndian) -> Result<Vec<u8>, Stop> {
+        let mut expansion = Expansion::new(self.alloc, order);
+        expansion.put_text(self, text)?;
         expansion.finish()?;
         Ok(expansion.bytes)
     }
 
     /// The bytes of the part that was defined last under a name.
     fn bytes_of(&self, name: &str, order: RunTimeEndian) -> Result<&[u8], Stop> {
-        match self.0.iter().rev().find(|part| part.name == name) {
+        match self.parts.iter().rev().find(|part| part.name == name) {
             Some(part) if order == RunTimeEndian::Little => Ok(part.little.bytes.as_slice()),
             Some(part) => Ok(part.big.bytes.as_slice()),
             None => Err(Stop::Bad),
@@ -106,44 +111,33 @@ impl Expansion {
     }
 
     /// Adds what the words of a text say.
-    fn put_text(&mut self, alloc: Global, parts: &Parts<'_>, text: &str) -> Result<(), Stop> {
+    fn put_text(&mut self, parts: &Parts<'_>, text: &str) -> Result<(), Stop> {
         for word in text.split_whitespace() {
-            self.put_word(alloc, parts, word)?;
+            self.put_word(parts, word)?;
         }
         Ok(())
     }
 
-    /// Adds what a word says.
-    fn put_word(&mut self, alloc: Global, parts: &Parts<'_>, word: &str) -> Result<(), Stop> {
+    /// Adds what a word says: bytes or those of a part, in brackets those of a unit.
+    fn put_word(&mut self, parts: &Parts<'_>, word: &str) -> Result<(), Stop> {
         for piece in word.split_inclusive(['(', ')']) {
-            match piece.strip_suffix(')') {
-                Some(inner) => {
-                    self.put_bytes(parts, inner)?;
-                    self.close_unit()?;
-                }
-                None if piece == "unit(" => self.open_unit(alloc)?,
-                None => self.put_bytes(parts, piece)?,
+            if piece == "unit(" {
+                self.finish()?;
+                self.before_unit = Some(mem::replace(&mut self.bytes, Vec::new(parts.alloc)));
+                continue;
+            }
+            let inner = piece.strip_suffix(')');
+            let bytes = inner.unwrap_or(piece);
+            match bytes.strip_prefix('@') {
+                Some(name) => self
+                    .bytes
+                    .extend_from_slice(parts.bytes_of(name, self.order)?)?,
+                None => push_bytes(&mut self.bytes, bytes)?,
+            }
+            if inner.is_some() {
+                self.close_unit()?;
             }
         }
-        Ok(())
-    }
-
-    /// Adds bytes, or those of a part.
-    fn put_bytes(&mut self, parts: &Parts<'_>, piece: &str) -> Result<(), Stop> {
-        match piece.strip_prefix('@') {
-            Some(name) => {
-                self.bytes
-                    .extend_from_slice(parts.bytes_of(name, self.order)?)?;
-                Ok(())
-            }
-            None => push_bytes(&mut self.bytes, piece),
-        }
-    }
-
-    /// Begins a unit. Refused within another.
-    fn open_unit(&mut self, alloc: Global) -> Result<(), Stop> {
-        self.finish()?;
-        self.before_unit = Some(mem::replace(&mut self.bytes, Vec::new(alloc)));
         Ok(())
     }
 

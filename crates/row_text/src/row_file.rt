@@ -39,117 +39,45 @@ pub enum Input {
     Section(Vec<u8>, Vec<Vec<u8>>),
 }
 
-/// Why a file of rows can't be read.
-#[derive(Clone, Copy, PartialEq, Eq)]
-pub enum Fault {
-    /// Memory was refused.
-    Memory,
-    /// This line isn't what must stand there; lines count from 1.
-    Line(usize),
-}
-
-/// The rows of a file.
-pub fn parse_rows<'t>(alloc: Global, text: &'t str) -> Result<Vec<TestRow<'t>>, Fault> {
+/// The rows of a file. Refused at the first line that isn't what must stand there; lines count from
+/// 1.
+pub fn parse_rows<'t>(alloc: Global, text: &'t str) -> Result<Vec<TestRow<'t>>, (usize, Stop)> {
     let mut file = RowsReader {
         alloc,
         rows: Vec::new(alloc),
         parts: Parts::new(alloc),
-        draft: None,
+        text: String::new(alloc),
+        place: Place::Head,
     };
     let mut count = 0usize;
     for line in text.lines() {
         count = count.saturating_add(1);
-        fault_at(count, file.take_line(line))?;
+        file.take_line(line).map_err(|stop| (count, stop))?;
     }
-    fault_at(count, file.end_row())?;
-    fault_at(count, file.parts.finish())?;
+    file.end_row().map_err(|stop| (count, stop))?;
     Ok(file.rows)
 }
 
-/// The fault of a line that is refused.
-fn fault_at(line: usize, taken: Result<(), Stop>) -> Result<(), Fault> {
-    match taken {
-        Ok(()) => Ok(()),
-        Err(Stop::Memory) => Err(Fault::Memory),
-        Err(_) => Err(Fault::Line(line)),
-    }
+/// What stands at the next line.
+#[derive(Clone, Copy)]
+enum Place {
+    /// A command, or what comes before it.
+    Head,
+    /// The input of a row, or a further command as long as there is none.
+    Input,
+    /// The output of a row.
+    Output,
 }
 
-/// A row as far as it was read.
-#[derive(Drop)]
-struct Draft<'t> {
-    /// The row, with its commands once the input has ended.
-    row: TestRow<'t>,
-    /// The words of each command.
-    words: Vec<&'t str>,
-    /// The lines of the input.
-    text: String,
-}
-
-impl<'t> Draft<'t> {
-    /// A row of this name, without a command.
-    fn new(alloc: Global, name: &'t str) -> Draft<'t> {
-        Draft {
-            row: TestRow {
-                name,
-                commands: Vec::new(alloc),
-                expected: Vec::new(alloc),
-                must_differ: false,
-            },
-            words: Vec::new(alloc),
-            text: String::new(alloc),
-        }
-    }
-
-    /// Takes a line after a command: a further command, as long as no input stands there, a line of
-    /// the input, or the one that ends it.
-    fn take_input(&mut self, alloc: Global, parts: &Parts<'_>, line: &'t str) -> Result<(), Stop> {
-        match (line.strip_prefix("> "), line) {
-            (_, "<") => self.end_input(alloc, parts),
-            (_, "!!") => {
-                self.row.must_differ = true;
-                self.end_input(alloc, parts)
-            }
-            (Some(words), _) if self.text.is_empty() => {
-                self.words.push(words.trim())?;
-                Ok(())
-            }
-            _ => push_line(&mut self.text, line),
-        }
-    }
-
-    /// Takes a line of the output, or one that stands for the lines of bytes.
-    fn take_output(&mut self, alloc: Global, parts: &Parts<'_>, line: &str) -> Result<(), Stop> {
-        let Some(text) = line.strip_prefix(":: ") else {
-            self.row.expected.extend_from_slice(line.as_bytes())?;
-            self.row.expected.push(b'\n')?;
-            return Ok(());
-        };
-        let words = self.words.first().copied().unwrap_or("");
-        let bytes = parts.expand(alloc, text, order_of(words))?;
-        match print_bytes(&bytes, &mut self.row.expected) {
-            Ok(()) => Ok(()),
-            Err(_) => Err(Stop::Memory),
-        }
-    }
-
-    /// Ends the input, and makes of it what each command is given.
-    fn end_input(&mut self, alloc: Global, parts: &Parts<'_>) -> Result<(), Stop> {
-        for words in &self.words {
-            let input = input_of(alloc, parts, words, self.text.as_str())?;
-            self.row.commands.push(RowCommand { words, input })?;
-        }
-        Ok(())
-    }
-}
-
-/// A file of rows as far as it was read.
+/// A file of rows as far as it was read. The input of a command is known once it has ended.
 #[derive(Drop)]
 struct RowsReader<'t> {
     alloc: Global,
     rows: Vec<TestRow<'t>>,
     parts: Parts<'t>,
-    draft: Option<Draft<'t>>,
+    /// The lines of the last row's input.
+    text: String,
+    place: Place,
 }
 
 impl<'t> RowsReader<'t> {
@@ -160,90 +88,125 @@ impl<'t> RowsReader<'t> {
             self.end_row()?;
             return self.begin_row(name.trim());
         }
-        match (&mut self.draft, line.strip_prefix(":= ")) {
-            (Some(draft), None) if !draft.row.commands.is_empty() => {
-                draft.take_output(self.alloc, &self.parts, line)
-            }
-            (Some(draft), Some(_)) if !draft.row.commands.is_empty() => Err(Stop::Bad),
-            (_, Some(part)) => self.parts.define(self.alloc, part.trim()),
-            (Some(draft), None) if !draft.words.is_empty() => {
-                draft.take_input(self.alloc, &self.parts, line.trim_end())
-            }
-            _ => self.take_head(line.trim()),
+        match (self.place, line.strip_prefix(":= ")) {
+            (Place::Output, Some(_)) => Err(Stop::Bad),
+            (Place::Output, None) => self.take_output(line),
+            (_, Some(part)) => self.parts.define(part.trim()),
+            (Place::Input, None) => self.take_input(line.trim_end()),
+            (Place::Head, None) => self.take_head(line.trim()),
         }
     }
 
-    /// Begins a row. Refused where another has its name, and where the part before isn't ended.
+    /// Begins a row. Refused where another has its name.
     fn begin_row(&mut self, name: &'t str) -> Result<(), Stop> {
         if name.is_empty() || self.rows.iter().any(|row| row.name == name) {
             return Err(Stop::Bad);
         }
-        self.draft = Some(Draft::new(self.alloc, name));
-        self.parts.finish()
+        self.text.clear();
+        self.place = Place::Head;
+        self.rows.push(TestRow {
+            name,
+            commands: Vec::new(self.alloc),
+            expected: Vec::new(self.alloc),
+            must_differ: false,
+        })?;
+        Ok(())
     }
 
     /// Takes a line before a command: the command of a row, where a row comes from, or more bytes
     /// of a part.
     fn take_head(&mut self, line: &'t str) -> Result<(), Stop> {
-        match (line.strip_prefix('>'), &mut self.draft) {
-            (Some(words), Some(draft)) => {
-                draft.words.push(words.trim())?;
-                self.parts.finish()
+        match line.strip_prefix('>') {
+            Some(words) => {
+                self.parts.finish()?;
+                self.push_command(words)
             }
-            _ if line.is_empty() || line.starts_with("--") => Ok(()),
-            _ => self.parts.extend_last(self.alloc, line),
+            None if line.is_empty() || line.starts_with("--") => Ok(()),
+            None => self.parts.extend_last(line),
         }
     }
 
-    /// Ends the row, if there is one. Refused where it has no command, or no output.
-    fn end_row(&mut self) -> Result<(), Stop> {
-        match self.draft.take() {
-            Some(draft) if draft.row.commands.is_empty() => Err(Stop::Bad),
-            Some(draft) => {
-                self.rows.push(draft.row)?;
+    /// Adds a command to the last row. Refused where there is none.
+    fn push_command(&mut self, words: &'t str) -> Result<(), Stop> {
+        self.place = Place::Input;
+        let row = self.rows.last_mut().ok_or(Stop::Bad)?;
+        row.commands.push(RowCommand {
+            words: words.trim(),
+            input: Input::Section(Vec::new(self.alloc), Vec::new(self.alloc)),
+        })?;
+        Ok(())
+    }
+
+    /// Takes a line after a command: a further command, as long as no input stands there, a line of
+    /// the input, or the one that ends it.
+    fn take_input(&mut self, line: &'t str) -> Result<(), Stop> {
+        match (line.strip_prefix("> "), line) {
+            (_, "<") => return self.end_input(false),
+            (_, "!!") => return self.end_input(true),
+            (Some(words), _) if self.text.is_empty() => return self.push_command(words),
+            _ => {}
+        }
+        self.text.push_str(line)?;
+        self.text.push('\n')?;
+        Ok(())
+    }
+
+    /// Ends the input, and makes of it what each command is given.
+    fn end_input(&mut self, must_differ: bool) -> Result<(), Stop> {
+        self.place = Place::Output;
+        let row = self.rows.last_mut().ok_or(Stop::Bad)?;
+        row.must_differ = must_differ;
+        for command in &mut row.commands {
+            command.input = input_of(self.alloc, &self.parts, command.words, self.text.as_str())?;
+        }
+        Ok(())
+    }
+
+    /// Takes a line of the output, or one that stands for the lines of bytes.
+    fn take_output(&mut self, line: &str) -> Result<(), Stop> {
+        let row = self.rows.last_mut().ok_or(Stop::Bad)?;
+        match (line.strip_prefix(":: "), row.commands.as_slice()) {
+            (Some(text), [command, ..]) => {
+                let bytes = self.parts.expand(text, order_of(command.words))?;
+                print_bytes(&bytes, &mut row.expected)
+                    .ok()
+                    .ok_or(Stop::Memory)
+            }
+            _ => {
+                row.expected.extend_from_slice(line.as_bytes())?;
+                row.expected.push(b'\n')?;
                 Ok(())
             }
-            None => Ok(()),
+        }
+    }
+
+    /// Ends the row, if there is one. Refused where it has no output, and where a part isn't ended.
+    fn end_row(&mut self) -> Result<(), Stop> {
+        match self.place {
+            Place::Output => self.parts.finish(),
+            _ if self.rows.is_empty() => self.parts.finish(),
+            _ => Err(Stop::Bad),
         }
     }
 }
 
-/// What a command with these words is given: the text as a script, or the bytes that it says.
+/// What a command with these words is given: the text as a script, or the bytes that it says, and
+/// those of the parts that a command with texts names after its other words.
 fn input_of(alloc: Global, parts: &Parts<'_>, words: &str, text: &str) -> Result<Input, Stop> {
-    if takes_script(words) {
+    let name = words.split_whitespace().next().unwrap_or("");
+    if name == "write" {
         return Ok(Input::Script(String::from_str(alloc, text)?));
     }
     let order = order_of(words);
-    let section = parts.expand(alloc, text, order)?;
-    Ok(Input::Section(section, named_parts(alloc, parts, words, order)?))
-}
-
-/// The bytes of the parts that a command with texts names after its other words. Another command
-/// names none.
-fn named_parts(
-    alloc: Global,
-    parts: &Parts<'_>,
-    words: &str,
-    order: RunTimeEndian,
-) -> Result<Vec<Vec<u8>>, Stop> {
+    let section = parts.expand(text, order)?;
     let mut named = Vec::new(alloc);
-    let name = words.split_whitespace().next().unwrap_or("");
-    let Some(others) = words_before_parts(name) else {
-        return Ok(named);
-    };
+    let others = words_before_parts(name).unwrap_or(usize::MAX);
     for word in words.split_whitespace().skip(others) {
         if word.starts_with('@') {
-            named.push(parts.expand(alloc, word, order)?)?;
+            named.push(parts.expand(word, order)?)?;
         }
     }
-    Ok(named)
-}
-
-/// Adds a line to a text.
-fn push_line(text: &mut String, line: &str) -> Result<(), Stop> {
-    text.push_str(line)?;
-    text.push('\n')?;
-    Ok(())
+    Ok(Input::Section(section, named))
 }
 
 /// How many words of a command with texts stand before the parts that hold them, itself among
@@ -254,11 +217,6 @@ pub fn words_before_parts(name: &str) -> Option<usize> {
         "paths" | "addresses" => Some(6),
         _ => None,
     }
-}
-
-/// Whether the command with these words takes a script.
-fn takes_script(words: &str) -> bool {
-    words.split_whitespace().next() == Some("write")
 }
 
 /// The order of bytes that the word after a command names; little if none.

@@ -1,12 +1,33 @@
-//! A section in an array.
+//! Sections whose bytes can be had, and a section in an array.
 
 ghost use Rattle.std.specs.Prelude.{◌≤◌, length, take, false};
 ghost use Rattle.gimli_core.specs.Order.{is_big};
 
-use crate::section::Section;
 use gimli_core::{RunTimeEndian, SectionId};
-use gimli_write::{Address, Error, Result, Sink, Writer};
-use std::alloc::{AllocError, Global};
+use gimli_write::{Address, EndianVec, Error, PieceVec, Result, Sink, Writer};
+use std::alloc::Global;
+
+/// A section whose bytes can be had.
+pub(crate) trait Section: Writer + Drop {
+    /// A copy of the bytes.
+    fn to_bytes(&self, alloc: Global) -> Result<Vec<u8>>;
+}
+
+impl Section for EndianVec<RunTimeEndian> {
+    fn to_bytes(&self, alloc: Global) -> Result<Vec<u8>> {
+        Ok(Vec::from_slice(alloc, self.slice())?)
+    }
+}
+
+impl<const N: usize> Section for PieceVec<RunTimeEndian, N> {
+    fn to_bytes(&self, alloc: Global) -> Result<Vec<u8>> {
+        let mut bytes = Vec::new(alloc);
+        for piece in self.pieces() {
+            bytes.extend_from_slice(piece)?;
+        }
+        Ok(bytes)
+    }
+}
 
 /// A section in an array, which takes no memory: what passes its end is `LengthOutOfBounds`. That
 /// it keeps the bytes given to it isn't claimed.
@@ -20,11 +41,7 @@ pub(crate) struct ArraySection {
 
 impl ArraySection {
     /// An empty section in an array of so many bytes.
-    pub fn new(
-        alloc: Global,
-        count: usize,
-        endian: RunTimeEndian,
-    ) -> std::result::Result<ArraySection, AllocError> {
+    pub fn new(alloc: Global, count: usize, endian: RunTimeEndian) -> Result<ArraySection> {
         Ok(ArraySection {
             bytes: vec![in alloc; 0; count]?,
             len: 0,
@@ -34,8 +51,8 @@ impl ArraySection {
 }
 
 impl Section for ArraySection {
-    fn to_bytes(&self, alloc: Global) -> std::result::Result<Vec<u8>, AllocError> {
-        Vec::from_slice(alloc, &self.bytes[..self.len])
+    fn to_bytes(&self, alloc: Global) -> Result<Vec<u8>> {
+        Ok(Vec::from_slice(alloc, &self.bytes[..self.len])?)
     }
 }
 

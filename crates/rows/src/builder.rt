@@ -1,108 +1,48 @@
-//! A builder: a program, its tables, and the calls of a script. Conditions are tested before each
-//! call of the library.
+//! The calls of a script that build a program. Conditions are tested before each call of the
+//! library.
 
-ghost use Rattle.std.specs.Prelude.{◌≡◌, ◌<◌, ◌≤◌, length, false, IsTrue, IfOk, IfSome};
+ghost use Rattle.std.specs.Prelude.{◌≡◌, ◌≢◌, ◌<◌, ◌≤◌, length, false, All, IsTrue, IfOk, IfSome};
 ghost use Rattle.gimli_write.specs.LineText.{line_text, HasNoZero, IsNotEmpty};
-ghost use Rattle.rows.specs.Within.{AreWithin, AreIds, texts_of};
 
-use crate::tables::{TableBytes, Tables};
-use crate::texts::{are_no_zeros, has_no_zero, is_name, is_not_empty, is_optional_name, is_within};
-use crate::unit::{read_program, write_program};
-use gimli_core::{Encoding, LineEncoding, RunTimeEndian};
-use gimli_write::{
-    Address, ConvertResult, DebugLine, DirectoryId, Error, FileId, FileInfo, LineProgram,
-    LineString, RoundTrip, Writer,
-};
-use row_text::{Arguments, Attempts, Form, Stop, digest_of};
+use crate::script::Script;
+use gimli_core::Encoding;
+use gimli_write::{Address, DirectoryId, FileId, FileInfo, LineProgram, LineString};
+use row_text::{Arguments, Attempts, Form, Stop};
 use std::alloc::Global;
-use std::marker::Model;
+use std::fmt;
+use std::fmt::Write;
 
 /// The greatest number of a file.
 const LAST_FILE: u64 = 999;
 
-/// A program that is built, and the tables that it is built with.
+/// A digest of what was written to it, by which what stands before a call and after it is compared
+/// without memory.
 #[derive(Drop)]
-pub(crate) struct Builder {
-    pub alloc: Global,
-    pub attempts: Attempts,
-    program: LineProgram,
-    tables: Tables,
-    /// The directory that each call added, after the working directory.
-    directories: Vec<DirectoryId>,
-    /// The digest of all before the last call of the library.
-    before: u64,
-}
+struct Digest(u64);
 
-impl Model for Builder {
-    ghost use Rattle.std.specs.Prelude.{ℕ};
-    ghost use Rattle.rows.specs.Within.{Stands, texts_of};
-
-    ghost Value = { ℕ };
-
-    ghost view = { λ b. b.before };
-
-    ghost invariant = { λ b. Stands b.program.directories b.directories.items (texts_of b.tables) };
-}
-
-/// The names of a new program.
-#[derive(Drop)]
-struct Names {
-    working_dir: LineString,
-    source_dir: Option<LineString>,
-    source_file: LineString,
-    info: Option<FileInfo>,
-}
-
-/// A call that builds an item.
-#[derive(Clone, Copy)]
-enum Item {
-    /// None: what is written of files is set.
-    Flags,
-    /// Begins a sequence.
-    Begin(Option<Address>),
-    /// Sets an address.
-    Set(Address),
-    /// Generates the current row.
-    Row,
-    /// Ends a sequence.
-    End(u64),
-}
-
-impl Builder {
-    /// A builder of a program. Requires directories that are in these tables.
-    pub fn new(alloc: Global, attempts: Attempts, program: LineProgram, tables: Tables) -> Builder
-        requires { AreWithin program.directories (texts_of tables) }
-    {
-        Builder {
-            alloc,
-            attempts,
-            program,
-            tables,
-            directories: Vec::new(alloc),
-            before: 0,
+impl fmt::Write for Digest {
+    fn write_str(&mut self, text: &str) -> fmt::Result {
+        for byte in text.as_bytes() {
+            self.0 = (self.0 ^ u64::from(*byte)).wrapping_mul(0x100_0000_01b3);
         }
+        Ok(())
     }
+}
 
-    /// A builder without a program.
-    pub fn empty(alloc: Global, attempts: Attempts) -> Builder {
-        let program = LineProgram::none(alloc);
-        Builder::new(alloc, attempts, program, Tables::new(alloc))
-    }
-
-    /// The encoding of the program.
-    pub fn encoding(&self) -> Encoding {
-        self.program.encoding()
-    }
-
+impl Script {
     /// A number that is the same for the same program and tables.
     fn digest(&self) -> u64 {
         let program = &self.program;
-        let tables = &self.tables;
-        digest_of(format_args!("{program:?} {tables:?}"))
+        let strings = &self.tables.strings;
+        let line_strings = &self.tables.line_strings;
+        let mut digest = Digest(0xcbf2_9ce4_8422_2325);
+        // A digest takes every text.
+        let _ = write!(digest, "{program:?} {strings:?} {line_strings:?}");
+        digest.0
     }
 
     /// Keeps what stands before a call of the library.
-    fn keep(&mut self) {
+    fn keep_before(&mut self) {
         if self.attempts == Attempts::Two {
             self.before = self.digest();
         }
@@ -113,20 +53,16 @@ impl Builder {
         self.digest() == self.before
     }
 
-    /// Makes a call of a script. Returns why it isn't made.
-    pub fn perform(&mut self, name: &str, words: Arguments<'_>) -> Option<Stop> {
-        let mut words = words;
-        self.keep();
+    /// Makes a call. Returns why it isn't made.
+    pub fn perform(&mut self, name: &str, mut words: Arguments<'_>) -> Option<Stop> {
+        let encoding = self.program.encoding();
+        self.keep_before();
         match name {
-            "line_str" => {
-                let _text = self.text(Form::LineStrings, self.encoding(), &mut words);
-            }
-            "str" => {
-                let _text = self.text(Form::Strings, self.encoding(), &mut words);
-            }
+            "line_str" => drop(self.text(Form::LineStrings, encoding, &mut words)),
+            "str" => drop(self.text(Form::Strings, encoding, &mut words)),
             "program" => self.begin_program(&mut words),
-            "dir" => self.add_directory(&mut words),
-            "file" => return self.add_file(words),
+            "dir" => self.add_directory(encoding, &mut words),
+            "file" => self.add_file(encoding, &mut words),
             name => self.build_item(name, &mut words),
         }
         words.end()
@@ -139,25 +75,22 @@ impl Builder {
         if matches!(form, Form::Inside) || !words.is_fine() {
             return LineString::String(bytes);
         }
-        if !are_no_zeros(&bytes) {
+        if !has_no_zero(&bytes) {
             words.refuse(Stop::Condition);
             return LineString::String(bytes);
         }
         let tables = &mut self.tables;
         let made = match form {
-            Form::Strings => match tables.strings.add(&bytes) {
-                Ok(id) => Ok(LineString::StringRef(id)),
-                Err(error) => Err(error),
-            },
-            Form::LineStrings => match tables.line_strings.add(&bytes) {
-                Ok(id) => Ok(LineString::LineStringRef(id)),
-                Err(error) => Err(error),
-            },
+            Form::Strings => tables.strings.add(&bytes).map(LineString::StringRef),
+            Form::LineStrings => tables
+                .line_strings
+                .add(&bytes)
+                .map(LineString::LineStringRef),
             _ => LineString::new(&bytes, encoding, &mut tables.line_strings),
         };
         match made {
             Ok(text) => {
-                self.keep();
+                self.keep_before();
                 text
             }
             Err(error) => {
@@ -169,12 +102,9 @@ impl Builder {
 
     /// What is known of a file: its time, and if they are there its size, digest and source.
     fn info(&mut self, encoding: Encoding, words: &mut Arguments<'_>) -> Option<FileInfo> {
-        if words.is_empty() {
-            return None;
-        }
         let mut info = FileInfo {
-            timestamp: words.number(u64::MAX),
-            size: words.optional_number(),
+            timestamp: words.optional_number()?,
+            size: words.optional_number().unwrap_or(0),
             md5: words.md5(),
             source: None,
         };
@@ -187,162 +117,106 @@ impl Builder {
     /// Begins the program.
     fn begin_program(&mut self, words: &mut Arguments<'_>) {
         let encoding = words.encoding();
-        let line_encoding = words.line_encoding();
-        let working_dir = self.text(Form::Usual, encoding, words);
-        let source_file = self.text(Form::Usual, encoding, words);
-        let source_dir = if words.takes("in") {
+        let lines = words.line_encoding();
+        let directory = self.text(Form::Usual, encoding, words);
+        let file = self.text(Form::Usual, encoding, words);
+        let file_directory = if words.takes("in") {
             Some(self.text(Form::Usual, encoding, words))
         } else {
             None
         };
-        let names = Names {
-            working_dir,
-            source_dir,
-            source_file,
-            info: self.info(encoding, words),
-        };
+        let info = self.info(encoding, words);
+        if !LineProgram::accepts(encoding, lines)
+            || !directory.has_no_zero()
+            || !file.has_no_zero()
+            || !is_optional_name(&file_directory)
+        {
+            return words.refuse(Stop::Condition);
+        }
         if words.is_fine() {
-            match begin_program(self.alloc, &self.tables, encoding, line_encoding, names) {
+            let alloc = self.alloc;
+            match LineProgram::new(
+                alloc,
+                encoding,
+                lines,
+                directory,
+                file_directory,
+                file,
+                info,
+            ) {
                 Ok(program) => {
                     self.directories.clear();
                     self.program = program;
                 }
-                Err(stop) => words.refuse(stop),
+                Err(error) => words.refuse(Stop::Refused(error)),
             }
         }
     }
 
-    /// Adds a directory.
-    fn add_directory(&mut self, words: &mut Arguments<'_>) {
-        let text = self.text(Form::Usual, self.encoding(), words);
+    /// Adds a directory, and keeps its text.
+    fn add_directory(&mut self, encoding: Encoding, words: &mut Arguments<'_>) {
+        let text = self.text(Form::Usual, encoding, words);
         if words.is_fine() {
-            if let Err(stop) = self.push_directory(text) {
+            if let Err(stop) = push_directory(&mut self.program, &mut self.directories, text) {
                 words.refuse(stop);
             }
         }
     }
 
-    /// Adds a directory of this text, and keeps its id.
-    fn push_directory(&mut self, text: LineString) -> Result<(), Stop> {
-        self.directories.reserve(1)?;
-        let id = add_directory(&mut self.program, &self.tables, text)?;
-        self.directories.push_reserved(id);
-        Ok(())
-    }
-
     /// Adds a file to the directory of a number.
-    fn add_file(&mut self, words: Arguments<'_>) -> Option<Stop> {
-        let mut words = words;
-        let encoding = self.encoding();
-        let text = self.text(Form::Usual, encoding, &mut words);
+    fn add_file(&mut self, encoding: Encoding, words: &mut Arguments<'_>) {
+        let text = self.text(Form::Usual, encoding, words);
         let number = words.number(u64::MAX);
-        let info = self.info(encoding, &mut words);
-        let can = can_be_added(&self.program, &text);
-        match directory_id(&self.program, &self.directories, number) {
-            Some(directory) if words.may_call(can) => {
-                if let Err(error) = self.program.add_file(text, directory, info) {
-                    words.refuse(Stop::Refused(error));
-                }
+        let info = self.info(encoding, words);
+        if words.may_call(true) {
+            if let Err(stop) = push_file(&mut self.program, &self.directories, text, number, info) {
+                words.refuse(stop);
             }
-            Some(_) => {}
-            None => words.refuse(Stop::Condition),
         }
-        words.end()
     }
 
     /// Builds the item of a call, or sets what is written of files.
     fn build_item(&mut self, name: &str, words: &mut Arguments<'_>) {
-        let item = take_item(self.alloc, &mut self.program, name, words);
-        self.keep();
+        let program = &mut self.program;
+        let mut address = None;
+        let mut offset = 0;
+        match name {
+            "flags" => set_flags(program, words),
+            "begin" => address = words.optional_number().map(Address::Constant),
+            "set" => address = Some(words.address()),
+            "row" => set_row(self.alloc, program, words),
+            "end" => {
+                offset = words.number(u64::MAX);
+                if let Some(op_index) = words.optional_number() {
+                    program.row().op_index = op_index;
+                }
+            }
+            _ => words.refuse(Stop::Bad),
+        }
+        self.keep_before();
         if words.may_call(!self.program.is_none()) {
-            build(&mut self.program, item, words);
-        }
-    }
-
-    /// Writes the program. Returns why it isn't written.
-    pub fn write<W: Writer>(
-        &mut self,
-        section: &mut DebugLine<W>,
-        encoding: Encoding,
-    ) -> Option<Stop> {
-        match write_program(&self.program, &mut self.tables, section, encoding) {
-            Some(Ok(_)) => None,
-            Some(Err(error)) => Some(Stop::Refused(error)),
-            None => Some(Stop::Condition),
-        }
-    }
-
-    /// What is read back; None where the program can't be written.
-    pub fn read_back(
-        &mut self,
-        order: RunTimeEndian,
-        encoding: Encoding,
-    ) -> Option<ConvertResult<RoundTrip>> {
-        read_program(self.alloc, &self.program, &mut self.tables, order, encoding)
-    }
-
-    /// The bytes of the tables; by a second call, where memory is refused to the first and attempts
-    /// are two.
-    pub fn table_bytes(&self) -> Result<TableBytes, Error> {
-        match self.tables.bytes(self.alloc) {
-            Err(_) if self.attempts == Attempts::Two => self.tables.bytes(self.alloc),
-            bytes => bytes,
+            if let Err(stop) = build(&mut self.program, name, address, offset) {
+                words.refuse(stop);
+            }
         }
     }
 }
 
-/// Begins a program.
-fn begin_program(
-    alloc: Global,
-    tables: &Tables,
-    encoding: Encoding,
-    line_encoding: LineEncoding,
-    names: Names,
-) -> Result<LineProgram, Stop>
-    ensures within { IfOk result (λ program.
-        AreWithin program.directories (texts_of tables.now)) }
+/// Whether bytes have no zero byte.
+fn has_no_zero(bytes: &[u8]) -> bool
+    ensures { IsTrue result → All (λ b. b ≢ 0) bytes.now }
 {
-    let Names {
-        working_dir,
-        source_dir,
-        source_file,
-        info,
-    } = names;
-    if !LineProgram::accepts(encoding, line_encoding)
-        || !is_name(&working_dir, tables)
-        || !is_optional_name(&source_dir, tables)
-        || !is_name(&source_file, tables)
-    {
-        return Err(Stop::Condition);
-    }
-    let program = LineProgram::new(
-        alloc,
-        encoding,
-        line_encoding,
-        working_dir,
-        source_dir,
-        source_file,
-        info,
-    )?;
-    Ok(program)
+    bytes.iter().all(|byte| *byte != 0)
 }
 
-/// Adds a directory.
-fn add_directory(
-    program: &mut LineProgram,
-    tables: &Tables,
-    directory: LineString,
-) -> Result<DirectoryId, Stop>
-    requires { AreWithin program.old.directories (texts_of tables.now) }
-    ensures within { AreWithin program.new.directories (texts_of tables.now) }
-    ensures grows { length program.old.directories ≤ length program.new.directories }
-    ensures id { IfOk result (λ id. id < length program.new.directories) }
+/// Whether a text that may be absent has no zero byte.
+fn is_optional_name(text: &Option<LineString>) -> bool
+    ensures { IsTrue result → IfSome text.now (λ text. HasNoZero (line_text text)) }
 {
-    if !can_be_added(program, &directory) || !is_within(&directory, tables) {
-        return Err(Stop::Condition);
+    match text {
+        Some(text) => text.has_no_zero(),
+        None => true,
     }
-    let id = program.add_directory(directory)?;
-    Ok(id)
 }
 
 /// Whether a text may be the name of a directory or a file that is added.
@@ -352,67 +226,86 @@ fn can_be_added(program: &LineProgram, text: &LineString) -> bool
     ensures not_empty { IsTrue result →
         program.now.encoding.version ≤ 4 → IsNotEmpty (line_text text.now) }
 {
-    !program.is_none() && has_no_zero(text) && (program.version() > 4 || is_not_empty(text))
+    if program.is_none() {
+        return false;
+    }
+    match text {
+        LineString::String(bytes) => {
+            has_no_zero(bytes) && (program.version() > 4 || !bytes.is_empty())
+        }
+        _ => true,
+    }
 }
 
-/// The id of the directory of a number: the working directory is 0, and the others are these.
-fn directory_id(program: &LineProgram, ids: &[DirectoryId], number: u64) -> Option<DirectoryId>
-    requires { AreIds ids.now program.now.directories }
-    ensures { IfSome result (λ id. id < length program.now.directories) }
+/// Adds a directory.
+fn add_directory(program: &mut LineProgram, text: LineString) -> Result<DirectoryId, Stop>
+    ensures { IfOk result (λ id. id < length program.new.directories) }
+{
+    if !can_be_added(program, &text) {
+        return Err(Stop::Condition);
+    }
+    Ok(program.add_directory(text)?)
+}
+
+/// Adds a directory, and its text to those that were added before.
+fn push_directory(
+    program: &mut LineProgram,
+    texts: &mut Vec<LineString>,
+    text: LineString,
+) -> Result<(), Stop> {
+    let kept = text.clone()?;
+    texts.reserve(1)?;
+    add_directory(program, text)?;
+    texts.push_reserved(kept);
+    Ok(())
+}
+
+/// The id of the directory of a number: the working directory is 0, and the others are those of
+/// texts that were added before.
+fn directory_id(
+    program: &mut LineProgram,
+    texts: &[LineString],
+    number: u64,
+) -> Result<DirectoryId, Stop>
+    ensures { IfOk result (λ id. id < length program.new.directories) }
 {
     if program.is_none() {
-        return None;
+        return Err(Stop::Condition);
     }
     if number == 0 {
-        return Some(program.default_directory());
+        return Ok(program.default_directory());
     }
-    ids.get((number - 1) as usize).copied()
+    let text = texts.get((number - 1) as usize).ok_or(Stop::Condition)?;
+    add_directory(program, text.clone()?)
 }
 
-/// Takes the words of a call, and sets what is set before it: the current row, its operation, or
-/// what is written of files.
-fn take_item(
-    alloc: Global,
+/// Adds a file to the directory of a number.
+fn push_file(
     program: &mut LineProgram,
-    name: &str,
-    words: &mut Arguments<'_>,
-) -> Item
-    ensures { program.new.directories ≡ program.old.directories }
-{
-    match name {
-        "flags" => {
-            let letters = words.letters("tsmS");
-            program.file_has_timestamp = letters.contains('t');
-            program.file_has_size = letters.contains('s');
-            program.file_has_md5 = letters.contains('m');
-            program.file_has_source = letters.contains('S');
-            Item::Flags
-        }
-        "begin" if words.is_empty() => Item::Begin(None),
-        "begin" => Item::Begin(Some(Address::Constant(words.number(u64::MAX)))),
-        "set" => Item::Set(words.address()),
-        "row" => {
-            set_row(alloc, program, words);
-            Item::Row
-        }
-        "end" => {
-            let offset = words.number(u64::MAX);
-            if !words.is_empty() {
-                program.row().op_index = words.number(u64::MAX);
-            }
-            Item::End(offset)
-        }
-        _ => {
-            words.refuse(Stop::Bad);
-            Item::Flags
-        }
+    texts: &[LineString],
+    text: LineString,
+    number: u64,
+    info: Option<FileInfo>,
+) -> Result<(), Stop> {
+    let directory = directory_id(program, texts, number)?;
+    if !can_be_added(program, &text) {
+        return Err(Stop::Condition);
     }
+    program.add_file(text, directory, info)?;
+    Ok(())
+}
+
+/// Sets what is written of files.
+fn set_flags(program: &mut LineProgram, words: &mut Arguments<'_>) {
+    let letters = words.letters("tsmS");
+    program.file_has_timestamp = letters.contains('t');
+    program.file_has_size = letters.contains('s');
+    program.file_has_md5 = letters.contains('m');
+    program.file_has_source = letters.contains('S');
 }
 
 /// Sets the current row.
-fn set_row(alloc: Global, program: &mut LineProgram, words: &mut Arguments<'_>)
-    ensures { program.new.directories ≡ program.old.directories }
-{
+fn set_row(alloc: Global, program: &mut LineProgram, words: &mut Arguments<'_>) {
     let offset = words.number(u64::MAX);
     let op_index = words.number(u64::MAX);
     let file = file_id(alloc, program, words);
@@ -457,30 +350,31 @@ fn scratch_file(alloc: Global, program: &mut LineProgram, number: u64) -> Option
             return None;
         }
         let directory = program.default_directory();
-        match program.add_file(name, directory, None) {
-            // From version 5 on the numbers of files begin at 0.
-            Ok(id) if id.raw(5) == number => return Some(id),
-            Ok(_) => {}
-            Err(_) => return None,
+        let id = program.add_file(name, directory, None).ok()?;
+        // From version 5 on the numbers of files begin at 0.
+        if id.raw(5) == number {
+            return Some(id);
         }
     }
     None
 }
 
-/// Builds an item, if that is one.
-fn build(program: &mut LineProgram, item: Item, words: &mut Arguments<'_>)
+/// Builds the item of a call, if that has one.
+fn build(
+    program: &mut LineProgram,
+    name: &str,
+    address: Option<Address>,
+    offset: u64,
+) -> Result<(), Stop>
     requires { program.old.is_none ≡ false }
-    ensures { program.new.directories ≡ program.old.directories }
 {
-    let done = match item {
-        Item::Flags => Ok(()),
-        Item::Begin(address) if !program.in_sequence() => program.begin_sequence(address),
-        Item::Set(address) => program.set_address(address),
-        Item::Row if program.can_generate_row() => program.generate_row(),
-        Item::End(offset) if program.can_end_sequence(offset) => program.end_sequence(offset),
-        _ => return words.refuse(Stop::Condition),
-    };
-    if let Err(error) = done {
-        words.refuse(Stop::Refused(error));
+    match (name, address) {
+        ("begin", _) if !program.in_sequence() => program.begin_sequence(address)?,
+        ("set", Some(address)) => program.set_address(address)?,
+        ("row", _) if program.can_generate_row() => program.generate_row()?,
+        ("end", _) if program.can_end_sequence(offset) => program.end_sequence(offset)?,
+        ("flags", _) => {}
+        _ => return Err(Stop::Condition),
     }
+    Ok(())
 }

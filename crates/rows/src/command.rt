@@ -2,39 +2,34 @@
 
 ghost use Rattle.std.specs.Prelude.{◌≡◌, IsErr};
 
-use crate::asked::{Asked, Lender};
+use crate::conversion::Target;
 use crate::header_text::print_header;
 use crate::instruction_text::print_instructions;
-use crate::lookup_text::print_lookup;
-use crate::target::Target;
-use crate::unit_text::{print_paths, print_units, watch_rows};
-use gimli_core::{EndianSlice, RunTimeEndian};
-use gimli_line::DebugLine;
-use line_text::Slice;
+use crate::lookup_text::{print_lookup, print_paths, print_units, watch_rows};
+use gimli_core::{DebugLineOffset, EndianSlice, Error, Reader, ReaderOffset, RunTimeEndian};
+use gimli_line::{DebugLine, IncompleteLineProgram};
+use line_text::{AddressSize, Slice};
 use row_text::{Arguments, Attempts, Lines, Stop};
 use std::alloc::Global;
 
-/// A command over sections.
+/// A command over sections, by what it prints.
 #[derive(Clone, Copy)]
 pub enum Command {
-    /// Prints the header of a unit.
     Header,
-    /// Prints the instructions of a unit.
     Instructions,
-    /// Prints the units of a section, one after the other.
+    /// The units of a section, one after the other.
     Walk,
-    /// Prints the units of a section, and the rows that cover addresses.
+    /// The units, and the rows that cover addresses.
     Places,
-    /// Prints where the code of a line begins.
+    /// Where the code of a line begins.
     Addresses,
-    /// Prints the whole paths of the files of a unit.
+    /// The whole paths of the files of a unit.
     Paths,
-    /// Prints what a conversion reads, item by item, and what is built of it.
+    /// What a conversion reads, item by item, and what is built of it; or sequence by sequence.
     Items,
-    /// Prints what a conversion reads, sequence by sequence.
     Sequences,
-    /// Prints where something doesn't stand as it must after memory is refused to the rows of a
-    /// unit.
+    /// No command of a row: where something doesn't stand as it must after memory is refused to
+    /// the rows of a unit.
     Watch,
 }
 
@@ -54,17 +49,17 @@ impl Command {
         }
     }
 
-    /// How many texts stand after the order of bytes, the size of an address and a number: the
-    /// directory and the name that are handed to the reader, and the name of the unit; the
-    /// directory of the compilation in the place of the name; or the path of a file.
-    fn texts(self) -> u8 {
+    /// Which texts stand after the order of bytes, the size of an address and a number: the
+    /// directory and the name that are handed to the reader; and the name of the unit that is
+    /// converted, the directory of the compilation, or the path of a file.
+    fn texts(self) -> [bool; 3] {
         match self {
-            Command::Header => 2,
-            Command::Paths => 2,
-            Command::Addresses => 1,
-            Command::Items => 3,
-            Command::Sequences => 3,
-            _ => 0,
+            Command::Header => [true, true, false],
+            Command::Paths => [true, false, true],
+            Command::Addresses => [false, false, true],
+            Command::Items => [true; 3],
+            Command::Sequences => [true; 3],
+            _ => [false; 3],
         }
     }
 }
@@ -91,6 +86,63 @@ pub struct Sections<'i> {
     pub line_strings: &'i [u8],
 }
 
+/// A reader that lends the bytes left.
+pub(crate) trait Lender: Reader {
+    /// The bytes left.
+    fn lent_bytes(&self) -> &[u8];
+}
+
+impl Lender for Slice<'_> {
+    fn lent_bytes(&self) -> &[u8] {
+        self.slice()
+    }
+}
+
+/// What a command asks of a section or of one of its units.
+#[derive(Drop)]
+pub(crate) struct Asked<'w, R: Reader> {
+    pub alloc: Global,
+    pub attempts: Attempts,
+    /// The sections `.debug_line`, `.debug_str` and `.debug_line_str`.
+    pub section: DebugLine<R>,
+    pub strings: R,
+    pub line_strings: R,
+    pub order: RunTimeEndian,
+    pub address_size: AddressSize,
+    /// Where the unit stands, or the lowest address of code.
+    pub offset: u64,
+    /// The directory and the name that are handed to the reader.
+    pub directory: Option<R>,
+    pub name: Option<R>,
+    /// The name of the unit that is converted.
+    pub unit_name: Option<R>,
+    /// The encodings of the program that is built.
+    pub target: Target,
+    /// The path that is looked up, or the directory of the compilation, empty for none.
+    pub path: &'w [u8],
+    /// The line and the addresses that are looked up.
+    pub line: u64,
+    pub addresses: &'w [&'w str],
+}
+
+impl<R: Reader> Asked<'_, R> {
+    /// The program of the unit. Where memory was refused it is made once more, if attempts are two.
+    pub fn program(&self) -> gimli_core::Result<IncompleteLineProgram<R>> {
+        match self.parse() {
+            Err(Error::OutOfMemory) if self.attempts == Attempts::Two => self.parse(),
+            outcome => outcome,
+        }
+    }
+
+    /// The program of the unit.
+    fn parse(&self) -> gimli_core::Result<IncompleteLineProgram<R>> {
+        let offset = DebugLineOffset(R::Offset::from_u64(self.offset)?);
+        let size = self.address_size.bytes();
+        let section = self.section;
+        section.program(self.alloc, offset, size, self.directory, self.name)
+    }
+}
+
 /// Does what a command asks for. Refused where its words are none of it.
 pub fn print(
     command: Command,
@@ -108,23 +160,19 @@ pub fn print(
         Command::Walk => 0,
         _ => words.number(u64::MAX),
     };
-    let texts = command.texts();
-    let first = words.optional_text(texts > 0);
-    let second = words.optional_text(texts > 1);
-    let third = words.optional_text(texts > 2);
+    let [has_directory, has_name, has_last] = command.texts();
+    let directory = words.optional_text(has_directory);
+    let name = words.optional_text(has_name);
+    let last = words.optional_text(has_last);
     let line = match command {
         Command::Addresses => words.number(u64::MAX),
         _ => 0,
     };
     let addresses = words.numbers(matches!(command, Command::Places));
-    let target = Target::parse(alloc, texts == 3, &mut words);
+    let target = Target::parse(alloc, has_name && has_last, &mut words);
     if let Some(stop) = words.end() {
         return Err(stop);
     }
-    let is_paths = matches!(command, Command::Paths);
-    // A command that asks for paths hands no name to the reader: it has no third text.
-    let name = if is_paths { &third } else { &second };
-    let path = if is_paths { &second } else { &first };
     let asked = Asked {
         alloc,
         attempts: request.attempts,
@@ -134,11 +182,11 @@ pub fn print(
         order,
         address_size,
         offset,
-        directory: reader(&first, order),
-        name: reader(name, order),
-        unit_name: reader(&third, order),
+        directory: reader(&directory, order),
+        name: reader(&name, order),
+        unit_name: reader(&last, order),
         target,
-        path: path.as_deref().unwrap_or(&[]),
+        path: last.as_deref().unwrap_or(&[]),
         line,
         addresses,
     };

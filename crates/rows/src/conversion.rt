@@ -1,22 +1,70 @@
 //! Conversions: what one reads, and what is built of it.
 
-ghost use Rattle.std.specs.Prelude.{IfOk};
-ghost use Rattle.rows.specs.Within.{AreWithin, texts_of};
+ghost use Rattle.std.specs.Prelude.{IsTrue};
 ghost use Rattle.rows.specs.Taken.{IsTaken};
 
-use crate::asked::Asked;
-use crate::builder::Builder;
 use crate::built::{print_row, put_refused};
-use crate::script::print_program;
+use crate::command::Asked;
+use crate::script::Script;
 use crate::tables::Tables;
-use gimli_core::Reader;
-use gimli_write::conversion_laws::converted_programs_can_be_written;
+use gimli_core::{Encoding, LineEncoding, Reader};
 use gimli_write::{
-    Address, ConvertError, ConvertLineHeader, ConvertLineRow, ConvertLineSequence,
-    ConvertLineSequenceEnd, ConvertResult, FileId, LineProgram, LineStringTable, StringTable,
-    convert_program,
+    Address, ConvertError, ConvertLineHeader, ConvertLineProgram, ConvertLineRow,
+    ConvertLineSequence, ConvertLineSequenceEnd, ConvertResult, FileId, LineProgram,
+    LineStringTable,
 };
-use row_text::{Attempts, Lines, Piece};
+use row_text::Piece::{Number, Word};
+use row_text::{Arguments, Attempts, Lines, Stop};
+use std::alloc::Global;
+
+/// The encodings of the program that is built; where none is handed in it is that of the source.
+#[derive(Clone, Copy)]
+pub(crate) struct Target {
+    pub encoding: Option<Encoding>,
+    pub line_encoding: Option<LineEncoding>,
+}
+
+impl Target {
+    /// The target that the next word names, where one is asked for: `-` for the source's own, or
+    /// the version, the format and the size of an address, and after them what lines are encoded
+    /// by, if it isn't as in the source. All are numbers with commas between.
+    pub fn parse(alloc: Global, is_asked: bool, words: &mut Arguments<'_>) -> Target {
+        let mut target = Target {
+            encoding: None,
+            line_encoding: None,
+        };
+        if !is_asked || words.takes("-") {
+            return target;
+        }
+        match words.word().split(',').collect::<Vec<&str>>(alloc) {
+            Ok(numbers) => {
+                let mut rest = Arguments::new(alloc, &numbers);
+                target.encoding = Some(rest.encoding());
+                if !rest.is_empty() {
+                    target.line_encoding = Some(rest.line_encoding());
+                }
+                if let Some(stop) = rest.end() {
+                    words.refuse(stop);
+                }
+            }
+            Err(_) => words.refuse(Stop::Memory),
+        }
+        target
+    }
+
+    /// Whether a conversion takes it. Without numbers of lines it is judged with those that are
+    /// usual.
+    pub fn is_taken(self) -> bool
+        ensures { IsTrue result → IsTaken self }
+    {
+        match (self.encoding, self.line_encoding) {
+            (Some(encoding), Some(lines)) => LineProgram::accepts(encoding, lines),
+            (Some(encoding), None) => LineProgram::accepts(encoding, LineEncoding::default()),
+            (None, None) => true,
+            (None, Some(_)) => false,
+        }
+    }
+}
 
 /// How reading a conversion ends.
 #[derive(Clone, Copy)]
@@ -34,18 +82,18 @@ impl<R: Reader> Asked<'_, R> {
     /// sequence by sequence. Where the target breaks a condition, no conversion can be asked for.
     pub fn print_conversion(&self, by_items: bool, lines: &mut Lines) {
         if !self.target.is_taken() {
-            return lines.put(&[Piece::Word("condition")]);
+            return lines.print("condition\n", &[]);
         }
         let start = lines.len();
         let mut ending = self.print_read(by_items, lines);
         if let (Attempts::Two, Ending::OutOfMemory(stands)) = (self.attempts, ending) {
             lines.truncate(start);
-            lines.add(&[Piece::If(!stands, "state\n")]);
+            lines.print(if stands { "" } else { "state\n" }, &[]);
             ending = self.print_read(by_items, lines);
         }
         if by_items && !matches!(ending, Ending::NotBegun) {
-            lines.put(&[Piece::Word("==")]);
-            self.print_built(lines);
+            lines.print("==\n", &[]);
+            self.print_second(lines);
         }
     }
 
@@ -53,36 +101,20 @@ impl<R: Reader> Asked<'_, R> {
     fn print_read(&self, by_items: bool, lines: &mut Lines) -> Ending
         requires { IsTaken self.now.target }
     {
-        match Tables::old(self.alloc) {
-            Ok(mut tables) => self.print_beside(by_items, &mut tables, lines),
-            Err(_) => {
-                lines.refuse();
-                Ending::NotBegun
-            }
-        }
+        let mut tables = Tables::new(self.alloc);
+        self.print_beside(by_items, &mut tables, lines)
     }
 
-    /// Prints what one conversion reads, with these tables.
+    /// The same, with these tables.
     fn print_beside(&self, by_items: bool, tables: &mut Tables, lines: &mut Lines) -> Ending
         requires { IsTaken self.now.target }
     {
-        let begun = match self.program() {
-            Ok(program) => ConvertLineHeader::new(
-                self.strings,
-                self.line_strings,
-                program,
-                self.unit_name,
-                self.target.encoding,
-                self.target.line_encoding,
-                &mut tables.line_strings,
-            ),
-            Err(error) => Err(ConvertError::Read(error)),
-        };
-        let ending = match begun {
-            Ok(header) => {
-                let strings = &mut tables.strings;
-                print_after_header(by_items, header, &mut tables.line_strings, strings, lines)
-            },
+        if tables.add_old().is_err() {
+            lines.refuse();
+            return Ending::NotBegun;
+        }
+        let ending = match self.begin(&mut tables.line_strings) {
+            Ok(header) => print_after_header(by_items, header, tables, lines),
             Err(error) => {
                 put_refused(error, lines);
                 match error {
@@ -92,58 +124,72 @@ impl<R: Reader> Asked<'_, R> {
             }
         };
         match ending {
-            Ending::OutOfMemory(stands) => { Ending::OutOfMemory(stands && tables.begin_old()) }
+            Ending::OutOfMemory(stands) => Ending::OutOfMemory(stands && tables.begin_old()),
             ending => ending,
         }
     }
 
-    /// Prints what is built, in tables without a text, by a closure that keeps each address; of a
-    /// second conversion, where memory is refused to the first and attempts are two.
-    fn print_built(&self, lines: &mut Lines)
+    /// Prints what a second conversion builds, in tables without a text.
+    fn print_second(&self, lines: &mut Lines)
         requires { IsTaken self.now.target }
     {
-        let mut tables = Tables::new(self.alloc);
-        let mut built = self.convert(&mut tables);
-        if let (Attempts::Two, Err(ConvertError::OutOfMemory)) = (self.attempts, &built) {
-            tables = Tables::new(self.alloc);
-            built = self.convert(&mut tables);
-        }
+        let mut script = Script::new(self.alloc, self.attempts);
+        script.order = self.order;
+        script.reads_back = true;
+        self.print_built(&mut script, lines)
+    }
+
+    /// The same, with this script; of a third one, where memory is refused to it and attempts are
+    /// two.
+    fn print_built(&self, script: &mut Script, lines: &mut Lines)
+        requires { IsTaken self.now.target }
+    {
+        let built = match self.convert(script) {
+            Err(ConvertError::OutOfMemory) if self.attempts == Attempts::Two => {
+                script.tables = Tables::new(self.alloc);
+                self.convert(script)
+            }
+            built => built,
+        };
         match built {
-            Ok((program, files)) => {
-                lines.add(&[Piece::Word("files")]);
+            Ok(files) => {
+                lines.print("files", &[]);
                 for file in &files {
-                    lines.add(&[Piece::Word(" "), Piece::Number(file.raw(5))]);
+                    lines.print(" %", &[Number(file.raw(5))]);
                 }
-                lines.put(&[]);
-                let builder = Builder::new(self.alloc, self.attempts, program, tables);
-                print_program(builder, self.order, lines);
+                lines.print("\n", &[]);
+                let _is_written = script.print_written(lines);
             }
             Err(error) => put_refused(error, lines),
         }
     }
 
-    /// What one conversion builds.
-    fn convert(&self, tables: &mut Tables) -> ConvertResult<(LineProgram, Vec<FileId>)>
+    /// Builds the program of one conversion, by a closure that keeps each address, and returns its
+    /// files.
+    fn convert(&self, script: &mut Script) -> ConvertResult<Vec<FileId>>
         requires { IsTaken self.now.target }
-        ensures { IfOk result (λ built. AreWithin built.0.directories (texts_of tables.new)) }
     {
-        let program = match self.program() {
-            Ok(program) => program,
-            Err(error) => return Err(ConvertError::Read(error)),
-        };
-        let built = convert_program(
+        let tables = &mut script.tables;
+        let header = self.begin(&mut tables.line_strings)?;
+        let converter = header.converter(&mut tables.line_strings, &mut tables.strings);
+        let (program, files) = converter.convert(|address| Some(Address::Constant(address)))?;
+        script.program = program;
+        Ok(files)
+    }
+
+    /// Begins a conversion.
+    fn begin(&self, line_strings: &mut LineStringTable) -> ConvertResult<ConvertLineHeader<R>>
+        requires { IsTaken self.now.target }
+    {
+        ConvertLineHeader::new(
             self.strings,
             self.line_strings,
-            program,
+            self.program()?,
             self.unit_name,
             self.target.encoding,
             self.target.line_encoding,
-            &mut tables.line_strings,
-            &mut tables.strings,
-            |address| Some(Address::Constant(address)),
-        )?;
-        converted_programs_can_be_written();
-        Ok(built)
+            line_strings,
+        )
     }
 }
 
@@ -152,66 +198,68 @@ impl<R: Reader> Asked<'_, R> {
 fn print_after_header<R: Reader>(
     by_items: bool,
     header: ConvertLineHeader<R>,
-    line_strings: &mut LineStringTable,
-    strings: &mut StringTable,
+    tables: &mut Tables,
     lines: &mut Lines,
 ) -> Ending {
-    let mut converter = header.converter(line_strings, strings);
+    let mut converter = header.converter(&mut tables.line_strings, &mut tables.strings);
     for _turn in 0..u64::MAX {
-        let end = if by_items {
-            match converter.read_row() {
-                Ok(Some(item)) => {
-                    print_item(item, lines);
-                    None
-                }
-                Ok(None) => return Ending::Ended,
-                Err(error) => Some(error),
+        match print_next(by_items, &mut converter, lines) {
+            Ok(true) => {}
+            Ok(false) => return Ending::Ended,
+            Err(error) => {
+                put_refused(error, lines);
+                let stands = matches!(converter.read_row(), Err(ConvertError::OutOfMemory));
+                return match error {
+                    ConvertError::OutOfMemory => Ending::OutOfMemory(stands),
+                    _ => Ending::Ended,
+                };
             }
-        } else {
-            match converter.read_sequence() {
-                Ok(Some(sequence)) => {
-                    print_sequence(&sequence, lines);
-                    None
-                }
-                Ok(None) => return Ending::Ended,
-                Err(error) => Some(error),
-            }
-        };
-        if let Some(error) = end {
-            put_refused(error, lines);
-            let stands = matches!(converter.read_row(), Err(ConvertError::OutOfMemory));
-            return match error {
-                ConvertError::OutOfMemory => Ending::OutOfMemory(stands),
-                _ => Ending::Ended,
-            };
         }
     }
     Ending::Ended
 }
 
+/// Prints the next item or sequence; false where there is none.
+fn print_next<R: Reader>(
+    by_items: bool,
+    converter: &mut ConvertLineProgram<'_, '_, R>,
+    lines: &mut Lines,
+) -> ConvertResult<bool> {
+    if by_items {
+        match converter.read_row()? {
+            Some(item) => print_item(item, lines),
+            None => return Ok(false),
+        }
+    } else {
+        match converter.read_sequence()? {
+            Some(sequence) => print_sequence(&sequence, lines),
+            None => return Ok(false),
+        }
+    }
+    Ok(true)
+}
+
 /// Prints an item: an address, a row, or an end.
 fn print_item(item: ConvertLineRow, lines: &mut Lines) {
-    let (word, number) = match item {
-        ConvertLineRow::Row(row) => return print_row(row, lines),
-        ConvertLineRow::SetAddress(address) => ("set ", address),
-        ConvertLineRow::EndSequence(offset) => ("end ", offset),
-    };
-    lines.put(&[Piece::Word(word), Piece::Number(number)]);
+    match item {
+        ConvertLineRow::Row(row) => print_row(row, lines),
+        ConvertLineRow::SetAddress(address) => lines.print("set %\n", &[Number(address)]),
+        ConvertLineRow::EndSequence(offset) => lines.print("end %\n", &[Number(offset)]),
+    }
 }
 
 /// Prints a sequence: its start, its rows and its end.
 fn print_sequence(sequence: &ConvertLineSequence, lines: &mut Lines) {
     let start = match sequence.start {
-        Some(start) => Piece::Number(start),
-        None => Piece::Word("-"),
+        Some(start) => Number(start),
+        None => Word("-"),
     };
-    lines.put(&[Piece::Word("sequence "), start]);
+    lines.print("sequence %\n", &[start]);
     for row in sequence.rows.as_slice() {
         print_row(*row, lines);
     }
-    let (word, number) = match sequence.end {
-        ConvertLineSequenceEnd::Length(length) => ("length ", length),
-        ConvertLineSequenceEnd::Address(address) => ("address ", address),
-    };
-    lines.put(&[Piece::Word(word), Piece::Number(number)]);
+    match sequence.end {
+        ConvertLineSequenceEnd::Length(length) => lines.print("length %\n", &[Number(length)]),
+        ConvertLineSequenceEnd::Address(address) => lines.print("address %\n", &[Number(address)]),
+    }
 }

@@ -1,10 +1,11 @@
 //! A header, a line for each part.
 
-use crate::asked::Lender;
+use crate::command::Lender;
 use crate::instruction_text::add_value;
 use gimli_core::{Format, ReaderOffset};
 use gimli_line::{FileEntry, FileEntryFormat, LineProgramHeader};
-use row_text::{Lines, Piece};
+use row_text::Lines;
+use row_text::Piece::{Digits, Flags, Hex, Number, Signed, Word};
 
 /// Prints a header.
 pub(crate) fn print_header<R: Lender>(header: &LineProgramHeader<R>, lines: &mut Lines) {
@@ -14,17 +15,17 @@ pub(crate) fn print_header<R: Lender>(header: &LineProgramHeader<R>, lines: &mut
         header.standard_opcode_lengths(),
         lines,
     );
-    print_formats("directory_format ", header.directory_entry_format(), lines);
+    print_formats("directory_format", header.directory_entry_format(), lines);
     print_directories(header, lines);
-    print_formats("file_format ", header.file_name_entry_format(), lines);
+    print_formats("file_format", header.file_name_entry_format(), lines);
     print_files(header, lines);
-    lines.put(&[
-        Piece::Word("has"),
-        Piece::If(header.file_has_timestamp(), " timestamp"),
-        Piece::If(header.file_has_size(), " size"),
-        Piece::If(header.file_has_md5(), " md5"),
-        Piece::If(header.file_has_source(), " source"),
-    ]);
+    let has = [
+        (header.file_has_timestamp(), " timestamp"),
+        (header.file_has_size(), " size"),
+        (header.file_has_md5(), " md5"),
+        (header.file_has_source(), " source"),
+    ];
+    lines.print("has%\n", &[Flags(&has, "")]);
     print_bytes("program", &header.raw_program_buf(), lines);
 }
 
@@ -34,50 +35,44 @@ fn print_numbers<R: Lender>(header: &LineProgramHeader<R>, lines: &mut Lines) {
         Format::Dwarf32 => 32,
         Format::Dwarf64 => 64,
     };
+    let instruction = header.minimum_instruction_length();
     let operations = header.maximum_operations_per_instruction();
+    let is_stmt = [(header.default_is_stmt(), "true")];
     let numbers = [
-        ("offset ", header.offset().0.into_u64()),
-        ("unit_length ", header.unit_length().into_u64()),
-        ("format ", bits),
-        ("version ", u64::from(header.version())),
-        ("address_size ", u64::from(header.address_size())),
-        ("header_length ", header.header_length().into_u64()),
+        ("offset", Number(header.offset().0.into_u64())),
+        ("unit_length", Number(header.unit_length().into_u64())),
+        ("format", Number(bits)),
+        ("version", Number(u64::from(header.version()))),
+        ("address_size", Number(u64::from(header.address_size()))),
+        ("header_length", Number(header.header_length().into_u64())),
+        ("minimum_instruction_length", Number(u64::from(instruction))),
         (
-            "minimum_instruction_length ",
-            u64::from(header.minimum_instruction_length()),
+            "maximum_operations_per_instruction",
+            Number(u64::from(operations)),
         ),
-        ("maximum_operations_per_instruction ", u64::from(operations)),
+        ("default_is_stmt", Flags(&is_stmt, "false")),
+        ("line_base", Signed(i64::from(header.line_base()))),
+        ("line_range", Number(u64::from(header.line_range()))),
+        ("opcode_base", Number(u64::from(header.opcode_base()))),
     ];
     for (word, number) in numbers {
-        lines.put(&[Piece::Word(word), Piece::Number(number)]);
+        lines.print("% %\n", &[Word(word), number]);
     }
-    let is_stmt = header.default_is_stmt();
-    lines.put(&[
-        Piece::Word("default_is_stmt "),
-        Piece::If(is_stmt, "true"),
-        Piece::If(!is_stmt, "false"),
-        Piece::Word("\nline_base "),
-        Piece::Signed(i64::from(header.line_base())),
-        Piece::Word("\nline_range "),
-        Piece::Number(u64::from(header.line_range())),
-        Piece::Word("\nopcode_base "),
-        Piece::Number(u64::from(header.opcode_base())),
-    ]);
 }
 
 /// Prints bytes after a word, and the word alone where there are none.
 fn print_bytes<'x, R: Lender>(word: &'x str, bytes: &'x R, lines: &mut Lines) {
     let bytes = bytes.lent_bytes();
-    let blank = Piece::If(!bytes.is_empty(), " ");
-    lines.put(&[Piece::Word(word), blank, Piece::Digits(bytes)]);
+    let blank = if bytes.is_empty() { "" } else { " " };
+    lines.print("%%%\n", &[Word(word), Word(blank), Digits(bytes)]);
 }
 
 /// Prints the formats of a table, after a word each.
 fn print_formats(word: &str, formats: &[FileEntryFormat], lines: &mut Lines) {
     for format in formats {
-        let content = Piece::Hex(u64::from(format.content_type.0));
-        let form = Piece::Hex(u64::from(format.form.0));
-        lines.put(&[Piece::Word(word), content, Piece::Word(" "), form]);
+        let content = Hex(u64::from(format.content_type.0));
+        let form = Hex(u64::from(format.form.0));
+        lines.print("% % %\n", &[Word(word), content, form]);
     }
 }
 
@@ -86,13 +81,9 @@ fn print_directories<R: Lender>(header: &LineProgramHeader<R>, lines: &mut Lines
     let last = header.include_directories().len() as u64;
     for index in 0..=last {
         if let Some(directory) = header.directory(index) {
-            lines.add(&[
-                Piece::Word("directory "),
-                Piece::Number(index),
-                Piece::Word(" "),
-            ]);
+            lines.print("directory % ", &[Number(index)]);
             add_value(&directory, lines);
-            lines.put(&[]);
+            lines.print("\n", &[]);
         }
     }
 }
@@ -102,29 +93,27 @@ fn print_files<R: Lender>(header: &LineProgramHeader<R>, lines: &mut Lines) {
     let last = header.file_names().len() as u64;
     for index in 0..=last {
         if let Some(file) = header.file(index) {
-            print_file(index, file, lines);
+            lines.print("file % ", &[Number(index)]);
+            print_file(file, lines);
         }
     }
 }
 
 /// Prints a file: its values, in the order of the tables of version 5.
-fn print_file<R: Lender>(index: u64, file: &FileEntry<R>, lines: &mut Lines) {
-    lines.add(&[Piece::Word("file "), Piece::Number(index), Piece::Word(" ")]);
+fn print_file<R: Lender>(file: &FileEntry<R>, lines: &mut Lines) {
     add_value(&file.path_name(), lines);
-    lines.add(&[
-        Piece::Word(" dir "),
-        Piece::Number(file.directory_index()),
-        Piece::Word(" time "),
-        Piece::Number(file.timestamp()),
-        Piece::Word(" size "),
-        Piece::Number(file.size()),
-        Piece::Word(" md5 "),
-        Piece::Digits(file.md5()),
-        Piece::Word(" source "),
-    ]);
+    lines.print(
+        " dir % time % size % md5 % source ",
+        &[
+            Number(file.directory_index()),
+            Number(file.timestamp()),
+            Number(file.size()),
+            Digits(file.md5()),
+        ],
+    );
     match &file.source() {
         Some(source) => add_value(source, lines),
-        None => lines.add(&[Piece::Word("-")]),
+        None => lines.print("-", &[]),
     }
-    lines.put(&[]);
+    lines.print("\n", &[]);
 }

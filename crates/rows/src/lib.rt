@@ -4,7 +4,6 @@
 #![tactic(auto)]
 
 mod array_section;
-mod asked;
 mod builder;
 mod built;
 mod command;
@@ -13,12 +12,7 @@ mod header_text;
 mod instruction_text;
 mod lookup_text;
 mod script;
-mod section;
 mod tables;
-mod target;
-mod texts;
-mod unit;
-mod unit_text;
 
 pub use command::{Command, Request, Sections, print};
 pub use script::write;

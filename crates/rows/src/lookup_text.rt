@@ -1,9 +1,44 @@
-//! Lookups over a section: the rows that cover an address, and where the code of a line begins.
+//! Units of a section, lookups over it, and the paths and the rows of a unit.
 
-use crate::asked::Asked;
-use gimli_core::{Reader, ReaderOffset};
-use gimli_lookup::{SectionLookup, StringSections};
-use row_text::{Lines, Piece, parse_number};
+use crate::command::Asked;
+use gimli_core::{Error, Reader, ReaderOffset};
+use gimli_line::{LineProgram, LineProgramHeader, LineRows};
+use gimli_lookup::{PathError, Paths, SectionLookup, StringSections};
+use row_text::Piece::{Address, Number, Row, Text};
+use row_text::{Lines, parse_number};
+
+/// Prints the line of a unit: its version, and the first fault of its run; without a version, why
+/// the unit is refused.
+fn print_unit(offset: u64, version: Option<u16>, fault: Option<Error>, lines: &mut Lines) {
+    lines.print("unit %", &[Number(offset)]);
+    let mut word = " error ";
+    if let Some(version) = version {
+        lines.print(" version %", &[Number(u64::from(version))]);
+        word = " fault ";
+    }
+    match fault {
+        Some(fault) => lines.put_refusal(word, fault),
+        None => lines.print("\n", &[]),
+    }
+}
+
+/// Prints the units of a section.
+pub(crate) fn print_units<R: Reader>(asked: &Asked<'_, R>, lines: &mut Lines) {
+    let section = asked.section;
+    let mut units = section.units(asked.alloc, asked.address_size.bytes());
+    for _ in 0..u64::MAX {
+        let unit = match units.next() {
+            Ok(Some(unit)) => unit,
+            Ok(None) => return,
+            Err(_) => return lines.refuse(),
+        };
+        let offset = unit.offset.0.into_u64();
+        match &unit.program {
+            Ok(program) => print_unit(offset, Some(program.header().version()), None, lines),
+            Err(error) => print_unit(offset, None, Some(*error), lines),
+        }
+    }
+}
 
 /// Prints what is looked up in a section: where the code of a line of a file begins, or of the next
 /// line that has any; or the units, and for each address the rows that cover it.
@@ -12,64 +47,108 @@ pub(crate) fn print_lookup<R: Reader>(asked: &Asked<'_, R>, is_line: bool, lines
     let section = asked.section;
     match SectionLookup::new(&section, asked.alloc, size, asked.offset) {
         Ok(lookup) if is_line => print_addresses(asked, &lookup, lines),
-        Ok(lookup) => {
-            print_units(&lookup, lines);
-            print_places(&lookup, asked.addresses, lines);
-        }
+        Ok(lookup) => print_places(&lookup, asked.addresses, lines),
         Err(_) => lines.refuse(),
     }
 }
 
-/// Prints the lines of units.
-fn print_units<R: Reader>(lookup: &SectionLookup<R>, lines: &mut Lines) {
+/// Prints units, and the rows that cover addresses.
+fn print_places<R: Reader>(lookup: &SectionLookup<R>, words: &[&str], lines: &mut Lines) {
     for unit in lookup.units() {
-        lines.add(&[
-            Piece::Word("unit "),
-            Piece::Number(unit.offset().0.into_u64()),
-        ]);
-        let mut word = " error ";
-        if let Some(header) = unit.header() {
-            let version = Piece::Number(u64::from(header.version()));
-            lines.add(&[Piece::Word(" version "), version]);
-            word = " fault ";
-        }
-        match unit.fault() {
-            Some(fault) => lines.put_refusal(word, fault),
-            None => lines.put(&[]),
-        }
+        let version = unit.header().map(|header| header.version());
+        print_unit(unit.offset().0.into_u64(), version, unit.fault(), lines);
+    }
+    for word in words {
+        print_place(lookup, parse_number(word).unwrap_or(0), lines);
     }
 }
 
-/// Prints the rows that cover addresses.
-fn print_places<R: Reader>(lookup: &SectionLookup<R>, words: &[&str], lines: &mut Lines) {
-    for word in words {
-        let address = parse_number(word).unwrap_or(0);
-        match lookup.find(address) {
-            Some(found) => {
-                let unit = Piece::Number(found.unit as u64);
-                lines.put(&[Piece::Address(address), Piece::Word(" unit "), unit]);
-                lines.put_row(found.row);
-                lines.put_row(found.next);
-            }
-            None => lines.put(&[Piece::Address(address), Piece::Word(" none")]),
+/// Prints the rows that cover an address.
+fn print_place<R: Reader>(lookup: &SectionLookup<R>, address: u64, lines: &mut Lines) {
+    match lookup.find(address) {
+        Some(found) => {
+            let unit = Number(found.unit as u64);
+            let rows = (Row(found.row), Row(found.next));
+            lines.print(
+                "% unit %\n%\n%\n",
+                &[Address(address), unit, rows.0, rows.1],
+            );
         }
+        None => lines.print("% none\n", &[Address(address)]),
     }
 }
 
 /// Prints a line, and the addresses at which its code begins.
 fn print_addresses<R: Reader>(asked: &Asked<'_, R>, lookup: &SectionLookup<R>, lines: &mut Lines) {
-    let sections = StringSections {
-        debug_line_str: asked.line_strings,
-        debug_str: asked.strings,
-    };
-    match lookup.addresses_of(&sections, asked.path, asked.line) {
+    match lookup.addresses_of(&texts_of(asked), asked.path, asked.line) {
         Ok(Some(found)) => {
-            lines.put(&[Piece::Word("line "), Piece::Number(found.line)]);
+            lines.print("line %\n", &[Number(found.line)]);
             for address in &found.addresses {
-                lines.put(&[Piece::Address(*address)]);
+                lines.print("%\n", &[Address(*address)]);
             }
         }
-        Ok(None) => lines.put(&[Piece::Word("none")]),
+        Ok(None) => lines.print("none\n", &[]),
         Err(_) => lines.refuse(),
     }
+}
+
+/// The sections of texts.
+fn texts_of<R: Reader>(asked: &Asked<'_, R>) -> StringSections<R> {
+    StringSections {
+        debug_line_str: asked.line_strings,
+        debug_str: asked.strings,
+    }
+}
+
+/// Prints the paths of the files of a header, or why they aren't known.
+pub(crate) fn print_paths<R: Reader>(
+    asked: &Asked<'_, R>,
+    header: &LineProgramHeader<R>,
+    lines: &mut Lines,
+) {
+    let paths = Paths::new(header, texts_of(asked), Some(asked.path));
+    let last = header.file_names().len() as u64;
+    for index in 0..=last {
+        let path = match header.file(index) {
+            Some(file) => paths.of_file(asked.alloc, file),
+            None => continue,
+        };
+        lines.print("file % ", &[Number(index)]);
+        match path {
+            Ok(path) => lines.print("%\n", &[Text(&path)]),
+            Err(PathError::OutOfMemory) => lines.refuse(),
+            Err(error) => lines.put_error("error ", error),
+        }
+    }
+}
+
+/// Prints the count of the call that memory was refused to, where something doesn't stand as it
+/// must after it.
+pub(crate) fn watch_rows<R: Reader, P: LineProgram<R> + Drop>(
+    mut rows: LineRows<R, P>,
+    lines: &mut Lines,
+) {
+    for call in 1..u64::MAX {
+        let files = rows.header().file_names().len();
+        match rows.next_row() {
+            Ok(Some(_)) => {}
+            Err(Error::OutOfMemory) => {
+                if !stands(rows, files) {
+                    lines.print("state %\n", &[Number(call)]);
+                }
+                return;
+            }
+            _ => return,
+        }
+    }
+}
+
+/// Whether there are so many files after a refused call, and no row.
+fn stands<R: Reader, P: LineProgram<R> + Drop>(mut rows: LineRows<R, P>, files: usize) -> bool {
+    for _ in 0..3 {
+        if rows.header().file_names().len() != files || !matches!(rows.next_row(), Ok(None)) {
+            return false;
+        }
+    }
+    true
 }

@@ -1,13 +1,16 @@
 //! Builder scripts: the calls of programs, and how each is written.
 
-use crate::array_section::ArraySection;
-use crate::builder::Builder;
+use crate::array_section::{ArraySection, Section};
 use crate::built::{print_answer, put_refused};
 use crate::command::Request;
-use crate::section::Section;
+use crate::tables::Tables;
 use gimli_core::{Encoding, RunTimeEndian};
-use gimli_write::{ConvertError, DebugLine, EndianVec, Error, PieceVec};
+use gimli_write::{
+    ConvertError, ConvertResult, DebugLine, EndianVec, Error, LineProgram, LineString, PieceVec,
+    RoundTrip, round_trip,
+};
 use row_text::{Arguments, Attempts, Lines, Piece, Stop, Target};
+use std::alloc::Global;
 
 /// Builds the programs of a text's scripts and writes them; prints what that gives, and returns the
 /// status: 1 where a program is refused or a condition isn't met. Of a bad script nothing is
@@ -17,31 +20,35 @@ pub fn write(request: Request<'_>, input: &str, lines: &mut Lines) -> Result<u8,
         return Err(Stop::Bad);
     }
     let start = lines.len();
-    let mut script = Script::new(Builder::empty(request.alloc, request.attempts));
-    script.run(input, lines);
-    match script.stop {
-        Some(stop) => {
-            lines.truncate(start);
-            Err(stop)
-        }
-        None => Ok(script.status),
+    let mut script = Script::new(request.alloc, request.attempts);
+    let status = script.run(input, lines);
+    if status.is_err() {
+        lines.truncate(start);
     }
+    status
 }
 
-/// A program that is built, and how it is written.
+/// A program that is built by the calls of a script, its tables, and how it is written.
 #[derive(Drop)]
-struct Script {
-    builder: Builder,
+pub(crate) struct Script {
+    pub alloc: Global,
+    pub attempts: Attempts,
+    pub program: LineProgram,
+    pub tables: Tables,
+    /// The text of each call that added a directory.
+    pub directories: Vec<LineString>,
+    /// The digest of the program and its tables before the last call of the library.
+    pub before: u64,
     /// The order of bytes.
-    order: RunTimeEndian,
+    pub order: RunTimeEndian,
+    /// Whether it is read back.
+    pub reads_back: bool,
     /// What it is written into.
     target: Target,
     /// What the section holds before.
     prefix: Vec<u8>,
     /// The encoding of the unit, if it isn't the program's.
     unit: Option<Encoding>,
-    /// Whether it is read back.
-    reads_back: bool,
     /// Whether a call begins the program.
     has_program: bool,
     /// Whether a call was refused, or its conditions weren't met: then no more is printed.
@@ -50,59 +57,66 @@ struct Script {
     number: u64,
     /// The status so far.
     status: u8,
-    /// Why the lines so far are no scripts.
-    stop: Option<Stop>,
-}
-
-/// The bytes of a section, and how writing into it ended.
-#[derive(Drop)]
-struct Written {
-    bytes: Vec<u8>,
-    end: Option<Stop>,
 }
 
 impl Script {
     /// A script without a call.
-    fn new(builder: Builder) -> Script {
-        let alloc = builder.alloc;
+    pub fn new(alloc: Global, attempts: Attempts) -> Script {
         Script {
-            builder,
+            alloc,
+            attempts,
+            program: LineProgram::none(alloc),
+            tables: Tables::new(alloc),
+            directories: Vec::new(alloc),
+            before: 0,
             order: RunTimeEndian::Little,
+            reads_back: false,
             target: Target::Vector,
             prefix: Vec::new(alloc),
             unit: None,
-            reads_back: false,
             has_program: false,
             is_ended: false,
             number: 0,
             status: 0,
-            stop: None,
         }
     }
 
-    /// Runs scripts one after the other, with a line between.
-    fn run(&mut self, input: &str, lines: &mut Lines) {
+    /// Goes on with a script without a call.
+    fn begin_anew(&mut self) {
+        self.program = LineProgram::none(self.alloc);
+        self.tables = Tables::new(self.alloc);
+        self.directories.clear();
+        self.order = RunTimeEndian::Little;
+        self.reads_back = false;
+        self.target = Target::Vector;
+        self.prefix.clear();
+        self.unit = None;
+        self.has_program = false;
+        self.is_ended = false;
+    }
+
+    /// Runs scripts one after the other, with a line between, and returns the status.
+    fn run(&mut self, input: &str, lines: &mut Lines) -> Result<u8, Stop> {
         for line in input.lines() {
             self.number = self.number.saturating_add(1);
             let words = line.split_whitespace();
             let words = words.take_while(|word| !word.starts_with('#'));
-            match words.collect::<Vec<&str>>(self.builder.alloc) {
-                Ok(words) => self.take(&words, lines),
-                Err(_) => self.stop = Some(Stop::Memory),
-            }
+            let words: Vec<&str> = words.collect(self.alloc)?;
+            self.take(&words, lines)?;
         }
         self.number = self.number.saturating_add(1);
-        self.finish(lines);
+        self.finish(lines)?;
+        Ok(self.status)
     }
 
     /// Takes the words of a line.
-    fn take(&mut self, words: &[&str], lines: &mut Lines) {
-        let mut rest = Arguments::new(self.builder.alloc, words.get(1..).unwrap_or(&[]));
+    fn take(&mut self, words: &[&str], lines: &mut Lines) -> Result<(), Stop> {
+        let mut rest = Arguments::new(self.alloc, words.get(1..).unwrap_or(&[]));
         match words {
             [] => {}
             ["next"] => {
-                self.finish(lines);
-                lines.put(&[Piece::Word("--")]);
+                self.finish(lines)?;
+                lines.print("--\n", &[]);
                 self.begin_anew();
             }
             ["order", ..] => self.order = rest.order(),
@@ -112,148 +126,149 @@ impl Script {
             ["back"] => self.reads_back = true,
             [name, ..] => return self.take_call(name, rest, lines),
         }
-        self.keep(rest.end());
-    }
-
-    /// Keeps why a line is none of a script.
-    fn keep(&mut self, stop: Option<Stop>) {
-        if self.stop.is_none() {
-            self.stop = stop;
+        match rest.end() {
+            Some(stop) => Err(stop),
+            None => Ok(()),
         }
-    }
-
-    /// Goes on with a script without a call.
-    fn begin_anew(&mut self) {
-        self.builder = Builder::empty(self.builder.alloc, self.builder.attempts);
-        self.order = RunTimeEndian::Little;
-        self.target = Target::Vector;
-        self.prefix.clear();
-        self.unit = None;
-        self.reads_back = false;
-        self.has_program = false;
-        self.is_ended = false;
     }
 
     /// Makes a call, and tells how it ends the script, if it does. The program is begun once, and
     /// before each other call but those of the tables.
-    fn take_call(&mut self, name: &str, words: Arguments<'_>, lines: &mut Lines) {
+    fn take_call(
+        &mut self,
+        name: &str,
+        words: Arguments<'_>,
+        lines: &mut Lines,
+    ) -> Result<(), Stop> {
         let begins = name == "program";
         if begins == self.has_program && name != "str" && name != "line_str" {
-            return self.keep(Some(Stop::Bad));
+            return Err(Stop::Bad);
         }
         self.has_program = self.has_program || begins;
-        let mut end = self.builder.perform(name, words);
+        let mut end = self.perform(name, words);
         if self.is_made_again(end) {
-            if !self.builder.stands() {
+            if !self.stands() {
                 self.print_state(lines);
             }
-            end = self.builder.perform(name, words);
+            end = self.perform(name, words);
         }
         match end {
-            Some(Stop::Bad) => self.keep(end),
+            Some(Stop::Bad) => return Err(Stop::Bad),
             Some(end) if !self.is_ended => {
                 self.is_ended = true;
                 self.print_end(end, lines);
-                if !matches!(end, Stop::Condition) {
-                    self.print_tables(lines);
-                }
             }
             _ => {}
         }
+        Ok(())
     }
 
     /// Whether a call that ends so is made once more. Where memory is refused to the script itself
     /// on its way to a call, that stands for the call's own `OutOfMemory`.
     fn is_made_again(&self, end: Option<Stop>) -> bool {
         let is_refused = matches!(end, Some(Stop::Memory | Stop::Refused(Error::OutOfMemory)));
-        is_refused && self.builder.attempts == Attempts::Two
+        is_refused && self.attempts == Attempts::Two
     }
 
     /// Says that something doesn't stand as it must.
     fn print_state(&self, lines: &mut Lines) {
-        lines.put(&[Piece::Word("state "), Piece::Number(self.number)]);
+        lines.print("state %\n", &[Piece::Number(self.number)]);
     }
 
-    /// Prints the line of an end that isn't as it should be.
+    /// Prints the line of an end that isn't as it should be, and where the conditions were met the
+    /// tables.
     fn print_end(&self, end: Stop, lines: &mut Lines) {
         match end {
-            Stop::Condition => lines.put(&[Piece::Word("condition "), Piece::Number(self.number)]),
-            Stop::Refused(error) => lines.put_value("error ", format_args!("{error:?}")),
-            _ => lines.put(&[Piece::Word("error OutOfMemory")]),
+            Stop::Condition => {
+                return lines.print("condition %\n", &[Piece::Number(self.number)]);
+            }
+            Stop::Refused(error) => lines.put_error("error ", error),
+            _ => lines.print("error OutOfMemory\n", &[]),
         }
+        self.print_tables(lines);
     }
 
     /// Prints the tables that aren't empty.
     fn print_tables(&self, lines: &mut Lines) {
-        match self.builder.table_bytes() {
-            Ok(tables) => {
-                let (line_strings, strings) = (&tables.line_strings, &tables.strings);
-                if !line_strings.is_empty() {
-                    lines.put(&[Piece::Word("line_str "), Piece::Bytes(line_strings)]);
-                }
-                if !strings.is_empty() {
-                    lines.put(&[Piece::Word("str "), Piece::Bytes(strings)]);
-                }
+        match self.table_bytes() {
+            Ok([line_strings, strings]) => {
+                print_table("line_str", &line_strings, lines);
+                print_table("str", &strings, lines);
             }
             Err(_) => lines.refuse(),
         }
     }
 
+    /// The bytes of the tables; by a second call, where memory is refused to the first and attempts
+    /// are two.
+    fn table_bytes(&self) -> Result<[Vec<u8>; 2], Error> {
+        match self.tables.bytes(self.alloc) {
+            Err(_) if self.attempts == Attempts::Two => self.tables.bytes(self.alloc),
+            bytes => bytes,
+        }
+    }
+
     /// Ends a script, and keeps its status: 1 where its program is refused or a condition isn't
     /// met.
-    fn finish(&mut self, lines: &mut Lines) {
+    fn finish(&mut self, lines: &mut Lines) -> Result<(), Stop> {
         if !self.has_program {
-            return self.keep(Some(Stop::Bad));
+            return Err(Stop::Bad);
         }
         if self.is_ended || !self.print_written(lines) {
             self.status = 1;
         }
+        Ok(())
     }
 
     /// Writes the program, and prints what that gives; false where it is refused or a condition
     /// isn't met.
-    fn print_written(&mut self, lines: &mut Lines) -> bool {
-        let encoding = self.unit.unwrap_or(self.builder.encoding());
-        let written = self.written(encoding, lines);
-        match written.end {
-            None => lines.put_bytes(&written.bytes),
+    pub fn print_written(&mut self, lines: &mut Lines) -> bool {
+        let encoding = self.unit.unwrap_or(self.program.encoding());
+        let (bytes, end) = self.written(encoding, lines);
+        match end {
+            None => {
+                for bytes in bytes.chunks(16) {
+                    lines.print("%\n", &[Piece::Bytes(bytes)]);
+                }
+                self.print_tables(lines);
+            }
             Some(end) => self.print_end(end, lines),
         }
-        if matches!(written.end, Some(Stop::Condition)) {
+        if matches!(end, Some(Stop::Condition)) {
             return false;
         }
-        self.print_tables(lines);
         let is_read = !self.reads_back || self.print_read(encoding, lines);
-        written.end.is_none() && is_read
+        end.is_none() && is_read
     }
 
-    /// The section of the program, by a second call where memory is refused to the first and
-    /// attempts are two.
-    fn written(&mut self, encoding: Encoding, lines: &mut Lines) -> Written {
-        let before = self.builder.table_bytes();
-        let written = self.written_once(encoding);
-        if !self.is_made_again(written.end) {
-            return written;
+    /// The section of the program, and how writing into it ends; by a second call where memory is
+    /// refused to the first and attempts are two.
+    fn written(&mut self, encoding: Encoding, lines: &mut Lines) -> (Vec<u8>, Option<Stop>) {
+        let before = self.table_bytes();
+        let (bytes, end) = self.written_once(encoding);
+        if !self.is_made_again(end) {
+            return (bytes, end);
         }
         // The old bytes are a beginning of the section, or where they weren't all written the
         // section one of them.
-        let bytes = written.bytes.as_slice();
-        let begins = bytes.starts_with(&self.prefix) || self.prefix.starts_with(bytes);
-        let stand = match (&before, &self.builder.table_bytes()) {
-            (Ok(before), Ok(now)) => before.stand_in(now),
+        let begins = bytes.starts_with(&self.prefix) || self.prefix.starts_with(&bytes);
+        let stand = match (&before, &self.table_bytes()) {
+            (Ok([lines, strings]), Ok([lines_now, strings_now])) => {
+                gains_empty(lines, lines_now) && gains_empty(strings, strings_now)
+            }
             _ => true,
         };
         let takes_none = matches!(self.target, Target::Array(_));
-        let is_own = matches!(written.end, Some(Stop::Memory));
+        let is_own = matches!(end, Some(Stop::Memory));
         if !begins || !stand || takes_none && !is_own {
             self.print_state(lines);
         }
         self.written_once(encoding)
     }
 
-    /// The section of the program.
-    fn written_once(&mut self, encoding: Encoding) -> Written {
-        let alloc = self.builder.alloc;
+    /// The section of the program, and how writing into it ends.
+    fn written_once(&mut self, encoding: Encoding) -> (Vec<u8>, Option<Stop>) {
+        let alloc = self.alloc;
         let order = self.order;
         match self.target {
             Target::Vector => self.written_into(encoding, EndianVec::new(alloc, order)),
@@ -262,37 +277,42 @@ impl Script {
             Target::Lines => self.written_into(encoding, PieceVec::<_, 16>::new(alloc, order)),
             Target::Array(count) => match ArraySection::new(alloc, count, order) {
                 Ok(section) => self.written_into(encoding, section),
-                Err(_) => Written {
-                    bytes: Vec::new(alloc),
-                    end: Some(Stop::Memory),
-                },
+                Err(_) => (Vec::new(alloc), Some(Stop::Memory)),
             },
         }
     }
 
-    /// A section with the program after the bytes that it holds before.
-    fn written_into<W: Section>(&mut self, encoding: Encoding, section: W) -> Written {
+    /// A section with the program after the bytes that it holds before, and how writing ends.
+    fn written_into<W: Section>(
+        &mut self,
+        encoding: Encoding,
+        section: W,
+    ) -> (Vec<u8>, Option<Stop>) {
         let mut section = DebugLine::from(section);
+        let line_strings = &mut self.tables.line_strings;
+        let strings = &mut self.tables.strings;
         let end = match section.0.write(self.prefix.as_slice()) {
-            Ok(()) => self.builder.write(&mut section, encoding),
+            Ok(()) if self.program.can_write(line_strings, strings) => {
+                let written = self
+                    .program
+                    .write(&mut section, encoding, line_strings, strings);
+                written.err().map(Stop::Refused)
+            }
+            Ok(()) => Some(Stop::Condition),
             Err(error) => Some(Stop::Refused(error)),
         };
-        match section.0.to_bytes(self.builder.alloc) {
-            Ok(bytes) => Written { bytes, end },
-            Err(_) => Written {
-                bytes: Vec::new(self.builder.alloc),
-                end: Some(Stop::Memory),
-            },
+        match section.0.to_bytes(self.alloc) {
+            Ok(bytes) => (bytes, end),
+            Err(_) => (Vec::new(self.alloc), Some(Stop::Memory)),
         }
     }
 
     /// Prints what is read back; false where that is refused, or where a condition isn't met.
     fn print_read(&mut self, encoding: Encoding, lines: &mut Lines) -> bool {
-        let attempts = self.builder.attempts;
-        let mut answer = self.builder.read_back(self.order, encoding);
+        let mut answer = self.read_back(encoding);
         let is_refused = matches!(answer, Some(Err(ConvertError::OutOfMemory)));
-        if is_refused && attempts == Attempts::Two {
-            answer = self.builder.read_back(self.order, encoding);
+        if is_refused && self.attempts == Attempts::Two {
+            answer = self.read_back(encoding);
         }
         match &answer {
             Some(Ok(answer)) => print_answer(answer, lines),
@@ -301,13 +321,27 @@ impl Script {
         }
         matches!(answer, Some(Ok(_)))
     }
+
+    /// What is read of the program's unit, in an empty section; None where it can't be written.
+    fn read_back(&mut self, encoding: Encoding) -> Option<ConvertResult<RoundTrip>> {
+        let line_strings = &mut self.tables.line_strings;
+        let strings = &mut self.tables.strings;
+        if !self.program.can_write(line_strings, strings) {
+            return None;
+        }
+        let mut section = DebugLine::from(EndianVec::new(self.alloc, self.order));
+        Some(round_trip(&self.program, &mut section, encoding, line_strings, strings))
+    }
 }
 
-/// Prints what is written of a program in an order of bytes, the tables that aren't empty, and what
-/// is read back, as a script does.
-pub(crate) fn print_program(builder: Builder, order: RunTimeEndian, lines: &mut Lines) {
-    let mut script = Script::new(builder);
-    script.order = order;
-    script.reads_back = true;
-    let _is_written = script.print_written(lines);
+/// Prints the bytes of a table after a word, if there are any.
+fn print_table(word: &str, bytes: &[u8], lines: &mut Lines) {
+    if !bytes.is_empty() {
+        lines.print("% %\n", &[Piece::Word(word), Piece::Bytes(bytes)]);
+    }
+}
+
+/// Whether a table is as it was when these were its bytes, or has gained the empty text alone.
+fn gains_empty(before: &[u8], now: &[u8]) -> bool {
+    matches!(now.strip_prefix(before), Some([] | [0]))
 }

@@ -1,7 +1,5 @@
 //! The two tables of texts.
 
-ghost use Rattle.std.specs.Prelude.{◌≡◌, []};
-
 use gimli_core::LittleEndian;
 use gimli_write::{
     DebugLineStr, DebugStr, EndianVec, LineStringId, LineStringTable, Result, StringId, StringTable,
@@ -9,7 +7,7 @@ use gimli_write::{
 use std::alloc::Global;
 
 /// The tables of texts.
-#[derive(Debug, Drop)]
+#[derive(Drop)]
 pub(crate) struct Tables {
     /// The texts of the section `.debug_str`.
     pub strings: StringTable,
@@ -17,31 +15,20 @@ pub(crate) struct Tables {
     pub line_strings: LineStringTable,
 }
 
-/// The bytes of the tables.
-#[derive(Drop)]
-pub(crate) struct TableBytes {
-    pub strings: Vec<u8>,
-    pub line_strings: Vec<u8>,
-}
-
 impl Tables {
     /// Tables without a text.
-    pub fn new(alloc: Global) -> Tables
-        ensures strings { result.strings ≡ [] }
-        ensures line_strings { result.line_strings ≡ [] }
-    {
+    pub fn new(alloc: Global) -> Tables {
         Tables {
             strings: StringTable::default(alloc),
             line_strings: LineStringTable::default(alloc),
         }
     }
 
-    /// Tables with the text `old` each.
-    pub fn old(alloc: Global) -> Result<Tables> {
-        let mut tables = Tables::new(alloc);
-        tables.strings.add(b"old")?;
-        tables.line_strings.add(b"old")?;
-        Ok(tables)
+    /// Adds the text `old` to both.
+    pub fn add_old(&mut self) -> Result<()> {
+        self.strings.add(b"old")?;
+        self.line_strings.add(b"old")?;
+        Ok(())
     }
 
     /// Whether the first text of both is `old`.
@@ -54,25 +41,12 @@ impl Tables {
             && line_strings.get(LineStringId(0)) == b"old".as_slice()
     }
 
-    /// The bytes of both.
-    pub fn bytes(&self, alloc: Global) -> Result<TableBytes> {
+    /// The bytes of both, those of `.debug_line_str` first.
+    pub fn bytes(&self, alloc: Global) -> Result<[Vec<u8>; 2]> {
         let mut strings = DebugStr::from(EndianVec::new(alloc, LittleEndian));
         let mut line_strings = DebugLineStr::from(EndianVec::new(alloc, LittleEndian));
         self.strings.write(&mut strings)?;
         self.line_strings.write(&mut line_strings)?;
-        Ok(TableBytes {
-            strings: strings.0.into_vec(),
-            line_strings: line_strings.0.into_vec(),
-        })
-    }
-}
-
-impl TableBytes {
-    /// Whether the tables are as they were when these were their bytes, or have gained the empty
-    /// text alone.
-    pub fn stand_in(&self, now: &TableBytes) -> bool {
-        let strings = now.strings.strip_prefix(self.strings.as_slice());
-        let line_strings = now.line_strings.strip_prefix(self.line_strings.as_slice());
-        matches!(strings, Some([] | [0])) && matches!(line_strings, Some([] | [0]))
+        Ok([line_strings.0.into_vec(), strings.0.into_vec()])
     }
 }

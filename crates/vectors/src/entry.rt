@@ -3,7 +3,7 @@
 use crate::check::check_rows;
 use crate::run::run;
 use linetool_commands::words_after_name;
-use row_text::{Attempts, CONVERSION_WORDS, Fault, Input, Lines, Stop, parse_rows, repeat_lines};
+use row_text::{Attempts, CONVERSION_WORDS, Input, Lines, Stop, parse_rows, repeat_lines};
 use std::alloc::Global;
 use std::env::Env;
 use std::fs::{File, Files};
@@ -136,8 +136,8 @@ fn check_files<R: Files, O: Write + Drop, E: Write>(
                 writeln!(out, "{file}: {as_stated} rows as stated, {not} not")?;
                 status = if not == 0 { status } else { NOT_AS_STATED };
             }
-            Err(Fault::Memory) => return Err(io::Error::from(ErrorKind::OutOfMemory)),
-            Err(Fault::Line(line)) => {
+            Err((_, Stop::Memory)) => return Err(io::Error::from(ErrorKind::OutOfMemory)),
+            Err((line, _)) => {
                 out.flush()?;
                 let _ = writeln!(err, "vectors: {file}:{line}: this can't stand here");
                 return Ok(MALFORMED);

@@ -118,6 +118,9 @@ fn run_words(
         return Err(Stop::Memory);
     }
     lines.write(&printed.out);
-    lines.put_each("stderr ", &err);
+    for line in err.split_inclusive(|byte| *byte == b'\n') {
+        lines.write(b"stderr ");
+        lines.write(line);
+    }
     Ok(status)
 }

@@ -20,7 +20,7 @@ pub fn run_command(
         Err(_) => 2,
     };
     if status != 0 {
-        lines.put(&[Piece::Word("status "), Piece::Number(u64::from(status))]);
+        lines.print("status %\n", &[Piece::Number(u64::from(status))]);
     }
     lines.finish()
 }

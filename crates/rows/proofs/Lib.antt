@@ -1,2 +1,0 @@
-pub mod WithinLemmas
-pub mod FileWalk

@@ -1,8 +1,0 @@
-use Rattle.rows.proofs.WithinLemmas.{strings_kept-longer, line_strings_kept-longer}
-use Rattle.rows.proofs.unit.write_program.Goals as goal
-
-pub returns-clause-strings : goal.returns-clause-strings
-returns-clause-strings g c = strings_kept-longer c.write.ensures.tables_kept
-
-pub returns-clause-line_strings : goal.returns-clause-line_strings
-returns-clause-line_strings g c = line_strings_kept-longer c.write.ensures.tables_kept
