@@ -3,7 +3,6 @@
 //!
 //! | WORK | Does | Counts | Sums |
 //! |---|---|---|---|
-//! | `section` | makes a lookup of the section | units | |
 //! | `make` | makes the index of one lookup | starts | bytes |
 //! | `open` | opens one index, with bytes after it | starts | |
 //! | `find` | finds 10,000 addresses at random | those found | lines and sizes of paths |
@@ -44,9 +43,6 @@ fn do_work<R: Reader>(
     work: &str,
     times: u64,
 ) -> Option<Tally> {
-    if work == "section" {
-        return lookups(alloc, section, times);
-    }
     let lookup = SectionLookup::new(section, alloc, 8, 0).ok()?;
     let mut bytes = index_of(alloc, &lookup, none)?;
     bytes.extend_from_slice(&[0; 8]).ok()?;
@@ -55,16 +51,6 @@ fn do_work<R: Reader>(
         "open" => Some(openings(&bytes, times)),
         _ => Some(findings(&bytes, times)),
     }
-}
-
-/// Makes a lookup so many times.
-fn lookups<R: Reader>(alloc: Global, section: &DebugLine<R>, times: u64) -> Option<Tally> {
-    let mut tally = Tally::default();
-    for _ in 0..times {
-        let lookup = SectionLookup::new(section, alloc, 8, 0).ok()?;
-        tally.count = lookup.units().len() as u64;
-    }
-    Some(tally)
 }
 
 /// The index of a lookup. Its strings stand in its section.

@@ -3,20 +3,17 @@
 //!
 //! | WORK | Does | Counts | Sums |
 //! |---|---|---|---|
-//! | `rows` | runs the program | rows | their addresses |
 //! | `sequences` | cuts the program | sequences | where they end |
-//! | `resumed` | cuts it, and runs each sequence | rows | their addresses |
 //! | `new` | makes a lookup | sequences | where they end |
 //! | `find` | finds 10,000 addresses in one lookup | those found, probes | addresses of rows |
-//! | `find_in_run` | finds the address 0x1000 in one run | 1 or 0 | the address of its row |
 //! | `section` | makes a lookup of the whole section | units | their offsets |
 //! | `section_find` | as `find`, over the whole section | as `find` | as `find` |
 
 use crate::order::{LOOKUP, OrderOf};
 use crate::parse;
 use gimli_core::{DebugLineOffset, Error, Reader, ReaderOffset, Result};
-use gimli_line::{DebugLine, IncompleteLineProgram, LineProgram, LineRows, LineSequence};
-use gimli_lookup::{Lookup, SectionLookup, find_in_run};
+use gimli_line::{DebugLine, IncompleteLineProgram, LineSequence};
+use gimli_lookup::{Lookup, SectionLookup};
 use std::alloc::Global;
 use std::io::ErrorKind;
 use std::{fs, io};
@@ -68,7 +65,10 @@ fn do_work<R: Reader>(
             let lookup = Lookup::new(section.program(alloc, offset, 8, None, None)?)?;
             return Ok(find_times(&lookup, times));
         }
-        "section_find" => return find_times_in_section(alloc, section, times),
+        "section_find" => {
+            let lookup = SectionLookup::new(section, alloc, 8, 0)?;
+            return Ok(find_times_in_section(&lookup, times));
+        }
         _ => {}
     }
     let mut tally = Tally::default();
@@ -96,8 +96,6 @@ fn tally_of_section<R: Reader>(alloc: Global, section: &DebugLine<R>) -> Result<
 fn tally_of<R: Reader>(program: IncompleteLineProgram<R>, work: &str) -> Result<Tally> {
     let mut tally = Tally::default();
     match work {
-        "rows" => add_rows(program.rows(), &mut tally)?,
-        "resumed" => add_resumed(program, &mut tally)?,
         "sequences" => {
             let (_, sequences) = program.sequences()?;
             add_ends(&sequences, &mut tally);
@@ -106,38 +104,9 @@ fn tally_of<R: Reader>(program: IncompleteLineProgram<R>, work: &str) -> Result<
             let lookup = Lookup::new(program)?;
             add_ends(lookup.sequences(), &mut tally);
         }
-        "find_in_run" => {
-            if let Some((row, _)) = find_in_run(program, 0x1000)? {
-                tally.add(row.address());
-            }
-        }
         _ => return Err(Error::UnsupportedOffset),
     }
     Ok(tally)
-}
-
-/// Adds the rows that are still to come.
-fn add_rows<R: Reader, P: LineProgram<R> + Drop>(
-    rows: LineRows<R, P>,
-    tally: &mut Tally,
-) -> Result<()> {
-    let mut rows = rows;
-    for _ in 0..u64::MAX {
-        match rows.next_row()? {
-            Some((_, row)) => tally.add(row.address()),
-            None => return Ok(()),
-        }
-    }
-    Ok(())
-}
-
-/// Adds the rows of each sequence.
-fn add_resumed<R: Reader>(program: IncompleteLineProgram<R>, tally: &mut Tally) -> Result<()> {
-    let (program, sequences) = program.sequences()?;
-    for sequence in &sequences {
-        add_rows(program.resume_from(sequence), tally)?;
-    }
-    Ok(())
 }
 
 /// Adds where sequences end.
@@ -188,42 +157,36 @@ fn find_all<R: Reader>(lookup: &Lookup<R>, lowest: u64, length: u64) -> Tally {
     tally
 }
 
-/// The same over all units of a section that aren't refused.
-fn span_of_section<R: Reader>(alloc: Global, section: &DebugLine<R>) -> Result<(u64, u64)> {
+/// The addresses from the lowest one that rows cover on, and how many there are to the highest.
+fn span_of_section<R: Reader>(lookup: &SectionLookup<R>) -> (u64, u64) {
+    let mut ranges = lookup.ranges();
     let mut lowest = u64::MAX;
     let mut highest = 0;
-    let mut units = section.units(alloc, 8);
     for _ in 0..u64::MAX {
-        let Some(unit) = units.next()? else {
-            break;
-        };
-        if let Ok(program) = unit.program {
-            let (_, sequences) = program.sequences()?;
-            let (start, length) = span(&sequences);
-            lowest = lowest.min(start);
-            highest = u64::max(highest, start.saturating_add(length));
+        match ranges.next_range() {
+            Some(range) if range.rows.is_some() => {
+                lowest = lowest.min(range.start);
+                highest = range.end.unwrap_or(u64::MAX);
+            }
+            Some(_) => {}
+            None => break,
         }
     }
-    Ok((lowest, u64::saturating_sub(highest, lowest)))
+    (lowest, u64::saturating_sub(highest, lowest))
 }
 
 /// The same as `find_times` over a section.
-fn find_times_in_section<R: Reader>(
-    alloc: Global,
-    section: &DebugLine<R>,
-    times: u64,
-) -> Result<Tally> {
-    let (lowest, length) = span_of_section(alloc, section)?;
-    let lookup = SectionLookup::new(section, alloc, 8, 0)?;
+fn find_times_in_section<R: Reader>(lookup: &SectionLookup<R>, times: u64) -> Tally {
+    let (lowest, length) = span_of_section(lookup);
     let mut tally = Tally::default();
     for _ in 0..times {
-        tally = find_all_in_section(&lookup, lowest, length);
+        tally = find_all_in_section(lookup, lowest, length);
     }
     for place in 0..ADDRESSES {
         let (_, count) = lookup.find_counted(address(lowest, length, place));
         tally.probes = tally.probes.wrapping_add(count);
     }
-    Ok(tally)
+    tally
 }
 
 /// Finds each address in a section.
