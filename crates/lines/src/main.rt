@@ -11,7 +11,7 @@ mod session;
 use crate::session::Run;
 use clap::Error;
 use clap::error::ErrorKind as WordsError;
-use lines_words::Command;
+use lines_words::{Command, Request};
 use std::env::{Env, FillError};
 use std::io::{self, ErrorKind, Write};
 use std::process::ExitCode;
@@ -52,12 +52,14 @@ fn start(rt: &HostRuntime) -> io::Result<u8> {
         words.push(word.as_str())?;
     }
     match lines_words::parse(alloc, &words) {
-        Ok(request) => perform(Run {
-            rt,
-            request: &request,
-        }),
+        Ok(request) => run(rt, &request),
         Err(error) => explain(rt, &error),
     }
+}
+
+/// Does what a request asks for, and returns the status of the program.
+fn run(rt: &HostRuntime, request: &Request<'_>) -> io::Result<u8> {
+    perform(Run { rt, request })
 }
 
 /// The words of the program, each as text, as `text_of_word` has it.
