@@ -8,6 +8,7 @@ use Rattle.std.proofs.lemmas.List.{length-map, map-append}
 use Rattle.std.proofs.lemmas.List.Elements.{All-push}
 use Rattle.std.proofs.lemmas.List.Sums.{fold-append}
 use Rattle.std.proofs.lemmas.Option.{slice_get_within, slice_get-map}
+use Rattle.gimli_line.specs.declared.run.row.LineRow.{LineRow}
 use Rattle.gimli_lookup.specs.Ranges.{IsBefore, IsFoundAt, AreFoundIn}
 use Rattle.gimli_lookup.specs.Section.{KeptUnit}
 use Rattle.gimli_lookup.specs.declared.ranges.CoveredRange.{CoveredRange}
@@ -21,7 +22,8 @@ use Rattle.gimli_index.specs.declared.contents.SourceLine.{SourceLine}
 use Rattle.gimli_index.specs.Short.{IsShort}
 use Rattle.gimli_index.specs.inside.Table.{Table, AreSources, Entered, IsInside, IsPushed, Keeps, SayTheSame, last_said, place_in, starts_in, with_table}
 use Rattle.gimli_index.proofs.OneFound.{one_found}
-use Rattle.gimli_index.proofs.Lists.{get_pushed}
+use Rattle.gimli_index.proofs.LineStarts.{last_place}
+use Rattle.gimli_index.proofs.Lists.{get_pushed, get_seam}
 use Rattle.gimli_index.proofs.Sources.{inside_stays, place_stays, same_places, say_the_same}
 
 -- ---- what entries say of an address
@@ -29,7 +31,7 @@ use Rattle.gimli_index.proofs.Sources.{inside_stays, place_stays, same_places, s
 abbrev said_by : ℕ → Option Place → Start → Option Place
 said_by a current s = if nat_le s.address a then s.place else current
 
-at_pushed : (table : Table) (a : ℕ) (entries : List Entry) (e : Entry)
+pub at_pushed : (table : Table) (a : ℕ) (entries : List Entry) (e : Entry)
     → place_at a (starts_in table (entries ++ e ∷ [])) ≡ cond (leb e.address a) (place_in table e.place) (place_at a (starts_in table entries))
 at_pushed table a entries e =
     ap (place_at a) (map-append (entry_start (with_table table)) entries (e ∷ []))
@@ -45,7 +47,7 @@ at_last table a e (next ∷ entries) current z below last =
     at_last table a next entries (cond (leb e.address a) (place_in table e.place) current) z (λ k x there. below (suc k) x there) last
 
 -- where all entries are at or below an address, it is the last one that says
-at_end : (table : Table) (a : ℕ) (entries : List Entry) → ((k : ℕ) (x : Entry) → slice_get entries k ≡ Some x → x.address ≤ a)
+pub at_end : (table : Table) (a : ℕ) (entries : List Entry) → ((k : ℕ) (x : Entry) → slice_get entries k ≡ Some x → x.address ≤ a)
     → place_at a (starts_in table entries) ≡ place_in table (last_said entries)
 at_end table a [] below = refl
 at_end table a (e ∷ entries) below = by_last (slice_get (e ∷ entries) (length entries)) refl
@@ -75,7 +77,7 @@ none_entered t units table are = record {
   says = λ a found before is. absurd (omega (arith, before));
 }
 
-same_starts : (old new : Table) (entries : List Entry) → ((k : ℕ) (e : Entry) → slice_get entries k ≡ Some e → place_in new e.place ≡ place_in old e.place)
+pub same_starts : (old new : Table) (entries : List Entry) → ((k : ℕ) (e : Entry) → slice_get entries k ≡ Some e → place_in new e.place ≡ place_in old e.place)
     → starts_in new entries ≡ starts_in old entries
 same_starts old new [] each = refl
 same_starts old new (e ∷ entries) each =
@@ -108,11 +110,7 @@ start_before : (start : ℕ) (end : Option ℕ) → IfSome end (λ e. start < e)
 start_before start None above = tt
 start_before start (Some e) above = above
 
--- what the last of some starts says; nothing where there is none
-abbrev last_place : List Start → Option Place
-last_place starts = option_and_then (λ (s : Start). s.place) (slice_get starts (length starts - 1))
-
-last_place_is : (table : Table) (entries : List Entry) → last_place (starts_in table entries) ≡ place_in table (last_said entries)
+pub last_place_is : (table : Table) (entries : List Entry) → last_place (starts_in table entries) ≡ place_in table (last_said entries)
 last_place_is table entries =
     ap (λ (n : ℕ). option_and_then (λ (s : Start). s.place) (slice_get (starts_in table entries) (n - 1)))
     (length-map entries (entry_start (with_table table)))
@@ -125,7 +123,7 @@ last_place_is table entries =
     by_entry (Some e) = refl
 
 -- one more start, which says something else than the last one
-short_push : (starts : List Start) (s : Start) → IsShort starts → (last_place starts ≡ s.place → ⊥) → IsShort (starts ++ s ∷ [])
+pub short_push : (starts : List Start) (s : Start) → IsShort starts → (last_place starts ≡ s.place → ⊥) → IsShort (starts ++ s ∷ [])
 short_push starts s is other = record {
   first = λ x there. at_first x (get_pushed starts s 0 x there);
   merged = λ k x y first second. at_next k x y (get_pushed starts s k x first) (get_pushed starts s (k + 1) y second);
@@ -224,15 +222,23 @@ module _ (t : Texts) (units : List KeptUnit) (table : Table) (entries new : List
   pushed (inr is) =
       subst (λ (es : List Entry). Entered t units table es range.end) (sym is.0) (same_said (same_places table (last_said entries) place is.1))
 
--- what is found in a range is found in a unit
--- and they are found
+-- what is found in a range stands in a sequence
 pub rows_found : (units : List KeptUnit) (range : CoveredRange) → IfSome range.end (λ e. range.start < e) → AreFoundIn units range
     → IfSome range.rows (AreFound units)
 rows_found units range above found = by_rows range.rows (found range.start (omega arith) (start_before range.start range.end above))
   where
     by_rows : (rows : Option CoveringRows) → IsFoundAt units range.start rows → IfSome rows (AreFound units)
     by_rows None none = tt
-    by_rows (Some f) first = record { address = range.start; found = first }
+    by_rows (Some f) first = record {
+      unit = first.unit;
+      there = first.there;
+      rows = first.is_first.rows;
+      sequence = length first.is_first.earlier;
+      is_sequence = ap (λ (ss : List (List LineRow)). slice_get ss (length first.is_first.earlier)) first.is_first.parts
+          ∙ get_seam first.is_first.earlier first.is_first.rows first.is_first.later;
+      index = first.is_first.is_first.index;
+      stands = first.is_first.is_first.is_pair.first;
+    }
 
 pub unit_within : (units : List KeptUnit) (range : CoveredRange) → IfSome range.end (λ e. range.start < e) → AreFoundIn units range
     → IfSome range.rows (λ f. f.unit < length units)

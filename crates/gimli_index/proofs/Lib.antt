@@ -19,3 +19,9 @@ mod Lists
 mod PathLists
 mod Distinct
 mod Sources
+mod LineStarts
+mod TurnPlaces
+mod TurnOrder
+mod WalkedStarts
+mod TurnLines
+mod TurnSteps

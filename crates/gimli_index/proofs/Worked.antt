@@ -1,9 +1,15 @@
 -- Worked indexes: what the definitions say of bytes that were written by hand.
-use Rattle.std.proofs.Common.{◌≡◌, ℕ, true, false, List, [], ◌∷◌, ◌++◌, Option, Some, None, Result, Ok, Err, refl}
+use Rattle.std.proofs.Common.{◌≡◌, ℕ, Bool, true, false, List, [], ◌∷◌, ◌++◌, Option, Some, None, Result, Ok, Err, refl}
 use Rattle.std.specs.Prelude.{replicate, take, slice_set}
 use Rattle.gimli_core.specs.Reading.{result_map}
+use Rattle.gimli_line.specs.declared.run.row.LineRow.{LineRow}
+use Rattle.gimli_lookup.specs.Statements.{addresses_in}
 use Rattle.gimli_index.specs.Parts.{index_at}
+use Rattle.gimli_index.specs.Found.{Texts}
+use Rattle.gimli_index.specs.Lines.{addresses_of}
 use Rattle.gimli_index.specs.Meaning.{Place, Start, place_at, starts_of}
+use Rattle.gimli_index.specs.Ranges.{ranges_of}
+use Rattle.gimli_index.specs.inside.Turns.{starts_of_rows}
 use Rattle.gimli_index.specs.declared.error.IndexError.{IndexError}
 use Rattle.gimli_index.specs.declared.error.IndexError.TheVariants.{NotIndex, HeaderCut, Version, AddressSize, StartSize, Base, Cut}
 use Rattle.gimli_index.specs.declared.place.NoPath.TheVariants.{Reason, Outside}
@@ -131,3 +137,91 @@ cut = refl
 
 pub whole : result_map (λ index. index.starts) (index_at (take 142 index_4)) ≡ Ok 3
 whole = refl
+
+-- ---- optimised code: lines 10 and 11 at 0x1000, line 12 at 0x1004, and an end at 0x1008. No code is between the first two rows, and
+-- both are statements: so code of both lines begins at 0x1000 (DWARF 5, section 6.2.2, is_stmt), and the second row holds there
+
+abbrev row_at : ℕ → ℕ → Bool → LineRow
+row_at address line end = record {
+  tombstone = false;
+  address = address;
+  op_index = 0;
+  file = 1;
+  line = line;
+  column = 0;
+  is_stmt = true;
+  basic_block = false;
+  end_sequence = end;
+  prologue_end = false;
+  epilogue_begin = false;
+  isa = 0;
+  discriminator = 0;
+}
+
+abbrev optimised_rows : List LineRow
+optimised_rows = row_at 0x1000 10 false ∷ row_at 0x1000 11 false ∷ row_at 0x1004 12 false ∷ row_at 0x1008 12 true ∷ []
+
+pub rows_of_line_10 : addresses_in (λ file. true) 10 optimised_rows ≡ 0x1000 ∷ []
+rows_of_line_10 = refl
+
+-- the starts of such rows, of a file whose path isn't known
+abbrev unknown : ℕ → Option Place
+unknown line = Some (record { path = Err (Reason 8); line = line; column = 0; is_stmt = true; unit = 0 })
+
+pub starts_of_optimised : (t : Texts)
+    → starts_of_rows t (record { offset = 0; header = None; fault = None; first = 0; end = 0 }) optimised_rows ≡
+    record { address = 0x1000; place = unknown 10 }
+    ∷ record { address = 0x1000; place = unknown 11 }
+    ∷ record { address = 0x1004; place = unknown 12 }
+    ∷ record { address = 0x1008; place = None }
+    ∷ []
+starts_of_optimised t = refl
+
+-- the same of /a.c
+abbrev of_line : ℕ → Option Place
+of_line line = Some (record { path = Ok paths_4; line = line; column = 0; is_stmt = true; unit = 0 })
+
+abbrev optimised : List Start
+optimised =
+    record { address = 0x1000; place = of_line 10 }
+    ∷ record { address = 0x1000; place = of_line 11 }
+    ∷ record { address = 0x1004; place = of_line 12 }
+    ∷ record { address = 0x1008; place = None }
+    ∷ []
+
+pub line_10 : addresses_of paths_4 optimised 10 ≡ 0x1000 ∷ []
+line_10 = refl
+
+pub line_11 : addresses_of paths_4 optimised 11 ≡ 0x1000 ∷ []
+line_11 = refl
+
+pub line_12 : addresses_of paths_4 optimised 12 ≡ 0x1004 ∷ []
+line_12 = refl
+
+-- the last start of an address holds there
+pub last_holds : place_at 0x1000 optimised ≡ of_line 11
+last_holds = refl
+
+pub three_ranges : ranges_of optimised ≡
+    record { start = 0x1000; end = Some 0x1004; place = of_line 11 }
+    ∷ record { start = 0x1004; end = Some 0x1008; place = of_line 12 }
+    ∷ record { start = 0x1008; end = None; place = None }
+    ∷ []
+three_ranges = refl
+
+-- ---- two sequences that overlap: line 10 from 0x1000 up to 0x1010, and in an earlier unit line 20 from 0x1004 up to 0x1008. What is
+-- found begins anew at 0x1008, and so does line 10
+
+abbrev overlapped : List Start
+overlapped =
+    record { address = 0x1000; place = of_line 10 }
+    ∷ record { address = 0x1004; place = of_line 20 }
+    ∷ record { address = 0x1008; place = of_line 10 }
+    ∷ record { address = 0x1010; place = None }
+    ∷ []
+
+pub begins_anew : addresses_of paths_4 overlapped 10 ≡ 0x1000 ∷ 0x1008 ∷ []
+begins_anew = refl
+
+pub begins_once : addresses_in (λ file. true) 10 (row_at 0x1000 10 false ∷ row_at 0x1010 10 true ∷ []) ≡ 0x1000 ∷ []
+begins_once = refl

@@ -5,7 +5,7 @@ use Rattle.std.specs.Option.{option_map, option_and_then}
 use Rattle.std.proofs.lemmas.List.{length-map}
 use Rattle.std.proofs.lemmas.Option.{slice_get_within}
 use Rattle.gimli_index.specs.Contents.{Contents, Fits, HasColumn, entry_start, index_bytes, line_in}
-use Rattle.gimli_index.specs.Found.{Given, AreContentsOf, IsAppended, IsIndexAppended, IsIndexOf, SayWhatIsFound}
+use Rattle.gimli_index.specs.Found.{Given, AreContentsOf, IsAppended, IsIndexAppended, IsIndexOf, SayWhatIsFound, SayWhereLinesBegin}
 use Rattle.gimli_index.specs.Made.{EntriesAscend, IsMakeFault}
 use Rattle.gimli_index.specs.Meaning.{Start, place_at}
 use Rattle.gimli_index.specs.Refused.{IsIndexFault}
@@ -37,6 +37,7 @@ index_of given c rest are =
       is_read = read.is_read;
       ascending = read.ascending are.ascending;
       says = λ a found is. ap (place_at a) read.starts ∙ are.says a found is;
+      lines = subst (SayWhereLinesBegin given.texts given.units) (sym read.starts) are.lines;
       short = subst IsShort (sym read.starts) are.short;
       address_size = read.address_size ∙ are.address_size;
       identity = read.identity ∙ are.identity;
@@ -58,7 +59,8 @@ start_by sources paths e = record {
 }
 
 module _ (given : Given) (table : Table) (entries : List Entry) (c : Contents) (h : Entered given.texts given.units table entries None)
-    (sources : c.sources ≡ table.sources) (entries_are : c.entries ≡ entries) (paths : c.paths ≡ table.paths.bytes) where
+    (lines : SayWhereLinesBegin given.texts given.units (starts_in table entries)) (sources : c.sources ≡ table.sources) (entries_are : c.entries ≡ entries)
+    (paths : c.paths ≡ table.paths.bytes) where
   same_starts : map (entry_start c) c.entries ≡ starts_in table entries
   same_starts =
       ap (λ (ss : List Source). map (start_by ss c.paths) c.entries) sources
@@ -70,6 +72,9 @@ module _ (given : Given) (table : Table) (entries : List Entry) (c : Contents) (
 
   says : SayWhatIsFound given.texts given.units (map (entry_start c) c.entries)
   says a found is = ap (place_at a) same_starts ∙ h.says a found tt is
+
+  say_lines : SayWhereLinesBegin given.texts given.units (map (entry_start c) c.entries)
+  say_lines = subst (SayWhereLinesBegin given.texts given.units) (sym same_starts) lines
 
   short : IsShort (map (entry_start c) c.entries)
   short = subst IsShort (sym same_starts) h.short
@@ -90,6 +95,7 @@ module _ (given : Given) (table : Table) (entries : List Entry) (c : Contents) (
     fits = fits;
     ascending = ascends;
     says = says;
+    lines = say_lines;
     short = short;
     paths_once = paths_once;
     address_size = size;
@@ -103,6 +109,7 @@ module _ (given : Given) (table : Table) (entries : List Entry) (c : Contents) (
     starts = map (entry_start c) c.entries;
     ascending = starts_ascend c ascends;
     says = says;
+    lines = say_lines;
     short = short;
     many = omega (arith, fault, length-map c.entries (entry_start c));
   }

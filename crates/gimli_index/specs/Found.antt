@@ -1,9 +1,13 @@
--- What a lookup finds at an address, as an index says it.
-use Rattle.std.specs.Prelude.{◌≡◌, ◌++◌, ℕ, List, length, drop, map, slice_get, Option}
-use Rattle.std.specs.Prelude.{None, Some, Result, Ok, Err}
+-- What a lookup finds at an address, and where it says that the code of a line begins, as an index
+-- says it.
+use Rattle.std.specs.Prelude.{◌≡◌, ◌⊎◌, ◌+◌, ◌<◌, ◌≤◌, ◌++◌, ℕ, Bool, true, false, List, length}
+use Rattle.std.specs.Prelude.{drop, map, flat_map, nat_eq, slice_get, Option}
+use Rattle.std.specs.Prelude.{None, Some, Result, Ok, Err, All, AllPairs}
+use Rattle.std.specs.List.{count_by}
 use Rattle.std.specs.Option.{option_map, option_map_or}
 use Rattle.gimli_compilation.specs.Directories.{directory_for}
 use Rattle.gimli_index.specs.Contents.{Contents, Fits, entry_start, index_bytes}
+use Rattle.gimli_index.specs.Lines.{addresses_of, is_named}
 use Rattle.gimli_index.specs.Made.{EntriesAscend}
 use Rattle.gimli_index.specs.Meaning.{Place, Start, AreAscending, place_at, starts_of}
 use Rattle.gimli_index.specs.Parts.{Index, index_at}
@@ -13,8 +17,10 @@ use Rattle.gimli_index.specs.declared.place.NoPath.TheVariants.{Reason}
 use Rattle.gimli_line.specs.declared.run.row.LineRow.{LineRow}
 use Rattle.gimli_line.specs.header.Header.{Header}
 use Rattle.gimli_lookup.specs.Paths.{Paths, row_path}
+use Rattle.gimli_lookup.specs.Probes.{never_go_down}
 use Rattle.gimli_lookup.specs.Ranges.{IsFoundAt}
-use Rattle.gimli_lookup.specs.Section.{KeptHeader, KeptUnit, ListedUnit}
+use Rattle.gimli_lookup.specs.Section.{KeptHeader, KeptUnit, ListedUnit, all_sequences}
+use Rattle.gimli_lookup.specs.Statements.{addresses_of as addresses_in_sequences}
 use Rattle.gimli_lookup.specs.Strings.{Strings, strings}
 use Rattle.gimli_lookup.specs.declared.path_error.PathError.{PathError}
 use Rattle.gimli_lookup.specs.declared.path_error.PathError.TheVariants.{
@@ -98,6 +104,61 @@ SayWhatIsFound t units starts =
     (a : ℕ) (found : Option CoveringRows) → IsFoundAt units a found
     → place_at a starts ≡ found_place t units found
 
+-- ---- lines
+
+-- a row of a file, of which nothing else is said
+abbrev pub row_of_file : ℕ → LineRow
+row_of_file file = record {
+  tombstone = false;
+  address = 0;
+  op_index = 0;
+  file = file;
+  line = 0;
+  column = 0;
+  is_stmt = false;
+  basic_block = false;
+  end_sequence = false;
+  prologue_end = false;
+  epilogue_begin = false;
+  isa = 0;
+  discriminator = 0;
+}
+
+-- whether a path names the file of a number in a unit
+abbrev pub names_file : Texts → List ℕ → ListedUnit → ℕ → Bool
+names_file t path u file = is_named path (unit_path t u (row_of_file file))
+
+-- the addresses at which the code of a line begins, of the files that a path names: those that
+-- `SectionLookup::addresses_of_files` gives of these files in each unit, one unit after the other
+abbrev pub lookup_addresses : Texts → List ℕ → List KeptUnit → ℕ → List ℕ
+lookup_addresses t path units line =
+    flat_map (λ u. addresses_in_sequences (names_file t path u.unit) u.sequences line) units
+
+-- no row of a sequence but the last ends it
+abbrev pub EndsLast : List LineRow → Type 0
+EndsLast rows = (k : ℕ) (r : LineRow) → slice_get rows k ≡ Some r → k + 1 < length rows
+    → r.end_sequence ≡ false
+
+-- no row of a sequence has an address above that of a row of another
+abbrev pub StandBelow : List LineRow → List LineRow → Type 0
+StandBelow rows others = (i j : ℕ) (r s : LineRow) → slice_get rows i ≡ Some r
+    → slice_get others j ≡ Some s → r.address ≤ s.address
+
+-- the addresses of each sequence never go down, and of any two sequences one ends before the other
+-- begins, or where it does
+pub record AreApart (sequences : List (List LineRow)) : Type 0 where
+  pub in_order : All (λ rows. never_go_down rows ≡ true) sequences
+  pub ends : All EndsLast sequences
+  pub apart : AllPairs (λ rows others. StandBelow rows others ⊎ StandBelow others rows) sequences
+
+-- the addresses that starts give of a line are those of the lookup, each as often, if its sequences
+-- don't overlap
+abbrev pub SayWhereLinesBegin : Texts → List KeptUnit → List Start → Type 0
+SayWhereLinesBegin t units starts =
+    AreApart (all_sequences units) → (path : List ℕ) (line a : ℕ)
+    → count_by (nat_eq a) (addresses_of path starts line)
+    ≡ count_by (nat_eq a) (lookup_addresses t path units line)
+
 -- ---- the index of a lookup
 
 -- what an index is made of: texts, units, the bytes of an address, and what it is named by
@@ -107,11 +168,13 @@ pub record Given : Type 0 where
   pub size : ℕ
   pub name : List ℕ
 
--- contents that say of each address what is found there, and nothing twice
+-- contents that say of each address what is found there, and nothing twice, and of each line where
+-- its code begins
 pub record AreContentsOf (given : Given) (c : Contents) : Type 0 where
   pub fits : Fits c
   pub ascending : EntriesAscend c.entries
   pub says : SayWhatIsFound given.texts given.units (map (entry_start c) c.entries)
+  pub lines : SayWhereLinesBegin given.texts given.units (map (entry_start c) c.entries)
   pub short : IsShort (map (entry_start c) c.entries)
   pub paths_once : HasPathsOnce c
   pub address_size : c.address_size ≡ given.size
@@ -123,12 +186,14 @@ pub record IsAppended (given : Given) (old new : List ℕ) : Type 0 where
   pub bytes : new ≡ old ++ index_bytes contents
   pub are : AreContentsOf given contents
 
--- bytes begin with an index that says of each address what is found there, and nothing twice
+-- bytes begin with an index that says of each address what is found there, and nothing twice, and
+-- of each line where its code begins
 pub record IsIndexOf (given : Given) (bytes : List ℕ) : Type 0 where
   pub index : Index
   pub is_read : index_at bytes ≡ Ok index
   pub ascending : AreAscending (starts_of index)
   pub says : SayWhatIsFound given.texts given.units (starts_of index)
+  pub lines : SayWhereLinesBegin given.texts given.units (starts_of index)
   pub short : IsShort (starts_of index)
   pub address_size : index.address_size ≡ given.size
   pub identity : index.identity ≡ given.name

@@ -1,5 +1,6 @@
 -- The ranges of addresses of an index: each start with where the next one is.
-use Rattle.std.specs.Prelude.{ℕ, List, [], ◌∷◌, drop, Option, Some, None}
+use Rattle.std.specs.Prelude.{ℕ, Bool, false, nat_eq, if◌then◌else◌, List, [], ◌∷◌, drop, Option}
+use Rattle.std.specs.Prelude.{Some, None}
 use Rattle.std.specs.Option.{option_map}
 use Rattle.gimli_index.specs.Meaning.{Place, Start, starts_of}
 use Rattle.gimli_index.specs.Views.{index_of, place_of}
@@ -18,11 +19,19 @@ abbrev pub first_start : List Start → Option ℕ
 first_start [] = None
 first_start (s ∷ starts) = Some s.address
 
--- a range goes up to the next start, and the last one on to the highest address
+-- whether a start has the address of the one after it, so that it holds nowhere
+abbrev pub is_empty : Start → List Start → Bool
+is_empty s [] = false
+is_empty s (next ∷ starts) = nat_eq s.address next.address
+
+-- a range goes up to the next start, and the last one on to the highest address; a start that holds
+-- nowhere has none
 abbrev pub ranges_of : List Start → List Range
 ranges_of [] = []
 ranges_of (s ∷ starts) =
-    (record { start = s.address; end = first_start starts; place = s.place }) ∷ ranges_of starts
+    if is_empty s starts then ranges_of starts
+    else (record { start = s.address; end = first_start starts; place = s.place })
+    ∷ ranges_of starts
 
 -- what the values of the crate stand for
 abbrev pub range_of : PlaceRange → Range

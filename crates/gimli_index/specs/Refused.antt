@@ -1,10 +1,10 @@
 -- Why no index is made of a lookup, memory aside.
 use Rattle.std.specs.Prelude.{◌≡◌, ◌≢◌, ◌≤◌, ◌^◌, ℕ, List, length, Some, Ok, All, AllPairs}
+use Rattle.std.specs.Prelude.{slice_get}
 use Rattle.gimli_line.specs.declared.run.row.LineRow.{LineRow}
-use Rattle.gimli_lookup.specs.Ranges.{IsFoundAt}
 use Rattle.gimli_lookup.specs.Section.{KeptUnit}
 use Rattle.gimli_lookup.specs.declared.section_lookup.CoveringRows.{CoveringRows}
-use Rattle.gimli_index.specs.Found.{Given, Texts, found_place, SayWhatIsFound}
+use Rattle.gimli_index.specs.Found.{Given, Texts, found_place, SayWhatIsFound, SayWhereLinesBegin}
 use Rattle.gimli_index.specs.Meaning.{AreAscending, Place, Start}
 use Rattle.gimli_index.specs.Short.{IsShort, joined}
 use Rattle.gimli_index.specs.declared.error.MakeError.{MakeError}
@@ -14,45 +14,52 @@ use Rattle.gimli_index.specs.declared.error.MakeError.TheVariants.{IdentityTooLa
 use Rattle.gimli_index.specs.declared.error.MakeError.TheVariants.{ColumnTooLarge, OutOfMemory}
 use Rattle.gimli_index.specs.declared.source_keys.SourceKey.{SourceKey}
 
--- rows that are found at some address
+-- a row stands in a sequence of its unit
 pub record AreFound (units : List KeptUnit) (f : CoveringRows) : Type 0 where
-  pub address : ℕ
-  pub found : IsFoundAt units address (Some f)
+  pub unit : KeptUnit
+  pub there : slice_get units f.unit ≡ Some unit
+  pub rows : List LineRow
+  pub sequence : ℕ
+  pub is_sequence : slice_get unit.sequences sequence ≡ Some rows
+  pub index : ℕ
+  pub stands : slice_get rows index ≡ Some f.row
 
--- a row that is found at some address
+-- a row of some sequence
 abbrev pub IsFoundRow : List KeptUnit → LineRow → Type 0
 IsFoundRow units r = (f : CoveringRows) × AreFound units f × (f.row ≡ r)
 
--- a file of a unit, by the index of the unit: one of a row that is found at some address
+-- a file of a unit, by the index of the unit: one of a row of some sequence
 abbrev pub IsFoundFile : List KeptUnit → SourceKey → Type 0
 IsFoundFile units key =
     (f : CoveringRows) × AreFound units f × (f.unit ≡ key.unit) × (f.row.file ≡ key.file)
 
--- the path of a place that is found at some address
+-- the path of a row of some sequence
 abbrev pub IsFoundPath : Texts → List KeptUnit → List ℕ → Type 0
 IsFoundPath t units path =
     (f : CoveringRows) × AreFound units f × (place : Place)
     × (found_place t units (Some f) ≡ Some place) × (place.path ≡ Ok path)
 
--- there are files that are found, no two of them the same, whose number 32 bits don't hold
+-- there are files of rows, no two of them the same, whose number 32 bits don't hold
 pub record HasManyFiles (units : List KeptUnit) : Type 0 where
   pub files : List SourceKey
   pub found : All (IsFoundFile units) files
   pub distinct : AllPairs (λ x y. x ≢ y) files
   pub many : 2 ^ 32 ≤ length files
 
--- there are paths that are found, no two of them the same, of more bytes than 32 bits count
+-- there are paths of rows, no two of them the same, of more bytes than 32 bits count
 pub record HasLongPaths (t : Texts) (units : List KeptUnit) : Type 0 where
   pub paths : List (List ℕ)
   pub found : All (IsFoundPath t units) paths
   pub distinct : AllPairs (λ x y. x ≢ y) paths
   pub long : 2 ^ 32 ≤ length (joined paths)
 
--- starts that say what is found, and no two side by side the same, are more than 32 bits count
+-- starts that say what is found, and where the code of lines begins, and no two side by side the
+-- same, are more than 32 bits count
 pub record HasManyStarts (t : Texts) (units : List KeptUnit) : Type 0 where
   pub starts : List Start
   pub ascending : AreAscending starts
   pub says : SayWhatIsFound t units starts
+  pub lines : SayWhereLinesBegin t units starts
   pub short : IsShort starts
   pub many : 2 ^ 32 ≤ length starts
 

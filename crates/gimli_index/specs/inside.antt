@@ -4,3 +4,4 @@ pub mod Numbers
 pub mod PathEnd
 pub mod Paths
 pub mod Table
+pub mod Turns

@@ -155,9 +155,8 @@ impl<'a> LineIndex<'a> {
     /// A path names a file where the file's path ends with its components (`stl_map.h`,
     /// `bits/stl_map.h`); one from the root is a whole one. `/` and backslashes part components,
     /// and `.`, `..` and doubled separators are resolved by text. Takes no memory, and looks at
-    /// each start once for the line, and once for its addresses. It is
-    /// [`SectionLookup::addresses_of`](gimli_lookup::SectionLookup::addresses_of) over the rows
-    /// that addresses are found in.
+    /// each start once for the line, and once for its addresses. The starts that
+    /// [`write_index`](crate::write_index) makes have the addresses that its lookup has.
     pub fn addresses_of<'p>(&self, path: &'p [u8], line: u64) -> Option<Addresses<'a, 'p>>
         ensures { AreAddressesFrom
             (addresses_of path.now (starts_of (index_of self.now))) line result }

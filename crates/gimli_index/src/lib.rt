@@ -27,6 +27,7 @@ mod source_hints;
 mod source_keys;
 mod source_table;
 mod span;
+mod turns;
 
 pub use addresses::Addresses;
 pub use contents::{Contents, Entry, Source, SourceLine};

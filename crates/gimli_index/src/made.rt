@@ -1,20 +1,30 @@
 //! The index of a lookup.
 
-ghost use Rattle.std.specs.Prelude.{◌≡◌, true, false, slice_get, IfErr, IfOk, IsTrue, None, OnOk};
+ghost use Rattle.std.specs.Prelude.{◌≡◌, ◌≤◌, ◌++◌, ℕ, List, [], true, false, flat_map, length};
+ghost use Rattle.std.specs.Prelude.{map};
+ghost use Rattle.std.specs.Prelude.{slice_get, take, All, IfErr, IfOk, IsTrue, None, OnOk};
 ghost use Rattle.gimli_core.specs.Numbers.{is_address_size};
 ghost use Rattle.gimli_index.specs.Found.{texts_of, IsAppended, IsIndexAppended};
+ghost use Rattle.gimli_index.specs.Found.{SayWhereLinesBegin};
+ghost use Rattle.gimli_index.specs.Meaning.{Start};
 ghost use Rattle.gimli_index.specs.Refused.{IsIndexFault};
 ghost use Rattle.gimli_index.specs.declared.error.MakeError.TheVariants.{OutOfMemory};
 ghost use Rattle.gimli_index.specs.inside.Table.{AreSources, Entered, IsPushed, IsTableFault};
-ghost use Rattle.gimli_index.specs.inside.Table.{SayTheSame};
+ghost use Rattle.gimli_index.specs.inside.Table.{SayTheSame, starts_in};
+ghost use Rattle.gimli_index.specs.inside.Turns.{code_of, end_after, row_start, rows_of_turns};
+ghost use Rattle.gimli_index.specs.inside.Turns.{starts_of_turn, turn_rows, IsTurn, Walked};
+ghost use Rattle.gimli_lookup.specs.Probes.{never_go_below, never_go_down};
+ghost use Rattle.gimli_lookup.specs.Section.{KeptUnit};
+ghost use Rattle.gimli_lookup.specs.SequenceRows.{rows_of};
 
 use crate::contents::{Contents, Entry, Source, SourceLine};
 use crate::error::MakeError;
 use crate::origin::Origin;
 use crate::source_table::SourceTable;
+use crate::turns::{Turn, are_in_turn, turns_of};
 use gimli_compilation::Compilations;
 use gimli_core::Reader;
-use gimli_lookup::{Ranges, SectionLookup, StringSections};
+use gimli_lookup::{CoveringRows, Ranges, SectionLookup, SequenceRows, StringSections};
 use std::alloc::Global;
 
 /// Whether two numbers are of sources that are the same.
@@ -94,6 +104,136 @@ fn take_ranges<R: Reader>(
     Ok(())
 }
 
+/// How many rows of a sequence there are, without the end row.
+fn count_of_code(rows: SequenceRows<'_>) -> usize
+    ensures count { result ≤ length (rows_of rows.entry) }
+    ensures code { take result (rows_of rows.entry) ≡ code_of (rows_of rows.entry) }
+{
+    let Some(last) = rows.len().checked_sub(1) else {
+        return 0;
+    };
+    if rows.row(last).end_sequence() {
+        last
+    } else {
+        last + 1
+    }
+}
+
+/// Takes in each row of a sequence, without its end.
+fn take_rows<R: Reader>(
+    origin: &Origin<'_, R>,
+    turn: Turn<'_>,
+    table: &mut SourceTable,
+    entries: &mut Vec<Entry>,
+) -> Result<(), MakeError>
+    requires turn { IsTurn origin.now.lookup.now turn }
+    requires are { AreSources
+        (texts_of R.bytes origin.now.strings.now origin.now.compilations.now)
+        origin.now.lookup.now table.old }
+    ensures are { OnOk result (AreSources
+        (texts_of R.bytes origin.now.strings.now origin.now.compilations.now)
+        origin.now.lookup.now table.new) }
+    ensures walked { OnOk result ((d : KeptUnit) (said : List Start) (end : ℕ) → Walked
+        (texts_of R.bytes origin.now.strings.now origin.now.compilations.now)
+        origin.now.lookup.now table.old entries.old.items said end
+        → never_go_below end (rows_of turn.entry.rows) ≡ true → Walked
+        (texts_of R.bytes origin.now.strings.now origin.now.compilations.now)
+        origin.now.lookup.now table.new entries.new.items
+        (said
+        ++ map (row_start (texts_of R.bytes origin.now.strings.now origin.now.compilations.now)
+        (turn_rows origin.now.lookup.now d turn.entry).unit) (code_of (rows_of turn.entry.rows)))
+        (end_after end (code_of (rows_of turn.entry.rows)))) }
+    ensures err { IfErr result (IsTableFault
+        (texts_of R.bytes origin.now.strings.now origin.now.compilations.now)
+        origin.now.lookup.now) }
+{
+    for index in 0..count_of_code(turn.rows) {
+        let row = turn.rows.row(index);
+        let rows = CoveringRows {
+            unit: turn.unit,
+            row,
+            next: row,
+        };
+        let place = table.place_of(origin, Some(rows))?;
+        let entry = Entry {
+            address: row.address(),
+            place,
+        };
+        push(entries, table.sources(), entry)?;
+    }
+    Ok(())
+}
+
+/// Takes in a sequence, with its end.
+fn take_turn<R: Reader>(
+    origin: &Origin<'_, R>,
+    turn: Turn<'_>,
+    table: &mut SourceTable,
+    entries: &mut Vec<Entry>,
+) -> Result<(), MakeError>
+    requires turn { IsTurn origin.now.lookup.now turn }
+    requires are { AreSources
+        (texts_of R.bytes origin.now.strings.now origin.now.compilations.now)
+        origin.now.lookup.now table.old }
+    ensures are { OnOk result (AreSources
+        (texts_of R.bytes origin.now.strings.now origin.now.compilations.now)
+        origin.now.lookup.now table.new) }
+    ensures walked { OnOk result ((d : KeptUnit) (said : List Start) (end : ℕ) → Walked
+        (texts_of R.bytes origin.now.strings.now origin.now.compilations.now)
+        origin.now.lookup.now table.old entries.old.items said end
+        → never_go_below end (rows_of turn.entry.rows) ≡ true → Walked
+        (texts_of R.bytes origin.now.strings.now origin.now.compilations.now)
+        origin.now.lookup.now table.new entries.new.items
+        (said
+        ++ starts_of_turn (texts_of R.bytes origin.now.strings.now origin.now.compilations.now)
+        (turn_rows origin.now.lookup.now d turn.entry))
+        (end_after end (rows_of turn.entry.rows))) }
+    ensures err { IfErr result (IsTableFault
+        (texts_of R.bytes origin.now.strings.now origin.now.compilations.now)
+        origin.now.lookup.now) }
+{
+    let Some((_, last)) = turn.rows.range() else {
+        return Ok(());
+    };
+    take_rows(origin, turn, table, entries)?;
+    let end = Entry {
+        address: last,
+        place: None,
+    };
+    push(entries, table.sources(), end)
+}
+
+/// Takes in sequences, one after the other.
+fn take_turns<R: Reader>(
+    origin: &Origin<'_, R>,
+    turns: &[Turn<'_>],
+    table: &mut SourceTable,
+    entries: &mut Vec<Entry>,
+) -> Result<(), MakeError>
+    requires turns { All (IsTurn origin.now.lookup.now) turns.now }
+    requires are { AreSources
+        (texts_of R.bytes origin.now.strings.now origin.now.compilations.now)
+        origin.now.lookup.now table.old }
+    ensures walked { OnOk result ((d : KeptUnit) → Walked
+        (texts_of R.bytes origin.now.strings.now origin.now.compilations.now)
+        origin.now.lookup.now table.old entries.old.items [] 0
+        → never_go_down (rows_of_turns turns.now) ≡ true → Walked
+        (texts_of R.bytes origin.now.strings.now origin.now.compilations.now)
+        origin.now.lookup.now table.new entries.new.items
+        (flat_map
+        (starts_of_turn (texts_of R.bytes origin.now.strings.now origin.now.compilations.now))
+        (map (turn_rows origin.now.lookup.now d) turns.now))
+        (end_after 0 (rows_of_turns turns.now))) }
+    ensures err { IfErr result (IsTableFault
+        (texts_of R.bytes origin.now.strings.now origin.now.compilations.now)
+        origin.now.lookup.now) }
+{
+    for turn in turns {
+        take_turn(origin, *turn, table, entries)?;
+    }
+    Ok(())
+}
+
 /// The entries of a lookup, whose sources the table takes in.
 fn entries_of<R: Reader>(
     origin: &Origin<'_, R>,
@@ -104,11 +244,19 @@ fn entries_of<R: Reader>(
     ensures entered { IfOk result (λ entries. Entered
         (texts_of R.bytes origin.now.strings.now origin.now.compilations.now)
         origin.now.lookup.now table.new entries.items None) }
+    ensures lines { IfOk result (λ entries. SayWhereLinesBegin
+        (texts_of R.bytes origin.now.strings.now origin.now.compilations.now)
+        origin.now.lookup.now (starts_in table.new entries.items)) }
     ensures err { IfErr result (IsTableFault
         (texts_of R.bytes origin.now.strings.now origin.now.compilations.now)
         origin.now.lookup.now) }
 {
     let mut entries = Vec::new(origin.alloc);
+    let turns = turns_of(origin.alloc, origin.lookup)?;
+    if are_in_turn(&turns) {
+        take_turns(origin, &turns, table, &mut entries)?;
+        return Ok(entries);
+    }
     let mut ranges = origin.lookup.ranges();
     take_ranges(origin, &mut ranges, table, &mut entries)?;
     Ok(entries)
@@ -155,7 +303,12 @@ fn write_entries<R: Reader>(
 /// these sections of strings and the directory of its compilation. The identity names what the
 /// index is made of: a build id or a checksum.
 ///
-/// Adjacent ranges of one place are one. A path that can't be told is a source with the number of
+/// If the sequences of the lookup don't overlap, there is a start for each row, though another of
+/// the same address follows it: so [`LineIndex::addresses_of`](crate::LineIndex::addresses_of)
+/// gives the addresses of a line that the rows give. If they do, there are only starts that hold
+/// somewhere (`docs/INDEX.md`, "From a line to addresses").
+///
+/// Adjacent starts of one place are one. A path that can't be told is a source with the number of
 /// its reason (`docs/INDEX.md`, "Sources"). Refuses lines, columns, and more entries, sources or
 /// bytes of paths or of the identity than 32 bits count, by name; else it fails only with
 /// `OutOfMemory`. Where it fails, a part of the bytes may be appended. Requires an address size of

@@ -1,8 +1,9 @@
 //! The ranges of addresses of an index.
 
-ghost use Rattle.std.specs.Prelude.{◌≡◌, drop, MatchOption, [], ◌∷◌};
-ghost use Rattle.gimli_index.specs.Meaning.{starts_of};
-ghost use Rattle.gimli_index.specs.Ranges.{first_start, range_of, ranges_left, ranges_of};
+ghost use Rattle.std.specs.Prelude.{◌≡◌, ◌<◌, ◌+◌, drop, false, MatchOption, [], ◌∷◌};
+ghost use Rattle.gimli_index.specs.Meaning.{start_at, starts_of};
+ghost use Rattle.gimli_index.specs.Ranges.{first_start, is_empty, range_of, ranges_left, ranges_of};
+ghost use Rattle.gimli_index.specs.Views.{index_of};
 
 use crate::line_index::LineIndex;
 use crate::place::Place;
@@ -30,7 +31,8 @@ impl<'a> LineIndex<'a> {
     ghost use Rattle.gimli_index.specs.Views.{index_of};
 
     /// The ranges of addresses of which the index says one thing, from the first start on: one
-    /// after the other, up to the highest address. A gap is a range without a place.
+    /// after the other, up to the highest address. A gap is a range without a place. A start that
+    /// holds nowhere has no range.
     pub fn ranges(&self) -> PlaceRanges<'a>
         ensures { ranges_left result ≡ ranges_of (starts_of (index_of self.now)) }
     {
@@ -50,16 +52,45 @@ impl<'a> LineIndex<'a> {
             None
         }
     }
+
+    /// Whether the start of an index holds nowhere, since the next one has its address.
+    fn is_empty_at(&self, index: usize) -> bool
+        requires { index < self.now.starts }
+        ensures { result ≡ is_empty (start_at (index_of self.now) index)
+            (drop (index + 1) (starts_of (index_of self.now))) }
+    {
+        match self.address_from(index + 1) {
+            Some(next) => self.address_at(index) == next,
+            None => false,
+        }
+    }
 }
 
 impl<'a> PlaceRanges<'a> {
+    /// The index of the first start from an index on whose address isn't that of the next one.
+    fn long_from(&self, from: usize) -> usize
+        ensures same { ranges_of (drop result (starts_of (index_of self.now.index)))
+            ≡ ranges_of (drop from (starts_of (index_of self.now.index))) }
+        ensures long { result < self.now.index.starts
+            → is_empty (start_at (index_of self.now.index) result)
+            (drop (result + 1) (starts_of (index_of self.now.index))) ≡ false }
+    {
+        for index in from..self.index.starts {
+            if !self.index.is_empty_at(index) {
+                return index;
+            }
+        }
+        self.index.starts
+    }
+
     /// The next range.
     fn next_range(&mut self) -> Option<PlaceRange<'a>>
         ensures { MatchOption result
             ((ranges_left self.old ≡ []) × (ranges_left self.new ≡ []))
             (λ range. ranges_left self.old ≡ range_of range ∷ ranges_left self.new) }
     {
-        let index = self.next;
+        let index = self.long_from(self.next);
+        self.next = index;
         if index >= self.index.starts {
             return None;
         }

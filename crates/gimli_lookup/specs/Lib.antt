@@ -18,4 +18,5 @@ pub mod SectionAddresses
 pub mod Ranges
 pub mod SectionSearch
 pub mod RowFiles
+pub mod SequenceRows
 pub mod inside

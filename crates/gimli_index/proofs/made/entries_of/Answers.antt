@@ -1,8 +1,60 @@
-use Rattle.gimli_index.specs.Found.{texts_of}
+use Rattle.std.proofs.Common.{◌≡◌, ◌∙◌, ℕ, true, false, List, [], ap, map, subst, sym}
+use Rattle.std.specs.Prelude.{flat_map}
+use Rattle.std.proofs.lemmas.Bool.{false≢true}
+use Rattle.gimli_lookup.specs.Probes.{never_go_down}
+use Rattle.gimli_lookup.specs.Section.{KeptUnit}
+use Rattle.gimli_index.specs.Found.{Texts, texts_of}
+use Rattle.gimli_index.specs.declared.contents.Entry.{Entry}
+use Rattle.gimli_index.specs.declared.turns.Turn.{Turn}
+use Rattle.gimli_index.specs.inside.Turns.{Walked, end_after, rows_of_turns, starts_of_turn, turn_rows}
 use Rattle.gimli_index.proofs.Entered.{none_entered}
+use Rattle.gimli_index.proofs.TurnLines.{all_entered, all_lines, never_down, some_unit}
+use Rattle.gimli_index.proofs.WalkedStarts.{none_walked}
 use Rattle.gimli_index.proofs.made.entries_of.Goals as goal
 
 pub take_ranges-requires-clause-entered : goal.take_ranges-requires-clause-entered
 take_ranges-requires-clause-entered g c =
     let t = texts_of g.R.Reader.bytes c.args.origin.now.strings.now c.args.origin.now.compilations.now in
     rw (c.new-entries.ensures.items, c.ranges-ranges.ensures) (none_entered t c.args.origin.now.lookup.now c.args.table.now c.requires)
+
+pub returns-then-are_in_turn-clause-entered : goal.returns-then-are_in_turn-clause-entered
+returns-then-are_in_turn-clause-entered g c =
+    let t = texts_of g.R.Reader.bytes c.args.origin.now.strings.now c.args.origin.now.compilations.now in
+    let units : List KeptUnit = c.args.origin.now.lookup.now in
+    let turns : List Turn = c.in_ok-turns.turns.items in
+    let down : never_go_down (rows_of_turns turns) ≡ true =
+    ap (λ (ts : List Turn). never_go_down (rows_of_turns ts)) (sym c.deref.ensures.value) ∙ sym c.are_in_turn.ensures ∙ c.if-are_in_turn.true in
+    let start = subst (λ (es : List Entry). Walked t units c.args.table.now es [] 0) (sym c.new-entries.ensures.items)
+    (none_walked t units c.args.table.now c.requires) in
+    let lent = c.deref-then-are_in_turn.ensures.value in
+    let walked = subst (λ (ts : List Turn). never_go_down (rows_of_turns ts) ≡ true → Walked t units c.take_turns.new.table c.take_turns.new.entries.items
+    (flat_map (starts_of_turn t) (map (turn_rows units some_unit) ts)) (end_after 0 (rows_of_turns ts))) lent
+    (c.in_ok-take_turns.ensures.walked some_unit start) in
+    all_entered t units turns c.in_ok-turns.ensures.turns down c.take_turns.new.table c.take_turns.new.entries.items (end_after 0 (rows_of_turns turns))
+    (walked down)
+
+pub returns-then-are_in_turn-clause-lines : goal.returns-then-are_in_turn-clause-lines
+returns-then-are_in_turn-clause-lines g c =
+    let t = texts_of g.R.Reader.bytes c.args.origin.now.strings.now c.args.origin.now.compilations.now in
+    let units : List KeptUnit = c.args.origin.now.lookup.now in
+    let turns : List Turn = c.in_ok-turns.turns.items in
+    let down : never_go_down (rows_of_turns turns) ≡ true =
+    ap (λ (ts : List Turn). never_go_down (rows_of_turns ts)) (sym c.deref.ensures.value) ∙ sym c.are_in_turn.ensures ∙ c.if-are_in_turn.true in
+    let start = subst (λ (es : List Entry). Walked t units c.args.table.now es [] 0) (sym c.new-entries.ensures.items)
+    (none_walked t units c.args.table.now c.requires) in
+    let lent = c.deref-then-are_in_turn.ensures.value in
+    let walked = subst (λ (ts : List Turn). never_go_down (rows_of_turns ts) ≡ true → Walked t units c.take_turns.new.table c.take_turns.new.entries.items
+    (flat_map (starts_of_turn t) (map (turn_rows units some_unit) ts)) (end_after 0 (rows_of_turns ts))) lent
+    (c.in_ok-take_turns.ensures.walked some_unit start) in
+    all_lines t units turns c.in_ok-turns.ensures.turns c.in_ok-turns.ensures.order c.take_turns.new.table c.take_turns.new.entries.items
+    (end_after 0 (rows_of_turns turns)) (walked down)
+
+pub returns-clause-lines : goal.returns-clause-lines
+returns-clause-lines g c =
+    let t = texts_of g.R.Reader.bytes c.args.origin.now.strings.now c.args.origin.now.compilations.now in
+    let units : List KeptUnit = c.args.origin.now.lookup.now in
+    let turns : List Turn = c.in_ok-turns.turns.items in
+    λ apart path line a.
+    absurd (false≢true (sym c.if-are_in_turn.false ∙ c.are_in_turn.ensures
+    ∙ ap (λ (ts : List Turn). never_go_down (rows_of_turns ts)) c.deref.ensures.value
+    ∙ never_down t units turns c.in_ok-turns.ensures.turns c.in_ok-turns.ensures.order apart))

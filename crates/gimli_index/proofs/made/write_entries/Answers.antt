@@ -28,7 +28,8 @@ returns-clause-bytes g c =
       contents = contents;
       bytes = bytes;
       are =
-          contents_are given c.entries_of.new.table c.in_ok-entries.entries.items contents c.in_ok-entries.ensures.entered c.sources.ensures
+          contents_are given c.entries_of.new.table c.in_ok-entries.entries.items contents c.in_ok-entries.ensures.entered c.in_ok-entries.ensures.lines
+          c.sources.ensures
           c.as_slice.ensures.value c.paths.ensures fits refl refl;
     })
 
@@ -46,5 +47,6 @@ returns-clause-err g c =
     } in
     let contents = contents_of parts in
     on_fault c.write.result (IsMakeFault contents) (IsIndexFault given) (λ e fault.
-    contents_fault given c.entries_of.new.table c.in_ok-entries.entries.items contents c.in_ok-entries.ensures.entered c.sources.ensures
+    contents_fault given c.entries_of.new.table c.in_ok-entries.entries.items contents c.in_ok-entries.ensures.entered c.in_ok-entries.ensures.lines
+    c.sources.ensures
     c.as_slice.ensures.value c.paths.ensures e refl fault) c.write.ensures.err

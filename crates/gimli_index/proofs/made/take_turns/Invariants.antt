@@ -1,0 +1,19 @@
+use Rattle.std.proofs.Common.{◌≡◌, true, [], map, take}
+use Rattle.std.specs.Prelude.{flat_map}
+use Rattle.gimli_lookup.specs.Probes.{never_go_down}
+use Rattle.gimli_lookup.specs.Section.{KeptUnit}
+use Rattle.gimli_index.specs.Found.{texts_of}
+use Rattle.gimli_index.specs.inside.Table.{AreSources}
+use Rattle.gimli_index.specs.inside.Turns.{Walked, end_after, rows_of_turns, starts_of_turn, turn_rows}
+use Rattle.gimli_index.proofs.made.take_turns.Given as goal
+
+abbrev pub invariant-loop-turn : goal.invariant-loop-turn
+invariant-loop-turn g l =
+    let t = texts_of g.R.Reader.bytes l.origin.strings.now l.origin.compilations.now in
+    let units = l.origin.lookup.now in
+    record {
+      are : AreSources t units l.table;
+      walked : (d : KeptUnit) → Walked t units l.initial.table l.initial.entries.items [] 0 → never_go_down (rows_of_turns l.turns) ≡ true
+          → Walked t units l.table l.entries.items (flat_map (starts_of_turn t) (map (turn_rows units d) (take l.turn-index l.turns)))
+          (end_after 0 (rows_of_turns (take l.turn-index l.turns)));
+    }
