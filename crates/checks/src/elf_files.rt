@@ -48,29 +48,34 @@ const ARM: &[u8] =
 /// The name of the section of line programs.
 const LINES: &[u8] = b".debug_line";
 
-/// A file, where its sections are to stand, and its `.debug_line` so.
-type Relocated = (&'static [u8], SectionPlace, &'static [u8]);
-
-/// Each section at 0; only `.text`, so that the address in `.text.b` is all ones, and what isn't
-/// code stays at 0; and the older form, whose addends stand at their places.
-const RELOCATED: [Relocated; 3] = [
+/// A file, where its sections are to stand, and its `.debug_line` so: each section at 0; only
+/// `.text`, so that the address in `.text.b` is all ones, and what isn't code stays at 0; and the
+/// older form, whose addends stand at their places.
+const RELOCATED: [(&[u8], SectionPlace, &[u8]); 3] = [
     (RISCV, AllAtZero, b"\x03\0\0\0\x16\0\x2c\x05\0\0\0\x07"),
     (RISCV, Only(1), b"\xff\xff\xff\xff\x16\0\x2c\x05\0\0\0\x07"),
     (ARM, AllAtZero, b"\0\0\x01\x04\0\0\x02\x02"),
 ];
 
-/// Whether `.debug_line` of a file is relocated so.
-fn is_relocated(alloc: Global, (file, place, wanted): &Relocated) -> Result<bool, ElfError> {
-    match Elf::parse(*file)?.relocated(alloc, LINES, *place)? {
-        Some(section) => Ok(section.as_slice() == *wanted),
-        None => Ok(false),
+/// Whether `.debug_line` of a file is relocated to these bytes.
+fn is_relocated(alloc: Global, file: &[u8], place: SectionPlace, wanted: &[u8]) -> bool {
+    let found = match Elf::parse(file) {
+        Ok(elf) => elf.relocated(alloc, LINES, place),
+        Err(e) => Err(e),
+    };
+    match found {
+        Ok(Some(section)) => section.as_slice() == wanted,
+        _ => false,
     }
 }
 
 /// The first file whose section is relocated otherwise.
 pub fn relocated(alloc: Global) -> Found {
-    let mut cases = RELOCATED.iter();
-    Ok(cases.position(|case| is_relocated(alloc, case) != Ok(true)))
+    Ok(
+        RELOCATED.iter().position(|(file, place, wanted)| !is_relocated(
+            alloc, *file, *place, *wanted,
+        )),
+    )
 }
 
 // ---- files that aren't read whole

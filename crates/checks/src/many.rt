@@ -141,11 +141,12 @@ fn is_converted<R: Reader>(
 /// The same of a unit, with tables that are empty.
 fn converts<R: Reader>(
     alloc: Global,
-    [unit, directory, name]: [R; 3],
+    slices: [R; 3],
     encoding: Option<Encoding>,
 ) -> ConvertResult<bool>
     requires { IfSome encoding (λ e. IsTrue (is_address_size e.address_size)) }
 {
+    let [unit, directory, name] = slices;
     let source = program(alloc, unit, Some(directory))?;
     is_converted(source, name, encoding, &mut Texts::new(alloc))
 }
