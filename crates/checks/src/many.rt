@@ -52,9 +52,9 @@ fn are_added(texts: &mut Texts) -> Result<bool> {
 
 /// The first of two that fails: a section in one piece, its copy and one in pieces that have all
 /// numbers, and a text of them.
-fn writers<E: Endianity>(alloc: Global, order: E) -> Result<Option<usize>> {
-    let mut section = EndianVec::new(alloc, order);
-    let mut pieces: PieceVec<E, 16> = PieceVec::new(alloc, order);
+fn writers(alloc: Global) -> Result<Option<usize>> {
+    let mut section = EndianVec::new(alloc, BigEndian);
+    let mut pieces: PieceVec<BigEndian, 16> = PieceVec::new(alloc, BigEndian);
     fill(&mut section)?;
     fill(&mut pieces)?;
     let copy = section.clone()?;
@@ -67,7 +67,7 @@ fn writers<E: Endianity>(alloc: Global, order: E) -> Result<Option<usize>> {
 
 /// The first of three that fails: writers, texts, and tables.
 pub fn writers_and_tables(alloc: Global) -> Found {
-    let failed = writers(alloc, BigEndian)?;
+    let failed = writers(alloc)?;
     let added = are_added(&mut Texts::new(alloc)) == Ok(true);
     Ok(failed.or(first_false(&[added])))
 }
