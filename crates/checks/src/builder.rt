@@ -3,7 +3,8 @@
 
 ghost use Rattle.std.specs.Prelude.{◌≡◌, ◌<◌, length, false, IfOk};
 
-use crate::check::{Found, first_false};
+use crate::converted::VERSION_5;
+use crate::{Found, first_false};
 use gimli_core::{Encoding, Format, LineEncoding};
 use gimli_write::{Address, Error, FileId, LineProgram, LineRow, LineString, Result};
 use std::alloc::Global;
@@ -13,20 +14,16 @@ fn program(alloc: Global, version: u16) -> Result<LineProgram>
     ensures { IfOk result (λ program. program.is_none ≡ false) }
 {
     let encoding = Encoding {
-        address_size: 4,
-        format: Format::Dwarf32,
         version,
+        ..VERSION_5
     };
     let lines = LineEncoding {
         default_is_stmt: version == 4,
         ..LineEncoding::default()
     };
-    if !LineProgram::accepts(encoding, lines) {
-        return Err(Error::InvalidAttributeValue);
-    }
-    let working_dir = LineString::String(b"/w".to_vec(alloc)?);
-    let source_file = LineString::String(b"a.c".to_vec(alloc)?);
-    LineProgram::new(alloc, encoding, lines, working_dir, None, source_file, None)
+    let directory = LineString::String(b"/w".to_vec(alloc)?);
+    let file = LineString::String(b"a.c".to_vec(alloc)?);
+    LineProgram::new(alloc, encoding, lines, directory, None, file, None)
 }
 
 /// Whether a row has the initial registers of a sequence: DWARF 5, section 6.2.2. Version 6, which
@@ -79,12 +76,14 @@ fn rows_after_calls(program: &mut LineProgram, row: &LineRow) -> Result<[LineRow
 /// Whether after a row what stands for one row alone is cleared, after an address in a sequence its
 /// place, and after an end all; an address outside a sequence and the beginning of one change
 /// nothing.
-fn has_rows(alloc: Global, version: u16) -> Result<bool> {
-    let mut program = program(alloc, version)?;
+fn has_rows(program: &mut LineProgram, file: FileId) -> Result<bool>
+    requires { program.old.is_none ≡ false }
+{
+    let version = program.version();
     let first = *program.row();
     let row = LineRow {
         address_offset: 4,
-        file: LineProgram::none(alloc).row().file,
+        file,
         line: 7,
         column: 8,
         isa: 9,
@@ -95,15 +94,22 @@ fn has_rows(alloc: Global, version: u16) -> Result<bool> {
         address_offset: 0,
         ..row
     };
-    let found = rows_after_calls(&mut program, &row)?;
+    let found = rows_after_calls(program, &row)?;
     let wanted = [marked(&row), row, at_start, first, marked(&row)];
     Ok(is_initial(&first, version, version == 4) && found == wanted)
 }
 
+/// The same of a program of this version.
+fn has_rows_of(alloc: Global, version: u16, file: FileId) -> Result<bool> {
+    let mut program = program(alloc, version)?;
+    has_rows(&mut program, file)
+}
+
 /// The first version in which a current row is another.
 pub fn current_rows(alloc: Global) -> Found {
+    let file = LineProgram::none(alloc).row().file;
     for version in [4, 5, 6] {
-        if !has_rows(alloc, version)? {
+        if has_rows_of(alloc, version, file) != Ok(true) {
             return Ok(Some(usize::from(version)));
         }
     }
@@ -120,7 +126,7 @@ fn set_size(program: &mut LineProgram, file: FileId, size: u64)
 
 /// Whether a file is found by its id and what is known of it is set by it, a second one has the
 /// same id, and each is listed with its id and its directory.
-fn knows_files(alloc: Global, program: &mut LineProgram) -> Result<Option<usize>>
+fn knows_files(alloc: Global, program: &mut LineProgram) -> Found
     requires { program.old.is_none ≡ false }
 {
     let directory = program.default_directory();
@@ -144,19 +150,23 @@ fn knows_files(alloc: Global, program: &mut LineProgram) -> Result<Option<usize>
 /// The first of these that fails in a program of version 4.
 pub fn file(alloc: Global) -> Found {
     let mut program = program(alloc, 4)?;
-    Ok(knows_files(alloc, &mut program)?)
+    knows_files(alloc, &mut program)
+}
+
+/// What gimli's program that is none has otherwise.
+fn wrong_in_none(none: &mut LineProgram) -> Option<usize> {
+    let encoding = (none.version(), none.address_size(), none.format());
+    first_false(&[
+        is_initial(none.row(), 2, true),
+        encoding == (2, 0, Format::Dwarf32),
+        none.is_none() && none.is_empty(),
+        none.files().next().is_none() && !none.in_sequence(),
+        !none.file_has_timestamp && !none.file_has_size,
+        !none.file_has_md5 && !none.file_has_source,
+    ])
 }
 
 /// The program that is none, as gimli has it.
 pub fn none(alloc: Global) -> Found {
-    let mut none = LineProgram::none(alloc);
-    let encoding = (none.version(), none.address_size(), none.format());
-    Ok(first_false(&[
-        is_initial(none.row(), 2, true),
-        encoding == (2, 0, Format::Dwarf32),
-        none.is_none() && none.is_empty(),
-        none.files().count() == 0 && !none.in_sequence(),
-        !none.file_has_timestamp && !none.file_has_size,
-        !none.file_has_md5 && !none.file_has_source,
-    ]))
+    Ok(wrong_in_none(&mut LineProgram::none(alloc)))
 }

@@ -2,14 +2,10 @@
 //! that of DWARF 5, section 7.5.1, and of DWARF 2 to 4, section 7.5.1.1; a declaration that of
 //! section 7.5.3, a form that of 7.5.4 to 7.5.6, and an index counts as in 7.26.
 
-use crate::check::{Found, first_false};
+use crate::Found;
 use gimli_compilation::{Compilation, CompilationSections, Compilations, Refusal};
-use gimli_core::RunTimeEndian::{self, Big, Little};
-use gimli_core::{DwForm, EndianSlice, Error};
+use gimli_core::{BigEndian, DwForm, EndianSlice, Endianity, Error, LittleEndian};
 use std::alloc::Global;
-
-/// A reader over bytes that stay.
-type Slice = EndianSlice<'static, RunTimeEndian>;
 
 /// What a unit says: its version, the offset of its line program, its directory and its name; or
 /// why it can't be read.
@@ -18,23 +14,11 @@ type Said = Result<(u16, Option<u64>, Text, Text), Refusal>;
 /// A text that a unit may have.
 type Text = Option<&'static [u8]>;
 
-/// `.debug_str`: /w at 1, a.c at 4.
-const STRINGS: &[u8] = b"\0/w\0a.c\0";
-
-/// `.debug_line_str`: /v at 0, b.c at 3.
-const LINE_STRINGS: &[u8] = b"/v\0b.c\0";
-
-/// `.debug_abbrev`, each a table of its own: DW_TAG_compile_unit with DW_AT_stmt_list (0x10),
-/// DW_AT_comp_dir (0x1b) and DW_AT_name (0x03), each with its form.
-/// - At 0 DW_FORM_data4, DW_FORM_string, DW_FORM_strp.
-/// - At 12 DW_FORM_data8, DW_FORM_strp, DW_FORM_string.
-/// - At 24 DW_FORM_sec_offset, and twice DW_FORM_strp; at 36 DW_FORM_sec_offset, and twice
-///   DW_FORM_line_strp.
-/// - At 48 three declarations: a directory in DW_FORM_strx1, DW_FORM_strx3 and DW_FORM_strx, a name
-///   in DW_FORM_strx2, DW_FORM_strx4 and DW_FORM_strx, a line program in DW_FORM_sec_offset; the
-///   first two have DW_AT_str_offsets_base in DW_FORM_sec_offset at the end.
-/// - At 86 DW_TAG_type_unit with a line program in DW_FORM_sec_offset and a directory in
-///   DW_FORM_line_strp; at 96 a directory in the form 2, which no version has.
+/// `.debug_abbrev`, each a table of its own, but for the three declarations at 48: a unit (0x11),
+/// and at 86 a type (0x41), with DW_AT_stmt_list (0x10), DW_AT_comp_dir (0x1b), DW_AT_name (0x03)
+/// and DW_AT_str_offsets_base (0x72), each with its form: data4 (0x06), data8 (0x07), string
+/// (0x08), strp (0x0e), sec_offset (0x17), strx (0x1a), line_strp (0x1f), strx1 to strx4 (0x25 to
+/// 0x28), and at 96 the form 2, which no version has.
 const ABBREVIATIONS: &[u8] = b"\x01\x11\0\x10\x06\x1b\x08\x03\x0e\0\0\0\
     \x01\x11\0\x10\x07\x1b\x0e\x03\x08\0\0\0\
     \x01\x11\x01\x10\x17\x1b\x0e\x03\x0e\0\0\0\
@@ -45,11 +29,13 @@ const ABBREVIATIONS: &[u8] = b"\x01\x11\0\x10\x06\x1b\x08\x03\x0e\0\0\0\
     \x01\x41\0\x10\x17\x1b\x1f\0\0\0\
     \x01\x11\0\x1b\x02\0\0\0";
 
-/// Units, the least significant byte first. Up to version 4 a unit is unit_length, version,
-/// debug_abbrev_offset, address_size, the code of its entry, and the values; in version 5
-/// unit_length, version, unit_type, address_size, debug_abbrev_offset, for a type its signature and
-/// offset, the code and the values.
-const LITTLE: &[u8] = b"\x13\0\0\0\x02\0\0\0\0\0\x04\x01\x2a\0\0\0/u\0\x04\0\0\0\
+/// Units, and `.debug_str_offsets`, the least significant byte first. Up to version 4 a unit is
+/// unit_length, version, debug_abbrev_offset, address_size, the code of its entry, and the values;
+/// in version 5 unit_length, version, unit_type, address_size, debug_abbrev_offset, for a type its
+/// signature and offset, the code and the values. The offsets have unit_length 12, version 5 and
+/// padding, and at 8 the offsets 1 and 4.
+const LITTLE: [&[u8]; 2] = [
+    b"\x13\0\0\0\x02\0\0\0\0\0\x04\x01\x2a\0\0\0/u\0\x04\0\0\0\
     \x02\0\0\0\x06\0\
     \x1d\0\0\0\x05\0\x02\x08\x56\0\0\0abcdefgh\x20\0\0\0\x01\x2a\0\0\0\0\0\0\0\
     \x13\0\0\0\x03\0\0\0\0\0\x04\x01\x80\0\0\0/t\0\x04\0\0\0\
@@ -59,7 +45,9 @@ const LITTLE: &[u8] = b"\x13\0\0\0\x02\0\0\0\0\0\x04\x01\x2a\0\0\0/u\0\x04\0\0\0
     \x0f\0\0\0\x05\0\x03\x08\x30\0\0\0\x03\0\x01\x09\0\0\0\
     \x09\0\0\0\x05\0\x07\x08\0\0\0\0\x01\
     \x09\0\0\0\x05\0\x01\x08\0\0\0\0\x02\
-    \x09\0\0\0\x05\0\x01\x08\x60\0\0\0\x01";
+    \x09\0\0\0\x05\0\x01\x08\x60\0\0\0\x01",
+    b"\x0c\0\0\0\x05\0\0\0\x01\0\0\0\x04\0\0\0",
+];
 
 /// Their offsets and what they say. DW_FORM_data4 is an offset up to version 3 alone; a type has
 /// the line program of the first unit; a partial unit has no base, so its indexes say nothing; the
@@ -78,11 +66,14 @@ const SAID_LITTLE: [(usize, Said); 11] = [
     (201, Err(Refusal::Bytes(Error::UnknownForm(DwForm(2))))),
 ];
 
-/// Units, the most significant byte first; the first is of the 64-bit format.
-const BIG: &[u8] = b"\xff\xff\xff\xff\0\0\0\0\0\0\0\x20\0\x03\0\0\0\0\0\0\0\x0c\x08\x01\
+/// The same, the most significant byte first; the first unit is of the 64-bit format.
+const BIG: [&[u8]; 2] = [
+    b"\xff\xff\xff\xff\0\0\0\0\0\0\0\x20\0\x03\0\0\0\0\0\0\0\x0c\x08\x01\
     \0\0\0\x01\0\0\0\x02\0\0\0\0\0\0\0\x01c.c\0\
     \0\0\0\x15\0\x05\x01\x08\0\0\0\x24\x01\0\0\x01\0\0\0\0\0\0\0\0\x03\
-    \0\0\0\x18\0\x05\x01\x08\0\0\0\x30\x02\0\0\x01\0\0\0\0\0\0\0\x09\0\0\0\x08";
+    \0\0\0\x18\0\x05\x01\x08\0\0\0\x30\x02\0\0\x01\0\0\0\0\0\0\0\x09\0\0\0\x08",
+    b"\0\0\0\x0c\0\x05\0\0\0\0\0\x01\0\0\0\x04",
+];
 
 const SAID_BIG: [(usize, Said); 3] = [
     (0, Ok((3, Some(0x1_0000_0002), Some(b"/w"), Some(b"c.c")))),
@@ -90,28 +81,23 @@ const SAID_BIG: [(usize, Said); 3] = [
     (69, Ok((5, Some(9), Some(b"a.c"), Some(b"/w")))),
 ];
 
-/// The sections of a program in an order of bytes. `.debug_str_offsets` has unit_length 12, version
-/// 5 and padding, and at 8 the offsets 1 and 4, all in this order.
-fn sections(order: RunTimeEndian) -> CompilationSections<Slice> {
-    let info: &[u8] = match order {
-        Little => LITTLE,
-        Big => BIG,
-    };
-    let offsets: &[u8] = match order {
-        Little => b"\x0c\0\0\0\x05\0\0\0\x01\0\0\0\x04\0\0\0",
-        Big => b"\0\0\0\x0c\0\x05\0\0\0\0\0\x01\0\0\0\x04",
-    };
+/// The sections of a program: `.debug_str` has /w at 1 and a.c at 4, `.debug_line_str` /v at 0 and
+/// b.c at 3.
+fn sections<E: Endianity>(
+    order: E,
+    [info, offsets]: [&'static [u8]; 2],
+) -> CompilationSections<EndianSlice<'static, E>> {
     CompilationSections {
         debug_info: EndianSlice::new(info, order),
         debug_abbrev: EndianSlice::new(ABBREVIATIONS, order),
-        debug_str: EndianSlice::new(STRINGS, order),
-        debug_line_str: EndianSlice::new(LINE_STRINGS, order),
+        debug_str: EndianSlice::new(b"\0/w\0a.c\0", order),
+        debug_line_str: EndianSlice::new(b"/v\0b.c\0", order),
         debug_str_offsets: EndianSlice::new(offsets, order),
     }
 }
 
 /// What a unit says.
-fn said(unit: Result<Compilation<Slice>, Refusal>) -> Said {
+fn said<E: Endianity>(unit: Result<Compilation<EndianSlice<'static, E>>, Refusal>) -> Said {
     let unit = unit?;
     let directory = unit.comp_dir.map(|text| text.slice());
     let name = unit.name.map(|text| text.slice());
@@ -119,12 +105,13 @@ fn said(unit: Result<Compilation<Slice>, Refusal>) -> Said {
 }
 
 /// The first unit that says something else, in a walk or by its offset.
-fn first_wrong(sections: CompilationSections<Slice>, wanted: &[(usize, Said)]) -> Option<usize> {
+fn first_wrong<E: Endianity>(
+    sections: &CompilationSections<EndianSlice<'static, E>>,
+    wanted: &[(usize, Said)],
+) -> Option<usize> {
     let mut units = sections.units();
     for (at, (offset, wanted)) in wanted.iter().enumerate() {
-        let found = units
-            .next()
-            .map(|unit| (unit.offset, said(unit.compilation)));
+        let found = units.next().map(|it| (it.offset, said(it.compilation)));
         let alone = said(sections.compilation(*offset));
         if found != Some((*offset as u64, *wanted)) || alone != *wanted {
             return Some(at);
@@ -135,19 +122,18 @@ fn first_wrong(sections: CompilationSections<Slice>, wanted: &[(usize, Said)]) -
 
 /// The first unit that says something else. A refused unit ends no walk.
 pub fn units() -> Found {
-    let little = first_wrong(sections(Little), &SAID_LITTLE);
-    Ok(little.or(first_wrong(sections(Big), &SAID_BIG)))
+    let little = first_wrong(&sections(LittleEndian, LITTLE), &SAID_LITTLE);
+    Ok(little.or(first_wrong(&sections(BigEndian, BIG), &SAID_BIG)))
 }
 
-/// The first of three line programs that has another directory: one of a unit and of a type after
-/// it, one of another unit, and one of none.
+/// Offsets of line programs and their directories: of a unit and of a type after it, of another
+/// unit, and of none.
+const DIRECTORIES: [(u64, Text); 3] = [(0x2a, Some(b"/u")), (0x80, Some(b"/t")), (0x81, None)];
+
+/// The first line program that has another directory.
 pub fn lines(alloc: Global) -> Found {
-    let sections = sections(Little);
-    let compilations = Compilations::new(alloc, &sections)?;
-    let [first, other, none] = [0x2a, 0x80, 0x81].map(|line| compilations.directory_of(line));
-    Ok(first_false(&[
-        first.map(|text| text.slice()) == Some(b"/u".as_slice()),
-        other.map(|text| text.slice()) == Some(b"/t".as_slice()),
-        none.is_none(),
-    ]))
+    let compilations = Compilations::new(alloc, &sections(LittleEndian, LITTLE))?;
+    let directory = |line| compilations.directory_of(line).map(|text| text.slice());
+    let mut cases = DIRECTORIES.iter();
+    Ok(cases.position(|(line, wanted)| directory(*line) != *wanted))
 }

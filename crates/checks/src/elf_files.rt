@@ -1,7 +1,7 @@
 //! The sections of object files: compressed, and relocated; files that aren't read whole; and the
 //! debug files of programs. `readelf -h -S -z -x -R` prints the same of each section.
 
-use crate::check::{Found, first_false};
+use crate::{Found, first_false};
 use debug_files::{Outline, Refusal, checksum, debug_file_paths};
 use elf_sections::SectionPlace::{self, AllAtZero, Only};
 use elf_sections::{Elf, ElfError};
@@ -45,6 +45,9 @@ const ARM: &[u8] =
     \0\00\0\0\0\0\0\0\0\x01\0\0\0\x01\0\0\0\x10\0\0\0-\0\0\0\x03\0\0\0\0\0\0\0\0\0\0\0\x98\0\
     \0\07\0\0\0\0\0\0\0\0\0\0\0\x01\0\0\0\0";
 
+/// The name of the section of line programs.
+const LINES: &[u8] = b".debug_line";
+
 /// A file, where its sections are to stand, and its `.debug_line` so: each section at 0; only
 /// `.text`, so that the address in `.text.b` is all ones, and what isn't code stays at 0; and the
 /// older form, whose addends stand at their places.
@@ -57,7 +60,7 @@ const RELOCATED: [(&[u8], SectionPlace, &[u8]); 3] = [
 /// Whether `.debug_line` of a file is relocated to these bytes.
 fn is_relocated(alloc: Global, file: &[u8], place: SectionPlace, wanted: &[u8]) -> bool {
     let found = match Elf::parse(file) {
-        Ok(elf) => elf.relocated(alloc, b".debug_line", place),
+        Ok(elf) => elf.relocated(alloc, LINES, place),
         Err(e) => Err(e),
     };
     match found {
@@ -77,46 +80,44 @@ pub fn relocated(alloc: Global) -> Found {
 
 // ---- files that aren't read whole
 
-/// Files, the names of sections, and what these hold: one as it stands, one that is compressed, one
-/// of the older form, and none.
-const SOUGHT: [(&[u8], &[u8], &[u8]); 4] = [
-    (RISCV, b".debug_str", b"\0a.c\0b.c\0"),
-    (RISCV, b".debug_line", b"\x01\0\0\0\x10\0\x2c\0\0\0\0\x07"),
-    (ARM, b".debug_line", b"\0\0\0\x04\0\0\0\x02"),
-    (RISCV, b".debug_info", b"none"),
+/// A file, the name of a section, and what it holds.
+type Sought = (&'static [u8], &'static [u8], Option<&'static [u8]>);
+
+/// One section as it stands, one that is compressed, one of the older form, and none.
+const SOUGHT: [Sought; 4] = [
+    (RISCV, b".debug_str", Some(b"\0a.c\0b.c\0")),
+    (RISCV, LINES, Some(b"\x01\0\0\0\x10\0\x2c\0\0\0\0\x07")),
+    (ARM, LINES, Some(b"\0\0\0\x04\0\0\0\x02")),
+    (RISCV, b".debug_info", None),
 ];
 
 /// What a section of a file holds.
 fn held(alloc: Global, file: &[u8], name: &[u8]) -> Result<Option<Vec<u8>>, Refusal> {
     let mut file = Cursor::new(file);
-    let outline = Outline::read(alloc, &mut file)?;
-    outline.section(alloc, &mut file, name)
+    Outline::read(alloc, &mut file)?.section(alloc, &mut file, name)
 }
 
-/// Whether a section of a file holds these bytes.
-fn holds(alloc: Global, file: &[u8], name: &[u8], wanted: &[u8]) -> bool {
-    match held(alloc, file, name) {
-        Ok(Some(bytes)) => wanted == bytes.as_slice(),
-        Ok(None) => wanted == b"none".as_slice(),
-        Err(_) => false,
-    }
+/// Whether a section holds these bytes.
+fn holds(alloc: Global, (file, name, wanted): &Sought) -> bool {
+    held(alloc, *file, *name).is_ok_and(|found| found.as_deref() == *wanted)
 }
 
 /// The first section that holds something else.
 pub fn sought(alloc: Global) -> Found {
-    Ok(SOUGHT.iter().position(|(file, name, wanted)| !holds(alloc, *file, *name, *wanted)))
+    Ok(SOUGHT.iter().position(|case| !holds(alloc, case)))
 }
 
 /// What an outline says of the order of bytes, the size of addresses, object files and the lowest
 /// address of code.
 fn outlined(alloc: Global, file: &[u8]) -> Result<(bool, u8, bool, Option<u64>), Refusal> {
     let outline = Outline::read(alloc, &mut Cursor::new(file))?;
-    let sections = outline.sections()?;
+    let it = outline.sections()?;
+    let order = it.is_big_endian();
     Ok((
-        sections.is_big_endian(),
-        sections.address_size(),
-        sections.is_relocatable(),
-        sections.lowest_code_address(),
+        order,
+        it.address_size(),
+        it.is_relocatable(),
+        it.lowest_code_address(),
     ))
 }
 
@@ -131,7 +132,7 @@ pub fn outlines(alloc: Global) -> Found {
 
 /// Why `.debug_line` of a file isn't read.
 fn refusal(alloc: Global, file: &[u8]) -> Option<ElfError> {
-    match held(alloc, file, b".debug_line") {
+    match held(alloc, file, LINES) {
         Err(Refusal::Elf(error)) => Some(error),
         _ => None,
     }
@@ -211,6 +212,5 @@ const PATHS: &str = "/usr/lib/debug/.build-id/ab/cdef1234.debug
 pub fn paths(alloc: Global) -> Found {
     let id: &[u8] = b"\xab\xcd\xef\x12\x34";
     let paths = debug_file_paths(alloc, "/usr/bin/ls", Some(id), Some("ls.debug"))?;
-    let text = paths.as_slice().join(alloc, "\n")?;
-    Ok(first_false(&[text.as_str() == PATHS]))
+    Ok(first_false(&[paths.as_slice().join(alloc, "\n")?.as_str() == PATHS]))
 }

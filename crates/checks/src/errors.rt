@@ -1,7 +1,7 @@
 //! What the errors of writing and converting print, which the stored output of the program has as
 //! gimli's texts are, and how one error becomes another. No contract tells it.
 
-use crate::check::{Found, first_false};
+use crate::{Found, first_false};
 use gimli_core::{DwEhPe, Error as ReadError};
 use gimli_write::{ConvertError, Error, Result};
 use std::alloc::{AllocError, Global};

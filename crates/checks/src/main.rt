@@ -6,7 +6,6 @@
 #![tactic(auto)]
 
 mod builder;
-mod check;
 mod compilations;
 mod converted;
 mod elf_files;
@@ -14,27 +13,30 @@ mod errors;
 mod lookups;
 mod machine;
 mod many;
-mod narrow;
-mod own_writer;
 mod readers;
 mod units;
 mod writers;
 
-use crate::check::Found;
+use gimli_write::ConvertResult;
 use std::alloc::Global;
 use std::io;
 
+/// The number of the first case that fails, or a refusal that no case expects.
+type Found = ConvertResult<Option<usize>>;
+
+/// The number of the first part that is false.
+fn first_false(found: &[bool]) -> Option<usize> {
+    found.iter().position(|it| !*it)
+}
+
 /// Each check, and what it finds.
-fn checks(alloc: Global) -> [(&'static str, Found); 29] {
+fn checks(alloc: Global) -> [(&'static str, Found); 26] {
     [
         ("readers::calls", readers::calls(alloc)),
-        ("readers::orders", readers::orders()),
         ("machine::executed", machine::executed(alloc)),
         ("lookups::narrow_unit", lookups::narrow_unit(alloc)),
         ("lookups::wide_numbers", lookups::wide_numbers(alloc)),
-        ("lookups::copies", lookups::copies(alloc)),
-        ("lookups::many_in_program", lookups::many_in_program(alloc)),
-        ("lookups::many_in_section", lookups::many_in_section(alloc)),
+        ("lookups::many", lookups::many(alloc)),
         ("compilations::units", compilations::units()),
         ("compilations::lines", compilations::lines(alloc)),
         ("elf_files::relocated", elf_files::relocated(alloc)),

@@ -1,74 +1,126 @@
-//! Each call of a reader, over lent bytes and over a reader of one's own that has the default
-//! bodies alone: what it answers, one after the other, so that what each takes shows in the next.
-//! Numbers are worked out by hand, LEB128 numbers are the examples of DWARF 5, section 7.6, and
-//! lengths those of section 7.4.
+//! What no worked line of `gimli_core` says of a reader, over lent bytes and over a reader of one's
+//! own: its offsets have 32 bits, it copies where it is asked for a slice, and it has none of the
+//! bodies that a reader may leave out.
 
-use crate::check::{Found, first_false};
-use crate::narrow::NarrowReader;
-use gimli_core::Error::{
-    self, BadSignedLeb128, BadUnsignedLeb128, UnexpectedEof, UnknownReservedLength,
-    UnsupportedAddressSize,
-};
-use gimli_core::Format::{self, Dwarf32, Dwarf64};
-use gimli_core::RunTimeEndian::{Big, Little};
+ghost use Rattle.std.specs.Prelude.{◌<◌, ◌^◌, length};
+ghost use Rattle.std.proofs.Common.{rules};
+
+use crate::writers::LETTERS;
+use crate::{Found, first_false};
+use gimli_core::Error::{OutOfMemory, UnexpectedEof, UnsupportedOffset};
+use gimli_core::RunTimeEndian::{self, Big, Little};
 use gimli_core::{
     BigEndian, EndianSlice, Endianity, LittleEndian, Reader, ReaderOffset, ReaderOffsetId, Result,
 };
 use std::alloc::Global;
+use std::borrow::CowSlice;
 
-/// Numbers, the least significant byte first; of an unsigned and of a signed one the greatest and
-/// one that 64 bits don't hold.
-const NUMBERS: &[u8] = b"\xfe\x80\x11\x22\x44\x55\x66\x77abcdefgh\x33\x22\x11\xb9\x64\
-    \xff\xff\xff\xff\xff\xff\xff\xff\xff\x01\xff\xff\xff\xff\xff\xff\xff\xff\xff\x81\
-    \xff\xff\x03\xff\xff\x7f\x80\x7f\xff\xff\xff\xff\xff\xff\xff\xff\xff\0\
-    \xff\xff\xff\xff\xff\xff\xff\xff\xff\x40\x10\x20\x30\x08\x03\x80";
+#[derive(Clone, Copy, Debug, PartialEq, Eq, PartialOrd, Ord)]
+pub struct Narrow(pub u32);
 
-/// Lengths, offsets and texts, the most significant byte first.
-const TEXTS: &[u8] = b"\0\0\0\x2f\xff\xff\xff\xff\0\0\0\0\0\0\0\x1d\xff\xff\xff\xf0\
-    \x01\x02\x03\x04\0\0\0\0\x01\x02\x03\x040123456789abcdef\x01\x02\x03\
-    a.c\0\x05\x06\x07\x08\x09\0\x0a\x0b";
+impl ReaderOffset for Narrow {
+    ghost number = { λ n. n.0 };
 
-/// Refusals where so many bytes are left.
-const EOF_0: Error = UnexpectedEof(ReaderOffsetId(0));
+    ghost limit = { 2 ^ 32 };
 
-const EOF_2: Error = UnexpectedEof(ReaderOffsetId(2));
+    ghost is_wide = { Prim.search rules };
 
-/// The first number that is read otherwise.
-fn numbers<R: Reader>(mut reader: R) -> Option<usize> {
-    first_false(&[
-        !reader.endian().is_big_endian(),
-        reader.read_u8() == Ok(0xfe),
-        reader.read_i8() == Ok(-128),
-        reader.read_u16() == Ok(0x2211),
-        reader.read_u32() == Ok(0x7766_5544),
-        reader.read_u64() == Ok(0x6867_6665_6463_6261),
-        reader.read_uint(3) == Ok(0x11_2233),
-        reader.read_uleb128() == Ok(12857),
-        reader.read_uleb128() == Ok(u64::MAX),
-        reader.read_uleb128() == Err(BadUnsignedLeb128),
-        reader.read_uleb128_u16() == Ok(65535),
-        reader.read_uleb128_u16() == Err(BadUnsignedLeb128),
-        reader.read_sleb128() == Ok(-128),
-        reader.read_sleb128() == Ok(i64::MAX),
-        reader.read_sleb128() == Err(BadSignedLeb128),
-        reader.read_address(1) == Ok(0x10),
-        reader.read_address(2) == Ok(0x3020),
-        reader.read_address_size() == Ok(8),
-        reader.read_address_size() == Err(UnsupportedAddressSize(3)),
-        reader.read_uleb128() == Err(EOF_0),
-        reader.is_empty() && reader.read_u8() == Err(EOF_0),
-    ])
+    fn from_u8(offset: u8) -> Narrow {
+        Narrow(u32::from(offset))
+    }
+
+    fn from_u16(offset: u16) -> Narrow {
+        Narrow(u32::from(offset))
+    }
+
+    fn from_u32(offset: u32) -> Narrow {
+        Narrow(offset)
+    }
+
+    fn from_u64(offset: u64) -> Result<Narrow> {
+        if offset <= 0xffff_ffff {
+            Ok(Narrow(offset as u32))
+        } else {
+            Err(UnsupportedOffset)
+        }
+    }
+
+    fn into_u64(self) -> u64 {
+        u64::from(self.0)
+    }
 }
 
-/// The number of an offset.
-fn number<O: ReaderOffset>(found: Result<O>) -> Result<u64> {
-    Ok(found?.into_u64())
+#[derive(Clone, Copy)]
+pub struct NarrowReader<'i> {
+    alloc: Global,
+    left: EndianSlice<'i, RunTimeEndian>,
+    ghost short: { length (⟦<EndianSlice<'static, RunTimeEndian> as Reader>⟧.bytes left) < 2 ^ 32 },
 }
 
-/// A number and a format.
-fn length_of<R: Reader>(reader: &mut R) -> Result<(u64, Format)> {
-    let (length, format) = reader.read_initial_length()?;
-    Ok((length.into_u64(), format))
+impl<'i> NarrowReader<'i> {
+    /// A reader of the bytes, up to the greatest number of them that it counts.
+    pub fn new(alloc: Global, slice: &'i [u8], order: RunTimeEndian) -> Self {
+        let left = EndianSlice::new(&slice[..slice.len().min(0xffff_ffff)], order);
+        NarrowReader { alloc, left }
+    }
+}
+
+impl<'i> Reader for NarrowReader<'i> {
+    type Endian = RunTimeEndian;
+
+    type Offset = Narrow;
+
+    ghost bytes = { λ r. ⟦<EndianSlice<'static, RunTimeEndian> as Reader>⟧.bytes r.left };
+
+    ghost big = { λ r. ⟦<EndianSlice<'static, RunTimeEndian> as Reader>⟧.big r.left };
+
+    fn endian(&self) -> RunTimeEndian {
+        self.left.endian()
+    }
+
+    fn len(&self) -> Narrow {
+        Narrow(self.left.len() as u32)
+    }
+
+    fn empty(&mut self) {
+        self.left.empty();
+    }
+
+    fn truncate(&mut self, len: Narrow) -> Result<()> {
+        self.left.truncate(len.0 as usize)
+    }
+
+    fn offset_from(&self, base: &Self) -> Narrow {
+        Narrow(self.left.offset_from(&base.left) as u32)
+    }
+
+    fn find(&self, byte: u8) -> Result<Narrow> {
+        let len = self.left.find(byte)?;
+        Ok(Narrow(len as u32))
+    }
+
+    fn skip(&mut self, len: Narrow) -> Result<()> {
+        self.left.skip(len.0 as usize)
+    }
+
+    fn split(&mut self, len: Narrow) -> Result<Self> {
+        let left = self.left.split(len.0 as usize)?;
+        Ok(NarrowReader {
+            alloc: self.alloc,
+            left,
+        })
+    }
+
+    fn to_slice(&self) -> Result<CowSlice<'_, u8>> {
+        match Vec::from_slice(self.alloc, self.left.slice()) {
+            Ok(copy) => Ok(CowSlice::Owned(copy)),
+            Err(_) => Err(OutOfMemory),
+        }
+    }
+
+    fn read_slice(&mut self, buf: &mut [u8]) -> Result<()> {
+        self.left.read_slice(buf)
+    }
 }
 
 /// Three bytes over others.
@@ -96,32 +148,22 @@ fn has<R: Reader>(found: Result<R>, wanted: &[u8]) -> bool {
     }
 }
 
-/// The first length, offset or text that is read otherwise.
-fn texts<R: Reader>(mut reader: R) -> Option<usize> {
+/// The first call that answers otherwise over the bytes 1, 2, 3, `a.c`, 0, 4 and 5, or of its order
+/// of bytes over the letters from a on.
+fn first_wrong<R: Reader>(mut reader: R, big: bool) -> Option<usize> {
     let offset = R::Offset::from_u8;
-    let (two, nine) = (offset(2), offset(9));
+    let order = reader.endian();
+    let number = if big { LETTERS } else { LETTERS.swap_bytes() };
     first_false(&[
-        reader.endian().is_big_endian(),
-        length_of(&mut reader) == Ok((47, Dwarf32)),
-        length_of(&mut reader) == Ok((29, Dwarf64)),
-        length_of(&mut reader) == Err(UnknownReservedLength),
-        number(reader.read_length(Dwarf32)) == Ok(0x0102_0304),
-        number(reader.read_offset(Dwarf64)) == Ok(0x0102_0304),
-        reader.read_u8_array_16() == Ok(*b"0123456789abcdef"),
+        order.is_big_endian() == big && order.is_little_endian() != big,
+        order.read_u128(b"abcdefghijklmnop") == number,
         filled(&mut reader) == (Ok(()), [1, 2, 3]),
+        skipped(reader, offset(2)) == Ok(2),
         has(reader.read_null_terminated_slice(), b"a.c"),
-        number(reader.find(0)) == Ok(5),
-        skipped(reader, two) == Ok(2),
-        reader.skip(offset(1)) == Ok(()),
-        has(reader.split(two), b"\x06\x07"),
-        reader.truncate(two) == Ok(()) && reader.len().into_u64() == 2,
-        number(reader.find(0)) == Err(EOF_2),
-        filled(&mut reader) == (Err(EOF_2), [7, 7, 7]),
-        reader.skip(nine) == Err(EOF_2) && reader.truncate(nine) == Err(EOF_2),
-        reader.split(nine).err() == Some(EOF_2),
-        reader.read_u8_array_16() == Err(EOF_2) && reader.read_u32() == Err(EOF_2),
-        length_of(&mut reader) == Err(EOF_2) && reader.read_uint(8) == Err(EOF_2),
-        has(Ok(reader), b"\x08\x09"),
+        !reader.is_empty() && reader.len().into_u64() == 2,
+        filled(&mut reader) == (Err(UnexpectedEof(ReaderOffsetId(2))), [7, 7, 7]),
+        has(reader.split(offset(1)), b"\x04"),
+        has(Ok(reader), b"\x05"),
         {
             reader.empty();
             reader.is_empty()
@@ -129,28 +171,12 @@ fn texts<R: Reader>(mut reader: R) -> Option<usize> {
     ])
 }
 
-/// The first call that answers otherwise over either reader.
+/// The first call that answers otherwise over either reader, in either order, which is a type or a
+/// value.
 pub fn calls(alloc: Global) -> Found {
-    let lent = numbers(EndianSlice::new(NUMBERS, Little));
-    let lent = lent.or(texts(EndianSlice::new(TEXTS, Big)));
-    let own = numbers(NarrowReader::new(alloc, NUMBERS, Little));
-    Ok(lent.or(own).or(texts(NarrowReader::new(alloc, TEXTS, Big))))
-}
-
-/// Whether an order reads this number of the letters from a on, and says which it is.
-fn is_order<E: Endianity>(order: E, big: bool, wanted: u128) -> bool {
-    let found = order.read_u128(b"abcdefghijklmnop");
-    (order.is_big_endian(), order.is_little_endian(), found) == (big, !big, wanted)
-}
-
-/// The first order of bytes that is another, as a type or as a value.
-pub fn orders() -> Found {
-    let little = 0x706f_6e6d_6c6b_6a69_6867_6665_6463_6261;
-    let big = 0x6162_6364_6566_6768_696a_6b6c_6d6e_6f70;
-    Ok(first_false(&[
-        is_order(LittleEndian, false, little),
-        is_order(BigEndian, true, big),
-        is_order(Little, false, little),
-        is_order(Big, true, big),
-    ]))
+    let bytes = b"\x01\x02\x03a.c\0\x04\x05";
+    let failed = first_wrong(EndianSlice::new(bytes, LittleEndian), false);
+    let failed = failed.or(first_wrong(EndianSlice::new(bytes, BigEndian), true));
+    let failed = failed.or(first_wrong(NarrowReader::new(alloc, bytes, Little), false));
+    Ok(failed.or(first_wrong(NarrowReader::new(alloc, bytes, Big), true)))
 }
