@@ -85,7 +85,8 @@ fn explain(rt: &HostRuntime, error: &Error) -> io::Result<u8> {
     }
     let message = lines_words::message_of(rt.alloc(), error)?;
     if error.use_stderr() {
-        write!(rt.stderr(), "{message}")?;
+        // Where standard error can't be written to, the status still says it.
+        let _ = write!(rt.stderr(), "{message}");
         Ok(USAGE)
     } else {
         write!(rt.stdout(), "{message}")?;

@@ -4,7 +4,7 @@ use clap::{Arg, ArgAction, Command};
 use std::alloc::{AllocError, Global};
 
 /// The version of the program.
-const VERSION: &str = "1.0";
+const VERSION: &str = "0.1.0";
 
 /// The commands: the name of each and what is said of it, then a line for each thing that it takes
 /// beside its file and `json`, and last what is said at the end. Such a line has a name; a letter,

@@ -76,11 +76,20 @@ fn convert<R: Reader>(
         &mut strings,
         |address| Some(Address::Constant(address)),
     )?;
+    read_back(alloc, &program, &mut line_strings, &mut strings)
+}
+
+/// What is read of a program after it was written.
+fn read_back(
+    alloc: Global,
+    program: &LineProgram,
+    line_strings: &mut LineStringTable,
+    strings: &mut StringTable,
+) -> ConvertResult<RoundTrip> {
+    if !program.can_write(line_strings, strings) {
+        return Err(ConvertError::Write(Error::InvalidRange));
+    }
     let mut lines = gimli_write::DebugLine::from(EndianVec::new(alloc, LittleEndian));
     let of = program.encoding();
-    if program.can_write(&line_strings, &strings) {
-        round_trip(&program, &mut lines, of, &mut line_strings, &mut strings)
-    } else {
-        Err(ConvertError::Write(Error::InvalidRange))
-    }
+    round_trip(program, &mut lines, of, line_strings, strings)
 }
