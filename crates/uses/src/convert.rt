@@ -6,8 +6,8 @@ use anyhow::{Result, bail};
 use gimli_core::{DebugLineOffset, Encoding, EndianSlice, LittleEndian, Reader};
 use gimli_line::{DebugLine, IncompleteLineProgram};
 use gimli_write::{
-    Address, ConvertError, ConvertResult, EndianVec, Error, LineStringTable, RoundTrip,
-    StringTable, convert_program, round_trip,
+    Address, ConvertError, ConvertResult, EndianVec, Error, LineProgram, LineStringTable,
+    RoundTrip, StringTable, convert_program, round_trip,
 };
 use std::alloc::Global;
 use std::fs;
