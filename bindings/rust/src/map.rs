@@ -145,8 +145,8 @@ impl<'a> Map<'a> {
 
     /// The addresses for a breakpoint at a line of the files that a path names, ascending, or at the next line that has any. None
     /// where no line from it on has code. A path names a file by its last components (`stl_map.h`, `bits/stl_map.h`), and one from the
-    /// root is a whole one; `.` and `..` are resolved by text. A row that another row of its address follows isn't in a map: so a line
-    /// of optimised code may have no address here where [`Index::addresses_of`](crate::Index::addresses_of) tells some.
+    /// root is a whole one; `.` and `..` are resolved by text. These are the addresses that the rows of the program give, if no two of
+    /// its sequences overlap.
     pub fn addresses_of(&self, path: &[u8], line: u64) -> Option<Addresses> {
         let found = all_addresses(|room, found_line, count| {
             // The pointers are those of slices and of locals.

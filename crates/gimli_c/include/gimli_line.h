@@ -313,8 +313,8 @@ uint32_t gimli_line_map_find_all(const uint8_t *map, size_t length, gimli_map_pl
  * the address of the first that is a statement. Where the line has none, those of the next line that has; *found_line is that line. They
  * go into addresses[0] and so on, ascending, as far as there is room; *count is how many there are. GIMLI_NO_CODE where no line from it
  * on has any; one of GIMLI_NO_MAP to GIMLI_MAP_HEADER where the bytes begin with no map. Where another number than 0 is answered, nothing
- * is written. Looks at each range twice. A row that another row of its address follows isn't in a map: so a line of optimised code, which
- * gcc gives such rows, may have no address here where gimli_line_index_addresses_of tells some. */
+ * is written. Looks at each range twice. In a map that this library made these are the addresses that the rows of the program give, if
+ * no two of its sequences overlap (docs/INDEX.md). */
 uint32_t gimli_line_map_addresses_of(const uint8_t *map, size_t length, const uint8_t *path, size_t path_length, uint64_t line,
                                      uint64_t *found_line, uint64_t *addresses, size_t room, size_t *count)
     GIMLI_CALL GIMLI_READS(1, 2) GIMLI_READS(3, 4) GIMLI_WRITES(7, 8);
