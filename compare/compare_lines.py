@@ -6,7 +6,8 @@ addr2line (path and line) and llvm-symbolizer (path, line and column); `lines un
 format, files, sequences, rows and bytes of each unit). A tool that is not there is passed over, and told.
 
 Paths are compared whole, in all versions. addr2line looks by .debug_info, so it knows no place where no function is: such an
-answer (??) counts apart.
+answer (??) counts apart. A program that it refuses in part ("DWARF error") counts apart too: addr2line 2.40 takes the offsets of
+.debug_line_str in the 64-bit format for others.
 """
 import os
 import re
@@ -46,7 +47,11 @@ def places(answer, columns):
 def compare_where(tool, command, lines, program, addresses, columns, tally):
     text = "".join(f"0x{address:x}\n" for address in addresses)
     ours = places(output([lines, "where", program], text), True)
-    theirs = places(output(command, text), columns)
+    asked = subprocess.run(command, input=text, capture_output=True, text=True, check=False)
+    if "DWARF error" in asked.stderr:
+        tally["refused by it"] += len(addresses)
+        return
+    theirs = places(asked.stdout, columns)
     if len(ours) != len(addresses) or len(theirs) != len(addresses):
         print(f"{program}: {tool} answers {len(theirs)} of {len(addresses)}, lines {len(ours)}")
         tally["differ"] += 1
@@ -106,7 +111,7 @@ def main():
         if not shutil.which(tool):
             print(f"{tool} is not there")
             continue
-        tally = tallies[f"where, {tool}"] = {"same": 0, "differ": 0, "unknown to it": 0}
+        tally = tallies[f"where, {tool}"] = {"same": 0, "differ": 0, "unknown to it": 0, "refused by it": 0}
         for name in programs:
             program = os.path.join(folder, name)
             addresses = row_addresses(lines, program)
