@@ -7,7 +7,8 @@ format, files, sequences, rows and bytes of each unit). A tool that is not there
 
 Paths are compared whole, in all versions. addr2line looks by .debug_info, so it knows no place where no function is: such an
 answer (??) counts apart. A program that it refuses in part ("DWARF error") counts apart too: addr2line 2.40 takes the offsets of
-.debug_line_str in the 64-bit format for others.
+.debug_line_str in the 64-bit format for others. It prints ? for the line 0. In version 5
+it names other files than LLVM: where llvm-symbolizer is there, what addr2line says otherwise is counted, and is no failure.
 """
 import os
 import re
@@ -39,8 +40,8 @@ def places(answer, columns):
     for line in answer.splitlines():
         line = re.sub(r" \(discriminator \d+\)$", "", line)
         if line:
-            parts = line.rsplit(":", 2 if columns else 1)
-            found.append(tuple(parts))
+            path, *numbers = line.rsplit(":", 2 if columns else 1)
+            found.append((path, *("0" if it == "?" else it for it in numbers)))
     return found
 
 
@@ -126,6 +127,8 @@ def main():
                 print(f"{program}: lines {ours}, llvm-dwarfdump {theirs}")
     for name, tally in tallies.items():
         print(f"{name}: " + ", ".join(f"{count} {word}" for word, count in tally.items()))
+    if "where, llvm-symbolizer" in tallies:
+        tallies.pop("where, addr2line", None)
     sys.exit(any(tally["differ"] for tally in tallies.values()))
 
 
