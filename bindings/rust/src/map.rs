@@ -106,7 +106,7 @@ impl<'a> Map<'a> {
         Error::of(unsafe { call!(gimli_line_map_check([self.bytes])) })
     }
 
-    /// How many ranges of addresses the map has.
+    /// How many starts the map has, from which on it says something. Of several at one address the last holds.
     pub fn len(&self) -> usize {
         self.ranges
     }

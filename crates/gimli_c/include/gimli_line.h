@@ -268,7 +268,7 @@ uint32_t gimli_line_find(const uint8_t *section, size_t length, bool big, uint8_
 
 /* What a map says of itself. */
 typedef struct gimli_map {
-    size_t ranges;         /* how many it has */
+    size_t ranges;         /* how many starts it has (docs/INDEX.md), of which several may have one address */
     size_t identity;       /* where its identity begins, from the map's first byte on: a build id or a checksum of what it was made of */
     size_t identity_size;  /* in bytes; 0 where it has none */
     uint32_t address_size; /* in bytes: 1, 2, 4 or 8 */
