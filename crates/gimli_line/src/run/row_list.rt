@@ -127,11 +127,13 @@ impl StoredRow {
 /// Rows in their order, each in 48 bytes. A row of which a number is 2^32 or more, its address
 /// aside, or op_index 2^8 or more, takes memory of its own beside that.
 ///
-/// <!-- part of crates/gimli_c/src/row_reader/open.rt -->
+/// <!-- part of crates/gimli_lookup/src/sequence_cut.rt -->
 /// ```rust
-/// let mut rows = RowList::new(alloc);
-/// let fault = match keep_rows(&mut program.rows(), &mut rows) {
-///     Ok(fault) => fault,
+/// if stands(row, self.lowest) {
+///     self.rows.push(row)?;
+/// } else {
+///     self.end_part()?;
+/// }
 /// ```
 #[derive(Debug, Drop)]
 pub struct RowList {
