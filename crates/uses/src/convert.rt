@@ -14,15 +14,13 @@ use std::fs;
 
 /// Reads a section from a file, and prints the rows that are read of a unit after it was converted.
 /// The directory is `DW_AT_comp_dir` of its entry in `.debug_info`, and the name `DW_AT_name`.
-pub fn start(rt: &HostRuntime, words: &[String]) -> Result<()> {
+pub fn start(rt: &HostRuntime, words: &[String], text: &mut String) -> Result<()> {
     let [lines, offset, known @ ..] = words else {
         bail!("usage: convert LINES OFFSET [DIRECTORY [NAME]]");
     };
     let offset = offset.parse::<usize>()?;
     let section = fs::read(rt, lines.as_str())?;
-    let mut text = String::new(rt.alloc());
-    print_converted(rt.alloc(), &section, offset, known, &mut text)?;
-    print!(rt; "{text}")?;
+    print_converted(rt.alloc(), &section, offset, known, text)?;
     Ok(())
 }
 

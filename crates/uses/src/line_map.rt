@@ -10,7 +10,7 @@ use std::fs;
 
 /// Makes the index of an ELF file, and prints what it says: the addresses at which the code of a
 /// line begins, and where the code at an address, of hexadecimal digits, comes from.
-pub fn start(rt: &HostRuntime, words: &[String]) -> Result<()> {
+pub fn start(rt: &HostRuntime, words: &[String], text: &mut String) -> Result<()> {
     let [file, path, line, address] = words else {
         bail!("usage: line_map FILE PATH LINE ADDRESS");
     };
@@ -20,11 +20,8 @@ pub fn start(rt: &HostRuntime, words: &[String]) -> Result<()> {
     let bytes = map_of(rt.alloc(), &file)?;
     let index = LineIndex::open(&bytes)?;
     index.check()?;
-    let mut text = String::new(rt.alloc());
-    print_line(index, path.as_str(), line, &mut text)?;
-    print_place(rt.alloc(), index.find(address), &mut text)?;
-    print!(rt; "{text}")?;
-    Ok(())
+    print_line(index, path.as_str(), line, text)?;
+    print_place(rt.alloc(), index.find(address), text)
 }
 
 /// The bytes of the index of an ELF file whose addresses have 8 bytes.

@@ -20,25 +20,28 @@ fn main(rt: HostRuntime) -> Result<()> {
 /// Runs each command, and says why where one is refused.
 fn start(rt: &HostRuntime, words: &[String]) -> Result<()> {
     for command in words.split(|word| word.as_str() == "then") {
-        if let Err(refusal) = run(rt, command) {
-            println!(rt; "refused: {refusal}")?;
+        let mut text = String::new(rt.alloc());
+        match run(rt, command, &mut text) {
+            Ok(()) => print!(rt; "{text}")?,
+            Err(refusal) => println!(rt; "refused: {refusal}")?,
         }
     }
     Ok(())
 }
 
-fn run(rt: &HostRuntime, command: &[String]) -> Result<()> {
+/// Adds to a text what a command prints.
+fn run(rt: &HostRuntime, command: &[String], text: &mut String) -> Result<()> {
     let [program, words @ ..] = command else {
         bail!("no command");
     };
     match program.as_str() {
-        "rows" => rows::start(rt, words),
-        "where_is" => where_is::start(rt, words),
-        "line_map" => line_map::start(rt, words),
-        "make_unit" => make_unit::start(rt),
-        "make_object" => make_object::start(rt),
-        "convert" => convert::start(rt, words),
-        "own" => own::start(rt),
+        "rows" => rows::start(rt, words, text),
+        "where_is" => where_is::start(rt, words, text),
+        "line_map" => line_map::start(rt, words, text),
+        "make_unit" => make_unit::start(rt.alloc(), text),
+        "make_object" => make_object::start(rt.alloc(), text),
+        "convert" => convert::start(rt, words, text),
+        "own" => own::start(rt.alloc(), text),
         _ => bail!("no command {program}"),
     }
 }

@@ -45,12 +45,10 @@ const START: &[u8] = b"\x7fELF\x02\x01\x01\0\0\0\0\0\0\0\0\0\x01\0\x3e\0\x01\0\0
     \0\0\0\0\0\0\0\0\0\0\0\0\0\0\0\0\x40\0\0\0\0\0\0\0\0\0\0\0\x40\0\0\0\0\0\x40\0\x0a\0\x09\0";
 
 /// Prints the bytes of the object file, in hexadecimal digits.
-pub fn start(rt: &HostRuntime) -> anyhow::Result<()> {
-    let mut object = EndianVec::new(rt.alloc(), LittleEndian);
-    make_object(rt.alloc(), &mut object)?;
-    let mut text = String::new(rt.alloc());
-    print_bytes("object", object.slice(), &mut text)?;
-    print!(rt; "{text}")?;
+pub fn start(alloc: Global, text: &mut String) -> anyhow::Result<()> {
+    let mut object = EndianVec::new(alloc, LittleEndian);
+    make_object(alloc, &mut object)?;
+    print_bytes("object", object.slice(), text)?;
     Ok(())
 }
 

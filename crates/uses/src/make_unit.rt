@@ -11,14 +11,12 @@ use std::alloc::Global;
 use std::fmt::Write;
 
 /// Prints the bytes of a unit, and those of its texts.
-pub fn start(rt: &HostRuntime) -> anyhow::Result<()> {
-    let mut lines = DebugLine::from(EndianVec::new(rt.alloc(), LittleEndian));
-    let mut texts = DebugLineStr::from(EndianVec::new(rt.alloc(), LittleEndian));
-    write_unit(rt.alloc(), AT_0X1000, &mut lines, &mut texts)?;
-    let mut text = String::new(rt.alloc());
-    print_bytes(".debug_line", lines.0.slice(), &mut text)?;
-    print_bytes(".debug_line_str", texts.0.slice(), &mut text)?;
-    print!(rt; "{text}")?;
+pub fn start(alloc: Global, text: &mut String) -> anyhow::Result<()> {
+    let mut lines = DebugLine::from(EndianVec::new(alloc, LittleEndian));
+    let mut texts = DebugLineStr::from(EndianVec::new(alloc, LittleEndian));
+    write_unit(alloc, AT_0X1000, &mut lines, &mut texts)?;
+    print_bytes(".debug_line", lines.0.slice(), text)?;
+    print_bytes(".debug_line_str", texts.0.slice(), text)?;
     Ok(())
 }
 

@@ -7,20 +7,19 @@ use crate::make_unit::{AT_0X1000, write_unit};
 use crate::rows::print_units;
 use gimli_core::{Error as ReadError, LittleEndian, Reader, ReaderOffsetId, SectionId};
 use gimli_write::{Address, DebugLine, DebugLineStr, EndianVec, Error, Result, Sink, Writer};
+use std::alloc::Global;
 use std::borrow::CowSlice;
 
 /// Writes a unit into an array, and prints the rows that are read there.
-pub fn start(rt: &HostRuntime) -> anyhow::Result<()> {
+pub fn start(alloc: Global, text: &mut String) -> anyhow::Result<()> {
     let mut lines = DebugLine::from(ArraySection {
         bytes: [0; 256],
         len: 0,
     });
-    let mut texts = DebugLineStr::from(EndianVec::new(rt.alloc(), LittleEndian));
-    write_unit(rt.alloc(), AT_0X1000, &mut lines, &mut texts)?;
+    let mut texts = DebugLineStr::from(EndianVec::new(alloc, LittleEndian));
+    write_unit(alloc, AT_0X1000, &mut lines, &mut texts)?;
     let slice = &lines.0.bytes[..lines.0.len];
-    let mut text = String::new(rt.alloc());
-    print_units(rt.alloc(), OwnReader { slice }, &mut text)?;
-    print!(rt; "{text}")?;
+    print_units(alloc, OwnReader { slice }, text)?;
     Ok(())
 }
 

@@ -9,15 +9,13 @@ use std::fmt::Write;
 use std::fs;
 
 /// Reads a section from a file, and prints its units.
-pub fn start(rt: &HostRuntime, words: &[String]) -> anyhow::Result<()> {
+pub fn start(rt: &HostRuntime, words: &[String], text: &mut String) -> anyhow::Result<()> {
     let [lines] = words else {
         bail!("usage: rows LINES");
     };
     let section = fs::read(rt, lines.as_str())?;
-    let mut text = String::new(rt.alloc());
     let reader = EndianSlice::new(&section, LittleEndian);
-    print_units(rt.alloc(), reader, &mut text)?;
-    print!(rt; "{text}")?;
+    print_units(rt.alloc(), reader, text)?;
     Ok(())
 }
 

@@ -18,15 +18,12 @@ use std::fs;
 type Result<T, E = ElfError> = std::result::Result<T, E>;
 
 /// Reads an ELF file, and prints a line for each address, which has hexadecimal digits.
-pub fn start(rt: &HostRuntime, words: &[String]) -> anyhow::Result<()> {
+pub fn start(rt: &HostRuntime, words: &[String], text: &mut String) -> anyhow::Result<()> {
     let [file, addresses @ ..] = words else {
         bail!("usage: where_is FILE ADDRESS..");
     };
     let file = fs::read(rt, file.as_str())?;
-    let mut text = String::new(rt.alloc());
-    print_places(rt.alloc(), &file, addresses, &mut text)?;
-    print!(rt; "{text}")?;
-    Ok(())
+    print_places(rt.alloc(), &file, addresses, text)
 }
 
 /// Adds a line for each address of an ELF file.
