@@ -7,7 +7,8 @@ use Rattle.std.specs.Char.{is_ascii_alphabetic}
 use Rattle.gimli_core.specs.Reading.{result_map}
 use Rattle.gimli_line.specs.header.File.{File}
 use Rattle.gimli_lookup.specs.Strings.{Strings, string_of}
-use Rattle.gimli_lookup.specs.Paths.{Paths, is_separator, is_absolute, separator_after, path_in, path_from, ◌>>=◌, directory_string, known_directory, root_directory}
+use Rattle.gimli_lookup.specs.Paths.{Paths, is_separator, is_absolute, separator_after, path_in, path_from, ◌>>=◌, directory_string, known_directory}
+use Rattle.gimli_lookup.specs.Paths.{root_directory}
 use Rattle.gimli_lookup.specs.Paths.{base_directory, directory_path, file_path, EndsWithOwnPath, HasAbsoluteRoot}
 use Rattle.gimli_lookup.specs.declared.path_error.PathError.{PathError}
 
