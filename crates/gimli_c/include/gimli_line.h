@@ -13,11 +13,9 @@
  * gimli_line_index_find for each address or gimli_line_index_find_all for an array of them, and gimli_line_index_path for the path of
  * the row's file. A map is the faster way. examples/c/where_is.c does this.
  *
- * For all rows of a unit, some at a time: gimli_line_rows_open once, gimli_line_rows_next until there are no more, and
- * gimli_line_rows_close. examples/c/addr2line.c does this.
- *
- * For one unit, without a handle: gimli_line_unit gives the units one after the other, gimli_line_rows the rows of one,
- * gimli_line_find the row of an address, and gimli_line_file and gimli_line_directory what a path is made of.
+ * For one unit, without a handle: gimli_line_unit gives the units one after the other, also past one that it refuses,
+ * gimli_line_rows all rows of one, into an array of the caller, gimli_line_find the row of an address, and gimli_line_file and
+ * gimli_line_directory what a path is made of. examples/c/addr2line.c does this.
  *
  * `objcopy --dump-section .debug_line=line.bin --dump-section .debug_line_str=line_str.bin --dump-section .debug_str=str.bin
  * program copy` takes the sections out of a program. Where one isn't there, as .debug_line_str up to version 4, objcopy says so and
@@ -29,8 +27,8 @@
  *   null. (In C++ data() of what is empty may be null.)
  * - What a call writes to overlaps neither the section nor anything else that it writes to.
  * - No call but those of maps is made from a signal handler, or in the forked child of a process with threads.
- * - A handle is as GIMLI_LINE_INDEX_CLOSED or GIMLI_ROW_READER_CLOSED, or as the last call on it left it: its field isn't
- *   touched, and of a copy and its original only one is used on. So a class may move it, and leave a closed one.
+ * - A handle is as GIMLI_LINE_INDEX_CLOSED, or as the last call on it left it: its field isn't touched, and of a copy and its original
+ *   only one is used on. So a class may move it, and leave a closed one.
  * - A handle stays on the thread that opened it: threads ask one map, or open a handle each, and may share the sections. (That a
  *   handle may be shared, or go to another thread, isn't proved: see gimli_line_index.)
  * Nothing of the caller is kept after a call. Calls with handles of their own, or without any, may run in several threads at once.
@@ -149,7 +147,7 @@ typedef struct gimli_unit {
     uint64_t next;         /* the offset of what follows it in the section */
     uint64_t directories;  /* how many its table has: numbers from 1 on up to version 4, and from 0 on in version 5 */
     uint64_t files;        /* how many it has, those that its program defines included; numbers as those of directories */
-    uint64_t rows;         /* how many its program gives before its first fault */
+    uint64_t rows;         /* how many its program gives before its first fault: at most `length` */
     uint32_t version;      /* 2 to 5 */
     uint32_t address_size; /* in bytes: 1, 2, 4 or 8 */
     uint32_t offset_size;  /* in bytes: 4 or 8 */
@@ -219,15 +217,17 @@ typedef struct gimli_file {
  * as long as it is below `length`. */
 
 /* Reads the unit at an offset, and runs its program. A fault of the program is no refusal: unit->fault has its number. Where
- * another number than 0 is answered, *unit stays as it was, and where the next unit is isn't known; an index goes on after a unit
- * whose length can be read (gimli_line_index_unit). */
+ * another number than 0 is answered, only unit->next is written, so that a caller goes on after a refused unit: it is the offset
+ * after the unit where its length can be read and says no more bytes than there are, whatever else is wrong, and `length` where not,
+ * since no unit follows then. */
 uint32_t gimli_line_unit(const uint8_t *section, size_t length, bool big, uint8_t address_size, size_t offset,
                          gimli_unit *unit) GIMLI_CALL GIMLI_READS(1, 2);
 
 /* Runs the program of the unit at an offset. Its rows from the skip-th on, from 0, go into rows[0] and so on, as far as
- * there is room; *count is how many rows it has in all. The first fault ends the run: its number is answered, and the rows
- * before it are there. Where no unit can be read *count is 0. Where memory is missing, *count is 0, and the first rows may
- * have been written. */
+ * there is room; *count is how many rows it has in all. A unit has at most as many rows as bytes, so an array of unit->length rows
+ * has room for all of them (and one of length - offset rows for those of any unit at the offset). The first fault ends the run: its
+ * number is answered, and the rows before it are there. Where no unit can be read *count is 0. Where memory is missing, *count is 0,
+ * and the first rows may have been written. */
 uint32_t gimli_line_rows(const uint8_t *section, size_t length, bool big, uint8_t address_size, size_t offset,
                          uint64_t skip, gimli_row *rows, size_t room, uint64_t *count) GIMLI_CALL GIMLI_READS(1, 2)
     GIMLI_WRITES(7, 8);
@@ -435,7 +435,7 @@ static inline uint8_t *gimli_elf_copy(const uint8_t *file, size_t length, const 
 /* Makes an index of an ELF file: of its .debug_line, .debug_line_str, .debug_str, .debug_info, .debug_abbrev and .debug_str_offsets, each
  * made whole, by its order of bytes, its size of addresses and its lowest address of code (in an object file, none is left out).
  * GIMLI_NO_ELF where it is none, GIMLI_NO_SECTION where it has no .debug_line, GIMLI_BAD_SECTION where one of these can't be read; else it
- * answers as gimli_line_index_open_with_info does. A file may lack the others: gimli_line_index_comp_dir answers GIMLI_NO_COMP_DIR then.
+ * answers as gimli_line_index_open_with_info does. A file may lack the others: paths stay relative up to version 4 then.
  * Where another number than 0 is answered, the handle has what it had. */
 static inline uint32_t gimli_line_index_open_elf(const uint8_t *file, size_t length, gimli_line_index *index) {
     static const char *const names[6] = {".debug_line", ".debug_line_str", ".debug_str", ".debug_info", ".debug_abbrev",
@@ -548,7 +548,7 @@ uint32_t gimli_line_index_find_all(gimli_line_index *index, gimli_place *places,
  * gimli_line_comp_dir tells it). Up to version 4 a relative path goes on from it. In version 5 the
  * unit has the directory too, as its directory 0: where that is absolute, `comp_dir` isn't looked
  * at; where it is relative, each relative directory goes on from `comp_dir`, directory 0 too. Where
- * `comp_dir` has no bytes, that counts which the index has of the unit (gimli_line_index_comp_dir),
+ * `comp_dir` has no bytes, that counts which the index has of the unit (gimli_line_comp_dir tells it),
  * and where it has none, such a path stays relative. The bytes go into path[0] and so on, as far
  * as there is room, without a zero byte; *size is how many there are. GIMLI_NO_SUCH_UNIT where there
  * is no such unit, GIMLI_NO_SUCH_FILE where the unit has no such file, GIMLI_UNKNOWN_PATH where a
@@ -578,13 +578,6 @@ uint32_t gimli_line_comp_dir(const uint8_t *info, size_t info_length, const uint
                              uint8_t *directory, size_t room, size_t *size)
     GIMLI_CALL GIMLI_READS(1, 2) GIMLI_READS(3, 4) GIMLI_READS(5, 6) GIMLI_READS(7, 8) GIMLI_READS(9, 10) GIMLI_WRITES(13, 14);
 
-/* Tells the directory of the compilation that an index has of a unit: none where it was opened without .debug_info, and where that tells
- * none. The bytes go into directory[0] and so on, as far as there is room, without a zero byte; *size is how many there are.
- * GIMLI_NO_SUCH_UNIT where there is no such unit, GIMLI_NO_COMP_DIR where there is no directory, or one of no bytes, and GIMLI_CLOSED where
- * the handle is; then nothing is written. Takes no memory. */
-uint32_t gimli_line_index_comp_dir(gimli_line_index *index, uint64_t unit, uint8_t *directory, size_t room, size_t *size)
-    GIMLI_CALL GIMLI_WRITES(3, 4);
-
 /* Tells how many units an index has. GIMLI_CLOSED where the handle is; then nothing is written. */
 uint32_t gimli_line_index_unit_count(gimli_line_index *index, size_t *count) GIMLI_CALL;
 
@@ -597,8 +590,7 @@ typedef struct gimli_index_unit {
     uint64_t files;       /* how many files its table has, those that its program defines before its first fault included */
     uint32_t version;     /* from 2 to 5 */
     uint32_t first_file;  /* the number of its first file, and of its first directory: 1 up to version 4, 0 in version 5 */
-    uint32_t fault;       /* why it can't be read, or the number of its program's first fault; 0 where it has none. Only a unit that
-                           * can be read is opened by gimli_line_index_rows_open */
+    uint32_t fault;       /* why it can't be read, or the number of its program's first fault; 0 where it has none */
 } gimli_index_unit;
 
 /* Tells where a unit stands, what its header says, how many rows the index keeps of it, and what is wrong with it. Nothing is read
@@ -626,52 +618,8 @@ uint32_t gimli_line_index_addresses_of(gimli_line_index *index, const uint8_t *p
                                        uint64_t *found_line, uint64_t *addresses, size_t room, size_t *count)
     GIMLI_CALL GIMLI_READS(2, 3) GIMLI_WRITES(6, 7);
 
-/* Does what gimli_line_unit does, for a unit of an index: its version, its sizes, and how many directories, files and rows it has.
- * The program is run for each call. GIMLI_NO_SUCH_UNIT where there is no such unit, GIMLI_CLOSED where the handle is, and the number
- * of the refusal where the unit can't be read. Where another number than 0 is answered, *read stays as it was. */
-uint32_t gimli_line_index_read_unit(gimli_line_index *index, uint64_t unit, gimli_unit *read) GIMLI_CALL;
-
 /* The number of the first directory and of the first file of a unit: 1 up to version 4, 0 in version 5. */
 static inline uint64_t gimli_first_number(const gimli_unit *unit) { return unit->version <= 4; }
-
-/* Do what gimli_line_file and gimli_line_directory do, for a unit of an index: the header is read again for each call.
- * GIMLI_NO_SUCH_UNIT where there is no such unit, GIMLI_NO_SUCH_FILE or GIMLI_NO_SUCH_DIRECTORY where the unit has no such file or
- * directory, GIMLI_CLOSED where the handle is, and the number of the refusal where the unit can't be read. Where another number than
- * 0 is answered, nothing is written. */
-uint32_t gimli_line_index_file(gimli_line_index *index, uint64_t unit, uint64_t number, gimli_file *file, uint8_t *path,
-                               size_t path_room, uint8_t *directory, size_t directory_room)
-    GIMLI_CALL GIMLI_WRITES(5, 6) GIMLI_WRITES(7, 8);
-uint32_t gimli_line_index_directory(gimli_line_index *index, uint64_t unit, uint64_t number, gimli_text *directory,
-                                    uint8_t *bytes, size_t room) GIMLI_CALL GIMLI_WRITES(5, 6);
-
-/* The handle of a reader of rows. It owns the rows of a unit; a closed one owns nothing. */
-typedef struct gimli_row_reader {
-    void *at; /* null where it is closed */
-} gimli_row_reader;
-
-/* What a reader begins with. */
-#define GIMLI_ROW_READER_CLOSED {0}
-
-/* Runs the program of the unit at an offset, and puts its rows behind the handle; what stood there is given back. The rows are the
- * handle's own: the section may go. A fault of the program is no refusal: it comes after the rows before it. Where another number
- * than 0 is answered, the handle has what it had. */
-uint32_t gimli_line_rows_open(const uint8_t *section, size_t length, bool big, uint8_t address_size, size_t offset,
-                              gimli_row_reader *reader) GIMLI_CALL GIMLI_READS(1, 2);
-
-/* Does the same for a unit of an index. All rows of the unit come, those of sequences that the index leaves out too.
- * GIMLI_NO_SUCH_UNIT where there is no such unit, GIMLI_CLOSED where the handle of the index is, and the number of the refusal where
- * the unit can't be read. */
-uint32_t gimli_line_index_rows_open(gimli_line_index *index, uint64_t unit, gimli_row_reader *reader) GIMLI_CALL;
-
-/* Gives the next rows, from the first on: into rows[0] and so on, as far as there is room; *count is how many they are. Where
- * *count is less than `room`, the rows are at their end, and the answer is the number of the program's first fault, 0 where it has
- * none; such a call may come again. Before the end the answer is 0. `room` is above 0: with none, none come, and it never ends.
- * GIMLI_CLOSED where the handle is: then nothing is written. Takes no memory. */
-uint32_t gimli_line_rows_next(gimli_row_reader *reader, gimli_row *rows, size_t room, size_t *count)
-    GIMLI_CALL GIMLI_WRITES(2, 3);
-
-/* Closes a handle: all memory of its rows is given back. A closed one stays closed. The answer is 0. */
-uint32_t gimli_line_rows_close(gimli_row_reader *reader) GIMLI_CLOSE;
 
 /* What a unit that is written is encoded by. */
 typedef struct gimli_encoding {

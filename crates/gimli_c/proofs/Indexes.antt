@@ -102,30 +102,6 @@ pub unit_not_ok : (p : Location) → HasNoUnit p 0 → ⊥
 unit_not_ok p (inl q) = let z : 0 ≡ 6 = q.1 in omega (arith, z)
 unit_not_ok p (inr q) = error_not_ok q.1 q.3
 
--- nor that of a unit that isn't there
-error_not_missing : (e : Error) → 40 ≡ error_status e → ⊥
-error_not_missing (UnexpectedEof _) p = omega (arith, p)
-error_not_missing BadUnsignedLeb128 p = omega (arith, p)
-error_not_missing BadSignedLeb128 p = omega (arith, p)
-error_not_missing UnknownReservedLength p = omega (arith, p)
-error_not_missing (UnknownVersion _) p = omega (arith, p)
-error_not_missing (UnsupportedAddressSize _) p = omega (arith, p)
-error_not_missing (UnsupportedSegmentSize _) p = omega (arith, p)
-error_not_missing MinimumInstructionLengthZero p = omega (arith, p)
-error_not_missing MaximumOperationsPerInstructionZero p = omega (arith, p)
-error_not_missing LineRangeZero p = omega (arith, p)
-error_not_missing OpcodeBaseZero p = omega (arith, p)
-error_not_missing MissingFileEntryFormatPath p = omega (arith, p)
-error_not_missing (UnknownForm _) p = omega (arith, p)
-error_not_missing AddressOverflow p = omega (arith, p)
-error_not_missing UnsupportedOffset p = omega (arith, p)
-error_not_missing ExpectedStringAttributeValue p = omega (arith, p)
-error_not_missing OutOfMemory p = omega (arith, p)
-
-pub unit_not_missing : (p : Location) → HasNoUnit p 40 → ⊥
-unit_not_missing p (inl q) = let z : 40 ≡ 6 = q.1 in omega (arith, z)
-unit_not_missing p (inr q) = error_not_missing q.1 q.3
-
 pub path_not_ok : (i : SectionIndex) (unit file : ℕ) (comp_dir : List ℕ) → HasNoPath i unit file comp_dir 0 → ⊥
 path_not_ok i unit file comp_dir (inl p) = let z : 0 ≡ 40 = p.0 in omega (arith, z)
 path_not_ok i unit file comp_dir (inr (inl p)) = let z : 0 ≡ 26 = p.0 in omega (arith, z)
@@ -138,10 +114,3 @@ pub same_path : (i : SectionIndex) (start now : RunState) (h : Header) (index : 
 same_path i start now h index comp_dir f l =
     ap (λ (k : Header). file_path (paths_in i k comp_dir) f) l.header
     ∙ ap (λ (k : Header). file_path (paths_in i (record k { files = files_at_end start }) comp_dir) f) l.fixed
-
--- what stands at a location, by other names of the bytes of its section and of its offset
-pub location_here : (P : Location → Type 0) (i : SectionIndex) (kept : KeptUnit) (section : List ℕ) (offset : ℕ) → section ≡ i.section.items
-    → offset ≡ kept.unit.offset
-    → P (location section i.big i.address_size offset) → P (unit_location i kept)
-location_here P i kept section offset s o p =
-    subst (λ (n : ℕ). P (location i.section.items i.big i.address_size n)) o (subst (λ (x : List ℕ). P (location x i.big i.address_size offset)) s p)

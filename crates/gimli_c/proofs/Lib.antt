@@ -9,7 +9,6 @@ pub mod CauseLemmas
 pub mod SamePrograms
 pub mod Handles
 pub mod IndexHandles
-pub mod ReaderHandles
 pub mod CompDirs
 pub mod Indexes
 pub mod KeptPaths
@@ -18,7 +17,6 @@ pub mod DefinedFiles
 pub mod OpenedIndexes
 pub mod Unreferenced
 pub mod NamedFiles
-pub mod Readers
 pub mod Maps
 pub mod MadeMaps
 pub mod LineCounts

@@ -1,5 +1,5 @@
 -- What an index keeps, and what it answers.
-use Rattle.std.specs.Prelude.{◌≡◌, ◌≢◌, ◌^◌, ◌⊎◌, ℕ, Bool, true, List, [], ◌∷◌, length, map, All}
+use Rattle.std.specs.Prelude.{◌≡◌, ◌^◌, ◌⊎◌, ℕ, Bool, true, List, [], ◌∷◌, length, map, All}
 use Rattle.std.specs.Prelude.{Option}
 use Rattle.std.specs.Prelude.{Some, None, Ok, Err, nat_eq, nat_le, nat_lt, slice_get, sum_by, min}
 use Rattle.std.specs.Prelude.{◌-◌, ◌&&◌, if◌then◌else◌}
@@ -22,8 +22,6 @@ use Rattle.gimli_lookup.specs.SectionUnits.{IsUnitOf}
 use Rattle.gimli_lookup.specs.Statements.{addresses_of, HasNoLine, IsFirstLine}
 use Rattle.gimli_lookup.specs.Strings.{Strings}
 use Rattle.gimli_lookup.specs.declared.path_error.PathError.{PathError}
-use Rattle.gimli_c.specs.declared.file.GimliFile.{GimliFile}
-use Rattle.gimli_c.specs.declared.file.GimliText.{GimliText}
 use Rattle.gimli_c.specs.declared.index.find.GimliPlace.{GimliPlace}
 use Rattle.gimli_c.specs.declared.index.units.GimliIndexUnit.{GimliIndexUnit}
 use Rattle.gimli_c.specs.declared.index.kept.SectionIndex.{SectionIndex}
@@ -31,17 +29,14 @@ use Rattle.gimli_c.specs.declared.index.summary.HeaderSummary.{HeaderSummary}
 use Rattle.gimli_c.specs.declared.index.unit_paths.UnitPaths.{UnitPaths}
 use Rattle.gimli_c.specs.declared.row.GimliRow.{GimliRow}
 use Rattle.gimli_c.specs.declared.status.TheConstants.{NO_SUCH_FILE, NO_SUCH_UNIT, UNKNOWN_PATH}
-use Rattle.gimli_c.specs.declared.unit.GimliUnit.{GimliUnit}
 use Rattle.gimli_c.specs.CompDir.{sections_handed}
-use Rattle.gimli_c.specs.FileSeen.{GivesDirectory, GivesFile, GivesNoDirectory, GivesNoFile}
-use Rattle.gimli_c.specs.FileSeen.{HasFiles}
+use Rattle.gimli_c.specs.FileSeen.{GivesNoFile, HasFiles}
 use Rattle.gimli_c.specs.KeptUnits.{section_read, entry_of, summary_of, AreUnitsOf}
 use Rattle.gimli_c.specs.KeptUnits.{HaveDirectories, KeepsPaths}
 use Rattle.gimli_c.specs.Location.{Location, location, HasNoUnit}
 use Rattle.gimli_c.specs.References.{strings_for}
 use Rattle.gimli_c.specs.Seen.{row_seen}
 use Rattle.gimli_c.specs.Status.{fault_status}
-use Rattle.gimli_c.specs.Unit.{GivesUnit}
 use Rattle.gimli_c.specs.Written.{slots_with}
 
 -- ---- what an index is made of
@@ -164,12 +159,6 @@ abbrev pub directory_from : SectionIndex → ℕ → List ℕ → List ℕ
 directory_from i unit [] = own_directory i unit
 directory_from i unit (byte ∷ bytes) = byte ∷ bytes
 
--- a directory that has bytes, in an array of the caller, and its length
-abbrev pub WritesOwnDirectory : SectionIndex → ℕ → List ℕ → List ℕ → ℕ → Type 0
-WritesOwnDirectory i unit old new size =
-    let own = own_directory i unit in
-    (own ≢ []) × (new ≡ slots_with own old) × (size ≡ length own)
-
 -- what the paths of a header are made of
 abbrev pub paths_in : SectionIndex → Header → List ℕ → Paths
 paths_in i h comp_dir = record {
@@ -238,27 +227,6 @@ abbrev pub HasNoFile : SectionIndex → ℕ → ℕ → Type 0
 HasNoFile i unit file =
     (kept : KeptUnit) × IsUnit i unit kept × GivesNoFile (unit_location i kept) file
 
--- the unit has no such directory
-abbrev pub HasNoDirectory : SectionIndex → ℕ → ℕ → Type 0
-HasNoDirectory i unit directory =
-    (kept : KeptUnit) × IsUnit i unit kept × GivesNoDirectory (unit_location i kept) directory
-
--- the file of an index of a unit, and the bytes of its path and directory where they stand in the
--- section itself
-pub record GivesFileOf (i : SectionIndex) (unit file : ℕ) (seen : GimliFile)
-    (path_old path_new directory_old directory_new : List ℕ) : Type 0 where
-  pub kept : KeptUnit
-  pub is_unit : IsUnit i unit kept
-  pub gives : GivesFile (unit_location i kept) file seen path_old path_new directory_old
-      directory_new
-
--- the directory of an index of a unit, and its bytes where they stand in the section itself
-pub record GivesDirectoryOf (i : SectionIndex) (unit directory : ℕ) (seen : GimliText)
-    (bytes_old bytes_new : List ℕ) : Type 0 where
-  pub kept : KeptUnit
-  pub is_unit : IsUnit i unit kept
-  pub gives : GivesDirectory (unit_location i kept) directory seen bytes_old bytes_new
-
 -- a unit can't be read, and this is the number of the refusal
 pub record UnitRefused (i : SectionIndex) (unit status : ℕ) : Type 0 where
   pub kept : KeptUnit
@@ -272,12 +240,6 @@ HasNoPath i unit file comp_dir status =
     ((status ≡ NO_SUCH_UNIT) × (slice_get i.units unit ≡ None))
     ⊎ (((status ≡ NO_SUCH_FILE) × HasNoFile i unit file)
     ⊎ (((status ≡ UNKNOWN_PATH) × CantTellPath i unit file comp_dir) ⊎ UnitRefused i unit status))
-
--- what is read of a unit
-pub record GivesUnitIn (i : SectionIndex) (unit : ℕ) (seen : GimliUnit) : Type 0 where
-  pub kept : KeptUnit
-  pub is_unit : IsUnit i unit kept
-  pub gives : GivesUnit (unit_location i kept) seen
 
 -- how many rows an index keeps of a unit, as far as 64 bits say
 abbrev pub kept_rows : KeptUnit → ℕ

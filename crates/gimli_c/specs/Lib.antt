@@ -18,7 +18,6 @@ pub mod References
 pub mod KeptUnits
 pub mod Indexed
 pub mod Named
-pub mod Reader
 pub mod CompDir
 pub mod Mapped
 pub mod MadeMap

@@ -1,23 +1,19 @@
 //! An index over all units of a section, behind a handle that owns it.
 
 mod close;
-mod comp_dir;
 mod find;
 mod handle;
 mod kept;
 mod lines;
 mod open;
 mod path;
-mod read_unit;
 mod references;
 mod summary;
-mod tables;
 mod unit_paths;
 mod units;
 mod units_kept;
 
 pub use close::gimli_line_index_close;
-pub use comp_dir::gimli_line_index_comp_dir;
 pub use find::{GimliPlace, gimli_line_index_find, gimli_line_index_find_all};
 pub use handle::GimliLineIndex;
 pub use kept::SectionIndex;
@@ -26,9 +22,7 @@ pub use open::{
     GimliOpenOptions, OPTIONS_SIZE, gimli_line_index_open, gimli_line_index_open_with_info,
 };
 pub use path::gimli_line_index_path;
-pub use read_unit::gimli_line_index_read_unit;
 pub use summary::HeaderSummary;
-pub use tables::{gimli_line_index_directory, gimli_line_index_file};
 pub use unit_paths::UnitPaths;
 pub use units::{
     GimliIndexUnit, gimli_line_index_addresses, gimli_line_index_unit, gimli_line_index_unit_count,

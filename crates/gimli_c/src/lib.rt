@@ -18,9 +18,9 @@ pub mod laws;
 mod location;
 mod loose;
 mod map;
+mod next_unit;
 mod relocatable;
 mod row;
-mod row_reader;
 mod rows;
 mod run;
 pub mod status;
@@ -43,9 +43,8 @@ pub use find::gimli_line_find;
 pub use index::{
     GimliIndexUnit, GimliLineIndex, GimliOpenOptions, GimliPlace, HeaderSummary, OPTIONS_SIZE,
     SectionIndex, UnitPaths, gimli_line_index_addresses, gimli_line_index_addresses_of,
-    gimli_line_index_close, gimli_line_index_comp_dir, gimli_line_index_directory,
-    gimli_line_index_file, gimli_line_index_find, gimli_line_index_find_all, gimli_line_index_open,
-    gimli_line_index_open_with_info, gimli_line_index_path, gimli_line_index_read_unit,
+    gimli_line_index_close, gimli_line_index_find, gimli_line_index_find_all,
+    gimli_line_index_open, gimli_line_index_open_with_info, gimli_line_index_path,
     gimli_line_index_unit, gimli_line_index_unit_count,
 };
 pub use items::GimliSymbol;
@@ -55,10 +54,6 @@ pub use map::{
 };
 pub use relocatable::{GimliRelocation, gimli_line_write_relocatable};
 pub use row::{BASIC_BLOCK, END_SEQUENCE, EPILOGUE_BEGIN, GimliRow, IS_STMT, PROLOGUE_END};
-pub use row_reader::{
-    GimliRowReader, UnitRows, gimli_line_index_rows_open, gimli_line_rows_close,
-    gimli_line_rows_next, gimli_line_rows_open,
-};
 pub use rows::gimli_line_rows;
 pub use tables::GimliFileName;
 pub use text::GimliName;
