@@ -81,6 +81,20 @@ pub struct Row {
 
 #[repr(C)]
 #[derive(Clone, Copy, Debug, Default)]
+pub struct Unit {
+    pub length: u64,
+    pub next: u64,
+    pub directories: u64,
+    pub files: u64,
+    pub rows: u64,
+    pub version: u32,
+    pub address_size: u32,
+    pub offset_size: u32,
+    pub fault: u32,
+}
+
+#[repr(C)]
+#[derive(Clone, Copy, Debug, Default)]
 pub struct Place {
     pub address: u64,
     pub row: Row,
@@ -202,11 +216,6 @@ pub struct Index {
     pub at: *mut u8,
 }
 
-#[repr(C)]
-pub struct RowReader {
-    pub at: *mut u8,
-}
-
 declared! {
     gimli_version();
     gimli_line_map_open([map: u8], found: *mut Map);
@@ -224,7 +233,6 @@ declared! {
         [section: u8], [line_strings: u8], [strings: u8], [info: u8], [abbreviations: u8], [string_offsets: u8],
         options: *const OpenOptions, index: *mut Index
     );
-    gimli_line_index_comp_dir(index: *mut Index, unit: u64, [mut directory: u8], size: *mut usize);
     gimli_line_index_close(index: *mut Index);
     gimli_line_index_find(index: *mut Index, address: u64, place: *mut Place);
     gimli_line_index_find_all(index: *mut Index, [mut places: Place]);
@@ -244,10 +252,16 @@ declared! {
     gimli_line_index_addresses_of(
         index: *mut Index, [path: u8], line: u64, found_line: *mut u64, [mut addresses: u64], count: *mut usize
     );
-    gimli_line_index_file(
-        index: *mut Index, unit: u64, number: u64, file: *mut File, [mut path: u8], [mut directory: u8]
+    gimli_line_unit([section: u8], big: bool, address_size: u8, offset: usize, unit: *mut Unit);
+    gimli_line_rows(
+        [section: u8], big: bool, address_size: u8, offset: usize, skip: u64, [mut rows: Row], count: *mut u64
     );
-    gimli_line_index_directory(index: *mut Index, unit: u64, number: u64, directory: *mut Text, [mut bytes: u8]);
+    gimli_line_file(
+        [section: u8], big: bool, address_size: u8, offset: usize, number: u64, file: *mut File, [mut path: u8], [mut directory: u8]
+    );
+    gimli_line_directory(
+        [section: u8], big: bool, address_size: u8, offset: usize, number: u64, directory: *mut Text, [mut bytes: u8]
+    );
     gimli_line_write(
         encoding: *const Encoding, big: bool, details: u64, [texts: u8], [directories: Name], [files: FileName],
         [rows: Row], [mut unit: u8], size: *mut usize
@@ -257,10 +271,4 @@ declared! {
         [files: FileName], [rows: Row], [symbols: Symbol], [mut unit: u8], size: *mut usize,
         [mut relocations: Relocation], count: *mut usize
     );
-    gimli_line_rows_open(
-        [section: u8], big: bool, address_size: u8, offset: usize, reader: *mut RowReader
-    );
-    gimli_line_index_rows_open(index: *mut Index, unit: u64, reader: *mut RowReader);
-    gimli_line_rows_next(reader: *mut RowReader, [mut rows: Row], count: *mut usize);
-    gimli_line_rows_close(reader: *mut RowReader);
 }

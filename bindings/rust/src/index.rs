@@ -2,9 +2,7 @@
 
 use crate::calls::{self, call, unless, whole};
 use crate::error::Error;
-use crate::file::{File, Text};
 use crate::row::LineRow;
-use crate::rows::Rows;
 use crate::{CompilationSections, Sections};
 use std::cell::RefCell;
 use std::ptr::null_mut;
@@ -151,15 +149,6 @@ impl Index {
         places.iter().map(|place| (place.end != 0).then(|| Place::new(place))).collect()
     }
 
-    /// All rows of a unit, one after the other. Its program is run once.
-    ///
-    /// # Errors
-    ///
-    /// [`Error::NO_SUCH_UNIT`], [`Error::OUT_OF_MEMORY`], or why the unit can't be read.
-    pub fn rows(&self, unit: u64) -> Result<Rows, Error> {
-        Rows::of_index(&mut self.handle.borrow_mut(), unit)
-    }
-
     /// The whole path of the file of a unit. `comp_dir` is the directory of the compilation
     /// (`DW_AT_comp_dir`, as `CompilationSections::comp_dir` tells it), from which a relative path
     /// goes on up to version 4. In version 5 the unit has the directory too, and `comp_dir` counts
@@ -180,21 +169,6 @@ impl Index {
         })
     }
 
-    /// The directory of the compilation that the index has of a unit. None where it has none, or one of no bytes.
-    ///
-    /// # Errors
-    ///
-    /// [`Error::NO_SUCH_UNIT`].
-    pub fn comp_dir(&self, unit: u64) -> Result<Option<Vec<u8>>, Error> {
-        let directory = whole(256, |room, size| {
-            // The handle is an open one, and the pointers are those of a slice and of a local.
-            Error::of(unsafe {
-                call!(gimli_line_index_comp_dir(&mut *self.handle.borrow_mut(), unit, [mut room], size))
-            })
-        });
-        unless(Error::NO_COMP_DIR, directory)
-    }
-
     /// How many units there are.
     pub fn unit_count(&self) -> u64 {
         let mut count = 0;
@@ -207,47 +181,6 @@ impl Index {
         let mut found = calls::IndexUnit::default();
         let status = unsafe { call!(gimli_line_index_unit(&mut *self.handle.borrow_mut(), unit, &mut found)) };
         (status == 0).then(|| IndexUnit::new(&found))
-    }
-
-    /// The file of a number of a unit, as rows have it. The header is read for each call.
-    ///
-    /// # Errors
-    ///
-    /// [`Error::NO_SUCH_UNIT`], [`Error::NO_SUCH_FILE`], [`Error::OUT_OF_MEMORY`], or why the unit can't be read.
-    pub fn file(&self, unit: u64, number: u64) -> Result<File, Error> {
-        let mut file = calls::File::default();
-        let mut directory = vec![0; 256];
-        let path = whole(256, |path, size| {
-            // The handle is an open one, and the pointers are those of vectors and of a local.
-            Error::of(unsafe {
-                call!(gimli_line_index_file(
-                    &mut *self.handle.borrow_mut(), unit, number, &mut file, [mut path], [mut directory]
-                ))
-            })?;
-            *size = file.path.size as usize;
-            let is_whole = file.directory.size as usize <= directory.len();
-            directory.resize(file.directory.size as usize, 0);
-            if is_whole { Ok(()) } else { Err(Error::NO_ROOM) }
-        })?;
-        Ok(File::new(&file, path, directory))
-    }
-
-    /// The directory of a number of a unit, as files have it; none where its text is of no known kind.
-    ///
-    /// # Errors
-    ///
-    /// [`Error::NO_SUCH_UNIT`], [`Error::NO_SUCH_DIRECTORY`], [`Error::OUT_OF_MEMORY`], or why the unit can't be read.
-    pub fn directory(&self, unit: u64, number: u64) -> Result<Option<Text>, Error> {
-        let mut text = calls::Text::default();
-        let bytes = whole(256, |room, size| {
-            // The handle is an open one, and the pointers are those of a vector and of a local.
-            Error::of(unsafe {
-                call!(gimli_line_index_directory(&mut *self.handle.borrow_mut(), unit, number, &mut text, [mut room]))
-            })?;
-            *size = text.size as usize;
-            Ok(())
-        })?;
-        Ok(Text::new(&text, bytes))
     }
 
     /// The addresses for a breakpoint at a line of a file of one unit, or at the next line that has any. None where no line from it

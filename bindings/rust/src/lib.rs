@@ -2,7 +2,7 @@
 //! isn't: it hands slices on, and keeps to what the header asks of a caller.
 //!
 //! [`Map`] looks addresses up in an index that is bytes, from any thread. [`Index`] makes an index of the sections of a program, on
-//! one thread; [`Units`] gives the units of a section with their rows, and [`Rows`] the rows of one as they come.
+//! one thread; [`Units`] gives the units of a section with their rows, and [`Rows`] the rows of one.
 //! [`CompilationSections`] tell the directory of a unit, for whole paths. [`Contents`] are written as a unit. The names are gimli's
 //! where they fit.
 //!
@@ -30,6 +30,8 @@ pub use row::{ColumnType, LineRow, Unit, Units};
 pub use rows::Rows;
 pub use write::{Addends, Contents, Encoding, RelocatableUnit, Relocation, Symbol};
 
+use calls::{call, whole};
+
 /// The sections of a linked program that lines are read from. One that a program lacks is of no bytes.
 #[derive(Clone, Copy, Debug)]
 pub struct Sections<'a> {
@@ -49,6 +51,50 @@ impl<'a> Sections<'a> {
     /// The units of the section, one after the other.
     pub fn units(self) -> Units<'a> {
         Units::new(self)
+    }
+
+    /// The file of a number of the unit at an offset, as rows have it. The header is read for each call, and the program is run where only
+    /// that defines the file.
+    ///
+    /// # Errors
+    ///
+    /// [`Error::NO_SUCH_FILE`], [`Error::OUT_OF_MEMORY`], or why the unit can't be read.
+    pub fn file(&self, offset: usize, number: u64) -> Result<File, Error> {
+        let (section, mut file) = (self.debug_line, calls::File::default());
+        let mut directory = vec![0; 256];
+        let path = whole(256, |path, size| {
+            // The pointers are those of slices, of vectors and of a local.
+            Error::of(unsafe {
+                call!(gimli_line_file(
+                    [section], self.big_endian, self.address_size, offset, number, &mut file, [mut path], [mut directory]
+                ))
+            })?;
+            *size = file.path.size as usize;
+            let is_whole = file.directory.size as usize <= directory.len();
+            directory.resize(file.directory.size as usize, 0);
+            if is_whole { Ok(()) } else { Err(Error::NO_ROOM) }
+        })?;
+        Ok(File::new(&file, path, directory))
+    }
+
+    /// The directory of a number of the unit at an offset, as files have it; none where its text is of no known kind.
+    ///
+    /// # Errors
+    ///
+    /// [`Error::NO_SUCH_DIRECTORY`], [`Error::OUT_OF_MEMORY`], or why the unit can't be read.
+    pub fn directory(&self, offset: usize, number: u64) -> Result<Option<Text>, Error> {
+        let (section, mut text) = (self.debug_line, calls::Text::default());
+        let bytes = whole(256, |room, size| {
+            // The pointers are those of a slice, of a vector and of a local.
+            Error::of(unsafe {
+                call!(gimli_line_directory(
+                    [section], self.big_endian, self.address_size, offset, number, &mut text, [mut room]
+                ))
+            })?;
+            *size = text.size as usize;
+            Ok(())
+        })?;
+        Ok(Text::new(&text, bytes))
     }
 }
 

@@ -2,7 +2,7 @@
 
 use crate::calls;
 use crate::error::Error;
-use crate::rows::Rows;
+use crate::rows::{rows_of, unit_at};
 use crate::Sections;
 use std::num::NonZeroU64;
 
@@ -162,22 +162,20 @@ pub struct Unit {
 }
 
 impl Unit {
-    /// Reads the unit at an offset, and runs its program once.
+    /// Reads the unit at an offset, and runs its program.
     ///
     /// # Errors
     ///
     /// Why the unit can't be read, as [`Error::UNEXPECTED_EOF`] and [`Error::UNKNOWN_VERSION`], or [`Error::OUT_OF_MEMORY`]. A fault
     /// of the program is none: `fault` has it.
     pub fn read(sections: &Sections<'_>, offset: usize) -> Result<Unit, Error> {
-        let (mut rows, mut fault) = (Vec::new(), None);
-        for row in Rows::open(sections, offset)? {
-            match row {
-                Ok(row) => rows.push(row),
-                Err(first) => fault = Some(first),
-            }
-        }
-        let start = Start::read(sections, offset).ok_or(Error::UNEXPECTED_EOF)?;
-        Ok(Unit { offset, next: start.next, version: start.version, fault, rows })
+        let unit = unit_at(sections, offset).0?;
+        Unit::with_rows(sections, offset, &unit)
+    }
+
+    fn with_rows(sections: &Sections<'_>, offset: usize, unit: &calls::Unit) -> Result<Unit, Error> {
+        let rows = rows_of(sections, offset, unit)?.iter().map(LineRow::new).collect();
+        Ok(Unit { offset, next: unit.next as usize, version: unit.version, fault: Error::fault(unit.fault), rows })
     }
 
     /// Its rows.
@@ -186,32 +184,8 @@ impl Unit {
     }
 }
 
-/// What the first words of a unit that was read say (DWARF 5, sections 6.2.4 and 7.4).
-struct Start {
-    next: usize,
-    version: u32,
-}
-
-impl Start {
-    fn read(sections: &Sections<'_>, offset: usize) -> Option<Start> {
-        let number = |at: usize, size: usize| -> Option<u64> {
-            let bytes = sections.debug_line.get(at..at.checked_add(size)?)?;
-            let joined = |number: u64, byte: &u8| number << 8 | u64::from(*byte);
-            let number = if sections.big_endian { bytes.iter().fold(0, joined) } else { bytes.iter().rev().fold(0, joined) };
-            Some(number)
-        };
-        let (words, length) = match number(offset, 4)? {
-            0xffff_ffff => (12, number(offset.checked_add(4)?, 8)?),
-            length => (4, length),
-        };
-        let version = offset.checked_add(words)?;
-        let next = version.checked_add(usize::try_from(length).ok()?)?;
-        Some(Start { next, version: number(version, 2)? as u32 })
-    }
-}
-
-/// The units of a section, one after the other. After a unit that is refused there are none, since where the next one is isn't
-/// known.
+/// The units of a section, one after the other. A unit that is refused is given as its refusal, and the next one comes after it, if its
+/// length can be read and says no more bytes than there are; else it is the last one.
 pub struct Units<'a> {
     sections: Sections<'a>,
     offset: usize,
@@ -230,8 +204,8 @@ impl Iterator for Units<'_> {
         if self.offset >= self.sections.debug_line.len() {
             return None;
         }
-        let unit = Unit::read(&self.sections, self.offset);
-        self.offset = unit.as_ref().map_or(usize::MAX, |unit| unit.next);
-        Some(unit)
+        let (offset, (unit, next)) = (self.offset, unit_at(&self.sections, self.offset));
+        self.offset = next;
+        Some(unit.and_then(|unit| Unit::with_rows(&self.sections, offset, &unit)))
     }
 }

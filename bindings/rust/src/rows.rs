@@ -1,67 +1,26 @@
-//! The rows of a unit as they come.
+//! The rows of a unit, one after the other.
 
 use crate::calls::{self, call};
 use crate::error::Error;
 use crate::row::LineRow;
 use crate::Sections;
-use std::ptr::null_mut;
-
-/// How many rows are taken at once.
-const CHUNK: usize = 128;
 
 /// The rows of a unit, one after the other, up to the first fault of its program, which comes last.
-///
-/// It stays on its thread, as an index does.
 pub struct Rows {
-    reader: calls::RowReader,
-    rows: [calls::Row; CHUNK],
-    /// How many of the rows were given, and how many there are.
-    given: usize,
-    count: usize,
-    /// What is answered after these rows, once they are the last ones.
-    end: Option<Result<(), Error>>,
+    rows: std::vec::IntoIter<calls::Row>,
+    fault: Option<Error>,
 }
 
 impl Rows {
-    /// Runs the program of the unit at an offset, once. The rows are its own: the section may go.
+    /// Reads the unit at an offset, and runs its program. The rows are its own: the section may go.
     ///
     /// # Errors
     ///
     /// Why the unit can't be read, as [`Error::UNEXPECTED_EOF`] and [`Error::UNKNOWN_VERSION`], or [`Error::OUT_OF_MEMORY`]. A fault
     /// of the program is none: it comes after the rows before it.
     pub fn open(sections: &Sections<'_>, offset: usize) -> Result<Rows, Error> {
-        let section = sections.debug_line;
-        // The pointers are those of a slice and of a closed handle.
-        Rows::new(|reader| unsafe {
-            call!(gimli_line_rows_open([section], sections.big_endian, sections.address_size, offset, reader))
-        })
-    }
-
-    /// Those of a unit of an index.
-    pub(crate) fn of_index(index: &mut calls::Index, unit: u64) -> Result<Rows, Error> {
-        Rows::new(|reader| unsafe { call!(gimli_line_index_rows_open(index, unit, reader)) })
-    }
-
-    fn new(open: impl FnOnce(&mut calls::RowReader) -> u32) -> Result<Rows, Error> {
-        let mut rows = Rows {
-            reader: calls::RowReader { at: null_mut() },
-            rows: [calls::Row::default(); CHUNK],
-            given: 0,
-            count: 0,
-            end: None,
-        };
-        Error::of(open(&mut rows.reader))?;
-        Ok(rows)
-    }
-
-    /// Takes the next rows.
-    fn fill(&mut self) {
-        let mut count = 0;
-        // The handle is an open one, which no other call uses, and the pointers are those of its own fields.
-        let status = unsafe { call!(gimli_line_rows_next(&mut self.reader, [mut self.rows], &mut count)) };
-        self.given = 0;
-        self.count = count;
-        self.end = (self.count < CHUNK).then(|| Error::of(status));
+        let unit = unit_at(sections, offset).0?;
+        Ok(Rows { rows: rows_of(sections, offset, &unit)?.into_iter(), fault: Error::fault(unit.fault) })
     }
 }
 
@@ -69,22 +28,33 @@ impl Iterator for Rows {
     type Item = Result<LineRow, Error>;
 
     fn next(&mut self) -> Option<Self::Item> {
-        if self.given == self.count && self.end.is_none() {
-            self.fill();
-        }
-        if self.given < self.count {
-            self.given += 1;
-            return Some(Ok(LineRow::new(&self.rows[self.given - 1])));
-        }
-        match self.end.replace(Ok(())) {
-            Some(Err(fault)) => Some(Err(fault)),
-            _ => None,
+        match self.rows.next() {
+            Some(row) => Some(Ok(LineRow::new(&row))),
+            None => self.fault.take().map(Err),
         }
     }
 }
 
-impl Drop for Rows {
-    fn drop(&mut self) {
-        let _ok = unsafe { call!(gimli_line_rows_close(&mut self.reader)) };
+/// The unit at an offset, or why it is refused; and where the next one begins, in both cases.
+pub(crate) fn unit_at(sections: &Sections<'_>, offset: usize) -> (Result<calls::Unit, Error>, usize) {
+    let (section, mut unit) = (sections.debug_line, calls::Unit::default());
+    // The pointers are those of a slice and of a local.
+    let status =
+        unsafe { call!(gimli_line_unit([section], sections.big_endian, sections.address_size, offset, &mut unit)) };
+    (Error::of(status).map(|()| unit), unit.next as usize)
+}
+
+/// All rows of the unit at an offset, which has so many.
+pub(crate) fn rows_of(sections: &Sections<'_>, offset: usize, unit: &calls::Unit) -> Result<Vec<calls::Row>, Error> {
+    let (section, mut count) = (sections.debug_line, 0);
+    let mut rows = vec![calls::Row::default(); unit.rows as usize];
+    // The pointers are those of slices and of a local.
+    let status = unsafe {
+        call!(gimli_line_rows([section], sections.big_endian, sections.address_size, offset, 0, [mut rows], &mut count))
+    };
+    // Any other refusal is the first fault, which the unit has.
+    match Error::of(status) {
+        Err(Error::OUT_OF_MEMORY) => Err(Error::OUT_OF_MEMORY),
+        _ => Ok(rows),
     }
 }

@@ -136,6 +136,7 @@ fn paths_that_are_kept_are_those_of_addr2line() {
     for built in built() {
         let compilations = built.compilations();
         let index = Index::open_with_info(&built.sections(), &compilations, 0).expect("the index is made");
+        let without = Index::open(&built.sections(), 0).expect("the index is made");
         for address in built.addresses() {
             let place = index.find(address).expect("a row covers it");
             let path = index.path(place.unit, place.row.file_index(), &[]).expect("the path is told");
@@ -143,11 +144,12 @@ fn paths_that_are_kept_are_those_of_addr2line() {
             let line = place.row.line().map_or(0, |line| line.get());
             assert_eq!(format!("{path}:{line}"), built.addr2line(address));
             let offset = index.unit(place.unit).expect("there is such a unit").offset;
-            assert_eq!(index.comp_dir(place.unit), compilations.comp_dir(offset));
+            let comp_dir = compilations.comp_dir(offset).expect("there is memory").expect("the unit has one");
+            let (unit, file) = (place.unit, place.row.file_index());
+            assert_eq!(index.path(unit, file, &[]), index.path(unit, file, &comp_dir));
+            assert_eq!(index.path(unit, file, &[]), without.path(unit, file, &comp_dir));
         }
-        assert_eq!(index.comp_dir(u64::MAX), Err(Error::NO_SUCH_UNIT));
-        let without = Index::open(&built.sections(), 0).expect("the index is made");
-        assert_eq!(without.comp_dir(0), Ok(None));
+        assert_eq!(index.path(u64::MAX, 0, &[]), Err(Error::NO_SUCH_UNIT));
     }
 }
 
@@ -220,7 +222,7 @@ fn printed(row: &LineRow) -> String {
 }
 
 #[test]
-fn rows_as_they_come_are_those_of_linetool() {
+fn rows_are_those_of_linetool() {
     let linetool = sources().join("../crates/linetool/out/linetool");
     if !linetool.exists() {
         eprintln!("not tried: {} isn't built", linetool.display());
@@ -228,8 +230,7 @@ fn rows_as_they_come_are_those_of_linetool() {
     }
     for built in built() {
         let section = built.program.with_extension("debug_line");
-        let index = Index::open(&built.sections(), 0).expect("the index is made");
-        for (place, unit) in built.sections().units().enumerate() {
+        for unit in built.sections().units() {
             let unit = unit.expect("the unit is read");
             let output = Command::new(&linetool)
                 .arg("rows")
@@ -241,8 +242,8 @@ fn rows_as_they_come_are_those_of_linetool() {
             let rows = Rows::open(&built.sections(), unit.offset).expect("the unit is read");
             let lines: Vec<String> = rows.map(|row| printed(&row.expect("there is no fault"))).collect();
             assert_eq!(lines, expected.lines().collect::<Vec<_>>());
-            let again: Vec<_> = index.rows(place as u64).expect("the unit is there").map(|row| row.expect("there is no fault")).collect();
-            assert!(again.iter().eq(unit.rows()));
+            let again: Vec<_> = unit.rows().map(printed).collect();
+            assert_eq!(again, lines);
         }
     }
 }
@@ -282,6 +283,17 @@ fn fault_comes_after_the_rows_before_it() {
 }
 
 #[test]
+fn units_go_on_after_a_refused_one() {
+    // A unit of version 6, one that can be read, and three bytes.
+    let mut first = unit_of(&[0, 1, 1]);
+    first[4] = 6;
+    let size = first.len();
+    let section = [first, unit_of(&[0, 1, 1]), vec![1, 2, 3]].concat();
+    let units: Vec<_> = sections_of(&section).units().map(|unit| unit.map(|unit| (unit.offset, unit.next))).collect();
+    assert_eq!(units, [Err(Error::UNKNOWN_VERSION), Ok((size, 2 * size)), Err(Error::UNEXPECTED_EOF)]);
+}
+
+#[test]
 fn file_that_a_program_defines_has_a_path() {
     // The file d.c of directory 0; the address 0x10, a row of file 1; four bytes on, the end.
     let section = unit_of(&[
@@ -312,13 +324,14 @@ fn units_are_those_of_the_section() {
         let units: Vec<_> = built.sections().units().map(|unit| unit.expect("the unit is read")).collect();
         assert_eq!(index.unit_count(), units.len() as u64);
         for (place, unit) in units.iter().enumerate() {
-            let (place, found) = (place as u64, index.unit(place as u64).expect("there is such a unit"));
+            let found = index.unit(place as u64).expect("there is such a unit");
             assert_eq!((found.offset, found.version, found.fault), (unit.offset as u64, unit.version, None));
             assert_eq!((found.rows, found.first_file), (unit.rows().count() as u64, u32::from(unit.version <= 4)));
-            let first = u64::from(found.first_file);
-            assert!(index.file(place, first + found.files - 1).is_ok() && index.directory(place, first + found.directories - 1).is_ok());
-            assert_eq!(index.file(place, first + found.files), Err(Error::NO_SUCH_FILE));
-            assert_eq!(index.directory(place, first + found.directories), Err(Error::NO_SUCH_DIRECTORY));
+            let (first, sections) = (u64::from(found.first_file), built.sections());
+            assert!(sections.file(unit.offset, first + found.files - 1).is_ok());
+            assert!(sections.directory(unit.offset, first + found.directories - 1).is_ok());
+            assert_eq!(sections.file(unit.offset, first + found.files), Err(Error::NO_SUCH_FILE));
+            assert_eq!(sections.directory(unit.offset, first + found.directories), Err(Error::NO_SUCH_DIRECTORY));
         }
         assert_eq!(index.unit(units.len() as u64), None);
     }
@@ -381,16 +394,16 @@ fn files_and_directories_are_told() {
     let section = unit_of(&[
         0, 8, 3, b'd', b'.', b'c', 0, 0, 0, 0, 0, 9, 2, 0x10, 0, 0, 0, 0, 0, 0, 0, 1, 2, 4, 0, 1, 1,
     ]);
-    let index = Index::open(&sections_of(&section), 0).expect("the index is made");
-    let file = index.file(0, 1).expect("there is such a file");
+    let sections = sections_of(&section);
+    let file = sections.file(0, 1).expect("there is such a file");
     assert_eq!((file.path, file.directory, file.directory_number), (Some(Text::Here(b"d.c".to_vec())), None, 0));
     assert_eq!((file.timestamp, file.size, file.md5), (Some(0), Some(0), None));
-    assert_eq!(index.file(0, 2).map(|_| ()), Err(Error::NO_SUCH_FILE));
-    assert_eq!(index.file(1, 1).map(|_| ()), Err(Error::NO_SUCH_UNIT));
-    assert_eq!(index.directory(0, 0), Err(Error::NO_SUCH_DIRECTORY));
-    assert_eq!(index.directory(1, 0), Err(Error::NO_SUCH_UNIT));
+    assert_eq!(sections.file(0, 2).map(|_| ()), Err(Error::NO_SUCH_FILE));
+    assert_eq!(sections.file(section.len(), 1).map(|_| ()), Err(Error::UNEXPECTED_EOF));
+    assert_eq!(sections.directory(0, 0), Err(Error::NO_SUCH_DIRECTORY));
+    assert_eq!(sections.directory(section.len(), 0), Err(Error::UNEXPECTED_EOF));
+    let index = Index::open(&sections, 0).expect("the index is made");
     assert_eq!(index.addresses(1, 1, 1), Err(Error::NO_SUCH_UNIT));
-    assert_eq!(index.rows(1).map(|_| ()), Err(Error::NO_SUCH_UNIT));
 }
 
 #[test]
