@@ -152,9 +152,10 @@ impl Index {
     /// The whole path of the file of a unit. `comp_dir` is the directory of the compilation
     /// (`DW_AT_comp_dir`, as `CompilationSections::comp_dir` tells it), from which a relative path
     /// goes on up to version 4. In version 5 the unit has the directory too, and `comp_dir` counts
-    /// where that one is relative: then each relative directory goes on from it. Where it has no
-    /// bytes, the directory counts that the index has of the unit, and where it has none such a path
-    /// stays relative. The paths of files that rows have are kept.
+    /// where that one is relative: then each relative directory goes on from it, and that one itself
+    /// if `comp_dir` is absolute. Where it has no bytes, the directory counts that the index has of
+    /// the unit, and where it has none such a path stays relative. The paths of files that rows have
+    /// are kept.
     ///
     /// # Errors
     ///

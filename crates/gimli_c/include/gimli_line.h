@@ -547,10 +547,10 @@ uint32_t gimli_line_index_find_all(gimli_line_index *index, gimli_place *places,
  * up to the directory of the compilation. `comp_dir` is that one (DW_AT_comp_dir, as
  * gimli_line_comp_dir tells it). Up to version 4 a relative path goes on from it. In version 5 the
  * unit has the directory too, as its directory 0: where that is absolute, `comp_dir` isn't looked
- * at; where it is relative, each relative directory goes on from `comp_dir`, directory 0 too. Where
- * `comp_dir` has no bytes, that counts which the index has of the unit (gimli_line_comp_dir tells it),
- * and where it has none, such a path stays relative. The bytes go into path[0] and so on, as far
- * as there is room, without a zero byte; *size is how many there are. GIMLI_NO_SUCH_UNIT where there
+ * at; where it is relative, each relative directory goes on from `comp_dir`, directory 0 too if that
+ * is absolute. Where `comp_dir` has no bytes, that counts which the index has of the unit
+ * (gimli_line_comp_dir tells it), and where it has none, such a path stays relative. The bytes go into
+ * path[0] and so on, as far as there is room, without a zero byte; *size is how many there are. GIMLI_NO_SUCH_UNIT where there
  * is no such unit, GIMLI_NO_SUCH_FILE where the unit has no such file, GIMLI_UNKNOWN_PATH where a
  * string of the path can't be told, and GIMLI_CLOSED where the handle is; the number of the refusal
  * where the unit can't be read. Where another number than 0 is answered, nothing is written. The

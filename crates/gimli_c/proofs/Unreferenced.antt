@@ -14,7 +14,7 @@ use Rattle.gimli_core.specs.declared.attribute_value.AttributeValue.TheVariants.
 use Rattle.gimli_line.specs.header.File.{File}
 use Rattle.gimli_line.specs.header.Header.{Header, UnitEntry, directory_of, file_of, from_one}
 use Rattle.gimli_line.specs.header.HeaderGrammar.{SpellsUnit, HasHeaderFault, HasUnit, HasNoUnit}
-use Rattle.gimli_lookup.specs.Paths.{Paths, ◌>>=◌, is_absolute, path_from, handed_directory, directory_string, known_directory, base_directory}
+use Rattle.gimli_lookup.specs.Paths.{Paths, ◌>>=◌, is_absolute, path_from, handed_directory, directory_string, known_directory, root_directory, base_directory}
 use Rattle.gimli_lookup.specs.Paths.{directory_path, file_path}
 use Rattle.gimli_lookup.specs.Section.{KeptHeader, KeptUnit, unit_without_header}
 use Rattle.gimli_lookup.specs.SectionUnits.{IsRun, IsUnitOf}
@@ -90,9 +90,9 @@ module _ (l a b : List ℕ) where
 
     directory_same : (i : ℕ) → directory_path (paths l a h c) i ≡ directory_path (paths l b h c) i
     directory_same i =
-        let known : Result (List ℕ) PathError = Ok (known_directory (paths l a h c)) in
-        ap (λ (d : Result (List ℕ) PathError). d >>= path_from (if nat_eq i 0 then known else base_directory (paths l a h c))) (directory_string_same i)
-        ∙ ap (λ (d : Result (List ℕ) PathError). directory_string (paths l b h c) i >>= path_from (if nat_eq i 0 then known else d)) base_same
+        let root : Result (List ℕ) PathError = Ok (root_directory (paths l a h c)) in
+        ap (λ (d : Result (List ℕ) PathError). d >>= path_from (if nat_eq i 0 then root else base_directory (paths l a h c))) (directory_string_same i)
+        ∙ ap (λ (d : Result (List ℕ) PathError). directory_string (paths l b h c) i >>= path_from (if nat_eq i 0 then root else d)) base_same
 
     path_same : (f : File) → has_path_in_strings f ≡ false → file_path (paths l a h c) f ≡ file_path (paths l b h c) f
     path_same f none_of_file =

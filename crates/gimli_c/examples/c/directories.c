@@ -217,7 +217,7 @@ static void version_5(void) {
     section lines = {lines_5, sizeof lines_5}, info = {info_5, sizeof info_5};
     gimli_line_index index = opened(lines);
     expect_directory(info, "./w");
-    expect_path(&index, 0, "./w", "./w/./w/a.c");
+    expect_path(&index, 0, "./w", "./w/a.c");
     expect_path(&index, 1, "./w", "./w/../inc/b.h");
     expect_path(&index, 2, "./w", "/abs/c.c");
     expect_path(&index, 0, "/src", "/src/./w/a.c");
