@@ -1,9 +1,9 @@
 -- Where the next unit begins, and what is said of a unit.
-use Rattle.std.proofs.Common.{◌≡◌, ℕ, ◌+◌, ◌<◌, ◌≤◌, true, List, [], ◌∷◌, ◌++◌, length, drop, Ok, Err, refl, sym, ap, subst, ◌∙◌, inl, inr, arith}
+use Rattle.std.proofs.Common.{◌≡◌, ℕ, ◌+◌, ◌<◌, ◌≤◌, ◌^◌, Bool, true, List, [], ◌∷◌, ◌++◌, length, drop, Ok, Err, refl, sym, ap, subst, ◌∙◌, inl, inr, arith}
 use Rattle.std.specs.Prelude.{Result}
 use Rattle.std.proofs.lemmas.Bool.{cases_lt}
 use Rattle.std.proofs.lemmas.List.{append-nil, drop_all, length-append, length-drop}
-use Rattle.gimli_core.specs.Notation.{Notation}
+use Rattle.gimli_core.specs.Notation.{Notation, notation_of}
 use Rattle.gimli_core.specs.Numbers.{word_size}
 use Rattle.gimli_core.specs.Reading.{Read, eof, initial_length_at}
 use Rattle.gimli_core.specs.declared.error.Error.{Error}
@@ -59,6 +59,13 @@ next_is notation section offset next after is ends = at_answer (any_unit_at nota
           (e, (reads_any_unit notation).fault (drop offset section) e (ap (λ (r : Read (List ℕ)). r.0) read)),
           omega (arith, ends, ap length left),
         )
+
+-- the same by other names of the section and of its order
+pub same_next : (section other : List ℕ) (big other_big : Bool) (offset next : ℕ) → other ≡ section → other_big ≡ big
+    → IsNext (notation_of other_big (2 ^ 64)) other offset next → IsNext (notation_of big (2 ^ 64)) section offset next
+same_next section other big other_big offset next s b is =
+    subst (λ (x : List ℕ). IsNext (notation_of big (2 ^ 64)) x offset next) s
+    (subst (λ (x : Bool). IsNext (notation_of x (2 ^ 64)) other offset next) b is)
 
 -- a unit with a header is a unit, whatever its content is
 unit_any : (notation : Notation) (unit_entry : UnitEntry) (unit : List ℕ) (h : Header) → (header_production notation unit_entry).Spells unit h

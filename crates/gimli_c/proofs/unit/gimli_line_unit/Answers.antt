@@ -1,9 +1,16 @@
+use Rattle.gimli_c.specs.Location.{location}
 use Rattle.gimli_c.proofs.Units.{few_rows_of_unit, unit_given}
 use Rattle.gimli_c.proofs.unit.gimli_line_unit.Goals as goal
 
-pub returns-clause-ok : goal.returns-clause-ok
-returns-clause-ok c = λ ok. unit_given _ _ _ _ _ c.in-Ok.ensures.unit c.in-Ok.ensures.notation c.next_unit.ensures c.in-Ok-read_unit.ensures.ok
+pub returns-in-Ok-read_unit-clause-ok : goal.returns-in-Ok-read_unit-clause-ok
+returns-in-Ok-read_unit-clause-ok c = λ ok.
+    let p = location c.args.section.now c.args.big c.args.address_size c.args.offset in
+    unit_given p c.next_unit.result c.in-Ok.program.meaning c.in-Ok.program.notation c.in-Ok-read_unit.read c.in-Ok.ensures.unit c.in-Ok.ensures.notation
+    c.next_unit.ensures c.in-Ok-read_unit.ensures.ok
 
-pub returns-clause-at_most : goal.returns-clause-at_most
-returns-clause-at_most c = λ ok.
-    few_rows_of_unit _ _ (unit_given _ _ _ _ _ c.in-Ok.ensures.unit c.in-Ok.ensures.notation c.next_unit.ensures c.in-Ok-read_unit.ensures.ok)
+pub returns-in-Ok-read_unit-clause-at_most : goal.returns-in-Ok-read_unit-clause-at_most
+returns-in-Ok-read_unit-clause-at_most c = λ ok.
+    let p = location c.args.section.now c.args.big c.args.address_size c.args.offset in
+    few_rows_of_unit p c.in-Ok-read_unit.read
+    (unit_given p c.next_unit.result c.in-Ok.program.meaning c.in-Ok.program.notation c.in-Ok-read_unit.read c.in-Ok.ensures.unit
+    c.in-Ok.ensures.notation c.next_unit.ensures c.in-Ok-read_unit.ensures.ok)
