@@ -139,6 +139,13 @@ none" ]
     [ "$("$work/where_is" "$work/built" 0 ffffffffffffffff)" = "none
 none" ]
     "$work/addr2line" "$work/line.bin" | cmp "$work/rows" -
+    # A unit of a version that is none is passed over: the rows of those after it come.
+    { head -c 4 "$work/line.bin"; printf '\011'; tail -c +6 "$work/line.bin"; cat "$work/line.bin"; } >"$work/refused.bin"
+    first=$("$program" rows "$work/line.bin" little 8 0 | wc -l)
+    { tail -n "+$((first + 1))" "$work/rows"; cat "$work/rows"; } >"$work/others"
+    ! "$work/addr2line" "$work/refused.bin" >"$work/answer" 2>"$work/said"
+    cmp "$work/others" "$work/answer"
+    [ "$(cat "$work/said")" = "unit at 0: the version of a unit is none of 2 to 5" ]
     # shellcheck disable=SC2086
     "$work/addr2line" "$work/line.bin" $addresses 0 ffffffffffffffff | cmp "$work/pairs" -
     compared=$((compared + $(cat "$work/rows" "$work/pairs" | wc -l)))

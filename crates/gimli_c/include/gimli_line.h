@@ -137,7 +137,7 @@ typedef struct gimli_unit {
     uint64_t next;         /* the offset of what follows it in the section */
     uint64_t directories;  /* how many its table has: numbers from 1 on up to version 4, and from 0 on in version 5 */
     uint64_t files;        /* how many it has, those that its program defines included; numbers as those of directories */
-    uint64_t rows;         /* how many its program gives before its first fault */
+    uint64_t rows;         /* how many its program gives before its first fault: at most `length` */
     uint32_t version;      /* 2 to 5 */
     uint32_t address_size; /* in bytes: 1, 2, 4 or 8 */
     uint32_t offset_size;  /* in bytes: 4 or 8 */
@@ -207,14 +207,17 @@ typedef struct gimli_file {
  * as long as it is below `length`. */
 
 /* Reads the unit at an offset, and runs its program. A fault of the program is no refusal: unit->fault has its number. Where
- * another number than 0 is answered, *unit stays as it was, and where the next unit is isn't known. */
+ * another number than 0 is answered, only unit->next is written, so that a caller goes on after a refused unit: it is the offset
+ * after the unit where its length can be read and says no more bytes than there are, whatever else is wrong, and `length` where not,
+ * since no unit follows then. */
 uint32_t gimli_line_unit(const uint8_t *section, size_t length, bool big, uint8_t address_size, size_t offset,
                          gimli_unit *unit) GIMLI_CALL GIMLI_READS(1, 2);
 
 /* Runs the program of the unit at an offset. Its rows from the skip-th on, from 0, go into rows[0] and so on, as far as
- * there is room; *count is how many rows it has in all. The first fault ends the run: its number is answered, and the rows
- * before it are there. Where no unit can be read *count is 0. Where memory is missing, *count is 0, and the first rows may
- * have been written. */
+ * there is room; *count is how many rows it has in all. A unit has at most as many rows as bytes, so an array of unit->length rows
+ * has room for all of them (and one of length - offset rows for those of any unit at the offset). The first fault ends the run: its
+ * number is answered, and the rows before it are there. Where no unit can be read *count is 0. Where memory is missing, *count is 0,
+ * and the first rows may have been written. */
 uint32_t gimli_line_rows(const uint8_t *section, size_t length, bool big, uint8_t address_size, size_t offset,
                          uint64_t skip, gimli_row *rows, size_t room, uint64_t *count) GIMLI_CALL GIMLI_READS(1, 2)
     GIMLI_WRITES(7, 8);

@@ -16,6 +16,7 @@ mod items;
 pub mod laws;
 mod location;
 mod map;
+mod next_unit;
 mod path;
 mod relocatable;
 mod row;

@@ -10,8 +10,6 @@
 
 #include "gimli_line.h"
 
-enum { ROOM = 64 };
-
 static uint8_t *read_file(const char *name, size_t *length) {
     FILE *file = fopen(name, "rb");
     if (file == NULL || fseek(file, 0, SEEK_END) != 0) return NULL;
@@ -34,17 +32,14 @@ static void print_row(const gimli_row *row) {
     putchar('\n');
 }
 
-/* All rows of a unit, a few at a time. The status is that of the program's first fault, which comes after the rows before it. */
-static uint32_t print_rows(const uint8_t *section, size_t length, size_t offset) {
-    gimli_row_reader reader = GIMLI_ROW_READER_CLOSED;
-    uint32_t status = gimli_line_rows_open(section, length, false, 8, offset, &reader);
-    size_t count = ROOM;
-    while (status == GIMLI_OK && count == ROOM) {
-        gimli_row rows[ROOM];
-        status = gimli_line_rows_next(&reader, rows, ROOM, &count);
-        for (size_t i = 0; i < count; i++) print_row(&rows[i]);
-    }
-    gimli_line_rows_close(&reader);
+/* All rows of a unit. The status is that of the program's first fault, and the rows before it are there. */
+static uint32_t print_rows(const uint8_t *section, size_t length, size_t offset, const gimli_unit *unit) {
+    gimli_row *rows = calloc(unit->rows + 1, sizeof *rows); /* unit->rows is at most unit->length */
+    uint64_t count = 0;
+    if (rows == NULL) return GIMLI_OUT_OF_MEMORY;
+    uint32_t status = gimli_line_rows(section, length, false, 8, offset, 0, rows, unit->rows, &count);
+    for (uint64_t i = 0; i < count; i++) print_row(&rows[i]);
+    free(rows);
     return status;
 }
 
@@ -56,22 +51,22 @@ int main(int argc, char **argv) {
         return 2;
     }
     gimli_unit unit;
-    for (size_t offset = 0; argc == 2 && offset < length; offset = unit.next) {
+    int bad = 0;
+    for (size_t offset = 0; argc == 2 && offset < length; offset = unit.next) { /* unit.next is told of a refused unit too */
         uint32_t status = gimli_line_unit(section, length, false, 8, offset, &unit);
-        if (status == GIMLI_OK) status = print_rows(section, length, offset);
+        if (status == GIMLI_OK) status = print_rows(section, length, offset, &unit);
         if (status != GIMLI_OK) {
-            fprintf(stderr, "unit at %zu: status %u\n", offset, status);
-            return 1;
+            fprintf(stderr, "unit at %zu: %s\n", offset, gimli_status_sentence(status));
+            bad = 1;
         }
     }
     for (int i = 2; i < argc; i++) {
         uint64_t address = strtoull(argv[i], NULL, 16);
         uint32_t status = GIMLI_NO_ROW;
         gimli_row first, second;
-        for (size_t offset = 0; status == GIMLI_NO_ROW && offset < length; offset = unit.next) {
-            if (gimli_line_unit(section, length, false, 8, offset, &unit) != GIMLI_OK) return 1;
-            status = gimli_line_find(section, length, false, 8, offset, address, &first, &second);
-        }
+        for (size_t offset = 0; status == GIMLI_NO_ROW && offset < length; offset = unit.next)
+            if (gimli_line_unit(section, length, false, 8, offset, &unit) == GIMLI_OK)
+                status = gimli_line_find(section, length, false, 8, offset, address, &first, &second);
         if (status == GIMLI_OK) {
             print_row(&first);
             print_row(&second);
@@ -80,5 +75,5 @@ int main(int argc, char **argv) {
         }
     }
     free(section);
-    return 0;
+    return bad;
 }

@@ -106,18 +106,20 @@ static void expect_known(section lines, section info, const char *directory, uin
     gimli_sections sections = {lines.bytes, NULL, NULL, info.bytes, declaration, NULL, lines.length, 0, 0, info.length, sizeof declaration, 0};
     uint8_t own[ROOM];
     size_t size = 77;
-    expect(gimli_line_index_comp_dir(&index, 0, own, ROOM, &size) == GIMLI_CLOSED && size == 77, "a closed index");
+    expect(gimli_line_index_path(&index, 0, file, none, 0, own, ROOM, &size) == GIMLI_CLOSED && size == 77, "a closed index");
     options.lowest = 0;
     expect(gimli_line_index_open_sections(&sections, &options, &index) == GIMLI_OK, "gimli_line_index_open_sections");
-    expect(gimli_line_index_comp_dir(&index, 0, own, ROOM, &size) == GIMLI_OK, "gimli_line_index_comp_dir");
+    expect(ask(info, table, 0, own, ROOM, &size) == GIMLI_OK, "gimli_line_comp_dir");
     expect(size == strlen(directory) && memcmp(own, directory, size) == 0, directory);
-    expect(gimli_line_index_comp_dir(&index, 1, own, ROOM, &size) == GIMLI_NO_SUCH_UNIT, "no such unit");
+    expect(gimli_line_index_path(&index, 1, file, none, 0, own, ROOM, &size) == GIMLI_NO_SUCH_UNIT, "no such unit");
     expect_path(&index, file, "", wanted);
+    expect_path(&index, file, directory, wanted);
     expect_path(&index, file, "/other", info.bytes[4] < 5 ? "/other/inc/b.h" : "/other/../inc/b.h");
     gimli_line_index_close(&index);
     sections.info_size = 0;
     expect(gimli_line_index_open_sections(&sections, &options, &index) == GIMLI_OK, "gimli_line_index_open_sections");
-    expect(gimli_line_index_comp_dir(&index, 0, own, ROOM, &size) == GIMLI_NO_COMP_DIR, "no .debug_info");
+    expect(gimli_line_index_path(&index, 0, file, none, 0, own, ROOM, &size) == GIMLI_OK, "no .debug_info");
+    expect(size <= strlen(wanted) && memcmp(own, wanted + strlen(wanted) - size, size) == 0, "a path that stays relative");
     gimli_line_index_close(&index);
 }
 
@@ -215,7 +217,7 @@ static void version_5(void) {
     section lines = {lines_5, sizeof lines_5}, info = {info_5, sizeof info_5};
     gimli_line_index index = opened(lines);
     expect_directory(info, "./w");
-    expect_path(&index, 0, "./w", "./w/./w/a.c");
+    expect_path(&index, 0, "./w", "./w/a.c");
     expect_path(&index, 1, "./w", "./w/../inc/b.h");
     expect_path(&index, 2, "./w", "/abs/c.c");
     expect_path(&index, 0, "/src", "/src/./w/a.c");

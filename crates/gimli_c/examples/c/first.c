@@ -21,7 +21,6 @@ int main(int argc, char **argv) {
     gimli_open_options options = elf_options(&program);
     gimli_sections sections = elf_parts(&program);
     stop_if(gimli_line_index_open_sections(&sections, &options, &index));
-    elf_free(&program); /* the index has copies of what it needs */
 
     gimli_place place;
     stop_if(gimli_line_index_find(&index, strtoull(argv[2], NULL, 16), &place)); /* GIMLI_NO_ROW where no row covers it */
@@ -30,16 +29,12 @@ int main(int argc, char **argv) {
     stop_if(gimli_line_index_path(&index, place.unit, place.row.file, gimli_bytes(NULL), 0, path, sizeof path, &size));
     printf("%.*s:%" PRIu64 "\n", (int)(size < sizeof path ? size : sizeof path), (const char *)path, place.row.line);
 
-    gimli_row_reader reader = GIMLI_ROW_READER_CLOSED;
-    stop_if(gimli_line_index_rows_open(&index, place.unit, &reader));
-    gimli_row rows[64];
-    size_t all = 0, count = 64;
-    while (count == 64) { /* fewer: the rows are at their end */
-        stop_if(gimli_line_rows_next(&reader, rows, 64, &count));
-        all += count;
-    }
-    printf("%zu rows\n", all);
-    gimli_line_rows_close(&reader);
+    gimli_index_unit listed;
+    stop_if(gimli_line_index_unit(&index, place.unit, &listed));
     gimli_line_index_close(&index);
+    gimli_unit unit; /* with how many rows it has: gimli_line_rows puts them into an array */
+    stop_if(gimli_line_unit(program.line.bytes, program.line.length, options.big, options.address_size, listed.offset, &unit));
+    printf("%" PRIu64 " rows\n", unit.rows);
+    elf_free(&program);
     return 0;
 }

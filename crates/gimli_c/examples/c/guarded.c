@@ -63,43 +63,70 @@ static void expect(bool holds, const char *what) {
     exit(1);
 }
 
-/* The rows of a unit by a run each, and by a reader, into each room. */
-static void read_rows(section lines, size_t offset, uint64_t all) {
+/* The rows of a unit: all of them in an array of as many rows as the unit has bytes, and in each room those from any of them on. */
+static void read_rows(section lines, size_t offset, const gimli_unit *unit) {
+    gimli_row *all = guarded(unit->length * sizeof *all);
+    uint64_t count = 0;
+    expect(gimli_line_rows(lines.bytes, lines.length, false, 8, offset, 0, all, unit->length, &count) == GIMLI_OK &&
+               count == unit->rows && count <= unit->length, "all rows of gimli_line_rows");
     for (size_t room = 0; room <= ROOM; room++) {
-        gimli_row *rows = guarded(room * sizeof *rows), *next = guarded(room * sizeof *next);
-        gimli_row_reader reader = GIMLI_ROW_READER_CLOSED;
-        expect(gimli_line_rows_open(lines.bytes, lines.length, false, 8, offset, &reader) == GIMLI_OK, "gimli_line_rows_open");
-        uint64_t count = 0, skip = 0;
+        gimli_row *rows = guarded(room * sizeof *rows);
+        uint64_t skip = 0;
         size_t given = 0;
         do {
-            expect(gimli_line_rows(lines.bytes, lines.length, false, 8, offset, skip, rows, room, &count) == GIMLI_OK && count == all,
-                   "gimli_line_rows");
-            expect(gimli_line_rows_next(&reader, next, room, &given) == GIMLI_OK, "gimli_line_rows_next");
-            expect(given == (all - skip < room ? all - skip : room), "the count of gimli_line_rows_next");
-            expect(memcmp(rows, next, given * sizeof *rows) == 0, "the rows of gimli_line_rows_next");
+            memset(rows, 0xaa, room * sizeof *rows);
+            expect(gimli_line_rows(lines.bytes, lines.length, false, 8, offset, skip, rows, room, &count) == GIMLI_OK &&
+                       count == unit->rows, "gimli_line_rows");
+            given = count - skip < room ? count - skip : room;
+            expect(memcmp(rows, all + skip, given * sizeof *rows) == 0, "the rows of gimli_line_rows");
+            for (size_t i = given * sizeof *rows; i < room * sizeof *rows; i++)
+                expect(((const uint8_t *)rows)[i] == 0xaa, "what gimli_line_rows writes beside the rows");
             skip += given;
         } while (room != 0 && given == room);
-        expect(room == 0 || skip == all, "the rows of a reader");
-        expect(gimli_line_rows_close(&reader) == GIMLI_OK && reader.at == NULL, "gimli_line_rows_close");
+        expect(room == 0 || skip == unit->rows, "the rows in parts");
         give_back(rows, room * sizeof *rows);
-        give_back(next, room * sizeof *next);
     }
+    give_back(all, unit->length * sizeof *all);
 }
 
-/* A file and a directory of a unit, by a run and by the index, into each room. */
+/* A unit that is refused: of a version that is none, the next one is told, and of one that is cut, that no unit follows. Nothing else is
+ * written. */
+static void read_refused(section lines, size_t offset, const gimli_unit *read) {
+    gimli_unit *unit = guarded(sizeof *unit), before;
+    memset(&before, 0xaa, sizeof before);
+    *unit = before;
+    size_t version = offset + (read->offset_size == 8 ? 12 : 4);
+    lines.bytes[version] ^= 8;
+    expect(gimli_line_unit(lines.bytes, lines.length, false, 8, offset, unit) == GIMLI_UNKNOWN_VERSION && unit->next == read->next,
+           "the next unit of a refused one");
+    lines.bytes[version] ^= 8;
+    unit->next = before.next;
+    expect(memcmp(unit, &before, sizeof before) == 0, "what gimli_line_unit writes at a refusal");
+    expect(gimli_line_unit(lines.bytes, lines.length, false, 3, offset, unit) == GIMLI_UNSUPPORTED_ADDRESS_SIZE &&
+               unit->next == read->next, "the next unit where the size of addresses is refused");
+    for (size_t length = 0; length < read->next; length++) {
+        uint8_t *cut = guarded(length);
+        memcpy(cut, lines.bytes, length);
+        *unit = before;
+        expect(gimli_line_unit(cut, length, false, 8, offset, unit) == GIMLI_UNEXPECTED_EOF && unit->next == length,
+               "the next unit of one that is cut");
+        give_back(cut, length);
+    }
+    give_back(unit, sizeof *unit);
+}
+
+/* A file and a directory of a unit, and the path of the file by the index, into each room. */
 static void read_tables(section lines, gimli_line_index *index, size_t offset, uint64_t unit, uint64_t number) {
     for (size_t room = 0; room <= ROOM; room++) {
-        uint8_t *path = guarded(room), *directory = guarded(room), *other = guarded(room);
-        gimli_file *file = guarded(sizeof *file), *same = guarded(sizeof *same);
+        uint8_t *path = guarded(room), *directory = guarded(room);
+        gimli_file *file = guarded(sizeof *file);
         gimli_text *text = guarded(sizeof *text);
         memset(path, 0, room);
-        memset(other, 0, room);
         expect(gimli_line_file(lines.bytes, lines.length, false, 8, offset, number, file, path, room, directory, room) == GIMLI_OK,
                "gimli_line_file");
-        expect(gimli_line_index_file(index, unit, number, same, other, room, directory, room) == GIMLI_OK, "gimli_line_index_file");
-        expect(memcmp(file, same, sizeof *file) == 0 && memcmp(path, other, room) == 0, "the file of gimli_line_index_file");
         uint32_t status = gimli_line_directory(lines.bytes, lines.length, false, 8, offset, file->directory_number, text, directory, room);
-        expect(gimli_line_index_directory(index, unit, file->directory_number, text, directory, room) == status, "gimli_line_index_directory");
+        expect(status == (file->directory.kind == GIMLI_TEXT_NONE ? (uint32_t)GIMLI_NO_SUCH_DIRECTORY : (uint32_t)GIMLI_OK),
+               "gimli_line_directory");
         size_t *size = guarded(sizeof *size);
         expect(gimli_line_index_path(index, unit, number, directory, 0, path, room, size) == GIMLI_OK, "gimli_line_index_path");
         size_t *count = guarded(sizeof *count);
@@ -110,9 +137,7 @@ static void read_tables(section lines, gimli_line_index *index, size_t offset, u
         expect(status == GIMLI_OK || status == GIMLI_NO_CODE, "gimli_line_index_addresses_of");
         give_back(path, room);
         give_back(directory, room);
-        give_back(other, room);
         give_back(file, sizeof *file);
-        give_back(same, sizeof *same);
         give_back(text, sizeof *text);
         give_back(size, sizeof *size);
         give_back(count, sizeof *count);
@@ -122,13 +147,11 @@ static void read_tables(section lines, gimli_line_index *index, size_t offset, u
 }
 
 /* Addresses of rows, one by one and at once. */
-static void look_up(gimli_line_index *index, uint64_t unit) {
-    gimli_row_reader reader = GIMLI_ROW_READER_CLOSED;
+static void look_up(section lines, size_t offset, gimli_line_index *index) {
     gimli_row rows[ROOM];
-    size_t count = 0;
-    expect(gimli_line_index_rows_open(index, unit, &reader) == GIMLI_OK, "gimli_line_index_rows_open");
-    expect(gimli_line_rows_next(&reader, rows, ROOM, &count) == GIMLI_OK, "gimli_line_rows_next");
-    gimli_line_rows_close(&reader);
+    uint64_t count = 0;
+    expect(gimli_line_rows(lines.bytes, lines.length, false, 8, offset, 0, rows, ROOM, &count) == GIMLI_OK, "gimli_line_rows");
+    if (count > ROOM) count = ROOM;
     for (size_t room = 0; room <= count; room++) {
         gimli_place *places = guarded(room * sizeof *places), *place = guarded(sizeof *place);
         for (size_t i = 0; i < room; i++) places[i].address = rows[i].address;
@@ -215,14 +238,17 @@ static void make_map(const section *sections, gimli_open_options options, gimli_
     expect(gimli_line_map_open(map, whole, found) == GIMLI_OK && found->identity_size == 4 && found->address_size == 8 &&
                memcmp(map + found->identity, "name", 4) == 0, "what a map says of itself");
     for (uint64_t unit = 0; unit < units; unit++) {
-        gimli_row_reader reader = GIMLI_ROW_READER_CLOSED;
+        section lines = sections[0];
         gimli_index_unit about;
-        gimli_row row;
-        size_t count = 1;
-        expect(gimli_line_index_rows_open(index, unit, &reader) == GIMLI_OK, "gimli_line_index_rows_open");
+        gimli_unit read;
+        uint64_t count = 0;
         expect(gimli_line_index_unit(index, unit, &about) == GIMLI_OK, "gimli_line_index_unit");
-        while (gimli_line_rows_next(&reader, &row, 1, &count) == GIMLI_OK && count == 1) {
-            for (uint64_t address = row.address - 1; address != row.address + 2; address++) {
+        size_t offset = about.offset;
+        expect(gimli_line_unit(lines.bytes, lines.length, false, 8, offset, &read) == GIMLI_OK, "gimli_line_unit");
+        gimli_row *rows = guarded(read.rows * sizeof *rows);
+        expect(gimli_line_rows(lines.bytes, lines.length, false, 8, offset, 0, rows, read.rows, &count) == GIMLI_OK, "gimli_line_rows");
+        for (uint64_t i = 0; i < count; i++) {
+            for (uint64_t address = rows[i].address - 1; address != rows[i].address + 2; address++) {
                 gimli_place place;
                 uint32_t status = gimli_line_map_find(map, whole, address, there);
                 expect(gimli_line_index_find(index, address, &place) == status, "the status of gimli_line_map_find");
@@ -232,7 +258,7 @@ static void make_map(const section *sections, gimli_open_options options, gimli_
                 expect(gimli_line_index_unit(index, place.unit, &about) == GIMLI_OK && there->unit == about.offset, "the unit of a place");
             }
         }
-        gimli_line_rows_close(&reader);
+        give_back(rows, read.rows * sizeof *rows);
     }
     give_back(map, whole);
     give_back(found, sizeof *found);
@@ -299,20 +325,25 @@ static void write_symbols(bool in_place) {
     give_back(count, sizeof *count);
 }
 
-/* The directory that an index has of a unit, into each room: that which gimli_line_comp_dir tells. */
-static void read_own_directory(const section *sections, gimli_line_index *index, size_t offset, uint64_t unit) {
+/* The path of a file of a unit, into each room: by the directory that an index has of the unit, and by that which gimli_line_comp_dir
+ * tells. */
+static void read_paths(const section *sections, gimli_line_index *index, size_t offset, uint64_t unit, uint64_t file) {
     section line_strings = sections[1], info = sections[2], abbrev = sections[3], str = sections[4];
+    uint8_t told[4096];
+    size_t length = 0;
+    expect(gimli_line_comp_dir(info.bytes, info.length, abbrev.bytes, abbrev.length, line_strings.bytes, line_strings.length, str.bytes,
+                               str.length, str.bytes, 0, false, offset, told, sizeof told, &length) == GIMLI_OK && length <= sizeof told,
+           "gimli_line_comp_dir");
     for (size_t room = 0; room <= ROOM; room++) {
-        uint8_t *own = guarded(room), *told = guarded(room);
+        uint8_t *own = guarded(room), *path = guarded(room);
         size_t *size = guarded(sizeof *size), *same = guarded(sizeof *same);
         memset(own, 0, room);
-        memset(told, 0, room);
-        expect(gimli_line_index_comp_dir(index, unit, own, room, size) == GIMLI_OK, "gimli_line_index_comp_dir");
-        expect(gimli_line_comp_dir(info.bytes, info.length, abbrev.bytes, abbrev.length, line_strings.bytes, line_strings.length, str.bytes,
-                                   str.length, str.bytes, 0, false, offset, told, room, same) == GIMLI_OK, "gimli_line_comp_dir");
-        expect(*size == *same && memcmp(own, told, room) == 0, "the directory of gimli_line_index_comp_dir");
+        memset(path, 0, room);
+        expect(gimli_line_index_path(index, unit, file, told, 0, own, room, size) == GIMLI_OK, "gimli_line_index_path");
+        expect(gimli_line_index_path(index, unit, file, told, length, path, room, same) == GIMLI_OK, "gimli_line_index_path");
+        expect(*size == *same && memcmp(own, path, room) == 0, "the directory that an index has");
         give_back(own, room);
-        give_back(told, room);
+        give_back(path, room);
         give_back(size, sizeof *size);
         give_back(same, sizeof *same);
     }
@@ -340,11 +371,15 @@ int main(int argc, char **argv) {
     gimli_unit *unit = guarded(sizeof *unit);
     for (size_t offset = 0; offset < lines.length; offset = unit->next) {
         expect(gimli_line_unit(lines.bytes, lines.length, false, 8, offset, unit) == GIMLI_OK, "gimli_line_unit");
-        read_rows(lines, offset, unit->rows);
+        read_rows(lines, offset, unit);
+        read_refused(lines, offset, unit);
         uint64_t first = unit->version <= 4;
-        for (uint64_t file = first; file < first + unit->files; file++) read_tables(lines, &index, offset, number, file);
-        read_own_directory(sections, &index, offset, number);
-        look_up(&index, number++);
+        for (uint64_t file = first; file < first + unit->files; file++) {
+            read_tables(lines, &index, offset, number, file);
+            read_paths(sections, &index, offset, number, file);
+        }
+        look_up(lines, offset, &index);
+        number++;
         read_directory(sections, offset);
     }
     options.size++;

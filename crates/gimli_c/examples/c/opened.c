@@ -37,10 +37,9 @@ int main(int argc, char **argv) {
             continue;
         }
         stop_if(status);
-        gimli_unit unit;
-        stop_if(gimli_line_index_read_unit(&index, place.unit, &unit));
-        uint64_t first = gimli_first_number(&unit);
-        if (place.unit >= units || place.row.file < first || place.row.file - first >= unit.files) return 3;
+        gimli_index_unit unit;
+        stop_if(gimli_line_index_unit(&index, place.unit, &unit));
+        if (place.unit >= units || place.row.file < unit.first_file || place.row.file - unit.first_file >= unit.files) return 3;
         uint8_t path[4096];
         size_t size;
         stop_if(gimli_line_index_path(&index, place.unit, place.row.file, gimli_bytes(NULL), 0, path, sizeof path, &size));

@@ -1,4 +1,4 @@
-/* Many threads at once over one section: each opens an index of its own, and readers, and finds what one thread alone finds.
+/* Many threads at once over one section: each opens an index of its own, runs each unit, and finds what one thread alone finds.
  *
  *   threads line.bin COUNT       the section .debug_line, and how many threads; see memory.sh
  *
@@ -10,7 +10,7 @@
 
 #include "gimli_line.h"
 
-enum { ROOM = 64, MOST = 64 };
+enum { MOST = 64 };
 
 static uint8_t *section;
 static size_t length;
@@ -18,26 +18,26 @@ static size_t length;
 /* Sums what all calls answer: the rows of each unit, and the place of each row's address. */
 static uint64_t summed(void) {
     gimli_line_index index = GIMLI_LINE_INDEX_CLOSED;
-    gimli_row_reader reader = GIMLI_ROW_READER_CLOSED;
     gimli_open_options options = GIMLI_OPEN_OPTIONS;
     size_t units = 0;
     uint64_t sum = 0;
     if (gimli_line_index_open(section, length, section, 0, section, 0, &options, &index) != GIMLI_OK) exit(1);
     if (gimli_line_index_unit_count(&index, &units) != GIMLI_OK) exit(1);
     for (uint64_t unit = 0; unit < units; unit++) {
-        size_t count = ROOM;
-        if (gimli_line_index_rows_open(&index, unit, &reader) != GIMLI_OK) exit(1);
-        while (count == ROOM) {
-            gimli_row rows[ROOM];
+        gimli_index_unit listed;
+        gimli_unit read;
+        uint64_t count = 0;
+        if (gimli_line_index_unit(&index, unit, &listed) != GIMLI_OK) exit(1);
+        if (gimli_line_unit(section, length, false, 8, listed.offset, &read) != GIMLI_OK) exit(1);
+        gimli_row *rows = calloc(read.rows + 1, sizeof *rows);
+        if (rows == NULL || gimli_line_rows(section, length, false, 8, listed.offset, 0, rows, read.rows, &count) != GIMLI_OK) exit(1);
+        for (uint64_t i = 0; i < count; i++) {
             gimli_place place;
-            if (gimli_line_rows_next(&reader, rows, ROOM, &count) != GIMLI_OK) exit(1);
-            for (size_t i = 0; i < count; i++) {
-                sum = sum * 31 + rows[i].address + rows[i].line;
-                if (gimli_line_index_find(&index, rows[i].address, &place) == GIMLI_OK) sum = sum * 31 + place.end + place.row.line;
-            }
+            sum = sum * 31 + rows[i].address + rows[i].line;
+            if (gimli_line_index_find(&index, rows[i].address, &place) == GIMLI_OK) sum = sum * 31 + place.end + place.row.line;
         }
+        free(rows);
     }
-    gimli_line_rows_close(&reader);
     gimli_line_index_close(&index);
     return sum;
 }
