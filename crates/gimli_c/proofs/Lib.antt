@@ -9,7 +9,6 @@ pub mod CauseLemmas
 pub mod SamePrograms
 pub mod CompDirs
 pub mod PathsOfFiles
-pub mod AnyOf
 pub mod Maps
 pub mod MadeMaps
 pub mod LineCounts
