@@ -1,247 +1,212 @@
-/* Makes each call over buffers that end where a page begins that can't be read or written: a byte too much ends the program
- * by a signal. Each room is tried, from none to more than enough.
+/* Makes each call over buffers that end where a page begins that can't be read or written: a byte too much ends the program by a signal.
+ * Each room is tried, from none to more than enough, and holds the same byte before the call. What one call says is compared with what
+ * others say of the same thing.
  *
  *   guarded line.bin line_str.bin info.bin abbrev.bin str.bin
  *
- * These are the sections .debug_line, .debug_line_str, .debug_info, .debug_abbrev and .debug_str, empty
- * where there is none; see memory.sh.
- *
- * For a little-endian program with addresses of 8 bytes. */
+ * These are the sections .debug_line, .debug_line_str, .debug_info, .debug_abbrev and .debug_str, empty where there is none; see
+ * memory.sh. For a little-endian program with addresses of 8 bytes. */
 #define _DEFAULT_SOURCE
-#include <stdio.h>
-#include <stdlib.h>
 #include <string.h>
 #include <sys/mman.h>
 #include <unistd.h>
 
+#include "file.h"
 #include "gimli_line.h"
 
-enum { ROOM = 40 };
+enum { ROOM = 40, AREA = 1 << 20 };
+enum { LINE, LINE_STR, INFO, ABBREV, STR, CUT, MAP, FIRST, SECOND, THIRD, NUMBER, AREAS };
 
-static unsigned long long calls;
+static unsigned long long answers;
+static bytes in[5];             /* the sections */
+static gimli_row rows_of[4000]; /* the rows of all units */
+static size_t row_count;
 
-static void *no_memory(void) {
-    fprintf(stderr, "guarded: no memory\n");
-    exit(2);
+static void is(bool holds, const char *what) {
+    answers++;
+    expect(holds, what);
 }
 
-/* Room for some bytes, the last of which is the last of a page; after it nothing can be read or written. */
-static void *guarded(size_t size) {
-    size_t page = (size_t)sysconf(_SC_PAGESIZE), pages = (size + page - 1) / page + 1;
-    uint8_t *all = mmap(NULL, pages * page, PROT_READ | PROT_WRITE, MAP_PRIVATE | MAP_ANONYMOUS, -1, 0);
-    if (all == MAP_FAILED || mprotect(all + (pages - 1) * page, page, PROT_NONE) != 0) return no_memory();
-    return all + (pages - 1) * page - size;
-}
-
-/* Gives back what `guarded` gave for this size. */
-static void give_back(void *bytes, size_t size) {
-    size_t page = (size_t)sysconf(_SC_PAGESIZE), pages = (size + page - 1) / page + 1;
-    munmap((uint8_t *)bytes + size - (pages - 1) * page, pages * page);
-}
-
-typedef struct section {
-    uint8_t *bytes;
-    size_t length;
-} section;
-
-static section read_file(const char *name) {
-    FILE *file = fopen(name, "rb");
-    if (file == NULL || fseek(file, 0, SEEK_END) != 0) exit(2);
-    long size = ftell(file);
-    rewind(file);
-    if (size < 0) exit(2);
-    section read = {guarded((size_t)size), (size_t)size};
-    if (fread(read.bytes, 1, read.length, file) != read.length) exit(2);
-    fclose(file);
-    return read;
-}
-
-static void expect(bool holds, const char *what) {
-    calls++;
-    if (holds) return;
-    fprintf(stderr, "guarded: %s\n", what);
-    exit(1);
-}
-
-/* The rows of a unit by a run each, and by a reader, into each room. */
-static void read_rows(section lines, size_t offset, uint64_t all) {
-    for (size_t room = 0; room <= ROOM; room++) {
-        gimli_row *rows = guarded(room * sizeof *rows), *next = guarded(room * sizeof *next);
-        gimli_row_reader reader = GIMLI_ROW_READER_CLOSED;
-        expect(gimli_line_rows_open(lines.bytes, lines.length, false, 8, offset, &reader) == GIMLI_OK, "gimli_line_rows_open");
-        uint64_t count = 0, skip = 0;
-        size_t given = 0;
-        do {
-            expect(gimli_line_rows(lines.bytes, lines.length, false, 8, offset, skip, rows, room, &count) == GIMLI_OK && count == all,
-                   "gimli_line_rows");
-            expect(gimli_line_rows_next(&reader, next, room, &given) == GIMLI_OK, "gimli_line_rows_next");
-            expect(given == (all - skip < room ? all - skip : room), "the count of gimli_line_rows_next");
-            expect(memcmp(rows, next, given * sizeof *rows) == 0, "the rows of gimli_line_rows_next");
-            skip += given;
-        } while (room != 0 && given == room);
-        expect(room == 0 || skip == all, "the rows of a reader");
-        expect(gimli_line_rows_close(&reader) == GIMLI_OK && reader.at == NULL, "gimli_line_rows_close");
-        give_back(rows, room * sizeof *rows);
-        give_back(next, room * sizeof *next);
+/* The last bytes of an area, after which nothing can be read or written: so many, which all have the same value. */
+static void *room_in(int area, size_t size) {
+    static uint8_t *ends[AREAS];
+    if (ends[area] == NULL) {
+        uint8_t *all = mmap(NULL, 2 * AREA, PROT_READ | PROT_WRITE, MAP_PRIVATE | MAP_ANONYMOUS, -1, 0);
+        expect(all != MAP_FAILED && mprotect(all + AREA, AREA, PROT_NONE) == 0, "memory that is guarded");
+        ends[area] = all + AREA;
     }
+    expect(size <= AREA, "a section or a map isn't too large");
+    return memset(ends[area] - size, 0xaa, size);
 }
 
-/* A file and a directory of a unit, by a run and by the index, into each room. */
-static void read_tables(section lines, gimli_line_index *index, size_t offset, uint64_t unit, uint64_t number) {
-    for (size_t room = 0; room <= ROOM; room++) {
-        uint8_t *path = guarded(room), *directory = guarded(room), *other = guarded(room);
-        gimli_file *file = guarded(sizeof *file), *same = guarded(sizeof *same);
-        gimli_text *text = guarded(sizeof *text);
-        memset(path, 0, room);
-        memset(other, 0, room);
-        expect(gimli_line_file(lines.bytes, lines.length, false, 8, offset, number, file, path, room, directory, room) == GIMLI_OK,
-               "gimli_line_file");
-        expect(gimli_line_index_file(index, unit, number, same, other, room, directory, room) == GIMLI_OK, "gimli_line_index_file");
-        expect(memcmp(file, same, sizeof *file) == 0 && memcmp(path, other, room) == 0, "the file of gimli_line_index_file");
-        uint32_t status = gimli_line_directory(lines.bytes, lines.length, false, 8, offset, file->directory_number, text, directory, room);
-        expect(gimli_line_index_directory(index, unit, file->directory_number, text, directory, room) == status, "gimli_line_index_directory");
-        size_t *size = guarded(sizeof *size);
-        expect(gimli_line_index_path(index, unit, number, directory, 0, path, room, size) == GIMLI_OK, "gimli_line_index_path");
-        size_t *count = guarded(sizeof *count);
-        uint64_t *line = guarded(sizeof *line), *addresses = guarded(room * sizeof *addresses);
-        status = gimli_line_index_addresses(index, unit, number, 1, line, addresses, room, count);
-        expect(status == GIMLI_OK || status == GIMLI_NO_CODE, "gimli_line_index_addresses");
-        status = gimli_line_index_addresses_of(index, path, room, 1, line, addresses, room, count);
-        expect(status == GIMLI_OK || status == GIMLI_NO_CODE, "gimli_line_index_addresses_of");
-        give_back(path, room);
-        give_back(directory, room);
-        give_back(other, room);
-        give_back(file, sizeof *file);
-        give_back(same, sizeof *same);
-        give_back(text, sizeof *text);
-        give_back(size, sizeof *size);
-        give_back(count, sizeof *count);
-        give_back(line, sizeof *line);
-        give_back(addresses, room * sizeof *addresses);
-    }
+static bool is_untouched(const void *room, size_t size) {
+    for (size_t i = 0; i < size; i++)
+        if (((const uint8_t *)room)[i] != 0xaa) return false;
+    return true;
 }
 
-/* Addresses of rows, one by one and at once. */
-static void look_up(gimli_line_index *index, uint64_t unit) {
-    gimli_row_reader reader = GIMLI_ROW_READER_CLOSED;
-    gimli_row rows[ROOM];
-    size_t count = 0;
-    expect(gimli_line_index_rows_open(index, unit, &reader) == GIMLI_OK, "gimli_line_index_rows_open");
-    expect(gimli_line_rows_next(&reader, rows, ROOM, &count) == GIMLI_OK, "gimli_line_rows_next");
-    gimli_line_rows_close(&reader);
-    for (size_t room = 0; room <= count; room++) {
-        gimli_place *places = guarded(room * sizeof *places), *place = guarded(sizeof *place);
-        for (size_t i = 0; i < room; i++) places[i].address = rows[i].address;
-        expect(gimli_line_index_find_all(index, places, room) == GIMLI_OK, "gimli_line_index_find_all");
-        for (size_t i = 0; i < room; i++) {
-            memset(place, 0, sizeof *place);
-            place->address = rows[i].address;
-            uint32_t status = gimli_line_index_find(index, rows[i].address, place);
-            expect(memcmp(place, &places[i], sizeof *place) == 0 && (status == GIMLI_OK) == (place->end != 0),
-                   "the places of gimli_line_index_find_all");
+/* Whether a room has the bytes of a text as far as they fit, and nothing else was written to it. */
+static bool has(const uint8_t *room, size_t size, const uint8_t *text, size_t length) {
+    size_t fits = length < size ? length : size;
+    return memcmp(room, text, fits) == 0 && is_untouched(room + fits, size - fits);
+}
+
+/* The rows of a unit, which are no more than its bytes, from each row on into each room. */
+static void read_rows(size_t offset, const gimli_unit *unit) {
+    uint64_t *count = room_in(NUMBER, sizeof *count);
+    gimli_row *all = rows_of + row_count;
+    expect(unit->length <= sizeof rows_of / sizeof rows_of[0] - row_count, "room for all rows");
+    is(gimli_line_rows(in[LINE].at, in[LINE].length, false, 8, offset, 0, all, unit->length, count) == GIMLI_OK, "gimli_line_rows");
+    is(*count == unit->rows && *count <= unit->length, "the number of rows");
+    row_count += unit->rows;
+    for (uint64_t skip = 0; skip <= unit->rows; skip++)
+        for (size_t room = 0; room <= ROOM; room++) {
+            gimli_row *rows = room_in(FIRST, room * sizeof *rows);
+            uint64_t left = unit->rows - skip;
+            is(gimli_line_rows(in[LINE].at, in[LINE].length, false, 8, offset, skip, rows, room, count) == GIMLI_OK, "gimli_line_rows");
+            is(*count == unit->rows && has((uint8_t *)rows, room * sizeof *rows, (uint8_t *)(all + skip), left * sizeof *rows), "some rows");
         }
-        give_back(places, room * sizeof *places);
-        give_back(place, sizeof *place);
+}
+
+/* The whole path of a file, in the directory of its compilation, and how many bytes it has. */
+static uint32_t path_of(size_t offset, uint64_t number, const uint8_t *comp_dir, size_t comp_dir_length, uint8_t *path, size_t room, size_t *size) {
+    return gimli_line_path(in[LINE].at, in[LINE].length, in[LINE_STR].at, in[LINE_STR].length, in[STR].at, in[STR].length, false, 8, offset,
+                           number, comp_dir, comp_dir_length, path, room, size);
+}
+
+/* The directory of the unit at an offset, by a .debug_info that ends so early. */
+static uint32_t directory_of(size_t offset, size_t length, uint8_t *directory, size_t room, size_t *size) {
+    uint8_t *cut = room_in(CUT, length);
+    memcpy(cut, in[INFO].at, length);
+    return gimli_line_comp_dir(cut, length, in[ABBREV].at, in[ABBREV].length, in[LINE_STR].at, in[LINE_STR].length, in[STR].at, in[STR].length,
+                               in[LINE].at, 0, false, offset, directory, room, size);
+}
+
+/* A file of a unit, its directory and its whole path, into each room. */
+static void read_file_of(size_t offset, uint64_t number) {
+    uint8_t path[4096], directory[4096], whole[4096], comp_dir[4096];
+    gimli_file wanted;
+    size_t length, comp_dir_length;
+    is(gimli_line_file(in[LINE].at, in[LINE].length, false, 8, offset, number, &wanted, path, 4096, directory, 4096) == GIMLI_OK, "a file");
+    is(directory_of(offset, in[INFO].length, comp_dir, 4096, &comp_dir_length) == GIMLI_OK, "the directory of a compilation");
+    is(path_of(offset, number, comp_dir, comp_dir_length, whole, 4096, &length) == GIMLI_OK && whole[0] == '/', "a whole path");
+    is(wanted.path.size <= length && memcmp(whole + length - wanted.path.size, path, wanted.path.size) == 0, "the end of a whole path");
+    for (size_t room = 0; room <= ROOM + length; room++) {
+        gimli_file *file = room_in(NUMBER, sizeof *file);
+        uint8_t *first = room_in(FIRST, room), *second = room_in(SECOND, room);
+        is(gimli_line_file(in[LINE].at, in[LINE].length, false, 8, offset, number, file, first, room, second, room) == GIMLI_OK &&
+               memcmp(file, &wanted, sizeof wanted) == 0, "gimli_line_file");
+        is(has(first, room, path, wanted.path.size) && has(second, room, directory, wanted.directory.size), "the bytes of a file");
+        gimli_text *text = room_in(NUMBER, sizeof *text);
+        second = room_in(SECOND, room);
+        uint32_t status = gimli_line_directory(in[LINE].at, in[LINE].length, false, 8, offset, wanted.directory_number, text, second, room);
+        is(wanted.directory.kind == GIMLI_TEXT_NONE ? status == GIMLI_NO_SUCH_DIRECTORY && is_untouched(text, sizeof *text)
+                                                    : status == GIMLI_OK && memcmp(text, &wanted.directory, sizeof *text) == 0, "its directory");
+        is(has(second, room, directory, wanted.directory.size), "the bytes of its directory");
+        size_t *size = room_in(NUMBER, sizeof *size);
+        uint8_t *from = room_in(SECOND, comp_dir_length);
+        memcpy(from, comp_dir, comp_dir_length);
+        first = room_in(FIRST, room);
+        is(path_of(offset, number, from, comp_dir_length, first, room, size) == GIMLI_OK && *size == length, "gimli_line_path");
+        is(has(first, room, whole, length), "the bytes of a path");
+        first = room_in(FIRST, room);
+        is(directory_of(offset, in[INFO].length, first, room, size) == GIMLI_OK && *size == comp_dir_length, "gimli_line_comp_dir");
+        is(has(first, room, comp_dir, comp_dir_length), "the bytes of a directory");
     }
 }
 
-/* The directory of the unit at an offset, by a .debug_info that ends so early, into some room. */
-static uint32_t directory_of(const section *sections, size_t length, size_t offset, size_t room) {
-    section lines = sections[0], line_strings = sections[1], info = sections[2];
-    section abbrev = sections[3], str = sections[4];
-    uint8_t *cut = guarded(length), *directory = guarded(room);
-    size_t *size = guarded(sizeof *size);
-    memcpy(cut, info.bytes, length);
-    memset(directory, 0xaa, room);
-    *size = 77;
-    uint32_t status = gimli_line_comp_dir(cut, length, abbrev.bytes, abbrev.length,
-                                          line_strings.bytes, line_strings.length, str.bytes,
-                                          str.length, lines.bytes, 0, false, offset, directory,
-                                          room, size);
-    expect(status == GIMLI_OK || status == GIMLI_NO_COMP_DIR, "gimli_line_comp_dir");
-    bool is_as_before = *size == 77;
-    for (size_t i = 0; i < room; i++) is_as_before = is_as_before && directory[i] == 0xaa;
-    expect(status == GIMLI_OK || is_as_before, "what gimli_line_comp_dir writes at a refusal");
-    give_back(cut, length);
-    give_back(directory, room);
-    give_back(size, sizeof *size);
-    return status;
-}
-
-/* The directory of a unit, into each room, and by a .debug_info that is cut anywhere: where the first
- * unit is cut no unit has one. */
-static void read_directory(const section *sections, size_t offset) {
-    section info = sections[2];
-    for (size_t room = 0; room <= ROOM; room++) {
-        expect(directory_of(sections, info.length, offset, room) == GIMLI_OK, "its status");
-    }
-    size_t first = 4 + (info.bytes[0] | (size_t)info.bytes[1] << 8 | (size_t)info.bytes[2] << 16);
-    for (size_t length = 0; length < info.length; length++) {
-        uint32_t status = directory_of(sections, length, offset, ROOM);
-        expect(length >= first || status == GIMLI_NO_COMP_DIR, "the status where .debug_info is cut");
+/* The directory of a unit, by a .debug_info that is cut anywhere: where the first unit is cut no unit has one. */
+static void cut_info(size_t offset) {
+    size_t first = 4 + (in[INFO].at[0] | (size_t)in[INFO].at[1] << 8 | (size_t)in[INFO].at[2] << 16);
+    for (size_t length = 0; length < in[INFO].length; length++) {
+        uint8_t *directory = room_in(FIRST, ROOM);
+        size_t *size = room_in(NUMBER, sizeof *size);
+        uint32_t status = directory_of(offset, length, directory, ROOM, size);
+        is(status == GIMLI_NO_COMP_DIR || (status == GIMLI_OK && length >= first), "the status where .debug_info is cut");
+        is(status == GIMLI_OK || (is_untouched(directory, ROOM) && is_untouched(size, sizeof *size)), "what is written at a refusal");
     }
 }
 
 /* The map of the program, into some room. */
-static uint32_t map_of(const section *sections, const gimli_open_options *options, uint8_t *map, size_t room, size_t *size) {
-    section lines = sections[0], line_strings = sections[1], info = sections[2], abbrev = sections[3], str = sections[4];
-    return gimli_line_map_write(lines.bytes, lines.length, line_strings.bytes, line_strings.length, str.bytes, str.length, info.bytes,
-                                info.length, abbrev.bytes, abbrev.length, str.bytes, 0, options, (const uint8_t *)"name", 4, map, room,
-                                size);
+static uint32_t map_of(const gimli_map_options *options, uint8_t *map, size_t room, size_t *size) {
+    return gimli_line_map_write(in[LINE].at, in[LINE].length, in[LINE_STR].at, in[LINE_STR].length, in[STR].at, in[STR].length, in[INFO].at,
+                                in[INFO].length, in[ABBREV].at, in[ABBREV].length, in[STR].at, 0, options, (const uint8_t *)"name", 4, map,
+                                room, size);
 }
 
-/* The map of the program, into each room; what it says of each address near a row is what the index says. */
-static void make_map(const section *sections, gimli_open_options options, gimli_line_index *index, uint64_t units) {
-    size_t *size = guarded(sizeof *size), whole, rooms[] = {0, 1, 0, 0, 0};
-    expect(map_of(sections, &options, (uint8_t *)size, 0, size) == GIMLI_NO_ROOM && *size > 44, "gimli_line_map_write");
-    whole = *size;
-    rooms[2] = whole - 1;
-    rooms[3] = whole;
-    rooms[4] = whole + ROOM;
-    for (size_t i = 0; i < sizeof rooms / sizeof rooms[0]; i++) {
-        uint8_t *map = guarded(rooms[i]);
-        memset(map, 0xaa, rooms[i]);
-        expect(map_of(sections, &options, map, rooms[i], size) == (rooms[i] < whole ? GIMLI_NO_ROOM : GIMLI_OK) && *size == whole,
-               "gimli_line_map_write");
-        bool is_as_before = true;
-        for (size_t k = rooms[i] < whole ? 0 : whole; k < rooms[i]; k++) is_as_before = is_as_before && map[k] == 0xaa;
-        expect(is_as_before, "what gimli_line_map_write writes beside the map");
-        give_back(map, rooms[i]);
+/* The row of an address, by each unit in turn, and where that unit is. */
+static uint32_t row_of(uint64_t address, gimli_row *first, size_t *offset) {
+    gimli_row *second = room_in(SECOND, sizeof *second);
+    gimli_unit unit;
+    for (*offset = 0; *offset < in[LINE].length; *offset = unit.next) {
+        expect(gimli_line_unit(in[LINE].at, in[LINE].length, false, 8, *offset, &unit) == GIMLI_OK, "gimli_line_unit");
+        if (gimli_line_find(in[LINE].at, in[LINE].length, false, 8, *offset, address, first, second) == GIMLI_OK) return GIMLI_OK;
+        is(is_untouched(first, sizeof *first) && is_untouched(second, sizeof *second), "what gimli_line_find writes at a refusal");
     }
-    uint8_t *map = guarded(whole);
-    gimli_map *found = guarded(sizeof *found);
-    gimli_map_place *there = guarded(sizeof *there);
-    expect(map_of(sections, &options, map, whole, size) == GIMLI_OK && gimli_line_map_check(map, whole) == GIMLI_OK, "a map is sound");
-    expect(gimli_line_map_open(map, whole, found) == GIMLI_OK && found->identity_size == 4 && found->address_size == 8 &&
-               memcmp(map + found->identity, "name", 4) == 0, "what a map says of itself");
-    for (uint64_t unit = 0; unit < units; unit++) {
-        gimli_row_reader reader = GIMLI_ROW_READER_CLOSED;
-        gimli_index_unit about;
-        gimli_row row;
-        size_t count = 1;
-        expect(gimli_line_index_rows_open(index, unit, &reader) == GIMLI_OK, "gimli_line_index_rows_open");
-        expect(gimli_line_index_unit(index, unit, &about) == GIMLI_OK, "gimli_line_index_unit");
-        while (gimli_line_rows_next(&reader, &row, 1, &count) == GIMLI_OK && count == 1) {
-            for (uint64_t address = row.address - 1; address != row.address + 2; address++) {
-                gimli_place place;
-                uint32_t status = gimli_line_map_find(map, whole, address, there);
-                expect(gimli_line_index_find(index, address, &place) == status, "the status of gimli_line_map_find");
-                if (status != GIMLI_OK) continue;
-                expect(there->address == address && there->line == place.row.line && there->column == place.row.column &&
-                           there->no_path == 0 && gimli_map_path(map, there)[0] == '/', "the place of gimli_line_map_find");
-                expect(gimli_line_index_unit(index, place.unit, &about) == GIMLI_OK && there->unit == about.offset, "the unit of a place");
-            }
+    return GIMLI_NO_ROW;
+}
+
+/* The addresses of a place's line, into each room: each is that of a row of this line. */
+static void ask_line(const uint8_t *map, size_t length, const gimli_map_place *place) {
+    for (size_t room = 0; room <= ROOM; room++) {
+        uint64_t *addresses = room_in(FIRST, room * sizeof *addresses), *line = room_in(SECOND, sizeof *line);
+        size_t *count = room_in(NUMBER, sizeof *count);
+        is(gimli_line_map_addresses_of(map, length, (const uint8_t *)gimli_map_path(map, place), place->path_size, place->line, line, addresses,
+                                       room, count) == GIMLI_OK && *line == place->line && *count > 0, "gimli_line_map_addresses_of");
+        for (size_t i = 0; i < room && i < *count; i++) {
+            size_t row = 0;
+            while (row < row_count && (rows_of[row].address != addresses[i] || rows_of[row].line != *line || !(rows_of[row].flags & GIMLI_IS_STMT)))
+                row++;
+            is(row < row_count, "an address of a line");
         }
-        gimli_line_rows_close(&reader);
+        is(*count >= room || is_untouched(addresses + *count, (room - *count) * sizeof *addresses), "an address after the last one");
     }
-    give_back(map, whole);
-    give_back(found, sizeof *found);
-    give_back(there, sizeof *there);
+}
+
+/* What the map says of an address is what the units say of it. */
+static void ask_map(const uint8_t *map, size_t length, uint64_t address) {
+    uint8_t comp_dir[4096], path[4096];
+    gimli_row *row = room_in(FIRST, sizeof *row);
+    gimli_map_place *there = room_in(THIRD, sizeof *there), copy;
+    size_t offset, comp_dir_length, size;
+    uint32_t status = row_of(address, row, &offset);
+    is(gimli_line_map_find(map, length, address, there) == status, "the status of gimli_line_map_find");
+    is(status == GIMLI_OK || is_untouched(there, sizeof *there), "what gimli_line_map_find writes at a refusal");
+    if (status != GIMLI_OK) return;
+    is(directory_of(offset, in[INFO].length, comp_dir, 4096, &comp_dir_length) == GIMLI_OK &&
+           path_of(offset, row->file, comp_dir, comp_dir_length, path, 4096, &size) == GIMLI_OK, "the path of a row");
+    is(there->known && there->address == address && there->unit == offset && there->line == row->line && there->column == row->column &&
+           there->is_stmt == (row->flags & GIMLI_IS_STMT), "the place of gimli_line_map_find");
+    is(there->no_path == 0 && there->path_size == size && memcmp(gimli_map_path(map, there), path, size) == 0, "the path of a place");
+    memcpy(&copy, there, sizeof copy);
+    if (copy.is_stmt && copy.line != 0) ask_line(map, length, &copy);
+}
+
+/* The map of the program, into each room, and what it says of each address near a row. */
+static void make_map(void) {
+    gimli_map_options options = GIMLI_MAP_OPTIONS;
+    options.lowest = 0;
+    size_t whole, *size = room_in(NUMBER, sizeof *size);
+    is(map_of(&options, room_in(MAP, 0), 0, size) == GIMLI_NO_ROOM && *size > 44, "the size of a map");
+    whole = *size;
+    const size_t rooms[] = {1, whole - 1, whole + ROOM, whole};
+    uint8_t *map = NULL;
+    for (size_t i = 0; i < 4; i++) {
+        size_t written = rooms[i] < whole ? 0 : whole;
+        map = room_in(MAP, rooms[i]);
+        is(map_of(&options, map, rooms[i], size) == (written == 0 ? GIMLI_NO_ROOM : GIMLI_OK) && *size == whole, "gimli_line_map_write");
+        is(is_untouched(map + written, rooms[i] - written), "what gimli_line_map_write writes beside the map");
+    }
+    gimli_map *found = room_in(FIRST, sizeof *found);
+    is(gimli_line_map_check(map, whole) == GIMLI_OK, "a map is sound");
+    is(gimli_line_map_open(map, whole, found) == GIMLI_OK && found->identity_size == 4 && found->address_size == 8 &&
+           memcmp(map + found->identity, "name", 4) == 0, "what a map says of itself");
+    for (size_t i = 0; i < row_count; i++)
+        for (uint64_t address = rows_of[i].address - 1; address != rows_of[i].address + 2; address++) ask_map(map, whole, address);
     options.address_size = 3;
-    expect(map_of(sections, &options, (uint8_t *)size, 0, size) == GIMLI_UNSUPPORTED_ADDRESS_SIZE && *size == 0, "the size of addresses");
+    is(map_of(&options, map, 0, size) == GIMLI_UNSUPPORTED_ADDRESS_SIZE && *size == 0, "the size of addresses");
     options.size--;
-    expect(map_of(sections, &options, (uint8_t *)size, 0, size) == GIMLI_UNKNOWN_OPTIONS && *size == 0, "the size of options");
-    give_back(size, sizeof *size);
+    is(map_of(&options, map, 0, size) == GIMLI_UNKNOWN_OPTIONS && *size == 0, "the size of options");
 }
 
 /* A unit at two symbols, into each room: the places are those of its addresses, and nothing else differs from the unit at 0. */
@@ -250,72 +215,32 @@ static void write_symbols(bool in_place) {
                                      {0, 0, 1, 8, 0, 0, 0, GIMLI_IS_STMT}, {6, 0, 0, 0, 0, 0, 0, GIMLI_END_SEQUENCE}};
     static const gimli_symbol symbols[] = {{5, 0x1122334455667788}, {9, -1}};
     static const gimli_file_name file = {{0, 1}, 0, 0, 0, {0}};
-    gimli_contents contents;
-    memset(&contents, 0, sizeof contents);
-    gimli_encoding encoding = GIMLI_ENCODING(4);
-    contents.encoding = encoding;
-    contents.texts = (const uint8_t *)"f";
-    contents.text_length = 1;
-    contents.files = &file;
-    contents.file_count = 1;
-    contents.rows = rows;
-    contents.row_count = 4;
-    contents.symbols = symbols;
-    contents.symbol_count = 2;
-    contents.in_place = in_place;
+    gimli_contents contents = {.encoding = GIMLI_ENCODING(4), .texts = (const uint8_t *)"f", .text_length = 1, .files = &file, .file_count = 1,
+                               .rows = rows, .row_count = 4, .symbols = symbols, .symbol_count = 2, .in_place = in_place};
     uint8_t plain[256];
-    size_t *size = guarded(sizeof *size), *count = guarded(sizeof *count), whole;
-    expect(gimli_line_write_contents(&contents, plain, sizeof plain, &whole) == GIMLI_OK, "gimli_line_write");
+    size_t *size = room_in(NUMBER, sizeof *size), *count = room_in(THIRD, sizeof *count), whole;
+    is(gimli_line_write_contents(&contents, plain, sizeof plain, &whole) == GIMLI_OK, "gimli_line_write");
     for (size_t room = 0; room <= whole + 1; room++)
         for (size_t slots = 0; slots <= 3; slots++) {
-            uint8_t *unit = guarded(room);
-            gimli_relocation *places = guarded(slots * sizeof *places);
-            memset(unit, 0xaa, room);
-            memset(places, 0xaa, slots * sizeof *places);
+            uint8_t *unit = room_in(FIRST, room);
+            gimli_relocation *places = room_in(SECOND, slots * sizeof *places);
             uint32_t status = gimli_line_write_relocatable_contents(&contents, unit, room, size, places, slots, count);
-            bool fits = room >= whole && slots >= 2, is_as_before = true;
-            expect(status == (fits ? GIMLI_OK : GIMLI_NO_ROOM) && *size == whole && *count == 2, "gimli_line_write_relocatable");
-            for (size_t i = fits ? whole : 0; i < room; i++) is_as_before = is_as_before && unit[i] == 0xaa;
-            for (size_t i = fits ? 2 * sizeof *places : 0; i < slots * sizeof *places; i++)
-                is_as_before = is_as_before && ((const uint8_t *)places)[i] == 0xaa;
-            expect(is_as_before, "what gimli_line_write_relocatable writes beside the unit");
-            for (size_t i = 0; fits && i < 2; i++) {
-                expect(places[i].symbol == symbols[i].symbol && places[i].size == 8 && places[i].section == 0 &&
-                           places[i].addend == (in_place ? 0 : symbols[i].addend), "a relocation");
-                for (size_t k = 0; k < 8; k++) {
-                    uint8_t there = in_place ? (uint8_t)((uint64_t)symbols[i].addend >> 8 * k) : 0;
-                    expect(unit[places[i].offset + k] == there, "the place of a relocation");
-                    unit[places[i].offset + k] = 0;
-                }
+            bool fits = room >= whole && slots >= 2;
+            size_t written = fits ? whole : 0, filled = fits ? 2 : 0;
+            is(status == (fits ? GIMLI_OK : GIMLI_NO_ROOM) && *size == whole && *count == 2, "gimli_line_write_relocatable");
+            is(is_untouched(unit + written, room - written) && is_untouched(places + filled, (slots - filled) * sizeof *places), "beside the unit");
+            for (size_t i = 0; i < filled; i++) {
+                is(places[i].symbol == symbols[i].symbol && places[i].size == 8 && places[i].section == 0 &&
+                       places[i].addend == (in_place ? 0 : symbols[i].addend), "a relocation");
+                uint64_t there = in_place ? (uint64_t)symbols[i].addend : 0;
+                is(memcmp(unit + places[i].offset, &there, 8) == 0, "the place of a relocation");
+                memset(unit + places[i].offset, 0, 8);
             }
-            expect(!fits || memcmp(unit, plain, whole) == 0, "the other bytes of the unit");
-            give_back(unit, room);
-            give_back(places, slots * sizeof *places);
+            is(memcmp(unit, plain, written) == 0, "the other bytes of the unit");
         }
     contents.encoding.version = 6;
-    expect(gimli_line_write_relocatable_contents(&contents, NULL, 0, size, NULL, 0, count) == GIMLI_UNKNOWN_VERSION && *size == 0 && *count == 0,
-           "a refused version");
-    give_back(size, sizeof *size);
-    give_back(count, sizeof *count);
-}
-
-/* The directory that an index has of a unit, into each room: that which gimli_line_comp_dir tells. */
-static void read_own_directory(const section *sections, gimli_line_index *index, size_t offset, uint64_t unit) {
-    section line_strings = sections[1], info = sections[2], abbrev = sections[3], str = sections[4];
-    for (size_t room = 0; room <= ROOM; room++) {
-        uint8_t *own = guarded(room), *told = guarded(room);
-        size_t *size = guarded(sizeof *size), *same = guarded(sizeof *same);
-        memset(own, 0, room);
-        memset(told, 0, room);
-        expect(gimli_line_index_comp_dir(index, unit, own, room, size) == GIMLI_OK, "gimli_line_index_comp_dir");
-        expect(gimli_line_comp_dir(info.bytes, info.length, abbrev.bytes, abbrev.length, line_strings.bytes, line_strings.length, str.bytes,
-                                   str.length, str.bytes, 0, false, offset, told, room, same) == GIMLI_OK, "gimli_line_comp_dir");
-        expect(*size == *same && memcmp(own, told, room) == 0, "the directory of gimli_line_index_comp_dir");
-        give_back(own, room);
-        give_back(told, room);
-        give_back(size, sizeof *size);
-        give_back(same, sizeof *same);
-    }
+    is(gimli_line_write_relocatable_contents(&contents, NULL, 0, size, NULL, 0, count) == GIMLI_UNKNOWN_VERSION && *size == 0 && *count == 0,
+       "a refused version");
 }
 
 int main(int argc, char **argv) {
@@ -323,35 +248,24 @@ int main(int argc, char **argv) {
         fprintf(stderr, "usage: guarded LINES LINE_STRINGS INFO ABBREVIATIONS STRINGS\n");
         return 2;
     }
-    section sections[5];
-    for (int i = 0; i < 5; i++) sections[i] = read_file(argv[i + 1]);
-    section lines = sections[0], line_strings = sections[1];
-    gimli_line_index index = GIMLI_LINE_INDEX_CLOSED;
-    gimli_open_options options = GIMLI_OPEN_OPTIONS;
-    options.lowest = 0;
-    expect(gimli_line_index_open_with_info(lines.bytes, lines.length, line_strings.bytes, line_strings.length, sections[4].bytes,
-                                           sections[4].length, sections[2].bytes, sections[2].length, sections[3].bytes,
-                                           sections[3].length, lines.bytes, 0, &options, &index) == GIMLI_OK,
-           "gimli_line_index_open_with_info");
-    options.size--;
-    expect(gimli_line_index_open(lines.bytes, 0, lines.bytes, 0, lines.bytes, 0, &options, &index) == GIMLI_UNKNOWN_OPTIONS,
-           "the size of options");
-    uint64_t number = 0;
-    gimli_unit *unit = guarded(sizeof *unit);
-    for (size_t offset = 0; offset < lines.length; offset = unit->next) {
-        expect(gimli_line_unit(lines.bytes, lines.length, false, 8, offset, unit) == GIMLI_OK, "gimli_line_unit");
-        read_rows(lines, offset, unit->rows);
-        uint64_t first = unit->version <= 4;
-        for (uint64_t file = first; file < first + unit->files; file++) read_tables(lines, &index, offset, number, file);
-        read_own_directory(sections, &index, offset, number);
-        look_up(&index, number++);
-        read_directory(sections, offset);
+    for (int i = 0; i < 5; i++) {
+        bytes read = read_file(argv[i + 1]);
+        in[i] = (bytes){room_in(i, read.length), read.length};
+        memcpy(in[i].at, read.at, read.length);
+        free(read.at);
     }
-    options.size++;
-    make_map(sections, options, &index, number);
+    gimli_unit unit;
+    for (size_t offset = 0; offset < in[LINE].length; offset = unit.next) {
+        gimli_unit *told = room_in(NUMBER, sizeof *told);
+        is(gimli_line_unit(in[LINE].at, in[LINE].length, false, 8, offset, told) == GIMLI_OK, "gimli_line_unit");
+        unit = *told;
+        read_rows(offset, &unit);
+        for (uint64_t i = 0; i < unit.files; i++) read_file_of(offset, gimli_first_number(&unit) + i);
+        cut_info(offset);
+    }
+    make_map();
     write_symbols(false);
     write_symbols(true);
-    expect(gimli_line_index_close(&index) == GIMLI_OK && index.at == NULL, "gimli_line_index_close");
-    printf("%llu\n", calls);
+    printf("%llu\n", answers);
     return 0;
 }
