@@ -8,12 +8,11 @@
 #include <pthread.h>
 #include <signal.h>
 #include <stdatomic.h>
-#include <stdio.h>
-#include <stdlib.h>
 #include <string.h>
 #include <sys/time.h>
 #include <unistd.h>
 
+#include "file.h"
 #include "gimli_line.h"
 
 enum { RANGES = 200000, SOURCES = 100, THREADS = 16, BATCH = 64 };
@@ -34,52 +33,39 @@ void *malloc(size_t size) {
 }
 #endif
 
-static void expect(bool holds, const char *what) {
-    if (holds) return;
-    fprintf(stderr, "maps: %s\n", what);
-    exit(1);
-}
-
 /* ---- a map, by docs/INDEX.md */
-
-typedef struct bytes {
-    uint8_t *at;
-    size_t length;
-} bytes;
 
 static void put(bytes *map, uint64_t number, size_t size) {
     for (size_t i = 0; i < size; i++) map->at[map->length++] = (uint8_t)(number >> 8 * i);
 }
 
-static const char magic[8] = "LINEIDX", identity[] = "build";
+static void put_text(bytes *map, const char *text, size_t size) {
+    for (size_t i = 0; i < size; i++) put(map, (uint8_t)text[i], 1);
+}
 
-/* `ranges` ranges of 16 bytes, each third one a gap: range i has the line i + 1, the column i % 7, and the source i % sources, whose
- * path is /source/K.c, but for that of source 1, which has the reason 4. Where i is even, it is a statement. Starts have `size` bytes. */
+static char paths[SOURCES][32]; /* /source/K.c, but for source 1, which has the reason 4 */
+
+/* `ranges` ranges of 16 bytes, each third one a gap: range i has the line i + 1, the column i % 7, and the source i % sources. Where i is
+ * even, it is a statement. Starts have `size` bytes. */
 static bytes made(size_t ranges, size_t sources, size_t size) {
     bytes map = {malloc(64 + sources * 64 + ranges * 24), 0};
-    expect(map.at != NULL, "no memory");
-    char paths[SOURCES * 32], path[32];
+    expect(map.at != NULL, "memory for a map");
     size_t paths_size = 0;
-    memcpy(map.at, magic, 8);
-    map.length = 8;
+    for (size_t i = 0; i < sources; i++) paths_size += i == 1 ? 0 : (size_t)snprintf(paths[i], sizeof paths[i], "/source/%zu.c", i);
+    put_text(&map, "LINEIDX", 8);
     put(&map, 1, 4);
     put(&map, 8, 2);
     put(&map, size, 2);
     put(&map, size == 4 ? base : 0, 8);
     put(&map, ranges, 4);
     put(&map, sources, 4);
-    size_t paths_at = map.length;
-    put(&map, 0, 4);
-    put(&map, sizeof identity - 1, 4);
-    for (size_t i = 0; i < sources; i++) {
-        size_t length = i == 1 ? 0 : (size_t)snprintf(path, sizeof path, "/source/%zu.c", i);
-        memcpy(paths + paths_size, path, length);
+    put(&map, paths_size, 4);
+    put(&map, 5, 4);
+    for (size_t i = 0, at = 0; i < sources; at += strlen(paths[i++])) {
         put(&map, i * 1000, 8);
-        put(&map, i == 1 ? 0 : paths_size, 4);
-        put(&map, length, 4);
-        put(&map, i == 1 ? 4 : 0, 4);
-        put(&map, 0, 4);
-        paths_size += length;
+        put(&map, i == 1 ? 0 : at, 4);
+        put(&map, strlen(paths[i]), 4);
+        put(&map, i == 1 ? 4 : 0, 8);
     }
     for (size_t i = 0; i < ranges; i++) put(&map, (size == 4 ? 0 : base) + i * 16, size);
     for (size_t i = 0; i < ranges; i++) {
@@ -87,53 +73,53 @@ static bytes made(size_t ranges, size_t sources, size_t size) {
         put(&map, i % 3 == 2 ? 0 : i + 1, 4);
         put(&map, i % 3 == 2 ? 0 : i % 7 + (i % 2 == 0 ? UINT32_C(1) << 31 : 0), 4);
     }
-    memcpy(map.at + map.length, paths, paths_size);
-    size_t end = map.length + paths_size;
-    map.length = paths_at;
-    put(&map, paths_size, 4);
-    map.length = end;
-    memcpy(map.at + map.length, identity, sizeof identity - 1);
-    map.length += sizeof identity - 1;
+    for (size_t i = 0; i < sources; i++) put_text(&map, paths[i], strlen(paths[i]));
+    put_text(&map, "build", 5);
     return map;
 }
 
 /* Whether a place is what was put into such a map. */
 static bool is_right(bytes map, size_t ranges, size_t sources, const gimli_map_place *place) {
-    uint64_t address = place->address, i = (address - base) / 16;
-    static const gimli_map_place none;
-    if (address >= base && i >= ranges) i = ranges - 1;
-    if (address < base || i % 3 == 2) {
-        gimli_map_place empty = none;
-        empty.address = address;
-        return memcmp(place, &empty, sizeof empty) == 0;
+    uint64_t i = (place->address - base) / 16;
+    if (place->address >= base && i >= ranges) i = ranges - 1;
+    if (place->address < base || i % 3 == 2) {
+        gimli_map_place none = {.address = place->address};
+        return memcmp(place, &none, sizeof none) == 0;
     }
-    uint64_t source = i % sources;
-    char path[32];
-    int size = snprintf(path, sizeof path, "/source/%d.c", (int)source);
-    bool path_is = source == 1 ? place->no_path == 4 && gimli_map_path(map.at, place) == NULL
-                               : place->no_path == 0 && place->path_size == (size_t)size &&
-                                     memcmp(gimli_map_path(map.at, place), path, (size_t)size) == 0;
-    return place->known == 1 && place->line == i + 1 && place->column == i % 7 && place->unit == source * 1000 && path_is;
+    const char *path = gimli_map_path(map.at, place), *wanted = paths[i % sources];
+    bool path_is = *wanted == 0 ? path == NULL && place->no_path == 4
+                                : place->no_path == 0 && place->path_size == strlen(wanted) && memcmp(path, wanted, place->path_size) == 0;
+    return path_is && place->known && place->line == i + 1 && place->column == i % 7 && place->unit == i % sources * 1000 &&
+           place->is_stmt == (i % 2 == 0);
 }
 
-/* ---- questions */
+/* ---- questions: no memory may be asked for meanwhile */
 
 static uint64_t next(uint64_t *seed) {
     *seed = *seed * UINT64_C(6364136223846793005) + UINT64_C(1442695040888963407);
     return *seed >> 20;
 }
 
-/* Looks an address up. No memory may be asked for meanwhile. */
+/* Looks an address up, or many at once. */
 static uint32_t ask(bytes map, uint64_t address, gimli_map_place *place) {
+    sig_atomic_t before = asking;
     memset(place, 0, sizeof *place);
     place->address = address;
     asking = 1;
     uint32_t status = gimli_line_map_find(map.at, map.length, address, place);
-    asking = 0;
+    asking = before;
     return status;
 }
 
-/* Asks where the code of a line begins. No memory may be asked for meanwhile. */
+static uint32_t ask_all(bytes map, gimli_map_place *places, size_t count) {
+    sig_atomic_t before = asking;
+    asking = 1;
+    uint32_t status = gimli_line_map_find_all(map.at, map.length, places, count);
+    asking = before;
+    return status;
+}
+
+/* Asks where the code of a line begins. */
 static uint32_t ask_line(bytes map, const char *path, uint64_t line, uint64_t *found_line, uint64_t *addresses, size_t room, size_t *count) {
     asking = 1;
     uint32_t status = gimli_line_map_addresses_of(map.at, map.length, (const uint8_t *)path, strlen(path), line, found_line, addresses, room, count);
@@ -157,48 +143,35 @@ static void ask_lines(bytes map) {
         }
 }
 
+/* ---- threads, and a handler that asks whatever it interrupts */
+
 static bytes shared;
 static atomic_ulong answered, handled;
 static atomic_bool wrong;
 
-static bool ask_some(uint64_t *seed) {
-    gimli_map_place places[BATCH];
+/* Asks for addresses at random, one by one and at once. */
+static void ask_some(uint64_t *seed) {
+    gimli_map_place places[BATCH], place;
     memset(places, 0, sizeof places);
     for (size_t i = 0; i < BATCH; i++) places[i].address = base - 64 + next(seed) % (RANGES * 16 + 128);
-    sig_atomic_t before = asking;
-    asking = 1;
-    uint32_t status = gimli_line_map_find_all(shared.at, shared.length, places, BATCH);
-    asking = before;
-    if (status != GIMLI_OK) return false;
-    for (size_t i = 0; i < BATCH; i++)
-        if (!is_right(shared, RANGES, SOURCES, &places[i])) return false;
-    return true;
+    bool is = ask_all(shared, places, BATCH) == GIMLI_OK;
+    for (size_t i = 0; i < BATCH; i++) {
+        is = is && is_right(shared, RANGES, SOURCES, &places[i]);
+        is = is && (ask(shared, places[i].address, &place) == GIMLI_OK) == places[i].known && memcmp(&place, &places[i], sizeof place) == 0;
+    }
+    if (!is) atomic_store(&wrong, true);
+    atomic_fetch_add(&answered, BATCH);
 }
 
 static void *thread(void *number) {
-    uint64_t seed = *(uint64_t *)number;
-    for (int i = 0; i < 2000; i++) {
-        if (!ask_some(&seed)) atomic_store(&wrong, true);
-        atomic_fetch_add(&answered, BATCH);
-    }
+    for (int i = 0; i < 2000; i++) ask_some(number);
     return NULL;
 }
 
-/* A handler that asks, whatever it interrupts. */
 static void at_tick(int signal) {
     static uint64_t seed = 7;
     (void)signal;
-    uint64_t address = base + next(&seed) % (RANGES * 16);
-    gimli_map_place place;
-    memset(&place, 0, sizeof place);
-    place.address = address;
-    sig_atomic_t before = asking;
-    asking = 1;
-    uint32_t status = gimli_line_map_find(shared.at, shared.length, address, &place);
-    asking = before;
-    uint64_t i = (address - base) / 16;
-    bool is = i % 3 == 2 ? status == GIMLI_NO_ROW : status == GIMLI_OK && place.line == i + 1 && place.unit == i % SOURCES * 1000;
-    if (!is) atomic_store(&wrong, true);
+    ask_some(&seed);
     atomic_fetch_add(&handled, 1);
 }
 
@@ -207,20 +180,16 @@ static void ask_from_threads(void) {
     uint64_t seeds[THREADS];
     for (uint64_t i = 0; i < THREADS; i++) {
         seeds[i] = i;
-        expect(pthread_create(&threads[i], NULL, thread, &seeds[i]) == 0, "a thread can't be made");
+        expect(pthread_create(&threads[i], NULL, thread, &seeds[i]) == 0, "a thread is made");
     }
     for (int i = 0; i < THREADS; i++) pthread_join(threads[i], NULL);
-    expect(!atomic_load(&wrong), "a thread was told something else");
 }
 
 /* The program allocates all the time while the handler asks. */
 static void ask_from_handler(void) {
-    struct sigaction action;
-    memset(&action, 0, sizeof action);
-    action.sa_handler = at_tick;
-    expect(sigaction(SIGPROF, &action, NULL) == 0, "no handler");
+    struct sigaction action = {.sa_handler = at_tick};
     struct itimerval often = {{0, 1000}, {0, 1000}}, never = {{0, 0}, {0, 0}};
-    expect(setitimer(ITIMER_PROF, &often, NULL) == 0, "no timer");
+    expect(sigaction(SIGPROF, &action, NULL) == 0 && setitimer(ITIMER_PROF, &often, NULL) == 0, "a handler and a timer");
     void *blocks[64] = {NULL};
     uint64_t seed = 3;
     while (atomic_load(&handled) < 200) {
@@ -230,7 +199,6 @@ static void ask_from_handler(void) {
     }
     expect(setitimer(ITIMER_PROF, &never, NULL) == 0, "no timer");
     for (size_t i = 0; i < 64; i++) free(blocks[i]);
-    expect(!atomic_load(&wrong), "the handler was told something else");
 }
 
 /* ---- damaged maps */
@@ -252,7 +220,7 @@ static void ask_damaged(bytes map) {
         expect(place.path == 0 || (place.path + place.path_size <= map.length && place.no_path == 0), "a path");
         expect(checked != GIMLI_OK || place.no_path != GIMLI_NO_PATH_OUTSIDE, "a path of a map that was checked");
     }
-    expect(gimli_line_map_find_all(map.at, map.length, places, 4) == opened, "places");
+    expect(ask_all(map, places, 4) == opened, "places");
     uint64_t line, addresses[4];
     size_t count;
     uint32_t status = ask_line(map, "0.c", 1, &line, addresses, 4, &count);
@@ -267,44 +235,39 @@ static void ask_all_damaged(bytes map) {
         memcpy(cut.at, map.at, length);
         ask_damaged(cut);
         gimli_map found;
-        if (length < map.length) expect(gimli_line_map_open(cut.at, length, &found) != GIMLI_OK, "a map that is cut");
+        expect(length == map.length || gimli_line_map_open(cut.at, length, &found) != GIMLI_OK, "a map that is cut");
         free(cut.at);
     }
     bytes other = {malloc(map.length), map.length};
-    for (size_t i = 0; i < map.length; i++) {
-        memcpy(other.at, map.at, map.length);
-        for (int value = 0; value < 256; value++) {
-            other.at[i] = (uint8_t)value;
-            ask_damaged(other);
-        }
-    }
     uint64_t seed = 5;
-    for (int round = 0; round < 1000000; round++) {
+    for (size_t round = 0; round < map.length * 256 + 1000000; round++) {
         memcpy(other.at, map.at, map.length);
-        for (uint64_t i = next(&seed) % 8 + 1; i != 0; i--) other.at[next(&seed) % map.length] = (uint8_t)next(&seed);
+        if (round < map.length * 256)
+            other.at[round / 256] = (uint8_t)round;
+        else
+            for (uint64_t i = next(&seed) % 8 + 1; i != 0; i--) other.at[next(&seed) % map.length] = (uint8_t)next(&seed);
         ask_damaged(other);
     }
     free(other.at);
 }
 
 int main(int argc, char **argv) {
-    if (argc > 1) {
-        bytes small = made(8, 3, 4);
-        FILE *file = fopen(argv[1], "wb");
-        expect(file != NULL && fwrite(small.at, 1, small.length, file) == small.length && fclose(file) == 0, "the file can't be written");
-        free(small.at);
-        return 0;
-    }
     for (size_t size = 4; size <= 8; size += 4) {
         bytes small = made(8, 3, size);
+        if (argc > 1) {
+            FILE *file = fopen(argv[1], "wb");
+            expect(file != NULL && fwrite(small.at, 1, small.length, file) == small.length && fclose(file) == 0, "the file is written");
+            free(small.at);
+            return 0;
+        }
         gimli_map found;
         expect(gimli_line_map_open(small.at, small.length, &found) == GIMLI_OK && found.ranges == 8 && found.address_size == 8 &&
-                   found.identity_size == 5 && memcmp(small.at + found.identity, identity, 5) == 0, "what a map says of itself");
+                   found.identity_size == 5 && memcmp(small.at + found.identity, "build", 5) == 0, "what a map says of itself");
         expect(gimli_line_map_check(small.at, small.length) == GIMLI_OK, "a map is sound");
         for (uint64_t address = base - 20; address < base + 160; address++) {
             gimli_map_place place;
             uint32_t status = ask(small, address, &place);
-            expect(is_right(small, 8, 3, &place) && (status == GIMLI_OK) == (place.known == 1), "the place of an address");
+            expect(is_right(small, 8, 3, &place) && (status == GIMLI_OK) == place.known, "the place of an address");
         }
         ask_lines(small);
         ask_all_damaged(small);
@@ -313,9 +276,10 @@ int main(int argc, char **argv) {
     shared = made(RANGES, SOURCES, 4);
     expect(gimli_line_map_check(shared.at, shared.length) == GIMLI_OK, "a large map is sound");
     ask_from_threads();
+    unsigned long by_threads = atomic_load(&answered);
     ask_from_handler();
+    expect(!atomic_load(&wrong), "a thread or the handler is told what the map says");
     free(shared.at);
-    printf("%lu places by %d threads, %lu by a handler, %lu damaged maps\n", atomic_load(&answered), (int)THREADS,
-           atomic_load(&handled), damaged);
+    printf("%lu places by %d threads, %lu by a handler, %lu damaged maps\n", by_threads, (int)THREADS, atomic_load(&answered) - by_threads, damaged);
     return 0;
 }

@@ -1,138 +1,86 @@
-/* Reads the rows and files of each unit, writes them as a new unit, reads that back, and compares.
+/* Reads the rows and files of each unit, writes them as a new unit, reads that back, and compares. Prints how many rows were compared.
  *
  *   rewrite line.bin line_str.bin       the sections .debug_line and .debug_line_str (empty where there is none); see run.sh
  *
- * For a little-endian program with addresses of 8 bytes. The numbers of files may change, so files are compared by their names. */
-#include <stdio.h>
-#include <stdlib.h>
+ * For a little-endian program with addresses of 8 bytes. A file is written as what its whole path has before the last separator and after
+ * it. So the numbers of files may change, and files are compared by their paths. */
 #include <string.h>
 
+#include "file.h"
 #include "gimli_line.h"
 
-enum { NAME_ROOM = 4096 };
+enum { ROOM = 1024 };
 
-typedef struct section {
-    uint8_t *bytes;
-    size_t length;
-} section;
+static bytes line_strings;
 
-static section read_file(const char *name) {
-    section read = {NULL, 0};
-    FILE *file = fopen(name, "rb");
-    if (file == NULL || fseek(file, 0, SEEK_END) != 0) exit(2);
-    long size = ftell(file);
-    rewind(file);
-    read.bytes = malloc(size > 0 ? (size_t)size : 1);
-    if (size < 0 || read.bytes == NULL || fread(read.bytes, 1, (size_t)size, file) != (size_t)size) exit(2);
-    fclose(file);
-    read.length = (size_t)size;
-    return read;
+static void *room_for(size_t count, size_t size) {
+    void *room = calloc(count + 1, size);
+    if (room == NULL) exit(2);
+    return room;
 }
 
-static void stop_if(uint32_t status, const char *call) {
-    if (status == GIMLI_OK) return;
-    fprintf(stderr, "%s: status %u\n", call, status);
-    exit(1);
+/* What is known of a file beside its path, which goes into `path`; how many bytes that has. */
+static size_t file_at(bytes lines, size_t offset, uint64_t number, gimli_file *file, uint8_t *path) {
+    uint8_t none, nothing;
+    size_t size;
+    stop_if(gimli_line_file(lines.at, lines.length, false, 8, offset, number, file, &none, 0, &nothing, 0));
+    stop_if(gimli_line_path(lines.at, lines.length, line_strings.at, line_strings.length, &none, 0, false, 8, offset, number, &none, 0, path,
+                            ROOM, &size));
+    if (size > ROOM) exit(2);
+    return size;
 }
 
-/* What is read of a unit. The names stand one after the other in `texts`. */
-typedef struct contents {
-    gimli_unit unit;
-    gimli_row *rows;
-    uint8_t *texts;
-    size_t text_length;
-    gimli_name *directories; /* of each file; of size 0 where it is that of the compilation */
-    gimli_file_name *files;
-    uint64_t details;
-} contents;
-
-/* Puts a name after the others. */
-static gimli_name add_name(contents *to, const gimli_text *text, const uint8_t *here, section line_strings) {
-    const uint8_t *from = here;
-    size_t size = text->size;
-    if (text->kind == GIMLI_TEXT_DEBUG_LINE_STR && text->first < line_strings.length) {
-        from = line_strings.bytes + text->first;
-        const uint8_t *end = memchr(from, 0, line_strings.length - text->first);
-        size = end != NULL ? (size_t)(end - from) : line_strings.length - text->first;
-    } else if (text->kind != GIMLI_TEXT_HERE) {
-        size = 0;
-    }
-    if (size > NAME_ROOM) exit(2);
-    gimli_name name = {to->text_length, size};
-    memcpy(to->texts + to->text_length, from, size);
-    to->text_length += size;
-    return name;
-}
-
-static contents read_unit(section lines, section line_strings, size_t offset) {
-    contents read = {0};
-    stop_if(gimli_line_unit(lines.bytes, lines.length, false, 8, offset, &read.unit), "gimli_line_unit");
-    uint64_t count = read.unit.rows, files = read.unit.files, first = read.unit.version <= 4;
-    read.rows = calloc(count + 1, sizeof *read.rows);
-    read.texts = malloc(files * 2 * NAME_ROOM + 1);
-    read.directories = calloc(files + 1, sizeof *read.directories);
-    read.files = calloc(files + 1, sizeof *read.files);
-    if (!read.rows || !read.texts || !read.directories || !read.files) exit(2);
-    stop_if(gimli_line_rows(lines.bytes, lines.length, false, 8, offset, 0, read.rows, count, &count), "gimli_line_rows");
-    for (uint64_t i = 0; i < files; i++) {
-        static uint8_t path[NAME_ROOM], directory[NAME_ROOM];
+/* Writes files and rows of the unit at an offset as a unit of its own. */
+static bytes written(bytes lines, size_t offset, const gimli_unit *unit, const gimli_row *rows) {
+    gimli_name *directories = room_for(unit->files, sizeof *directories);
+    gimli_file_name *files = room_for(unit->files, sizeof *files);
+    uint8_t *texts = room_for(unit->files, ROOM);
+    gimli_contents contents = {.encoding = GIMLI_ENCODING(unit->version), .texts = texts, .text_length = unit->files * ROOM,
+                               .directories = directories, .directory_count = unit->files, .files = files, .file_count = unit->files,
+                               .rows = rows, .row_count = unit->rows};
+    contents.encoding.offset_size = (uint8_t)unit->offset_size;
+    uint64_t first = gimli_first_number(unit);
+    for (uint64_t i = 0; i < unit->files; i++) {
         gimli_file file;
-        stop_if(gimli_line_file(lines.bytes, lines.length, false, 8, offset, i + first, &file, path, NAME_ROOM, directory,
-                                NAME_ROOM), "gimli_line_file");
-        read.files[i].path = add_name(&read, &file.path, path, line_strings);
-        read.directories[i] = add_name(&read, &file.directory, directory, line_strings);
-        read.files[i].directory = first && file.directory_number == 0 ? 0 : i + first;
-        read.files[i].timestamp = file.timestamp;
-        read.files[i].size = file.size;
-        memcpy(read.files[i].md5, file.md5, sizeof file.md5);
-        read.details = file.details;
-        /* Up to version 4 the directory of the compilation isn't in the table, and no name there is empty: any other stands
-         * in its place in the list. */
-        if (read.files[i].directory == 0 && first) read.directories[i] = read.files[i].path;
+        size_t size = file_at(lines, offset, i + first, &file, texts + i * ROOM), cut = size;
+        while (cut > 0 && texts[i * ROOM + cut - 1] != '/') cut--;
+        /* No name is empty up to version 4: where there is no directory any other stands in its place, and has no file. */
+        directories[i] = (gimli_name){i * ROOM, cut > 1 ? cut - 1 : 1};
+        files[i] = (gimli_file_name){{i * ROOM + cut, size - cut}, cut > 0 ? i + first : 0, file.timestamp, file.size, {0}};
+        memcpy(files[i].md5, file.md5, sizeof file.md5);
+        contents.details = file.details;
     }
-    return read;
+    bytes made = {NULL, 0};
+    uint32_t status = gimli_line_write_contents(&contents, NULL, 0, &made.length); /* how much room it takes is asked first */
+    if (status != GIMLI_NO_ROOM) stop_if(status);
+    made.at = room_for(made.length, 1);
+    stop_if(gimli_line_write_contents(&contents, made.at, made.length, &made.length));
+    free(directories);
+    free(files);
+    free(texts);
+    return made;
 }
 
-/* Writes what was read as a unit of its own. */
-static section write_unit(const contents *read) {
-    gimli_encoding encoding = GIMLI_ENCODING(0);
-    encoding.version = (uint16_t)read->unit.version;
-    encoding.offset_size = (uint8_t)read->unit.offset_size;
-    section written = {malloc(1), 0};
-    size_t size = 0;
-    uint32_t status = GIMLI_NO_ROOM;
-    while (status == GIMLI_NO_ROOM) {
-        status = gimli_line_write(&encoding, false, read->details, read->texts, read->text_length, read->directories,
-                                  read->unit.files, read->files, read->unit.files, read->rows, read->unit.rows, written.bytes,
-                                  written.length, &size);
-        if (status != GIMLI_NO_ROOM) break;
-        written.bytes = realloc(written.bytes, size);
-        written.length = size;
-        if (written.bytes == NULL) exit(2);
-    }
-    stop_if(status, "gimli_line_write");
-    written.length = size;
-    return written;
-}
-
-static bool same_name(const contents *a, gimli_name x, const contents *b, gimli_name y) {
-    return x.size == y.size && memcmp(a->texts + x.first, b->texts + y.first, x.size) == 0;
-}
-
-static bool same_file(const contents *a, uint64_t i, const contents *b, uint64_t j) {
-    uint64_t first = a->unit.version <= 4;
-    if (i < first || j < first || i - first >= a->unit.files || j - first >= b->unit.files) return false;
-    const gimli_file_name *x = &a->files[i - first], *y = &b->files[j - first];
-    return same_name(a, x->path, b, y->path) && same_name(a, a->directories[i - first], b, b->directories[j - first]) &&
-           x->timestamp == y->timestamp && x->size == y->size && memcmp(x->md5, y->md5, sizeof x->md5) == 0;
+/* The rows of the unit at an offset. */
+static gimli_row *rows_at(bytes lines, size_t offset, gimli_unit *unit) {
+    uint64_t count;
+    stop_if(gimli_line_unit(lines.at, lines.length, false, 8, offset, unit));
+    gimli_row *rows = room_for(unit->rows, sizeof *rows);
+    stop_if(gimli_line_rows(lines.at, lines.length, false, 8, offset, 0, rows, unit->rows, &count));
+    return rows;
 }
 
 /* Of an end its address and operation count. */
-static bool same_row(const contents *a, const gimli_row *x, const contents *b, const gimli_row *y) {
-    if (x->address != y->address || x->op_index != y->op_index) return false;
-    if (x->flags & y->flags & GIMLI_END_SEQUENCE) return true;
-    return x->line == y->line && x->column == y->column && x->isa == y->isa && x->discriminator == y->discriminator &&
-           x->flags == y->flags && same_file(a, x->file, b, y->file);
+static bool is_same(bytes lines, size_t offset, const gimli_row *row, bytes other_lines, const gimli_row *other) {
+    uint8_t path[ROOM], other_path[ROOM];
+    gimli_file file, other_file;
+    if (row->address != other->address || row->op_index != other->op_index) return false;
+    if (row->flags & other->flags & GIMLI_END_SEQUENCE) return true;
+    size_t size = file_at(lines, offset, row->file, &file, path);
+    return row->flags == other->flags && row->line == other->line && row->column == other->column && row->isa == other->isa &&
+           row->discriminator == other->discriminator &&
+           file_at(other_lines, 0, other->file, &other_file, other_path) == size && memcmp(path, other_path, size) == 0 &&
+           file.timestamp == other_file.timestamp && file.size == other_file.size && memcmp(file.md5, other_file.md5, sizeof file.md5) == 0;
 }
 
 int main(int argc, char **argv) {
@@ -140,22 +88,22 @@ int main(int argc, char **argv) {
         fprintf(stderr, "usage: rewrite SECTION LINE_STRINGS\n");
         return 2;
     }
-    section lines = read_file(argv[1]), line_strings = read_file(argv[2]);
-    uint64_t rows = 0;
-    for (size_t offset = 0; offset < lines.length;) {
-        contents read = read_unit(lines, line_strings, offset);
-        section written = write_unit(&read);
-        contents back = read_unit(written, line_strings, 0);
-        if (back.unit.rows != read.unit.rows || back.unit.next != written.length) return 1;
-        for (uint64_t i = 0; i < read.unit.rows; i++) {
-            if (!same_row(&read, &read.rows[i], &back, &back.rows[i])) {
-                fprintf(stderr, "unit at %zu: row %llu differs\n", offset, (unsigned long long)i);
-                return 1;
-            }
-        }
-        rows += read.unit.rows;
-        offset = read.unit.next;
+    bytes lines = read_file(argv[1]);
+    line_strings = read_file(argv[2]);
+    uint64_t compared = 0;
+    gimli_unit unit, back;
+    for (size_t offset = 0; offset < lines.length; offset = unit.next) {
+        gimli_row *rows = rows_at(lines, offset, &unit);
+        bytes made = written(lines, offset, &unit, rows);
+        gimli_row *other_rows = rows_at(made, 0, &back);
+        expect(back.rows == unit.rows && back.next == made.length && back.version == unit.version, "the unit that was written");
+        for (uint64_t i = 0; i < unit.rows; i++, compared++) expect(is_same(lines, offset, &rows[i], made, &other_rows[i]), "a row");
+        free(rows);
+        free(other_rows);
+        free(made.at);
     }
-    printf("%llu\n", (unsigned long long)rows);
+    printf("%llu\n", (unsigned long long)compared);
+    free(lines.at);
+    free(line_strings.at);
     return 0;
 }
