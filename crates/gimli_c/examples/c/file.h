@@ -23,7 +23,7 @@ static inline void stop_if(uint32_t status) {
 static inline void expect(bool holds, const char *what) {
     if (holds) return;
     fprintf(stderr, "not so: %s\n", what);
-    exit(1);
+    abort();
 }
 
 /* The bytes of a file, which free() gives back. */
