@@ -1,10 +1,9 @@
 /* What the tests ask of any bytes, as sections, as a map and as an ELF file: two calls say the same of one thing, each number is one of the
  * header, and nothing is written but what is answered. What a call writes to ends where a page begins that can't be read or written: a byte
- * too much ends the program by a signal. */
+ * too much ends the program by a signal. A program that includes this defines _GNU_SOURCE before. */
 #ifndef ASK_H
 #define ASK_H
 
-#define _DEFAULT_SOURCE
 #include <stddef.h>
 #include <string.h>
 #include <sys/mman.h>

@@ -1,26 +1,20 @@
 /* Asks for directories of compilations, for whole paths, for units, and for the addresses of lines, over sections that are made by hand,
  * whole and cut: once, and then in many threads at once, which share the sections alone. Prints how many answers were as the standard has
  * them (DWARF 4 and 5, sections 3.1.1, 6.2.2, 6.2.4 and 6.2.5.3); the first other one ends it. See run.sh and memory.sh. */
+#define _GNU_SOURCE
 #include <pthread.h>
 #include <stdatomic.h>
-#include <string.h>
 
-#include "file.h"
-#include "gimli_line.h"
+#include "ask.h"
 
-enum { ROOM = 64, THREADS = 8 };
-
-typedef struct section {
-    const uint8_t *at;
-    size_t length;
-} section;
-#define SECTION(array) {array, sizeof array}
+enum { THREADS = 8 };
 
 static atomic_ulong answers;
 
-static void is(bool holds, const char *what) {
+static void seen(unsigned kind, uint64_t value) {
+    (void)kind;
+    (void)value;
     atomic_fetch_add(&answers, 1);
-    expect(holds, what);
 }
 
 /* One declaration, by the code 1: a compile unit without children, with DW_AT_stmt_list as DW_FORM_sec_offset, and DW_AT_comp_dir as
@@ -58,116 +52,101 @@ enum { DIRECTORY_FORM = 20, FILE_FORM = 28, DW_FORM_line_strp = 0x1f };
 static const uint8_t names[] = "/source\0made.c";
 
 
-static const section table = SECTION(declaration), of_4 = SECTION(lines_4), of_5 = SECTION(lines_5), of_strp = SECTION(lines_strp),
-                     strings_of = SECTION(names);
-
-/* What is asked for: the path of a file of a line program; or where there is no line program, the directory of a compilation. */
-typedef struct question {
-    section lines, line_strings, strings;
-    uint64_t number;
-    const char *comp_dir;
-    section info, abbreviations;
-    uint64_t offset;
-} question;
-
-static uint32_t ask(const question *of, uint8_t *told, size_t room, size_t *size) {
-    const uint8_t *line_strings = gimli_bytes(of->line_strings.at), *strings = gimli_bytes(of->strings.at);
-    if (of->lines.at == NULL)
-        return gimli_line_comp_dir(of->info.at, of->info.length, of->abbreviations.at, of->abbreviations.length, line_strings, 0, strings, 0,
-                                   strings, 0, false, of->offset, told, room, size);
-    return gimli_line_path(of->lines.at, of->lines.length, line_strings, of->line_strings.length, strings, of->strings.length, false, 8,
-                           of->offset, of->number, (const uint8_t *)of->comp_dir, strlen(of->comp_dir), told, room, size);
+/* Takes these sections, copies of them just so long. */
+static void take(const void *lines, size_t lines_size, const void *info, size_t info_size) {
+    in = (gimli_sections){.line = memcpy(room_in(OWN, lines_size), lines, lines_size), .line_size = lines_size,
+                          .info = memcpy(room_in(OWN + 1, info_size), info, info_size), .info_size = info_size,
+                          .line_strings = declaration, .strings = declaration, .abbreviations = declaration,
+                          .abbreviations_size = sizeof declaration, .string_offsets = declaration};
+    by = (gimli_map_options)GIMLI_MAP_OPTIONS;
 }
 
-static bool is_untouched(const uint8_t *bytes, size_t size) {
-    for (size_t i = 0; i < size; i++)
-        if (bytes[i] != 0xaa) return false;
-    return true;
+static void take_version(int version) {
+    if (version == 4)
+        take(lines_4, sizeof lines_4, info_4, sizeof info_4);
+    else
+        take(lines_5, sizeof lines_5, info_5, sizeof info_5);
 }
 
-/* This is told, into each room; what there is no room for isn't written. */
-static void expect_told(question of, const char *wanted) {
-    for (size_t room = 0; room <= ROOM; room++) {
-        uint8_t told[ROOM + 1];
-        size_t size = 77, some = room < strlen(wanted) ? room : strlen(wanted);
-        memset(told, 0xaa, sizeof told);
-        is(ask(&of, told, room, &size) == GIMLI_OK && size == strlen(wanted), wanted);
-        is(memcmp(told, wanted, some) == 0 && is_untouched(told + some, sizeof told - some), wanted);
-    }
+/* A call tells these bytes, or has this refusal. */
+static void tells(call *made, uint64_t number, uint32_t status, const char *wanted) {
+    static _Thread_local told told;
+    expect(try_rooms(made, 0, number, 1, sizeof(size_t), 0, &told) == status, wanted);
+    expect(status != GIMLI_OK || (told.count == strlen(wanted) && memcmp(told.array, wanted, told.count) == 0), wanted);
+    seen(0, status);
 }
 
-/* Nothing is told, and nothing is written. */
-static void expect_refused(question of, uint32_t status, const char *what) {
-    uint8_t told[ROOM];
-    size_t size = 77;
-    memset(told, 0xaa, ROOM);
-    is(ask(&of, told, ROOM, &size) == status && size == 77 && is_untouched(told, ROOM), what);
+/* The whole path of a file, from a directory on. */
+static void path_is(const char *from, uint64_t number, uint32_t status, const char *wanted) {
+    comp_dir = from;
+    comp_dir_size = strlen(from);
+    tells(path_in, number, status, wanted);
 }
 
 /* Up to version 4 a path goes on from the directory of the compilation, which .debug_info has. In version 5 each relative directory goes
  * on from it, where directory 0 is relative. */
 static void paths(void) {
-    static const struct { int version; uint64_t number; const char *comp_dir, *path; } wanted[] = {
+    static const struct { int version; uint64_t number; const char *from, *path; } wanted[] = {
         {4, 1, "/w", "/w/a.c"}, {4, 2, "/w", "/w/inc/b.h"}, {4, 3, "/w", "/w/inc/d.c"}, {4, 1, "", "a.c"}, {4, 2, "", "inc/b.h"},
         {4, 2, "/other", "/other/inc/b.h"}, {5, 0, "./w", "./w/./w/a.c"}, {5, 1, "./w", "./w/../inc/b.h"}, {5, 2, "./w", "/abs/c.c"},
-        {5, 0, "/src", "/src/./w/a.c"}, {5, 1, "/src", "/src/../inc/b.h"}, {5, 0, "", "./w/a.c"}, {5, 1, "", "./w/../inc/b.h"}};
+        {5, 0, "/src", "/src/./w/a.c"}, {5, 1, "/src", "/src/../inc/b.h"}, {5, 0, "", "./w/a.c"}, {5, 1, "", "./w/../inc/b.h"},
+        {4, 0, "/w", NULL}, {4, 4, "/w", NULL}, {4, UINT64_MAX, "/w", NULL}, {5, 3, "/w", NULL}, {5, UINT64_MAX, "/w", NULL}};
     for (size_t i = 0; i < sizeof wanted / sizeof wanted[0]; i++) {
-        section lines = wanted[i].version == 4 ? of_4 : of_5;
-        expect_told((question){.lines = lines, .number = wanted[i].number, .comp_dir = wanted[i].comp_dir}, wanted[i].path);
-    }
-    static const struct { int version; uint64_t number; } others[] = {{4, 0}, {4, 4}, {4, UINT64_MAX}, {5, 3}, {5, UINT64_MAX}};
-    for (size_t i = 0; i < sizeof others / sizeof others[0]; i++) {
-        section lines = others[i].version == 4 ? of_4 : of_5;
-        expect_refused((question){.lines = lines, .number = others[i].number, .comp_dir = "/w"}, GIMLI_NO_SUCH_FILE, "an unknown file");
+        take_version(wanted[i].version);
+        path_is(wanted[i].from, wanted[i].number, wanted[i].path != NULL ? GIMLI_OK : GIMLI_NO_SUCH_FILE, wanted[i].path);
     }
 }
 
 /* A path whose strings stand in other sections: in .debug_str and, by the other form, in .debug_line_str. It isn't told where one of them
  * is outside, or has no end. */
 static void strings_of_paths(void) {
-    uint8_t other[sizeof lines_strp];
-    memcpy(other, lines_strp, sizeof other);
-    other[DIRECTORY_FORM] = other[FILE_FORM] = DW_FORM_line_strp;
-    section of_line_strp = SECTION(other);
-    for (const char *from = "/other"; from != NULL; from = *from != 0 ? "" : NULL) {
-        expect_told((question){.lines = of_strp, .strings = strings_of, .comp_dir = from}, "/source/made.c");
-        expect_told((question){.lines = of_line_strp, .line_strings = strings_of, .comp_dir = from}, "/source/made.c");
-    }
-    for (size_t length = 0; length <= sizeof names; length++) {
-        section cut = {names, length};
-        uint32_t status = GIMLI_UNKNOWN_PATH;
-        expect_refused((question){.lines = of_strp, .line_strings = cut, .comp_dir = ""}, status, "another section");
-        if (length == sizeof names) break;
-        expect_refused((question){.lines = of_strp, .strings = cut, .comp_dir = ""}, status, "a cut .debug_str");
-        expect_refused((question){.lines = of_line_strp, .line_strings = cut, .comp_dir = ""}, status, "a cut .debug_line_str");
+    uint8_t lines[sizeof lines_strp];
+    memcpy(lines, lines_strp, sizeof lines);
+    for (int form = 0; form < 2; form++) {
+        for (size_t length = 0; length <= sizeof names; length++) {
+            const uint8_t *cut = memcpy(room_in(OWN + 2, length), names, length);
+            uint32_t status = length < sizeof names ? GIMLI_UNKNOWN_PATH : GIMLI_OK;
+            take(lines, sizeof lines, info_5, sizeof info_5);
+            *(form == 0 ? &in.strings : &in.line_strings) = cut;
+            *(form == 0 ? &in.strings_size : &in.line_strings_size) = length;
+            path_is("", 0, status, "/source/made.c");
+            path_is("/other", 0, status, "/source/made.c");
+            *(form != 0 ? &in.strings : &in.line_strings) = cut;
+            *(form != 0 ? &in.strings_size : &in.line_strings_size) = length;
+            *(form == 0 ? &in.strings_size : &in.line_strings_size) = 0;
+            path_is("", 0, GIMLI_UNKNOWN_PATH, "a string of another section");
+        }
+        lines[DIRECTORY_FORM] = lines[FILE_FORM] = DW_FORM_line_strp;
     }
 }
 
-/* A unit that is whole; one that is cut anywhere, and one of an unknown version, after which the next one can be read. */
-static void units(section lines, gimli_unit wanted) {
-    gimli_unit unit, before;
-    memset(&unit, 0xaa, sizeof unit);
-    before = unit;
-    for (size_t length = 0; length < lines.length; length++) {
-        before.next = length;
-        is(gimli_line_unit(lines.at, length, false, 8, 0, &unit) == GIMLI_UNEXPECTED_EOF, "a cut unit");
-        is(memcmp(&unit, &before, sizeof unit) == 0, "a cut unit");
-        section cut = {lines.at, length};
-        expect_refused((question){.lines = cut, .number = 1, .comp_dir = ""}, GIMLI_UNEXPECTED_EOF, "a cut unit");
+/* Reads a unit that is refused: but for where the next one begins, what was there stays. */
+static void refused(size_t next, uint32_t status, const char *what) {
+    gimli_unit *unit = room_in(ANOTHER, sizeof *unit);
+    expect(gimli_line_unit(in.line, in.line_size, false, 8, 0, unit) == status && unit->next == next, what);
+    memset(&unit->next, 0xaa, sizeof unit->next);
+    expect(is_untouched(unit, sizeof *unit), what);
+    path_is("", 1, status, what);
+}
+
+/* A unit that is cut anywhere, and one of an unknown version, after which the next one can be read. */
+static void units(const uint8_t *lines, size_t size, gimli_unit wanted) {
+    for (size_t length = 0; length < size; length++) {
+        take(lines, length, info_4, sizeof info_4);
+        refused(length, GIMLI_UNEXPECTED_EOF, "a cut unit");
     }
     uint8_t two[2 * sizeof lines_4];
-    memcpy(two, lines.at, lines.length);
-    memcpy(two + lines.length, lines.at, lines.length);
+    gimli_unit unit;
+    memcpy(two, lines, size);
+    memcpy(two + size, lines, size);
     two[4] = 6;
-    section both = {two, 2 * lines.length};
-    before.next = lines.length;
-    is(gimli_line_unit(two, both.length, false, 8, 0, &unit) == GIMLI_UNKNOWN_VERSION && memcmp(&unit, &before, sizeof unit) == 0, "version 6");
-    expect_refused((question){.lines = both, .number = 1, .comp_dir = ""}, GIMLI_UNKNOWN_VERSION, "version 6");
-    is(gimli_line_unit(two, both.length, false, 3, unit.next, &unit) == GIMLI_UNSUPPORTED_ADDRESS_SIZE, "addresses of 3 bytes");
-    is(gimli_line_unit(two, both.length, false, 8, before.next, &unit) == GIMLI_OK && unit.next == both.length, "the unit after it");
+    take(two, 2 * size, info_4, sizeof info_4);
+    refused(size, GIMLI_UNKNOWN_VERSION, "version 6");
+    expect(gimli_line_unit(in.line, in.line_size, false, 3, size, &unit) == GIMLI_UNSUPPORTED_ADDRESS_SIZE, "addresses of 3 bytes");
+    expect(gimli_line_unit(in.line, in.line_size, false, 8, size, &unit) == GIMLI_OK && unit.next == 2 * size, "the unit after it");
     wanted.next = unit.next;
-    is(memcmp(&unit, &wanted, sizeof unit) == 0, "what a unit says of itself");
-    is(gimli_first_number(&unit) == (unit.version < 5), "the first number");
+    expect(memcmp(&unit, &wanted, sizeof unit) == 0 && gimli_first_number(&unit) == (unit.version < 5), "what a unit says of itself");
+    ask_units();
 }
 
 /* A path names files by its last components. Of a file without statements from the line on there is no address, nor of one that no row
@@ -180,16 +159,13 @@ static void lines_of_paths(void) {
         {1, ".c", 1, 0, {0, 0}}, {1, "b.h/../c.h", 1, 0, {0, 0}}, {1, "v/a.c", 1, 0, {0, 0}}, {1, "aa.c", 1, 0, {0, 0}},
         {1, "a.cc", 1, 0, {0, 0}}, {1, "x/w/a.c", 1, 0, {0, 0}}, {1, "../a.c", 1, 0, {0, 0}},
         {0, "a.c", 3, 3, {0x1000, 0x1008}}, {0, "inc/b.h", 3, 5, {0x1004, 0}}, {0, "/w/a.c", 1, 0, {0, 0}}};
-    gimli_sections sections = {.line = lines_4, .line_size = sizeof lines_4, .abbreviations = declaration,
-                               .abbreviations_size = sizeof declaration, .info = info_4};
-    gimli_map_options options = GIMLI_MAP_OPTIONS;
     uint8_t *maps[2];
     size_t sizes[2];
     for (int has_info = 0; has_info < 2; has_info++) {
-        sections.info_size = has_info ? sizeof info_4 : 0;
-        is(gimli_line_map_of_sections(&sections, &options, NULL, 0, &maps[has_info], &sizes[has_info]) == GIMLI_OK, "a map of sections");
+        take(lines_4, sizeof lines_4, info_4, has_info ? sizeof info_4 : 0);
+        expect(gimli_line_map_of_sections(&in, &by, NULL, 0, &maps[has_info], &sizes[has_info]) == GIMLI_OK, "a map of sections");
         gimli_map_place place;
-        is(gimli_line_map_find(maps[has_info], sizes[has_info], 0x100c, &place) == GIMLI_OK && place.line == 9 && !place.is_stmt, "line 9");
+        expect(gimli_line_map_find(maps[has_info], sizes[has_info], 0x100c, &place) == GIMLI_OK && place.line == 9 && !place.is_stmt, "line 9");
     }
     for (size_t i = 0; i < sizeof wanted / sizeof wanted[0]; i++)
         for (size_t room = 0; room <= 3; room++) {
@@ -197,45 +173,46 @@ static void lines_of_paths(void) {
             size_t count = 77, all = (wanted[i].addresses[0] != 0) + (wanted[i].addresses[1] != 0);
             uint32_t status = gimli_line_map_addresses_of(maps[wanted[i].has_info], sizes[wanted[i].has_info], (const uint8_t *)wanted[i].path,
                                                           strlen(wanted[i].path), wanted[i].line, &found, addresses, room, &count);
-            is(status == (all == 0 ? GIMLI_NO_CODE : GIMLI_OK), wanted[i].path);
-            is(found == (all == 0 ? 77 : wanted[i].found) && count == (all == 0 ? 77 : all), wanted[i].path);
-            for (size_t k = 0; k < 3; k++) is(addresses[k] == (k < all && k < room ? wanted[i].addresses[k] : 77), wanted[i].path);
+            expect(status == (all == 0 ? GIMLI_NO_CODE : GIMLI_OK), wanted[i].path);
+            expect(found == (all == 0 ? 77 : wanted[i].found) && count == (all == 0 ? 77 : all), wanted[i].path);
+            for (size_t k = 0; k < 3; k++) expect(addresses[k] == (k < all && k < room ? wanted[i].addresses[k] : 77), wanted[i].path);
+            seen(0, status);
         }
     free(maps[0]);
     free(maps[1]);
 }
 
-/* Sections that are cut, and units that can't be read. */
-static void hostile(section info) {
-    expect_refused((question){.info = info, .abbreviations = table, .offset = 1}, GIMLI_NO_COMP_DIR, "another line program");
-    for (size_t length = 0; length < info.length; length++) {
-        section cut = {info.at, length};
-        expect_refused((question){.info = cut, .abbreviations = table}, GIMLI_NO_COMP_DIR, "a cut .debug_info");
-    }
+/* The directory of a compilation; none of another line program, nor where a section is cut, a unit can't be read, or a text has no end. */
+static void directories(const uint8_t *info, size_t size, const char *wanted) {
+    uint8_t changed[64];
+    take(lines_4, sizeof lines_4, info, size);
+    tells(comp_dir_in, 0, GIMLI_OK, wanted);
     for (size_t length = 0; length < sizeof declaration - 1; length++) {
-        section cut = {declaration, length};
-        expect_refused((question){.info = info, .abbreviations = cut}, GIMLI_NO_COMP_DIR, "a cut .debug_abbrev");
+        in.abbreviations = memcpy(room_in(OWN + 3, length), declaration, length);
+        in.abbreviations_size = length;
+        tells(comp_dir_in, 0, GIMLI_NO_COMP_DIR, "a cut .debug_abbrev");
     }
-    /* In turn a length that passes the end, or a version that isn't known; and a text that nothing ends. */
-    for (size_t at = 0; at < 7; at++) {
-        uint8_t changed[ROOM];
-        section other = {changed, info.length};
-        memcpy(changed, info.at, info.length);
-        changed[at < 6 ? at : info.length - 1] = 0xff;
-        expect_refused((question){.info = other, .abbreviations = table}, GIMLI_NO_COMP_DIR, "a unit that can't be read");
+    for (size_t length = 0; length < size; length++) {
+        take(lines_4, sizeof lines_4, info, length);
+        tells(comp_dir_in, 0, GIMLI_NO_COMP_DIR, "a cut .debug_info");
+    }
+    /* In turn the length, the version, the line program's offset, and the end of the text. */
+    const size_t at[] = {0, 1, 2, 3, 4, 5, size - strlen(wanted) - 5, size - 1};
+    for (size_t i = 0; i < sizeof at / sizeof at[0]; i++) {
+        memcpy(changed, info, size);
+        changed[at[i]] = 0xff;
+        take(lines_4, sizeof lines_4, changed, size);
+        tells(comp_dir_in, 0, GIMLI_NO_COMP_DIR, "a unit that can't be read");
     }
 }
 
 static void *all(void *nothing) {
-    section with_4 = SECTION(info_4), with_5 = SECTION(info_5);
-    expect_told((question){.info = with_4, .abbreviations = table}, "/w");
-    expect_told((question){.info = with_5, .abbreviations = table}, "./w");
-    hostile(with_4);
-    hostile(with_5);
+    directories(info_4, sizeof info_4, "/w");
+    directories(info_5, sizeof info_5, "./w");
     paths();
     strings_of_paths();
-    units(of_4, (gimli_unit){sizeof lines_4 - 4, 0, 1, 3, 5, 4, 8, 4, 0});
-    units(of_5, (gimli_unit){sizeof lines_5 - 4, 0, 3, 3, 0, 5, 8, 4, 0});
+    units(lines_4, sizeof lines_4, (gimli_unit){sizeof lines_4 - 4, 0, 1, 3, 5, 4, 8, 4, 0});
+    units(lines_5, sizeof lines_5, (gimli_unit){sizeof lines_5 - 4, 0, 3, 3, 0, 5, 8, 4, 0});
     lines_of_paths();
     return nothing;
 }

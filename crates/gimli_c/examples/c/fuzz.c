@@ -2,6 +2,7 @@
  *
  * The library is no part of what the fuzzer counts, since it is built by another compiler. So the target counts for it: the numbers
  * that are answered, and how many rows, files and units there are. */
+#define _GNU_SOURCE
 #include "ask.h"
 
 enum { COUNTERS = 4096 };

@@ -5,6 +5,7 @@
  *
  * These are the sections .debug_line, .debug_line_str, .debug_info, .debug_abbrev and .debug_str, empty where there is none; see
  * memory.sh. For a little-endian program with addresses of 8 bytes. */
+#define _GNU_SOURCE
 #include "ask.h"
 
 enum { LINE = OWN, LINE_STR, INFO, ABBREV, STR, CUT, MAP };

@@ -8,12 +8,10 @@
 #include <pthread.h>
 #include <signal.h>
 #include <stdatomic.h>
-#include <string.h>
 #include <sys/time.h>
 #include <unistd.h>
 
-#include "file.h"
-#include "gimli_line.h"
+#include "ask.h"
 
 enum { RANGES = 200000, SOURCES = 100, THREADS = 16, BATCH = 64 };
 static const uint64_t base = 0x400000;
@@ -93,39 +91,12 @@ static bool is_right(bytes map, size_t ranges, size_t sources, const gimli_map_p
            place->is_stmt == (i % 2 == 0);
 }
 
-/* ---- questions: no memory may be asked for meanwhile */
-
 static uint64_t next(uint64_t *seed) {
     *seed = *seed * UINT64_C(6364136223846793005) + UINT64_C(1442695040888963407);
     return *seed >> 20;
 }
 
-/* Looks an address up, or many at once. */
-static uint32_t ask(bytes map, uint64_t address, gimli_map_place *place) {
-    sig_atomic_t before = asking;
-    memset(place, 0, sizeof *place);
-    place->address = address;
-    asking = 1;
-    uint32_t status = gimli_line_map_find(map.at, map.length, address, place);
-    asking = before;
-    return status;
-}
-
-static uint32_t ask_all(bytes map, gimli_map_place *places, size_t count) {
-    sig_atomic_t before = asking;
-    asking = 1;
-    uint32_t status = gimli_line_map_find_all(map.at, map.length, places, count);
-    asking = before;
-    return status;
-}
-
-/* Asks where the code of a line begins. */
-static uint32_t ask_line(bytes map, const char *path, uint64_t line, uint64_t *found_line, uint64_t *addresses, size_t room, size_t *count) {
-    asking = 1;
-    uint32_t status = gimli_line_map_addresses_of(map.at, map.length, (const uint8_t *)path, strlen(path), line, found_line, addresses, room, count);
-    asking = 0;
-    return status;
-}
+/* ---- questions: no memory may be asked for meanwhile */
 
 /* The lines of the small map, by each room: lines 1 and 7 of /source/0.c have statements, and line 4 has none. */
 static void ask_lines(bytes map) {
@@ -135,7 +106,8 @@ static void ask_lines(bytes map) {
         for (size_t room = 0; room < 3; room++) {
             uint64_t line = 77, addresses[2] = {77, 77};
             size_t count = 77;
-            uint32_t status = ask_line(map, wanted[i].path, wanted[i].line, &line, addresses, room, &count);
+            uint32_t status = gimli_line_map_addresses_of(map.at, map.length, (const uint8_t *)wanted[i].path, strlen(wanted[i].path),
+                                                          wanted[i].line, &line, addresses, room, &count);
             bool has = wanted[i].found != 0;
             expect(status == (has ? GIMLI_OK : GIMLI_NO_CODE), "the status of gimli_line_map_addresses_of");
             expect(line == (has ? wanted[i].found : 77) && count == (has ? 1 : 77), "the line of gimli_line_map_addresses_of");
@@ -151,14 +123,18 @@ static atomic_bool wrong;
 
 /* Asks for addresses at random, one by one and at once. */
 static void ask_some(uint64_t *seed) {
-    gimli_map_place places[BATCH], place;
+    gimli_map_place places[BATCH], place = {.address = 0};
     memset(places, 0, sizeof places);
     for (size_t i = 0; i < BATCH; i++) places[i].address = base - 64 + next(seed) % (RANGES * 16 + 128);
-    bool is = ask_all(shared, places, BATCH) == GIMLI_OK;
+    sig_atomic_t before = asking;
+    asking = 1;
+    bool is = gimli_line_map_find_all(shared.at, shared.length, places, BATCH) == GIMLI_OK;
     for (size_t i = 0; i < BATCH; i++) {
         is = is && is_right(shared, RANGES, SOURCES, &places[i]);
-        is = is && (ask(shared, places[i].address, &place) == GIMLI_OK) == places[i].known && memcmp(&place, &places[i], sizeof place) == 0;
+        uint32_t status = gimli_line_map_find(shared.at, shared.length, places[i].address, &place);
+        is = is && (status == GIMLI_OK ? memcmp(&place, &places[i], sizeof place) == 0 : status == GIMLI_NO_ROW && !places[i].known);
     }
+    asking = before;
     if (!is) atomic_store(&wrong, true);
     atomic_fetch_add(&answered, BATCH);
 }
@@ -205,26 +181,15 @@ static void ask_from_handler(void) {
 
 static unsigned long damaged;
 
-/* Asks such bytes all that can be asked: each call returns, and what it names is inside. */
+static void seen(unsigned kind, uint64_t value) {
+    (void)kind;
+    (void)value;
+}
+
 static void ask_damaged(bytes map) {
-    gimli_map found;
-    gimli_map_place place, places[4];
-    uint32_t opened = gimli_line_map_open(map.at, map.length, &found);
-    uint32_t checked = gimli_line_map_check(map.at, map.length);
-    expect(opened == GIMLI_OK ? found.identity + found.identity_size <= map.length : checked == opened, "a map that is opened");
-    expect(checked == GIMLI_OK || (checked >= GIMLI_NO_MAP && checked <= GIMLI_MAP_PATH_OUTSIDE), "a map that is checked");
-    for (uint64_t i = 0; i < 4; i++) {
-        uint32_t status = ask(map, places[i].address = base + 16 * i + i, &place);
-        expect(opened == GIMLI_OK ? status == GIMLI_OK || status == GIMLI_NO_ROW : status == opened, "a place");
-        if (status != GIMLI_OK) continue;
-        expect(place.path == 0 || (place.path + place.path_size <= map.length && place.no_path == 0), "a path");
-        expect(checked != GIMLI_OK || place.no_path != GIMLI_NO_PATH_OUTSIDE, "a path of a map that was checked");
-    }
-    expect(ask_all(map, places, 4) == opened, "places");
-    uint64_t line, addresses[4];
-    size_t count;
-    uint32_t status = ask_line(map, "0.c", 1, &line, addresses, 4, &count);
-    expect(opened == GIMLI_OK ? status == GIMLI_NO_CODE || (status == GIMLI_OK && count <= found.ranges) : status == opened, "a line");
+    asking = 1;
+    ask_map(map.at, map.length, base, 17);
+    asking = 0;
     damaged++;
 }
 
@@ -264,12 +229,13 @@ int main(int argc, char **argv) {
         expect(gimli_line_map_open(small.at, small.length, &found) == GIMLI_OK && found.ranges == 8 && found.address_size == 8 &&
                    found.identity_size == 5 && memcmp(small.at + found.identity, "build", 5) == 0, "what a map says of itself");
         expect(gimli_line_map_check(small.at, small.length) == GIMLI_OK, "a map is sound");
+        asking = 1;
         for (uint64_t address = base - 20; address < base + 160; address++) {
-            gimli_map_place place;
-            uint32_t status = ask(small, address, &place);
-            expect(is_right(small, 8, 3, &place) && (status == GIMLI_OK) == place.known, "the place of an address");
+            gimli_map_place place = {.address = address};
+            expect(gimli_line_map_find_all(small.at, small.length, &place, 1) == GIMLI_OK && is_right(small, 8, 3, &place), "a place");
         }
         ask_lines(small);
+        asking = 0;
         ask_all_damaged(small);
         free(small.at);
     }
@@ -280,6 +246,7 @@ int main(int argc, char **argv) {
     ask_from_handler();
     expect(!atomic_load(&wrong), "a thread or the handler is told what the map says");
     free(shared.at);
-    printf("%lu places by %d threads, %lu by a handler, %lu damaged maps\n", by_threads, (int)THREADS, atomic_load(&answered) - by_threads, damaged);
+    printf("%lu places by %d threads, %lu by a handler, %lu damaged maps\n", by_threads, (int)THREADS, atomic_load(&answered) - by_threads,
+           damaged);
     return 0;
 }
