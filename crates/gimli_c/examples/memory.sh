@@ -58,7 +58,7 @@ fi
 
 # Some machines have the compiler's word, and no library for it.
 if build sanitised_where_is where_is -fsanitize=address,undefined 2>/dev/null; then
-    for example in addr2line rewrite directories map make_map compiler; do
+    for example in addr2line directories map make_map compiler; do
         build "sanitised_$example" "$example" -fsanitize=address,undefined
     done
     build sanitised_maps maps -fsanitize=address,undefined -DSANITISED
@@ -77,7 +77,6 @@ if build sanitised_where_is where_is -fsanitize=address,undefined 2>/dev/null; t
         "$work/sanitised_map" "$work/made.map" $addresses main.c:1 sums.c:1 >/dev/null
         "$work/sanitised_compiler" "$version" >/dev/null
         "$work/sanitised_compiler" "$version" in-place >/dev/null
-        "$work/sanitised_rewrite" "$work/line$version" "$work/line_str$version" >/dev/null
     done
     echo "gimli_c: the address sanitiser finds nothing in the examples"
 else
@@ -86,13 +85,12 @@ fi
 
 if have valgrind "memory by it"; then
     checked() { valgrind -q --error-exitcode=9 --leak-check=full --errors-for-leak-kinds=all "$@" >/dev/null; }
-    for example in where_is addr2line make_map rewrite compiler; do build "$example" "$example"; done
+    for example in where_is addr2line make_map compiler; do build "$example" "$example"; done
     for version in 2 5; do
         # shellcheck disable=SC2086
         checked "$work/where_is" "$work/built$version" $addresses
         checked "$work/addr2line" "$work/line$version"
         checked "$work/make_map" "$work/built$version" "$work/made.map"
-        checked "$work/rewrite" "$work/line$version" "$work/line_str$version"
         checked "$work/compiler" "$version"
     done
     valgrind -q --error-exitcode=9 --tool=helgrind "$work/directories" >/dev/null

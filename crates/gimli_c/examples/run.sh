@@ -1,9 +1,9 @@
 #!/usr/bin/env bash
 # Builds a small program, takes its line information as raw bytes, builds the examples over libgimli_c.a, and compares what one
-# prints with what linetool prints: every row of every unit, and the rows round some addresses. Another writes what it reads as a
-# new unit, reads that, and compares the two itself. Others, in C and in C++, print paths and lines by a map of the program, which are
-# compared with those of addr2line of binutils. Another asks for directories of compilations, paths and lines, by sections that are made
-# by hand.
+# prints with what linetool prints: every row of every unit, and the rows round some addresses. Others, in C and in C++, print
+# paths and lines by a map of the program, which are compared with those of addr2line of binutils. Another writes lines for an assembler,
+# which addr2line reads once they are linked. Another asks for directories of compilations, paths and lines, by sections that are made by
+# hand.
 # It needs a C compiler, objcopy and addr2line, and a C++ compiler for the one in C++.
 # Where one is missing it says so, and ends well. The examples in Rust are those of bindings/rust.
 #
@@ -32,7 +32,7 @@ kit=$(dirname "$(rt doc)")/c
 work=$(mktemp -d)
 trap 'rm -rf "$work"' EXIT
 
-for example in addr2line rewrite where_is directories make_map map maps compiler; do
+for example in addr2line where_is directories make_map map maps compiler; do
     cc -std=c11 -Wall -Wextra -Werror -O2 -I "$crate/include" "$here/c/$example.c" "$library" "$kit/liblibc_c.a" -lpthread -o "$work/$example"
 done
 in_each=where_is
@@ -57,16 +57,12 @@ expected() {
 }
 
 compared=0
-rewritten=0
 places=0
 mapped=0
 begins=0
 for version in 2 3 4 5; do
     (cd "$top/compare" && cc -g "-gdwarf-$version" -O1 sources/main.c sources/sums.c -o "$work/built")
     objcopy --dump-section ".debug_line=$work/line.bin" "$work/built" "$work/copy"
-    : >"$work/line_str.bin"
-    objcopy --dump-section ".debug_line_str=$work/line_str.bin" "$work/built" "$work/copy" 2>/dev/null || true
-    rewritten=$((rewritten + $("$work/rewrite" "$work/line.bin" "$work/line_str.bin")))
     expected >"$work/rows"
     addresses=$(cut -d' ' -f1 "$work/rows" | sort -u)
     for address in $addresses 0 ffffffffffffffff; do expected "$address"; done >"$work/pairs"
@@ -172,6 +168,5 @@ echo "gimli_c: $directories answers on directories, paths and lines are as made 
 echo "gimli_c: $mapped places by maps that make_map made are addr2line's, and each map has its program's build id"
 echo "gimli_c: $begins addresses of lines by those maps have these lines by addr2line too"
 echo "gimli_c: $linked lines at symbols that a linker placed are addr2line's"
-echo "gimli_c: $rewritten rows were written as they were read"
 echo "gimli_c: $places paths and lines of the examples ($in_each) are addr2line's"
 echo "gimli_c: $compared lines of the example addr2line are linetool's"

@@ -4,6 +4,7 @@
 #ifndef ASK_H
 #define ASK_H
 
+#include <stdatomic.h>
 #include <stddef.h>
 #include <string.h>
 #include <sys/mman.h>
@@ -14,8 +15,20 @@
 enum { AREA = 1 << 20, LARGEST = 1 << 18 };
 enum { ARRAY, BESIDE, ANOTHER, INPUT, OWN, AREAS = OWN + 8 }; /* those from OWN on are for each program */
 
-/* Counts that something was so, each program in its own way. */
-static void seen(unsigned kind, uint64_t value);
+static atomic_ulong answers; /* how many were as they have to be */
+
+/* Ends the program by a signal where something isn't as it has to be. */
+static inline void is(bool holds, const char *what) {
+    atomic_fetch_add(&answers, 1);
+    if (holds) return;
+    fprintf(stderr, "not so: %s\n", what);
+    abort();
+}
+
+/* A fuzzer counts which values there were. */
+#ifndef SEEN
+#define SEEN(kind, value)
+#endif
 
 /* What is asked. */
 static _Thread_local gimli_sections in;
@@ -26,10 +39,10 @@ static inline void *room_in(int area, size_t size) {
     static _Thread_local uint8_t *ends[AREAS];
     if (ends[area] == NULL) {
         uint8_t *all = (uint8_t *)mmap(NULL, 2 * AREA, PROT_READ | PROT_WRITE, MAP_PRIVATE | MAP_ANONYMOUS, -1, 0);
-        expect(all != MAP_FAILED && mprotect(all + AREA, AREA, PROT_NONE) == 0, "memory that is guarded");
+        is(all != MAP_FAILED && mprotect(all + AREA, AREA, PROT_NONE) == 0, "memory that is guarded");
         ends[area] = all + AREA;
     }
-    expect(size <= AREA, "what is tested isn't too large");
+    is(size <= AREA, "what is tested isn't too large");
     return memset(ends[area] - size, 0xaa, size);
 }
 
@@ -93,17 +106,17 @@ static inline uint32_t try_rooms(call *made, size_t offset, uint64_t number, siz
     told->status = made(offset, number, room_in(ARRAY, 0), 0, beside);
     told->count = 0;
     if (told->status == GIMLI_OK || made == rows_in) memcpy(&told->count, beside + count_at, sizeof told->count);
-    expect(told->status == GIMLI_OK || made == rows_in || is_untouched(beside, beside_size), "nothing is written at a refusal");
+    is(told->status == GIMLI_OK || made == rows_in || is_untouched(beside, beside_size), "nothing is written at a refusal");
     memcpy(told->beside, beside, beside_size);
-    expect(told->count * element <= LARGEST, "an array isn't too large");
+    is(told->count * element <= LARGEST, "an array isn't too large");
     size_t most = told->count + 3;
     for (size_t step = 0; step <= most; step += is_quick ? most / 2 + 1 : 1) {
         size_t room = most - step, written = (room < told->count ? room : told->count) * element;
         uint8_t *array = (uint8_t *)room_in(ARRAY, room * element);
         beside = (uint8_t *)room_in(BESIDE, beside_size);
-        expect(made(offset, number, array, room, beside) == told->status && memcmp(beside, told->beside, beside_size) == 0, "an answer by another room");
+        is(made(offset, number, array, room, beside) == told->status && memcmp(beside, told->beside, beside_size) == 0, "an answer by another room");
         if (step == 0) memcpy(told->array, array, written);
-        expect(memcmp(array, told->array, written) == 0 && is_untouched(array + written, room * element - written), "an array by another room");
+        is(memcmp(array, told->array, written) == 0 && is_untouched(array + written, room * element - written), "an array by another room");
     }
     return told->status;
 }
@@ -111,21 +124,21 @@ static inline uint32_t try_rooms(call *made, size_t offset, uint64_t number, siz
 /* The rows of a unit at once and from each row on, and the pairs of rows of their addresses. */
 static inline void ask_rows(size_t offset, const gimli_unit *unit) {
     static _Thread_local told rows;
-    expect(try_rooms(rows_in, offset, 0, sizeof(gimli_row), 8, 0, &rows) == unit->fault, "the fault of a unit");
-    expect(rows.count == unit->rows && rows.count <= unit->length, "how many rows a unit has");
+    is(try_rooms(rows_in, offset, 0, sizeof(gimli_row), 8, 0, &rows) == unit->fault, "the fault of a unit");
+    is(rows.count == unit->rows && rows.count <= unit->length, "how many rows a unit has");
     for (uint64_t i = 0; i < rows.count && (i < 64 || !is_quick); i++) {
         gimli_row row, *some = (gimli_row *)room_in(ARRAY, 2 * sizeof row), first, second;
         size_t left = rows.count - i < 2 ? 1 : 2;
         memcpy(&row, rows.array + i * sizeof row, sizeof row);
-        expect(rows_in(offset, i, some, 2, room_in(BESIDE, 8)) == unit->fault && memcmp(some, rows.array + i * sizeof row, left * sizeof row) == 0 &&
+        is(rows_in(offset, i, some, 2, room_in(BESIDE, 8)) == unit->fault && memcmp(some, rows.array + i * sizeof row, left * sizeof row) == 0 &&
                    is_untouched(some + left, (2 - left) * sizeof row), "rows from one on");
         uint64_t address = row.address + i % 3;
         uint32_t found = gimli_line_find(in.line, in.line_size, by.big, by.address_size, offset, address, &first, &second);
-        expect(unit->fault != GIMLI_OK ? found == unit->fault : found == GIMLI_OK || found == GIMLI_NO_ROW, "the status of a lookup");
-        expect(found != GIMLI_OK || (first.address <= address && address < second.address), "the rows of an address");
-        seen(1, row.flags);
-        seen(2, row.line);
-        seen(3, row.op_index);
+        is(unit->fault != GIMLI_OK ? found == unit->fault : found == GIMLI_OK || found == GIMLI_NO_ROW, "the status of a lookup");
+        is(found != GIMLI_OK || (first.address <= address && address < second.address), "the rows of an address");
+        SEEN(1, row.flags);
+        SEEN(2, row.line);
+        SEEN(3, row.op_index);
     }
 }
 
@@ -134,26 +147,26 @@ static inline void ask_file(size_t offset, uint64_t number) {
     static _Thread_local told path, directory, text, whole, home;
     gimli_file file;
     uint32_t status = try_rooms(file_path_in, offset, number, 1, sizeof file, offsetof(gimli_file, path.size), &path);
-    expect(try_rooms(file_directory_in, offset, number, 1, sizeof file, offsetof(gimli_file, directory.size), &directory) == status &&
+    is(try_rooms(file_directory_in, offset, number, 1, sizeof file, offsetof(gimli_file, directory.size), &directory) == status &&
                memcmp(path.beside, directory.beside, sizeof file) == 0, "a file");
-    expect(try_rooms(comp_dir_in, offset, 0, 1, sizeof(size_t), 0, &home) == GIMLI_OK || home.status == GIMLI_NO_COMP_DIR, "a directory of a compilation");
+    is(try_rooms(comp_dir_in, offset, 0, 1, sizeof(size_t), 0, &home) == GIMLI_OK || home.status == GIMLI_NO_COMP_DIR, "a directory of a compilation");
     comp_dir = (const char *)home.array;
     comp_dir_size = home.count;
     uint32_t whole_status = try_rooms(path_in, offset, number, 1, sizeof(size_t), 0, &whole);
-    expect(whole_status == status || (status == GIMLI_OK && whole_status == GIMLI_UNKNOWN_PATH), "the status of a whole path");
-    seen(4, status);
-    seen(5, whole_status);
-    seen(6, home.status);
+    is(whole_status == status || (status == GIMLI_OK && whole_status == GIMLI_UNKNOWN_PATH), "the status of a whole path");
+    SEEN(4, status);
+    SEEN(5, whole_status);
+    SEEN(6, home.status);
     if (status != GIMLI_OK) return;
     memcpy(&file, path.beside, sizeof file);
-    seen(7, file.path.kind);
-    seen(8, file.details);
+    SEEN(7, file.path.kind);
+    SEEN(8, file.details);
     if (whole_status == GIMLI_OK)
-        expect(whole.count >= path.count && memcmp(whole.array + whole.count - path.count, path.array, path.count) == 0, "the end of a path");
+        is(whole.count >= path.count && memcmp(whole.array + whole.count - path.count, path.array, path.count) == 0, "the end of a path");
     if (try_rooms(directory_in, offset, file.directory_number, 1, sizeof file.directory, offsetof(gimli_text, size), &text) == GIMLI_OK)
-        expect(memcmp(text.beside, &file.directory, sizeof file.directory) == 0 && memcmp(text.array, directory.array, text.count) == 0, "a directory");
+        is(memcmp(text.beside, &file.directory, sizeof file.directory) == 0 && memcmp(text.array, directory.array, text.count) == 0, "a directory");
     else
-        expect(text.status == GIMLI_NO_SUCH_DIRECTORY && file.directory.kind == GIMLI_TEXT_NONE, "no directory");
+        is(text.status == GIMLI_NO_SUCH_DIRECTORY && file.directory.kind == GIMLI_TEXT_NONE, "no directory");
 }
 
 /* All units, whatever they are. */
@@ -164,13 +177,13 @@ static inline void ask_units(void) {
         uint32_t status = gimli_line_unit(in.line, in.line_size, by.big, by.address_size, offset, told);
         unit = *told;
         told->next = UINT64_C(0xaaaaaaaaaaaaaaaa);
-        expect(unit.next > offset && unit.next <= in.line_size, "the next unit");
-        expect(status == GIMLI_OK || is_untouched(told, sizeof *told), "a unit that is refused");
-        seen(9, status);
+        is(unit.next > offset && unit.next <= in.line_size, "the next unit");
+        is(status == GIMLI_OK || is_untouched(told, sizeof *told), "a unit that is refused");
+        SEEN(9, status);
         if (status != GIMLI_OK) continue;
-        seen(10, unit.fault);
-        seen(11, unit.version);
-        seen(12, unit.files);
+        SEEN(10, unit.fault);
+        SEEN(11, unit.version);
+        SEEN(12, unit.files);
         ask_rows(offset, &unit);
         for (uint64_t number = 0; number <= unit.files + 1 && (number < 6 || !is_quick); number++) ask_file(offset, number);
     }
@@ -183,22 +196,22 @@ static inline uint32_t ask_map(const uint8_t *map, size_t length, uint64_t addre
     uint64_t line, addresses[4];
     size_t count = 0;
     uint32_t opened = gimli_line_map_open(map, length, &about), checked = gimli_line_map_check(map, length);
-    expect(opened == GIMLI_OK ? about.identity + about.identity_size <= length : checked == opened, "a map that is opened");
-    expect(checked == GIMLI_OK || (checked >= GIMLI_NO_MAP && checked <= GIMLI_MAP_PATH_OUTSIDE), "a map that is checked");
+    is(opened == GIMLI_OK ? about.identity + about.identity_size <= length : checked == opened, "a map that is opened");
+    is(checked == GIMLI_OK || (checked >= GIMLI_NO_MAP && checked <= GIMLI_MAP_PATH_OUTSIDE), "a map that is checked");
     for (uint64_t i = 0; i < 4; i++) places[i].address = address + i * step;
-    expect(gimli_line_map_find_all(map, length, places, 4) == opened, "places");
+    is(gimli_line_map_find_all(map, length, places, 4) == opened, "places");
     for (uint64_t i = 0; i < 4; i++) {
         uint32_t status = gimli_line_map_find(map, length, address + i * step, &place);
-        expect(opened == GIMLI_OK ? status == (places[i].known ? GIMLI_OK : GIMLI_NO_ROW) : status == opened, "the status of a place");
+        is(opened == GIMLI_OK ? status == (places[i].known ? GIMLI_OK : GIMLI_NO_ROW) : status == opened, "the status of a place");
         if (status != GIMLI_OK) continue;
-        expect(memcmp(&place, &places[i], sizeof place) == 0, "a place");
-        expect(place.path == 0 || (place.path <= length && place.path_size <= length - place.path && place.no_path == 0), "a path");
-        expect(checked != GIMLI_OK || place.no_path != GIMLI_NO_PATH_OUTSIDE, "a path of a map that was checked");
+        is(memcmp(&place, &places[i], sizeof place) == 0, "a place");
+        is(place.path == 0 || (place.path <= length && place.path_size <= length - place.path && place.no_path == 0), "a path");
+        is(checked != GIMLI_OK || place.no_path != GIMLI_NO_PATH_OUTSIDE, "a path of a map that was checked");
     }
     uint32_t told = gimli_line_map_addresses_of(map, length, (const uint8_t *)"0.c", 3, 1, &line, addresses, 4, &count);
-    expect(opened == GIMLI_OK ? told == GIMLI_NO_CODE || (told == GIMLI_OK && count != 0 && count <= about.ranges) : told == opened, "a line");
-    seen(13, checked);
-    seen(14, told);
+    is(opened == GIMLI_OK ? told == GIMLI_NO_CODE || (told == GIMLI_OK && count != 0 && count <= about.ranges) : told == opened, "a line");
+    SEEN(13, checked);
+    SEEN(14, told);
     return checked;
 }
 

@@ -3,19 +3,10 @@
  * them (DWARF 4 and 5, sections 3.1.1, 6.2.2, 6.2.4 and 6.2.5.3); the first other one ends it. See run.sh and memory.sh. */
 #define _GNU_SOURCE
 #include <pthread.h>
-#include <stdatomic.h>
 
 #include "ask.h"
 
 enum { THREADS = 8 };
-
-static atomic_ulong answers;
-
-static void seen(unsigned kind, uint64_t value) {
-    (void)kind;
-    (void)value;
-    atomic_fetch_add(&answers, 1);
-}
 
 /* One declaration, by the code 1: a compile unit without children, with DW_AT_stmt_list as DW_FORM_sec_offset, and DW_AT_comp_dir as
  * DW_FORM_string; and the end of the table. */
@@ -71,9 +62,8 @@ static void take_version(int version) {
 /* A call tells these bytes, or has this refusal. */
 static void tells(call *made, uint64_t number, uint32_t status, const char *wanted) {
     static _Thread_local told told;
-    expect(try_rooms(made, 0, number, 1, sizeof(size_t), 0, &told) == status, wanted);
-    expect(status != GIMLI_OK || (told.count == strlen(wanted) && memcmp(told.array, wanted, told.count) == 0), wanted);
-    seen(0, status);
+    is(try_rooms(made, 0, number, 1, sizeof(size_t), 0, &told) == status, wanted);
+    is(status != GIMLI_OK || (told.count == strlen(wanted) && memcmp(told.array, wanted, told.count) == 0), wanted);
 }
 
 /* The whole path of a file, from a directory on. */
@@ -123,9 +113,9 @@ static void strings_of_paths(void) {
 /* Reads a unit that is refused: but for where the next one begins, what was there stays. */
 static void refused(size_t next, uint32_t status, const char *what) {
     gimli_unit *unit = room_in(ANOTHER, sizeof *unit);
-    expect(gimli_line_unit(in.line, in.line_size, false, 8, 0, unit) == status && unit->next == next, what);
+    is(gimli_line_unit(in.line, in.line_size, false, 8, 0, unit) == status && unit->next == next, what);
     memset(&unit->next, 0xaa, sizeof unit->next);
-    expect(is_untouched(unit, sizeof *unit), what);
+    is(is_untouched(unit, sizeof *unit), what);
     path_is("", 1, status, what);
 }
 
@@ -142,10 +132,10 @@ static void units(const uint8_t *lines, size_t size, gimli_unit wanted) {
     two[4] = 6;
     take(two, 2 * size, info_4, sizeof info_4);
     refused(size, GIMLI_UNKNOWN_VERSION, "version 6");
-    expect(gimli_line_unit(in.line, in.line_size, false, 3, size, &unit) == GIMLI_UNSUPPORTED_ADDRESS_SIZE, "addresses of 3 bytes");
-    expect(gimli_line_unit(in.line, in.line_size, false, 8, size, &unit) == GIMLI_OK && unit.next == 2 * size, "the unit after it");
+    is(gimli_line_unit(in.line, in.line_size, false, 3, size, &unit) == GIMLI_UNSUPPORTED_ADDRESS_SIZE, "addresses of 3 bytes");
+    is(gimli_line_unit(in.line, in.line_size, false, 8, size, &unit) == GIMLI_OK && unit.next == 2 * size, "the unit after it");
     wanted.next = unit.next;
-    expect(memcmp(&unit, &wanted, sizeof unit) == 0 && gimli_first_number(&unit) == (unit.version < 5), "what a unit says of itself");
+    is(memcmp(&unit, &wanted, sizeof unit) == 0 && gimli_first_number(&unit) == (unit.version < 5), "what a unit says of itself");
     ask_units();
 }
 
@@ -163,9 +153,9 @@ static void lines_of_paths(void) {
     size_t sizes[2];
     for (int has_info = 0; has_info < 2; has_info++) {
         take(lines_4, sizeof lines_4, info_4, has_info ? sizeof info_4 : 0);
-        expect(gimli_line_map_of_sections(&in, &by, NULL, 0, &maps[has_info], &sizes[has_info]) == GIMLI_OK, "a map of sections");
+        is(gimli_line_map_of_sections(&in, &by, NULL, 0, &maps[has_info], &sizes[has_info]) == GIMLI_OK, "a map of sections");
         gimli_map_place place;
-        expect(gimli_line_map_find(maps[has_info], sizes[has_info], 0x100c, &place) == GIMLI_OK && place.line == 9 && !place.is_stmt, "line 9");
+        is(gimli_line_map_find(maps[has_info], sizes[has_info], 0x100c, &place) == GIMLI_OK && place.line == 9 && !place.is_stmt, "line 9");
     }
     for (size_t i = 0; i < sizeof wanted / sizeof wanted[0]; i++)
         for (size_t room = 0; room <= 3; room++) {
@@ -173,11 +163,10 @@ static void lines_of_paths(void) {
             size_t count = 77, all = (wanted[i].addresses[0] != 0) + (wanted[i].addresses[1] != 0);
             uint32_t status = gimli_line_map_addresses_of(maps[wanted[i].has_info], sizes[wanted[i].has_info], (const uint8_t *)wanted[i].path,
                                                           strlen(wanted[i].path), wanted[i].line, &found, addresses, room, &count);
-            expect(status == (all == 0 ? GIMLI_NO_CODE : GIMLI_OK), wanted[i].path);
-            expect(found == (all == 0 ? 77 : wanted[i].found) && count == (all == 0 ? 77 : all), wanted[i].path);
-            for (size_t k = 0; k < 3; k++) expect(addresses[k] == (k < all && k < room ? wanted[i].addresses[k] : 77), wanted[i].path);
-            seen(0, status);
-        }
+            is(status == (all == 0 ? GIMLI_NO_CODE : GIMLI_OK), wanted[i].path);
+            is(found == (all == 0 ? 77 : wanted[i].found) && count == (all == 0 ? 77 : all), wanted[i].path);
+            for (size_t k = 0; k < 3; k++) is(addresses[k] == (k < all && k < room ? wanted[i].addresses[k] : 77), wanted[i].path);
+                }
     free(maps[0]);
     free(maps[1]);
 }
@@ -221,7 +210,7 @@ int main(void) {
     all(NULL);
     printf("%lu\n", atomic_load(&answers));
     pthread_t threads[THREADS];
-    for (int i = 0; i < THREADS; i++) expect(pthread_create(&threads[i], NULL, all, NULL) == 0, "a thread");
+    for (int i = 0; i < THREADS; i++) is(pthread_create(&threads[i], NULL, all, NULL) == 0, "a thread");
     for (int i = 0; i < THREADS; i++) pthread_join(threads[i], NULL);
     return 0;
 }

@@ -19,13 +19,6 @@ static inline void stop_if(uint32_t status) {
     exit(1);
 }
 
-/* Ends the program where what a test expects isn't so. */
-static inline void expect(bool holds, const char *what) {
-    if (holds) return;
-    fprintf(stderr, "not so: %s\n", what);
-    abort();
-}
-
 /* The bytes of a file, which free() gives back. */
 static inline bytes read_file(const char *name) {
     bytes read = {NULL, 0};

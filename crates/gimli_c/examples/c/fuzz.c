@@ -3,17 +3,18 @@
  * The library is no part of what the fuzzer counts, since it is built by another compiler. So the target counts for it: the numbers
  * that are answered, and how many rows, files and units there are. */
 #define _GNU_SOURCE
-#include "ask.h"
+#define SEEN(kind, value) seen(kind, value)
+#include <stdint.h>
 
-enum { COUNTERS = 4096 };
-
-__attribute__((section("__libfuzzer_extra_counters"))) static uint8_t counters[COUNTERS];
+__attribute__((section("__libfuzzer_extra_counters"))) static uint8_t counters[4096];
 
 static void seen(unsigned kind, uint64_t value) {
     unsigned bits = 0;
     while (value >> bits != 0 && bits < 16) bits++;
-    counters[(kind * 64 + (value < 47 ? (unsigned)value : 47 + bits)) % COUNTERS] = 1;
+    counters[(kind * 64 + (value < 47 ? (unsigned)value : 47 + bits)) % sizeof counters] = 1;
 }
+
+#include "ask.h"
 
 int LLVMFuzzerTestOneInput(const uint8_t *data, size_t size);
 
@@ -32,13 +33,13 @@ int LLVMFuzzerTestOneInput(const uint8_t *data, size_t size) {
     uint8_t *map, bytes[64];
     uint32_t made = gimli_line_map_of_sections(&in, &by, "id", 2, &map, &length);
     seen(15, made);
-    expect(made == GIMLI_OK ? ask_map(map, length, 0, 1 << 12) == GIMLI_OK : map == NULL && length == 0, "the map of any sections");
+    is(made == GIMLI_OK ? ask_map(map, length, 0, 1 << 12) == GIMLI_OK : map == NULL && length == 0, "the map of any sections");
     free(map);
 
     gimli_elf elf;
     uint32_t is_elf = gimli_elf_open(in.line, in.line_size, &elf);
     uint32_t status = gimli_elf_section(in.line, in.line_size, (const uint8_t *)".debug_line", 11, bytes, sizeof bytes, &length);
-    expect(is_elf == GIMLI_OK ? status != GIMLI_NO_ELF : status == GIMLI_NO_ELF, "an ELF file");
+    is(is_elf == GIMLI_OK ? status != GIMLI_NO_ELF : status == GIMLI_NO_ELF, "an ELF file");
     seen(16, is_elf);
     seen(17, status);
     return 0;

@@ -1,5 +1,5 @@
-/* Asks the sections of a program all that ask.h asks, by each room, and what its map says of each address near a row. Prints how many
- * answers were as they had to be.
+/* Asks the sections of a program all that ask.h asks, by each room, and what its map says of each address near a row; writes its units,
+ * which are read back. Prints how many answers were as they had to be.
  *
  *   guarded line.bin line_str.bin info.bin abbrev.bin str.bin
  *
@@ -9,19 +9,6 @@
 #include "ask.h"
 
 enum { LINE = OWN, LINE_STR, INFO, ABBREV, STR, CUT, MAP };
-
-static unsigned long long answers;
-
-static void seen(unsigned kind, uint64_t value) {
-    (void)kind;
-    (void)value;
-    answers++;
-}
-
-static void is(bool holds, const char *what) {
-    answers++;
-    expect(holds, what);
-}
 
 /* A file, whose last byte is the last of a page. */
 static const uint8_t *guarded(int area, const char *name, size_t *length) {
@@ -62,7 +49,7 @@ static void ask_address(const uint8_t *map, size_t length, uint64_t address) {
     size_t offset = 0;
     uint32_t found = GIMLI_NO_ROW;
     for (; offset < in.line_size; offset = unit.next) {
-        expect(gimli_line_unit(in.line, in.line_size, false, 8, offset, &unit) == GIMLI_OK, "a unit");
+        is(gimli_line_unit(in.line, in.line_size, false, 8, offset, &unit) == GIMLI_OK, "a unit");
         found = gimli_line_find(in.line, in.line_size, false, 8, offset, address, first, second);
         if (found == GIMLI_OK) break;
         is(is_untouched(first, sizeof *first) && is_untouched(second, sizeof *second), "rows that aren't found");
@@ -72,10 +59,10 @@ static void ask_address(const uint8_t *map, size_t length, uint64_t address) {
     is(found == GIMLI_OK || is_untouched(there, sizeof *there), "a place that isn't found");
     if (found != GIMLI_OK) return;
     row = *first;
-    expect(try_rooms(comp_dir_in, offset, 0, 1, sizeof(size_t), 0, &home) == GIMLI_OK, "the directory of a compilation");
+    is(try_rooms(comp_dir_in, offset, 0, 1, sizeof(size_t), 0, &home) == GIMLI_OK, "the directory of a compilation");
     comp_dir = (const char *)home.array;
     comp_dir_size = home.count;
-    expect(try_rooms(path_in, offset, row.file, 1, sizeof(size_t), 0, &path) == GIMLI_OK, "the path of a row");
+    is(try_rooms(path_in, offset, row.file, 1, sizeof(size_t), 0, &path) == GIMLI_OK, "the path of a row");
     is(there->known && there->address == address && there->unit == offset && there->line == row.line && there->column == row.column &&
            there->is_stmt == (row.flags & GIMLI_IS_STMT), "a place");
     is(there->no_path == 0 && there->path_size == path.count && memcmp(gimli_map_path(map, there), path.array, path.count) == 0, "its path");
@@ -104,7 +91,7 @@ static void make_map(void) {
            memcmp(map + found->identity, "name", 4) == 0, "what a map says of itself");
     gimli_unit unit;
     for (size_t offset = 0; offset < in.line_size; offset = unit.next) {
-        expect(gimli_line_unit(in.line, in.line_size, false, 8, offset, &unit) == GIMLI_OK, "a unit");
+        is(gimli_line_unit(in.line, in.line_size, false, 8, offset, &unit) == GIMLI_OK, "a unit");
         for (uint64_t i = 0, count; i < unit.rows; i++) {
             gimli_row row;
             is(rows_in(offset, i, &row, 1, &count) == GIMLI_OK && ask_map(map, whole, row.address - 1, 1) == GIMLI_OK, "a map is sound");
@@ -115,6 +102,54 @@ static void make_map(void) {
     is(map_of(map, 0, size) == GIMLI_UNSUPPORTED_ADDRESS_SIZE && *size == 0, "the size of addresses");
     by.size--;
     is(map_of(map, 0, size) == GIMLI_UNKNOWN_OPTIONS && *size == 0, "the size of options");
+}
+
+/* The rows of a unit, and what is known of its files, are written as a unit of their own, into each room, and read back. Each file has its
+ * number as its name: so none comes twice, and all keep their numbers. */
+static void write_unit(size_t offset, const gimli_unit *unit) {
+    static gimli_row rows[4096], again[4096];
+    static gimli_file_name files[64];
+    static uint8_t texts[64 * 3 + 1];
+    static const gimli_name directory = {0, 1};
+    uint64_t first = gimli_first_number(unit), count;
+    is(rows_in(offset, 0, rows, 4096, &count) == GIMLI_OK && count <= 4096 && unit->files <= 64, "the rows of a unit");
+    gimli_contents contents = {.encoding = GIMLI_ENCODING(unit->version), .texts = texts, .text_length = sizeof texts, .directories = &directory,
+                               .directory_count = 1, .files = files, .file_count = unit->files, .rows = rows, .row_count = count};
+    contents.encoding.offset_size = (uint8_t)unit->offset_size;
+    texts[0] = 'd';
+    for (uint64_t i = 0; i < unit->files; i++) {
+        gimli_file file;
+        is(file_path_in(offset, i + first, texts, 0, &file) == GIMLI_OK, "a file");
+        snprintf((char *)texts + 1 + 3 * i, 3, "%02d", (int)i);
+        files[i] = (gimli_file_name){{1 + 3 * i, 2}, first, file.timestamp, file.size, {0}};
+        memcpy(files[i].md5, file.md5, sizeof file.md5);
+        contents.details = file.details;
+    }
+    size_t whole, *size = room_in(BESIDE, sizeof *size);
+    is(gimli_line_write_contents(&contents, NULL, 0, size) == GIMLI_NO_ROOM, "the size of a unit");
+    whole = *size;
+    const size_t rooms[] = {1, whole - 1, whole + 9, whole};
+    gimli_sections before = in;
+    for (size_t i = 0; i < 4; i++) {
+        size_t written = rooms[i] < whole ? 0 : whole;
+        uint8_t *made = room_in(MAP, rooms[i]);
+        is(gimli_line_write_contents(&contents, made, rooms[i], size) == (written == 0 ? GIMLI_NO_ROOM : GIMLI_OK) && *size == whole, "its status");
+        is(is_untouched(made + written, rooms[i] - written), "what gimli_line_write writes beside the unit");
+        in.line = made;
+    }
+    in.line_size = whole;
+    is(rows_in(0, 0, again, 4096, &count) == GIMLI_OK && count == unit->rows, "the rows of a unit that was written");
+    for (uint64_t i = 0; i < count; i++)
+        is(rows[i].flags & again[i].flags & GIMLI_END_SEQUENCE ? rows[i].address == again[i].address && rows[i].op_index == again[i].op_index
+                                                               : memcmp(&rows[i], &again[i], sizeof rows[i]) == 0, "a row that was written");
+    for (uint64_t i = 0; i < unit->files; i++) {
+        gimli_file file;
+        uint8_t name[2];
+        is(file_path_in(0, i + first, name, 2, &file) == GIMLI_OK && memcmp(name, texts + files[i].path.first, 2) == 0 &&
+               file.timestamp == files[i].timestamp && file.size == files[i].size && memcmp(file.md5, files[i].md5, sizeof file.md5) == 0 &&
+               file.directory_number == first && file.directory.size == 1, "a file that was written");
+    }
+    in = before;
 }
 
 /* A unit at two symbols, into each room: the places are those of its addresses, and nothing else differs from the unit at 0. */
@@ -164,10 +199,15 @@ int main(int argc, char **argv) {
     in.string_offsets = in.line;
     by = (gimli_map_options){sizeof by, 0, 8, false};
     ask_units();
+    gimli_unit unit;
+    for (size_t offset = 0; offset < in.line_size; offset = unit.next) {
+        is(gimli_line_unit(in.line, in.line_size, false, 8, offset, &unit) == GIMLI_OK, "a unit");
+        write_unit(offset, &unit);
+    }
     cut_info();
     make_map();
     write_symbols(false);
     write_symbols(true);
-    printf("%llu\n", answers);
+    printf("%lu\n", atomic_load(&answers));
     return 0;
 }

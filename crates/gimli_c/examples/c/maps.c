@@ -7,7 +7,6 @@
 #define _GNU_SOURCE
 #include <pthread.h>
 #include <signal.h>
-#include <stdatomic.h>
 #include <sys/time.h>
 #include <unistd.h>
 
@@ -47,7 +46,7 @@ static char paths[SOURCES][32]; /* /source/K.c, but for source 1, which has the 
  * even, it is a statement. Starts have `size` bytes. */
 static bytes made(size_t ranges, size_t sources, size_t size) {
     bytes map = {malloc(64 + sources * 64 + ranges * 24), 0};
-    expect(map.at != NULL, "memory for a map");
+    is(map.at != NULL, "memory for a map");
     size_t paths_size = 0;
     for (size_t i = 0; i < sources; i++) paths_size += i == 1 ? 0 : (size_t)snprintf(paths[i], sizeof paths[i], "/source/%zu.c", i);
     put_text(&map, "LINEIDX", 8);
@@ -109,16 +108,16 @@ static void ask_lines(bytes map) {
             uint32_t status = gimli_line_map_addresses_of(map.at, map.length, (const uint8_t *)wanted[i].path, strlen(wanted[i].path),
                                                           wanted[i].line, &line, addresses, room, &count);
             bool has = wanted[i].found != 0;
-            expect(status == (has ? GIMLI_OK : GIMLI_NO_CODE), "the status of gimli_line_map_addresses_of");
-            expect(line == (has ? wanted[i].found : 77) && count == (has ? 1 : 77), "the line of gimli_line_map_addresses_of");
-            expect(addresses[0] == (has && room != 0 ? base + wanted[i].address : 77) && addresses[1] == 77, "the addresses of a line");
+            is(status == (has ? GIMLI_OK : GIMLI_NO_CODE), "the status of gimli_line_map_addresses_of");
+            is(line == (has ? wanted[i].found : 77) && count == (has ? 1 : 77), "the line of gimli_line_map_addresses_of");
+            is(addresses[0] == (has && room != 0 ? base + wanted[i].address : 77) && addresses[1] == 77, "the addresses of a line");
         }
 }
 
 /* ---- threads, and a handler that asks whatever it interrupts */
 
 static bytes shared;
-static atomic_ulong answered, handled;
+static atomic_ulong asked, handled;
 static atomic_bool wrong;
 
 /* Asks for addresses at random, one by one and at once. */
@@ -128,15 +127,15 @@ static void ask_some(uint64_t *seed) {
     for (size_t i = 0; i < BATCH; i++) places[i].address = base - 64 + next(seed) % (RANGES * 16 + 128);
     sig_atomic_t before = asking;
     asking = 1;
-    bool is = gimli_line_map_find_all(shared.at, shared.length, places, BATCH) == GIMLI_OK;
+    bool all_right = gimli_line_map_find_all(shared.at, shared.length, places, BATCH) == GIMLI_OK;
     for (size_t i = 0; i < BATCH; i++) {
-        is = is && is_right(shared, RANGES, SOURCES, &places[i]);
+        all_right = all_right && is_right(shared, RANGES, SOURCES, &places[i]);
         uint32_t status = gimli_line_map_find(shared.at, shared.length, places[i].address, &place);
-        is = is && (status == GIMLI_OK ? memcmp(&place, &places[i], sizeof place) == 0 : status == GIMLI_NO_ROW && !places[i].known);
+        all_right = all_right && (status == GIMLI_OK ? memcmp(&place, &places[i], sizeof place) == 0 : status == GIMLI_NO_ROW && !places[i].known);
     }
     asking = before;
-    if (!is) atomic_store(&wrong, true);
-    atomic_fetch_add(&answered, BATCH);
+    if (!all_right) atomic_store(&wrong, true);
+    atomic_fetch_add(&asked, BATCH);
 }
 
 static void *thread(void *number) {
@@ -156,7 +155,7 @@ static void ask_from_threads(void) {
     uint64_t seeds[THREADS];
     for (uint64_t i = 0; i < THREADS; i++) {
         seeds[i] = i;
-        expect(pthread_create(&threads[i], NULL, thread, &seeds[i]) == 0, "a thread is made");
+        is(pthread_create(&threads[i], NULL, thread, &seeds[i]) == 0, "a thread is made");
     }
     for (int i = 0; i < THREADS; i++) pthread_join(threads[i], NULL);
 }
@@ -165,7 +164,7 @@ static void ask_from_threads(void) {
 static void ask_from_handler(void) {
     struct sigaction action = {.sa_handler = at_tick};
     struct itimerval often = {{0, 1000}, {0, 1000}}, never = {{0, 0}, {0, 0}};
-    expect(sigaction(SIGPROF, &action, NULL) == 0 && setitimer(ITIMER_PROF, &often, NULL) == 0, "a handler and a timer");
+    is(sigaction(SIGPROF, &action, NULL) == 0 && setitimer(ITIMER_PROF, &often, NULL) == 0, "a handler and a timer");
     void *blocks[64] = {NULL};
     uint64_t seed = 3;
     while (atomic_load(&handled) < 200) {
@@ -173,18 +172,13 @@ static void ask_from_handler(void) {
         free(blocks[slot]);
         blocks[slot] = malloc(1 + next(&seed) % 5000);
     }
-    expect(setitimer(ITIMER_PROF, &never, NULL) == 0, "no timer");
+    is(setitimer(ITIMER_PROF, &never, NULL) == 0, "no timer");
     for (size_t i = 0; i < 64; i++) free(blocks[i]);
 }
 
 /* ---- damaged maps */
 
 static unsigned long damaged;
-
-static void seen(unsigned kind, uint64_t value) {
-    (void)kind;
-    (void)value;
-}
 
 static void ask_damaged(bytes map) {
     asking = 1;
@@ -200,7 +194,7 @@ static void ask_all_damaged(bytes map) {
         memcpy(cut.at, map.at, length);
         ask_damaged(cut);
         gimli_map found;
-        expect(length == map.length || gimli_line_map_open(cut.at, length, &found) != GIMLI_OK, "a map that is cut");
+        is(length == map.length || gimli_line_map_open(cut.at, length, &found) != GIMLI_OK, "a map that is cut");
         free(cut.at);
     }
     bytes other = {malloc(map.length), map.length};
@@ -221,18 +215,18 @@ int main(int argc, char **argv) {
         bytes small = made(8, 3, size);
         if (argc > 1) {
             FILE *file = fopen(argv[1], "wb");
-            expect(file != NULL && fwrite(small.at, 1, small.length, file) == small.length && fclose(file) == 0, "the file is written");
+            is(file != NULL && fwrite(small.at, 1, small.length, file) == small.length && fclose(file) == 0, "the file is written");
             free(small.at);
             return 0;
         }
         gimli_map found;
-        expect(gimli_line_map_open(small.at, small.length, &found) == GIMLI_OK && found.ranges == 8 && found.address_size == 8 &&
+        is(gimli_line_map_open(small.at, small.length, &found) == GIMLI_OK && found.ranges == 8 && found.address_size == 8 &&
                    found.identity_size == 5 && memcmp(small.at + found.identity, "build", 5) == 0, "what a map says of itself");
-        expect(gimli_line_map_check(small.at, small.length) == GIMLI_OK, "a map is sound");
+        is(gimli_line_map_check(small.at, small.length) == GIMLI_OK, "a map is sound");
         asking = 1;
         for (uint64_t address = base - 20; address < base + 160; address++) {
             gimli_map_place place = {.address = address};
-            expect(gimli_line_map_find_all(small.at, small.length, &place, 1) == GIMLI_OK && is_right(small, 8, 3, &place), "a place");
+            is(gimli_line_map_find_all(small.at, small.length, &place, 1) == GIMLI_OK && is_right(small, 8, 3, &place), "a place");
         }
         ask_lines(small);
         asking = 0;
@@ -240,13 +234,13 @@ int main(int argc, char **argv) {
         free(small.at);
     }
     shared = made(RANGES, SOURCES, 4);
-    expect(gimli_line_map_check(shared.at, shared.length) == GIMLI_OK, "a large map is sound");
+    is(gimli_line_map_check(shared.at, shared.length) == GIMLI_OK, "a large map is sound");
     ask_from_threads();
-    unsigned long by_threads = atomic_load(&answered);
+    unsigned long by_threads = atomic_load(&asked);
     ask_from_handler();
-    expect(!atomic_load(&wrong), "a thread or the handler is told what the map says");
+    is(!atomic_load(&wrong), "a thread or the handler is told what the map says");
     free(shared.at);
-    printf("%lu places by %d threads, %lu by a handler, %lu damaged maps\n", by_threads, (int)THREADS, atomic_load(&answered) - by_threads,
+    printf("%lu places by %d threads, %lu by a handler, %lu damaged maps\n", by_threads, (int)THREADS, atomic_load(&asked) - by_threads,
            damaged);
     return 0;
 }
