@@ -100,7 +100,9 @@ static uint64_t next(uint64_t *seed) {
 /* The lines of the small map, by each room: lines 1 and 7 of /source/0.c have statements, and line 4 has none. */
 static void ask_lines(bytes map) {
     static const struct { const char *path; uint64_t line, found, address; } wanted[] = {
-        {"0.c", 0, 1, 0}, {"/source/0.c", 1, 1, 0}, {"source/x/../0.c", 2, 7, 96}, {"./0.c", 7, 7, 96}, {"0.c", 8, 0, 0}, {"/0.c", 1, 0, 0}, {"1.c", 1, 0, 0}, {"c", 1, 0, 0}};
+        {"0.c", 0, 1, 0}, {"/source/0.c", 1, 1, 0}, {"source/x/../0.c", 2, 7, 96}, {"./0.c", 7, 7, 96}, {"source\\0.c", 1, 1, 0},
+        {"0.c", 8, 0, 0}, {"/0.c", 1, 0, 0}, {"1.c", 1, 0, 0}, {"c", 1, 0, 0}, {".c", 1, 0, 0}, {"0.c/../c.h", 1, 0, 0}, {"00.c", 1, 0, 0},
+        {"0.cc", 1, 0, 0}, {"../0.c", 1, 0, 0}};
     for (size_t i = 0; i < sizeof wanted / sizeof wanted[0]; i++)
         for (size_t room = 0; room < 3; room++) {
             uint64_t line = 77, addresses[2] = {77, 77};
