@@ -8,7 +8,7 @@
 #define _GNU_SOURCE
 #include "ask.h"
 
-enum { LINE = OWN, LINE_STR, INFO, ABBREV, STR, CUT, MAP };
+enum { LINE = OWN, LINE_STR, INFO, ABBREV, STR, CUT, MADE };
 
 /* A file, whose last byte is the last of a page. */
 static const uint8_t *guarded(int area, const char *name, size_t *length) {
@@ -34,11 +34,33 @@ static void cut_info(void) {
     in.info_size = whole;
 }
 
-/* The map of the program, into some room. */
-static uint32_t map_of(uint8_t *map, size_t room, size_t *size) {
+/* A call that writes all or nothing. */
+typedef uint32_t writer(const void *of, uint8_t *made, size_t room, size_t *size);
+
+/* What it writes, by rooms that are too small, too large, and just enough. */
+static uint8_t *made_by(writer *call, const void *of, size_t *whole) {
+    size_t *size = room_in(BESIDE, sizeof *size);
+    uint8_t *made = room_in(MADE, 0);
+    is(call(of, made, 0, size) == GIMLI_NO_ROOM, "how long it is");
+    *whole = *size;
+    const size_t rooms[] = {1, *whole - 1, *whole + 9, *whole};
+    for (size_t i = 0; i < 4; i++) {
+        size_t written = rooms[i] < *whole ? 0 : *whole;
+        made = room_in(MADE, rooms[i]);
+        is(call(of, made, rooms[i], size) == (written == 0 ? GIMLI_NO_ROOM : GIMLI_OK) && *size == *whole, "its status");
+        is(is_untouched(made + written, rooms[i] - written), "what is written beside it");
+    }
+    return made;
+}
+
+static uint32_t map_of(const void *options, uint8_t *map, size_t room, size_t *size) {
     return gimli_line_map_write(in.line, in.line_size, in.line_strings, in.line_strings_size, in.strings, in.strings_size, in.info, in.info_size,
-                                in.abbreviations, in.abbreviations_size, in.string_offsets, in.string_offsets_size, &by,
+                                in.abbreviations, in.abbreviations_size, in.string_offsets, in.string_offsets_size, options,
                                 (const uint8_t *)"name", 4, map, room, size);
+}
+
+static uint32_t unit_of(const void *contents, uint8_t *unit, size_t room, size_t *size) {
+    return gimli_line_write_contents(contents, unit, room, size);
 }
 
 /* What the map says of an address is what the first unit says that has a row of it. */
@@ -73,19 +95,10 @@ static void ask_address(const uint8_t *map, size_t length, uint64_t address) {
     is(is_untouched(addresses + (found == GIMLI_OK ? count : 0), found != GIMLI_OK ? 16 : count < 2 ? 8 : 0), "the addresses of a line");
 }
 
-/* The map of the program, into each room, and what it says of each address near a row. */
+/* The map of the program, and what it says of each address near a row. */
 static void make_map(void) {
-    size_t whole, *size = room_in(BESIDE, sizeof *size);
-    is(map_of(room_in(MAP, 0), 0, size) == GIMLI_NO_ROOM && *size > 44, "the size of a map");
-    whole = *size;
-    const size_t rooms[] = {1, whole - 1, whole + 9, whole};
-    uint8_t *map = NULL;
-    for (size_t i = 0; i < 4; i++) {
-        size_t written = rooms[i] < whole ? 0 : whole;
-        map = room_in(MAP, rooms[i]);
-        is(map_of(map, rooms[i], size) == (written == 0 ? GIMLI_NO_ROOM : GIMLI_OK) && *size == whole, "gimli_line_map_write");
-        is(is_untouched(map + written, rooms[i] - written), "what gimli_line_map_write writes beside the map");
-    }
+    size_t whole;
+    uint8_t *map = made_by(map_of, &by, &whole);
     gimli_map *found = room_in(ANOTHER, sizeof *found);
     is(gimli_line_map_open(map, whole, found) == GIMLI_OK && found->identity_size == 4 && found->address_size == 8 &&
            memcmp(map + found->identity, "name", 4) == 0, "what a map says of itself");
@@ -99,9 +112,9 @@ static void make_map(void) {
         }
     }
     by.address_size = 3;
-    is(map_of(map, 0, size) == GIMLI_UNSUPPORTED_ADDRESS_SIZE && *size == 0, "the size of addresses");
+    is(map_of(&by, map, whole, &whole) == GIMLI_UNSUPPORTED_ADDRESS_SIZE && whole == 0, "the size of addresses");
     by.size--;
-    is(map_of(map, 0, size) == GIMLI_UNKNOWN_OPTIONS && *size == 0, "the size of options");
+    is(map_of(&by, map, 1, &whole) == GIMLI_UNKNOWN_OPTIONS && whole == 0, "the size of options");
 }
 
 /* The rows of a unit, and what is known of its files, are written as a unit of their own, into each room, and read back. Each file has its
@@ -125,18 +138,9 @@ static void write_unit(size_t offset, const gimli_unit *unit) {
         memcpy(files[i].md5, file.md5, sizeof file.md5);
         contents.details = file.details;
     }
-    size_t whole, *size = room_in(BESIDE, sizeof *size);
-    is(gimli_line_write_contents(&contents, NULL, 0, size) == GIMLI_NO_ROOM, "the size of a unit");
-    whole = *size;
-    const size_t rooms[] = {1, whole - 1, whole + 9, whole};
     gimli_sections before = in;
-    for (size_t i = 0; i < 4; i++) {
-        size_t written = rooms[i] < whole ? 0 : whole;
-        uint8_t *made = room_in(MAP, rooms[i]);
-        is(gimli_line_write_contents(&contents, made, rooms[i], size) == (written == 0 ? GIMLI_NO_ROOM : GIMLI_OK) && *size == whole, "its status");
-        is(is_untouched(made + written, rooms[i] - written), "what gimli_line_write writes beside the unit");
-        in.line = made;
-    }
+    size_t whole;
+    in.line = made_by(unit_of, &contents, &whole);
     in.line_size = whole;
     is(rows_in(0, 0, again, 4096, &count) == GIMLI_OK && count == unit->rows, "the rows of a unit that was written");
     for (uint64_t i = 0; i < count; i++)
