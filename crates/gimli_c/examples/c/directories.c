@@ -42,7 +42,6 @@ static const uint8_t lines_strp[] = {
 enum { DIRECTORY_FORM = 20, FILE_FORM = 28, DW_FORM_line_strp = 0x1f };
 static const uint8_t names[] = "/source\0made.c";
 
-
 /* Takes these sections, copies of them just so long. */
 static void take(const void *lines, size_t lines_size, const void *info, size_t info_size) {
     in = (gimli_sections){.line = memcpy(room_in(OWN, lines_size), lines, lines_size), .line_size = lines_size,
