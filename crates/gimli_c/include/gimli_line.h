@@ -395,11 +395,13 @@ static inline uint8_t *gimli_elf_copy(const uint8_t *file, size_t length, const 
  * `info`, `abbreviations` and `string_offsets` are the sections .debug_line, .debug_line_str, .debug_str, .debug_info, .debug_abbrev and
  * .debug_str_offsets, or no bytes; `identity` names what the map is made of: a build id, a checksum, or nothing. The map says of each
  * address what a lookup over all units finds there, with the whole path over the directory of the compilation; of a path that can't be
- * told it has the reason. A unit that can't be read has no rows; of one whose run has a fault the sequences that end before that count.
- * Rows that no end row follows are in no sequence, and that is no fault. So it is GIMLI_OK for any bytes of these sections. GIMLI_NO_ROOM where it is longer than `room`: *size is its length then. Where any other number than 0 is answered
- * (GIMLI_UNKNOWN_OPTIONS, GIMLI_UNSUPPORTED_ADDRESS_SIZE, GIMLI_OUT_OF_MEMORY, GIMLI_MAP_TOO_LARGE, GIMLI_PLACE_TOO_LARGE) *size is 0. In both
- * cases nothing is written to `map`. All units are read for each call, so give it room at once: 16 bytes for each byte of .debug_line
- * are mostly more than it takes, and what isn't written of them costs no memory. It takes memory: no signal handler calls it. */
+ * told it has the reason. A unit that can't be read has no rows; of one whose run has a fault the sequences that end before that
+ * count. Rows that no end row follows are in no sequence, and that is no fault. So it is GIMLI_OK for any bytes of these sections.
+ * GIMLI_NO_ROOM where it is longer than `room`: *size is its length then. Where any other number than 0 is answered
+ * (GIMLI_UNKNOWN_OPTIONS, GIMLI_UNSUPPORTED_ADDRESS_SIZE, GIMLI_OUT_OF_MEMORY, GIMLI_MAP_TOO_LARGE, GIMLI_PLACE_TOO_LARGE) *size is
+ * 0. In both cases nothing is written to `map`. All units are read for each call, so give it room at once: 16 bytes for each byte of
+ * .debug_line are mostly more than it takes, and what isn't written of them costs no memory. It takes memory: no signal handler calls
+ * it. */
 uint32_t gimli_line_map_write(const uint8_t *section, size_t length, const uint8_t *line_strings, size_t line_strings_length,
                               const uint8_t *strings, size_t strings_length, const uint8_t *info, size_t info_length,
                               const uint8_t *abbreviations, size_t abbreviations_length, const uint8_t *string_offsets,
