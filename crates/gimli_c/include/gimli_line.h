@@ -240,11 +240,12 @@ uint32_t gimli_line_directory(const uint8_t *section, size_t length, bool big, u
     GIMLI_CALL GIMLI_READS(1, 2) GIMLI_WRITES(8, 9);
 
 /* Tells the whole path of the file of a number: a relative one goes on from its directory, and that one from the directory of the
- * compilation, `comp_dir`. In version 5 the unit has that one too, and `comp_dir` counts where it is relative; where `comp_dir` has no
- * bytes, such a path stays relative. gimli_line_comp_dir tells it. `line_strings` and `strings` are the sections .debug_line_str and
- * .debug_str, or no bytes. The bytes go into path[0] and so on, as far as there is room; *size is how many there are. No zero byte is
- * added. GIMLI_NO_SUCH_FILE where there is no such file, as gimli_line_file has it; GIMLI_UNKNOWN_PATH where a string of the path can't be
- * told. Where another number than 0 is answered, nothing is written. */
+ * compilation, `comp_dir`, which gimli_line_comp_dir tells. In version 5 the unit has that one too, as its directory 0: where that is
+ * absolute, `comp_dir` isn't looked at; where it is relative, each other relative directory goes on from `comp_dir`, and directory 0
+ * too if `comp_dir` is absolute. Where `comp_dir` has no bytes, such a path stays relative. `line_strings` and `strings` are the
+ * sections .debug_line_str and .debug_str, or no bytes. The bytes go into path[0] and so on, as far as there is room; *size is how many
+ * there are. No zero byte is added. GIMLI_NO_SUCH_FILE where there is no such file, as gimli_line_file has it; GIMLI_UNKNOWN_PATH where a
+ * string of the path can't be told. Where another number than 0 is answered, nothing is written. */
 uint32_t gimli_line_path(const uint8_t *section, size_t length, const uint8_t *line_strings, size_t line_strings_length,
                          const uint8_t *strings, size_t strings_length, bool big, uint8_t address_size, size_t offset, uint64_t number,
                          const uint8_t *comp_dir, size_t comp_dir_length, uint8_t *path, size_t room, size_t *size)

@@ -72,12 +72,12 @@ static void path_is(const char *from, uint64_t number, uint32_t status, const ch
     tells(path_in, number, status, wanted);
 }
 
-/* Up to version 4 a path goes on from the directory of the compilation, which .debug_info has. In version 5 each relative directory goes
- * on from it, where directory 0 is relative. */
+/* Up to version 4 a path goes on from the directory of the compilation, which .debug_info has. In version 5 a relative directory
+ * goes on from it, where directory 0 is relative; that one only where the caller's is absolute. */
 static void paths(void) {
     static const struct { int version; uint64_t number; const char *from, *path; } wanted[] = {
         {4, 1, "/w", "/w/a.c"}, {4, 2, "/w", "/w/inc/b.h"}, {4, 3, "/w", "/w/inc/d.c"}, {4, 1, "", "a.c"}, {4, 2, "", "inc/b.h"},
-        {4, 2, "/other", "/other/inc/b.h"}, {5, 0, "./w", "./w/./w/a.c"}, {5, 1, "./w", "./w/../inc/b.h"}, {5, 2, "./w", "/abs/c.c"},
+        {4, 2, "/other", "/other/inc/b.h"}, {5, 0, "./w", "./w/a.c"}, {5, 1, "./w", "./w/../inc/b.h"}, {5, 2, "./w", "/abs/c.c"},
         {5, 0, "/src", "/src/./w/a.c"}, {5, 1, "/src", "/src/../inc/b.h"}, {5, 0, "", "./w/a.c"}, {5, 1, "", "./w/../inc/b.h"},
         {4, 0, "/w", NULL}, {4, 4, "/w", NULL}, {4, UINT64_MAX, "/w", NULL}, {5, 3, "/w", NULL}, {5, UINT64_MAX, "/w", NULL}};
     for (size_t i = 0; i < sizeof wanted / sizeof wanted[0]; i++) {
