@@ -44,11 +44,11 @@ fn path_in_header<'s>(
     comp_dir: &[u8],
 ) -> Result<Vec<u8>, u32>
     ensures ok { IfOk result (λ path. file_path
-        (paths_handed (strings (λ s. s.slice.now) texts) header.now.meaning comp_dir.now)
+        (paths_handed (strings (λ s. s.slice.now) texts.entry) header.now.meaning comp_dir.now)
         (file_seen (λ s. s.slice.now) (λ n. n) file.now) ≡ Ok path.items) }
     ensures err { IfErr result (λ s. s ≢ OUT_OF_MEMORY → (s ≡ UNKNOWN_PATH) × ((e : PathError)
         × (file_path
-        (paths_handed (strings (λ s. s.slice.now) texts) header.now.meaning comp_dir.now)
+        (paths_handed (strings (λ s. s.slice.now) texts.entry) header.now.meaning comp_dir.now)
         (file_seen (λ s. s.slice.now) (λ n. n) file.now) ≡ Err e))) }
     ensures bad { IfErr result (λ s. s ≢ OK) }
 {
@@ -70,9 +70,10 @@ fn path_of<'s>(
     comp_dir: &[u8],
 ) -> Result<Vec<u8>, u32>
     ensures ok { IfOk result (λ path. GivesPath (location section.now big address_size offset)
-        (strings (λ s. s.slice.now) texts) number comp_dir.now path.items) }
+        (strings (λ s. s.slice.now) texts.entry) number comp_dir.now path.items) }
     ensures err { IfErr result (λ s. s ≢ OUT_OF_MEMORY → HasNoPath
-        (location section.now big address_size offset) (strings (λ s. s.slice.now) texts) number
+        (location section.now big address_size offset) (strings (λ s. s.slice.now) texts.entry)
+        number
         comp_dir.now s) }
     ensures size { is_address_size address_size ≡ false → result ≡ Err UNSUPPORTED_ADDRESS_SIZE }
 {
@@ -141,8 +142,9 @@ pub extern "C" fn gimli_line_path(
         comp_dir,
     ) {
         Ok(whole) => {
-            *size = whole.len();
-            copy_bytes(&whole, path);
+            let bytes = whole.as_slice();
+            *size = bytes.len();
+            copy_bytes(bytes, path);
             OK
         }
         Err(status) => status,

@@ -20,12 +20,12 @@ returns-in-Err-clause-found c = λ ok.
     let told = c.in-Err.ensures.err (λ memory. let z : 0 ≡ 17 = sym ok ∙ memory in omega (arith, z)) in
     absurd (path_not_ok p texts c.args.number c.args.comp_dir.now (subst (λ (s : ℕ). HasNoPath p texts c.args.number c.args.comp_dir.now s) ok told))
 
-pub returns-clause-found : goal.returns-clause-found
-returns-clause-found c = λ _.
+pub returns-in-Ok-clause-found : goal.returns-in-Ok-clause-found
+returns-in-Ok-clause-found c = λ _.
     let p = location c.args.section.now c.args.big c.args.address_size c.args.offset in (
       c.in-Ok.whole.items,
       subst (λ (texts : Strings). GivesPath p texts c.args.number c.args.comp_dir.now c.in-Ok.whole.items)
           (same_texts _ _ c.args.line_strings.now c.args.strings.now c.new.ensures.bytes c.new-2.ensures.bytes) c.in-Ok.ensures.ok,
-      c.copy_bytes.ensures ∙ ap (λ (xs : List ℕ). slots_with xs c.args.path.now) c.deref.ensures.value,
-      ap (λ (xs : List ℕ). length xs) c.deref.ensures.value,
+      c.copy_bytes.ensures ∙ ap (λ (xs : List ℕ). slots_with xs c.args.path.now) c.as_slice-bytes.ensures.value,
+      ap (λ (xs : List ℕ). length xs) c.as_slice-bytes.ensures.value,
     )
