@@ -1,49 +1,54 @@
-/* One call, so many times: calls PROGRAM MAP CALL TIMES LOWEST HIGHEST, where CALL is find, path, addresses_of or map_addresses_of.
- * Places, paths and lines are those of addresses at random, which are looked up before; what is counted is the difference of two runs. */
-#include "../../crates/gimli_c/examples/c/elf_sections.h"
+/* One call, so many times: calls PROGRAM CALL TIMES LOWEST HIGHEST, where CALL is map_find, map_addresses_of, find, path or file, the last
+ * three in the unit of the place. Places are those of addresses at random, which are looked up before; what is counted is the difference of
+ * two runs. */
+#include "../../crates/gimli_c/examples/c/file.h"
 #include "ask.h"
-
-static void stop_if(uint32_t status) {
-    if (status == GIMLI_OK || status == GIMLI_NO_CODE) return;
-    fprintf(stderr, "calls: %s\n", gimli_status_sentence(status));
-    exit(1);
-}
 
 enum { PLACES = 64 };
 
 int main(int argc, char **argv) {
-    if (argc != 7) return 2;
-    size_t length = 0, map_length = 0;
-    uint8_t *file = elf_file(argv[1], &length), *map = elf_file(argv[2], &map_length);
-    if (file == NULL || map == NULL) return 2;
-    gimli_line_index index = GIMLI_LINE_INDEX_CLOSED;
-    stop_if(gimli_line_index_open_elf(file, length, &index));
-    uint64_t lowest = strtoull(argv[5], NULL, 16), highest = strtoull(argv[6], NULL, 16);
-    static gimli_place places[PLACES];
-    static uint8_t paths[PLACES][256];
-    static size_t sizes[PLACES];
+    if (argc != 6) return 2;
+    bytes file = read_file(argv[1]);
+    uint8_t *map;
+    size_t map_length, length, strings_length;
+    uint32_t status;
+    stop_if(gimli_line_map_of_elf(file.at, file.length, &map, &map_length));
+    const uint8_t *lines = gimli_elf_copy(file.at, file.length, ".debug_line", &length, &status);
+    stop_if(status);
+    const uint8_t *strings = gimli_bytes(gimli_elf_copy(file.at, file.length, ".debug_line_str", &strings_length, &status));
+    stop_if(status);
+    uint64_t lowest = strtoull(argv[4], NULL, 16), highest = strtoull(argv[5], NULL, 16);
+    static gimli_map_place places[PLACES];
+    static gimli_row rows[PLACES];
+    gimli_row second;
     for (size_t i = 0; i < PLACES; i++) {
-        while (gimli_line_index_find(&index, next_address(lowest, highest), &places[i]) != GIMLI_OK) continue;
-        stop_if(gimli_line_index_path(&index, places[i].unit, places[i].row.file, gimli_bytes(NULL), 0, paths[i], sizeof paths[i], &sizes[i]));
+        while (gimli_line_map_find(map, map_length, next_address(lowest, highest), &places[i]) != GIMLI_OK || places[i].path == 0) continue;
+        stop_if(gimli_line_find(lines, length, false, 8, places[i].unit, places[i].address, &rows[i], &second));
     }
-    static const char *const names[] = {"find", "path", "addresses_of", "map_addresses_of"};
+    static const char *const names[] = {"map_find", "map_addresses_of", "find", "path", "file"};
     int call = 0;
-    while (call < 4 && strcmp(argv[3], names[call]) != 0) call++;
-    for (long i = atol(argv[4]); i > 0; i--) {
-        const gimli_place *place = &places[i % PLACES];
-        gimli_place found;
-        uint8_t path[256];
+    while (call < 5 && strcmp(argv[2], names[call]) != 0) call++;
+    for (long i = atol(argv[3]); i > 0; i--) {
+        const gimli_map_place *place = &places[i % PLACES];
+        gimli_map_place found;
+        gimli_row first;
+        gimli_file read;
+        uint8_t path[256], directory[256];
         uint64_t line, addresses[16];
         size_t size = 0;
-        if (call == 0) stop_if(gimli_line_index_find(&index, place->address, &found));
-        if (call == 1)
-            stop_if(gimli_line_index_path(&index, place->unit, place->row.file, gimli_bytes(NULL), 0, path, sizeof path, &size));
-        if (call == 2)
-            stop_if(gimli_line_index_addresses_of(&index, paths[i % PLACES], sizes[i % PLACES], place->row.line, &line, addresses, 16, &size));
+        if (call == 0) stop_if(gimli_line_map_find(map, map_length, place->address, &found));
+        if (call == 1) {
+            status = gimli_line_map_addresses_of(map, map_length, map + place->path, place->path_size, place->line, &line, addresses, 16, &size);
+            if (status != GIMLI_NO_CODE) stop_if(status);
+        }
+        if (call == 2) stop_if(gimli_line_find(lines, length, false, 8, place->unit, place->address, &first, &second));
         if (call == 3)
-            stop_if(gimli_line_map_addresses_of(map, map_length, paths[i % PLACES], sizes[i % PLACES], place->row.line, &line, addresses, 16, &size));
-        told(place->row.line, size);
+            stop_if(gimli_line_path(lines, length, strings, strings_length, strings, 0, false, 8, place->unit, rows[i % PLACES].file, strings, 0,
+                                    path, sizeof path, &size));
+        if (call == 4)
+            stop_if(gimli_line_file(lines, length, false, 8, place->unit, rows[i % PLACES].file, &read, path, sizeof path, directory,
+                                    sizeof directory));
+        told(place->line, size);
     }
-    gimli_line_index_close(&index);
     return print_sums();
 }

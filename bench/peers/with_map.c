@@ -1,4 +1,4 @@
-/* By a map, of which FILE is one. */
+/* By a map: FILE is one, or an ELF file, of which one is made first. */
 #define _DEFAULT_SOURCE
 #include <fcntl.h>
 #include <sys/mman.h>
@@ -13,9 +13,10 @@ int main(int argc, char **argv) {
     int file = argc != 5 ? -1 : open(argv[1], O_RDONLY);
     if (file < 0 || fstat(file, &about) != 0) return 2;
     size_t length = (size_t)about.st_size;
-    const uint8_t *map = mmap(NULL, length, PROT_READ, MAP_SHARED, file, 0);
+    uint8_t *map = mmap(NULL, length, PROT_READ, MAP_SHARED, file, 0);
     gimli_map found;
-    if (map == MAP_FAILED || gimli_line_map_open(map, length, &found) != GIMLI_OK) return 2;
+    if (map == MAP_FAILED) return 2;
+    if (gimli_line_map_open(map, length, &found) != GIMLI_OK && gimli_line_map_of_elf(map, length, &map, &length) != GIMLI_OK) return 2;
     uint64_t lowest = strtoull(argv[3], NULL, 16), highest = strtoull(argv[4], NULL, 16);
     for (long i = atol(argv[2]); i > 0; i--) {
         gimli_map_place place;

@@ -81,38 +81,40 @@ pub struct Row {
 
 #[repr(C)]
 #[derive(Clone, Copy, Debug, Default)]
-pub struct Place {
-    pub address: u64,
-    pub row: Row,
-    pub end: u64,
-    pub unit: u64,
-}
-
-#[repr(C)]
-#[derive(Clone, Copy, Debug, Default)]
-pub struct IndexUnit {
-    pub offset: u64,
-    pub rows: u64,
+pub struct Unit {
+    pub length: u64,
+    pub next: u64,
     pub directories: u64,
     pub files: u64,
+    pub rows: u64,
     pub version: u32,
-    pub first_file: u32,
+    pub address_size: u32,
+    pub offset_size: u32,
     pub fault: u32,
 }
 
 #[repr(C)]
+#[derive(Clone, Copy, Debug, Default)]
+pub struct Elf {
+    pub lowest: u64,
+    pub address_size: u8,
+    pub big: bool,
+    pub relocatable: bool,
+}
+
+#[repr(C)]
 #[derive(Clone, Copy)]
-pub struct OpenOptions {
+pub struct MapOptions {
     pub size: usize,
     pub lowest: u64,
     pub address_size: u8,
     pub big: bool,
 }
 
-impl OpenOptions {
-    pub fn new(sections: &Sections<'_>, lowest: u64) -> OpenOptions {
-        OpenOptions {
-            size: size_of::<OpenOptions>(),
+impl MapOptions {
+    pub fn new(sections: &Sections<'_>, lowest: u64) -> MapOptions {
+        MapOptions {
+            size: size_of::<MapOptions>(),
             lowest,
             address_size: sections.address_size,
             big: sections.big_endian,
@@ -177,7 +179,8 @@ pub struct MapPlace {
     pub line: u32,
     pub column: u32,
     pub no_path: u32,
-    pub known: u32,
+    pub known: bool,
+    pub is_stmt: bool,
 }
 
 #[repr(C)]
@@ -197,16 +200,6 @@ pub struct Relocation {
     pub section: u32,
 }
 
-#[repr(C)]
-pub struct Index {
-    pub at: *mut u8,
-}
-
-#[repr(C)]
-pub struct RowReader {
-    pub at: *mut u8,
-}
-
 declared! {
     gimli_version();
     gimli_line_map_open([map: u8], found: *mut Map);
@@ -218,36 +211,30 @@ declared! {
     );
     gimli_line_map_write(
         [section: u8], [line_strings: u8], [strings: u8], [info: u8], [abbreviations: u8], [string_offsets: u8],
-        options: *const OpenOptions, [identity: u8], [mut map: u8], size: *mut usize
+        options: *const MapOptions, [identity: u8], [mut map: u8], size: *mut usize
     );
-    gimli_line_index_open_with_info(
-        [section: u8], [line_strings: u8], [strings: u8], [info: u8], [abbreviations: u8], [string_offsets: u8],
-        options: *const OpenOptions, index: *mut Index
+    gimli_elf_open([file: u8], found: *mut Elf);
+    gimli_elf_section([file: u8], [name: u8], [mut bytes: u8], size: *mut usize);
+    gimli_elf_build_id([file: u8], [mut id: u8], size: *mut usize);
+    gimli_line_unit([section: u8], big: bool, address_size: u8, offset: usize, unit: *mut Unit);
+    gimli_line_rows(
+        [section: u8], big: bool, address_size: u8, offset: usize, skip: u64, [mut rows: Row], count: *mut u64
     );
-    gimli_line_index_comp_dir(index: *mut Index, unit: u64, [mut directory: u8], size: *mut usize);
-    gimli_line_index_close(index: *mut Index);
-    gimli_line_index_find(index: *mut Index, address: u64, place: *mut Place);
-    gimli_line_index_find_all(index: *mut Index, [mut places: Place]);
-    gimli_line_index_path(
-        index: *mut Index, unit: u64, file: u64, [comp_dir: u8], [mut path: u8], size: *mut usize
+    gimli_line_file(
+        [section: u8], big: bool, address_size: u8, offset: usize, number: u64, file: *mut File, [mut path: u8],
+        [mut directory: u8]
+    );
+    gimli_line_directory(
+        [section: u8], big: bool, address_size: u8, offset: usize, number: u64, directory: *mut Text, [mut bytes: u8]
+    );
+    gimli_line_path(
+        [section: u8], [line_strings: u8], [strings: u8], big: bool, address_size: u8, offset: usize, number: u64,
+        [comp_dir: u8], [mut path: u8], size: *mut usize
     );
     gimli_line_comp_dir(
         [info: u8], [abbreviations: u8], [line_strings: u8], [strings: u8], [string_offsets: u8], big: bool,
         offset: u64, [mut directory: u8], size: *mut usize
     );
-    gimli_line_index_unit_count(index: *mut Index, count: *mut usize);
-    gimli_line_index_unit(index: *mut Index, unit: u64, found: *mut IndexUnit);
-    gimli_line_index_addresses(
-        index: *mut Index, unit: u64, file: u64, line: u64, found_line: *mut u64, [mut addresses: u64],
-        count: *mut usize
-    );
-    gimli_line_index_addresses_of(
-        index: *mut Index, [path: u8], line: u64, found_line: *mut u64, [mut addresses: u64], count: *mut usize
-    );
-    gimli_line_index_file(
-        index: *mut Index, unit: u64, number: u64, file: *mut File, [mut path: u8], [mut directory: u8]
-    );
-    gimli_line_index_directory(index: *mut Index, unit: u64, number: u64, directory: *mut Text, [mut bytes: u8]);
     gimli_line_write(
         encoding: *const Encoding, big: bool, details: u64, [texts: u8], [directories: Name], [files: FileName],
         [rows: Row], [mut unit: u8], size: *mut usize
@@ -257,10 +244,4 @@ declared! {
         [files: FileName], [rows: Row], [symbols: Symbol], [mut unit: u8], size: *mut usize,
         [mut relocations: Relocation], count: *mut usize
     );
-    gimli_line_rows_open(
-        [section: u8], big: bool, address_size: u8, offset: usize, reader: *mut RowReader
-    );
-    gimli_line_index_rows_open(index: *mut Index, unit: u64, reader: *mut RowReader);
-    gimli_line_rows_next(reader: *mut RowReader, [mut rows: Row], count: *mut usize);
-    gimli_line_rows_close(reader: *mut RowReader);
 }

@@ -23,8 +23,8 @@ pub struct CompilationSections<'a> {
 
 impl CompilationSections<'_> {
     /// The directory of the compilation whose line program begins at an offset of `.debug_line`, as
-    /// `Index::unit` gives it. None where no unit that can be read has one. The first entry of each
-    /// unit is read for each call: ask once for each unit of an index.
+    /// a `Unit` has it. None where no unit that can be read has one. The first entry of each unit is
+    /// read for each call: ask once for each unit.
     ///
     /// # Errors
     ///

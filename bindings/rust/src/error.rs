@@ -69,8 +69,6 @@ impl Error {
     pub const UNIT_TOO_LONG: Error = Error(30);
     /// What is written is longer than the room for it.
     pub const NO_ROOM: Error = Error(31);
-    /// The handle is closed.
-    pub const CLOSED: Error = Error(32);
     /// A string of a path can't be told.
     pub const UNKNOWN_PATH: Error = Error(33);
     /// The bytes don't begin as a map does.
@@ -85,8 +83,6 @@ impl Error {
     pub const MAP_DISORDERED: Error = Error(38);
     /// A path isn't inside its map.
     pub const MAP_PATH_OUTSIDE: Error = Error(39);
-    /// An index has no unit of this number.
-    pub const NO_SUCH_UNIT: Error = Error(40);
     /// No line from the one asked for on has code.
     pub const NO_CODE: Error = Error(41);
     /// No unit of .debug_info tells the directory of the compilation.
@@ -124,9 +120,12 @@ impl Error {
 
     /// What the number says.
     pub fn sentence(self) -> &'static str {
-        SENTENCES.get(self.0 as usize).copied().unwrap_or("the number is none that a call answers")
+        SENTENCES.get(self.0 as usize).copied().unwrap_or(NONE)
     }
 }
+
+/// What is said of a number that no call answers.
+const NONE: &str = "the number is none that a call answers";
 
 /// A sentence for each number, as `gimli_status_sentence` of the header has it.
 const SENTENCES: [&str; 49] = [
@@ -162,7 +161,7 @@ const SENTENCES: [&str; 49] = [
     "several operations in an instruction, before version 4",
     "a length or the first address of a sequence doesn't fit its word",
     "what is written is longer than the room for it",
-    "the handle is closed",
+    NONE,
     "a string of a path can't be told",
     "the bytes don't begin as a map does",
     "the version of a map is unknown",
@@ -170,7 +169,7 @@ const SENTENCES: [&str; 49] = [
     "a size or the base in the header of a map is one that can't be",
     "the ranges of a map don't ascend",
     "a path isn't inside its map",
-    "an index has no unit of this number",
+    NONE,
     "no line from the one asked for on has code",
     "no unit of .debug_info tells the directory of the compilation",
     "options have a size that this library doesn't know",

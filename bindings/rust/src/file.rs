@@ -1,6 +1,8 @@
 //! The files of a unit.
 
-use crate::calls;
+use crate::calls::{self, call, whole};
+use crate::error::Error;
+use crate::Sections;
 
 /// Where a text stands.
 #[derive(Clone, Debug, PartialEq, Eq, Hash)]
@@ -58,5 +60,71 @@ impl File {
             size: (file.details & 2 != 0).then_some(file.size),
             md5: (file.details & 4 != 0).then_some(file.md5),
         }
+    }
+}
+
+impl Sections<'_> {
+    /// The file of a number of the unit at an offset, as rows have it: up to version 4 from 1 on, in version 5 from 0 on.
+    ///
+    /// # Errors
+    ///
+    /// [`Error::NO_SUCH_FILE`], [`Error::OUT_OF_MEMORY`], or why the unit can't be read.
+    pub fn file(&self, offset: usize, number: u64) -> Result<File, Error> {
+        let mut file = calls::File::default();
+        let mut directory = vec![0; 256];
+        let path = whole(256, |path, size| {
+            // The pointers are those of slices, of vectors and of a local.
+            Error::of(unsafe {
+                call!(gimli_line_file(
+                    [self.debug_line], self.big_endian, self.address_size, offset, number, &mut file, [mut path], [mut directory]
+                ))
+            })?;
+            *size = file.path.size as usize;
+            let is_whole = file.directory.size as usize <= directory.len();
+            directory.resize(file.directory.size as usize, 0);
+            if is_whole { Ok(()) } else { Err(Error::NO_ROOM) }
+        })?;
+        Ok(File::new(&file, path, directory))
+    }
+
+    /// The directory of a number of the unit at an offset, as files have it; none where its text is of no known kind.
+    ///
+    /// # Errors
+    ///
+    /// [`Error::NO_SUCH_DIRECTORY`], [`Error::OUT_OF_MEMORY`], or why the unit can't be read.
+    pub fn directory(&self, offset: usize, number: u64) -> Result<Option<Text>, Error> {
+        let mut text = calls::Text::default();
+        let bytes = whole(256, |room, size| {
+            // The pointers are those of slices, of a vector and of a local.
+            Error::of(unsafe {
+                call!(gimli_line_directory(
+                    [self.debug_line], self.big_endian, self.address_size, offset, number, &mut text, [mut room]
+                ))
+            })?;
+            *size = text.size as usize;
+            Ok(())
+        })?;
+        Ok(Text::new(&text, bytes))
+    }
+
+    /// The whole path of the file of a number of the unit at an offset. `comp_dir` is the directory of the compilation
+    /// (`DW_AT_comp_dir`, as [`CompilationSections::comp_dir`](crate::CompilationSections::comp_dir) tells it), from which a relative
+    /// path goes on up to version 4. In version 5 the unit has the directory too, and `comp_dir` counts where that one is relative.
+    /// Where it has no bytes, such a path stays relative.
+    ///
+    /// # Errors
+    ///
+    /// [`Error::NO_SUCH_FILE`], [`Error::UNKNOWN_PATH`] where a string of the path can't be told, [`Error::OUT_OF_MEMORY`], or why the
+    /// unit can't be read.
+    pub fn path(&self, offset: usize, number: u64, comp_dir: &[u8]) -> Result<Vec<u8>, Error> {
+        whole(256, |room, size| {
+            // The pointers are those of slices and of a local.
+            Error::of(unsafe {
+                call!(gimli_line_path(
+                    [self.debug_line], [self.debug_line_str], [self.debug_str], self.big_endian, self.address_size, offset, number,
+                    [comp_dir], [mut room], size
+                ))
+            })
+        })
     }
 }

@@ -1,10 +1,10 @@
 //! Line number programs of DWARF, versions 2 to 5, over the library `libgimli_line.a`, whose calls are proved. What this crate adds
 //! isn't: it hands slices on, and keeps to what the header asks of a caller.
 //!
-//! [`Map`] looks addresses up in an index that is bytes, from any thread. [`Index`] makes an index of the sections of a program, on
-//! one thread; [`Units`] gives the units of a section with their rows, and [`Rows`] the rows of one as they come.
-//! [`CompilationSections`] tell the directory of a unit, for whole paths. [`Contents`] are written as a unit. The names are gimli's
-//! where they fit.
+//! [`Map`] looks addresses up in an index that is bytes, from any thread; [`Map::write_elf`] makes it of an ELF file, and
+//! [`Map::write`] of the sections of a program. [`Units`] gives the units of a section with their rows, and [`Sections`] the files of
+//! one. [`CompilationSections`] tell the directory of a unit, for whole paths. [`Contents`] are written as a unit. The names are
+//! gimli's where they fit.
 //!
 //! The archive is that of `make` in crates/gimli_c; or the one in the folder that `GIMLI_LINE_DIR` names, or else the one that
 //! pkg-config finds.
@@ -13,21 +13,19 @@
 
 mod calls;
 mod compilation;
+mod elf;
 mod error;
 mod file;
-mod index;
 mod map;
 mod row;
-mod rows;
 mod write;
 
 pub use compilation::CompilationSections;
+pub use elf::Elf;
 pub use error::Error;
 pub use file::{File, Text};
-pub use index::{Addresses, Index, IndexUnit, Place};
-pub use map::{Map, MapPlace, NoPath};
+pub use map::{Addresses, Map, MapPlace, NoPath};
 pub use row::{ColumnType, LineRow, Unit, Units};
-pub use rows::Rows;
 pub use write::{Addends, Contents, Encoding, RelocatableUnit, Relocation, Symbol};
 
 /// The sections of a linked program that lines are read from. One that a program lacks is of no bytes.

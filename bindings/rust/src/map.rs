@@ -1,9 +1,8 @@
 //! Maps: an index of lines that is bytes.
 
-use crate::calls::{self, call, whole};
+use crate::calls::{self, call, unless, whole};
 use crate::error::Error;
-use crate::index::{all_addresses, Addresses};
-use crate::{CompilationSections, Sections};
+use crate::{CompilationSections, Elf, Sections};
 
 /// Why a place of a map has no path.
 #[derive(Clone, Copy, Debug, PartialEq, Eq, Hash)]
@@ -23,8 +22,19 @@ pub struct MapPlace<'a> {
     pub line: u32,
     /// The column, from 1 on; 0 for the left edge of the line.
     pub column: u32,
+    /// Whether the code is a good place for a breakpoint.
+    pub is_stmt: bool,
     /// The offset in `.debug_line` of the unit that says so.
     pub unit: u64,
+}
+
+/// The addresses for a breakpoint.
+#[derive(Clone, Debug, PartialEq, Eq)]
+pub struct Addresses {
+    /// The line that has them: the one that was asked for, or the next that has any.
+    pub line: u64,
+    /// The addresses.
+    pub addresses: Vec<u64>,
 }
 
 /// A map: from some addresses on a file, a line and a column, as bytes that are mapped from a file or linked into a program
@@ -48,9 +58,10 @@ pub struct Map<'a> {
 }
 
 impl<'a> Map<'a> {
-    /// The bytes of the map of a program, which [`Map::open`] takes: of each address what an [`Index`](crate::Index) finds there, with
-    /// the whole path over the directory of the compilation. Rows below the address `lowest` are left out, as by
-    /// [`Index::open`](crate::Index::open); `identity` names what the map is made of. The order of bytes is that of `sections`.
+    /// The bytes of the map of a program, which [`Map::open`] takes: of each address what a lookup over all units finds there, with the
+    /// whole path over the directory of the compilation. Rows below the address `lowest` are left out, since a linker leaves code that
+    /// it drops at low addresses, mostly at 0: so 1 is the least that answers right there, and 0 leaves none out. A unit that can't be
+    /// read has no rows. `identity` names what the map is made of. The order of bytes is that of `sections`.
     ///
     /// # Errors
     ///
@@ -62,7 +73,7 @@ impl<'a> Map<'a> {
         lowest: u64,
         identity: &[u8],
     ) -> Result<Vec<u8>, Error> {
-        let options = calls::OpenOptions::new(sections, lowest);
+        let options = calls::MapOptions::new(sections, lowest);
         // All units are read for each call: so there is more room than most maps take, which costs no memory until it is written.
         let mut map = whole(1024 + 16 * sections.debug_line.len(), |room, size| {
             // The pointers are those of slices and of locals.
@@ -75,6 +86,35 @@ impl<'a> Map<'a> {
         })?;
         map.shrink_to_fit();
         Ok(map)
+    }
+
+    /// The bytes of the map of an ELF file, of its sections, each made whole; it is named by the build id.
+    ///
+    /// # Errors
+    ///
+    /// [`Error::NO_SECTION`] where it has no `.debug_line`, [`Error::BAD_SECTION`] where a section can't be read, and those of
+    /// [`Map::write`].
+    pub fn write_elf(elf: &Elf<'_>) -> Result<Vec<u8>, Error> {
+        let section = |name| Ok::<_, Error>(elf.section(name)?.unwrap_or_default());
+        let debug_line = elf.section(".debug_line")?.ok_or(Error::NO_SECTION)?;
+        let (line_str, str) = (section(".debug_line_str")?, section(".debug_str")?);
+        let (info, abbrev) = (section(".debug_info")?, section(".debug_abbrev")?);
+        let sections = Sections {
+            debug_line: &debug_line,
+            debug_line_str: &line_str,
+            debug_str: &str,
+            big_endian: elf.is_big_endian(),
+            address_size: elf.address_size(),
+        };
+        let compilations = CompilationSections {
+            debug_info: &info,
+            debug_abbrev: &abbrev,
+            debug_line_str: &line_str,
+            debug_str: &str,
+            debug_str_offsets: &section(".debug_str_offsets")?,
+            big_endian: elf.is_big_endian(),
+        };
+        Map::write(&sections, &compilations, elf.lowest(), &elf.build_id()?.unwrap_or_default())
     }
 
     /// The map that bytes begin with. It looks at the header and the length alone.
@@ -140,7 +180,7 @@ impl<'a> Map<'a> {
         let mut places: Vec<_> = addresses.iter().map(asked).collect();
         // The pointers are those of a slice and of a vector.
         let _ok = unsafe { call!(gimli_line_map_find_all([self.bytes], [mut places])) };
-        places.iter().map(|place| (place.known != 0).then(|| self.place(place))).collect()
+        places.iter().map(|place| place.known.then(|| self.place(place))).collect()
     }
 
     /// The addresses for a breakpoint at a line of the files that a path names, ascending, or at the next line that has any. None
@@ -148,12 +188,16 @@ impl<'a> Map<'a> {
     /// root is a whole one; `.` and `..` are resolved by text. These are the addresses that the rows of the program give, if no two of
     /// its sequences overlap.
     pub fn addresses_of(&self, path: &[u8], line: u64) -> Option<Addresses> {
-        let found = all_addresses(|room, found_line, count| {
+        let mut found_line = 0;
+        let addresses = whole(16, |room, count| {
             // The pointers are those of slices and of locals.
-            unsafe { call!(gimli_line_map_addresses_of([self.bytes], [path], line, found_line, [mut room], count)) }
+            Error::of(unsafe {
+                call!(gimli_line_map_addresses_of([self.bytes], [path], line, &mut found_line, [mut room], count))
+            })
         });
-        // The bytes are a map, and no memory is taken: so nothing is refused.
-        found.ok().flatten()
+        // The bytes are a map, and no memory is taken: so nothing else is refused.
+        let addresses = unless(Error::NO_CODE, addresses).ok().flatten()?;
+        Some(Addresses { line: found_line, addresses })
     }
 
     fn place(&self, place: &calls::MapPlace) -> MapPlace<'a> {
@@ -163,6 +207,6 @@ impl<'a> Map<'a> {
             (0 | u32::MAX, _) => Err(NoPath::Outside),
             (reason, _) => Err(NoPath::Reason(reason)),
         };
-        MapPlace { path, line: place.line, column: place.column, unit: place.unit }
+        MapPlace { path, line: place.line, column: place.column, is_stmt: place.is_stmt, unit: place.unit }
     }
 }

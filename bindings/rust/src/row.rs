@@ -1,8 +1,7 @@
 //! Rows and units, as plain values.
 
-use crate::calls;
+use crate::calls::{self, call};
 use crate::error::Error;
-use crate::rows::Rows;
 use crate::Sections;
 use std::num::NonZeroU64;
 
@@ -156,28 +155,51 @@ pub struct Unit {
     pub next: usize,
     /// Its version, from 2 to 5.
     pub version: u32,
+    /// How many directories its table has.
+    pub directories: u64,
+    /// How many files it has, those that its program defines included.
+    pub files: u64,
     /// The first fault of its program.
     pub fault: Option<Error>,
     rows: Vec<LineRow>,
 }
 
 impl Unit {
-    /// Reads the unit at an offset, and runs its program once.
+    /// Reads the unit at an offset. Its program is run twice: first its rows are counted.
     ///
     /// # Errors
     ///
     /// Why the unit can't be read, as [`Error::UNEXPECTED_EOF`] and [`Error::UNKNOWN_VERSION`], or [`Error::OUT_OF_MEMORY`]. A fault
     /// of the program is none: `fault` has it.
     pub fn read(sections: &Sections<'_>, offset: usize) -> Result<Unit, Error> {
-        let (mut rows, mut fault) = (Vec::new(), None);
-        for row in Rows::open(sections, offset)? {
-            match row {
-                Ok(row) => rows.push(row),
-                Err(first) => fault = Some(first),
-            }
+        Unit::read_or_next(sections, offset).map_err(|(error, _)| error)
+    }
+
+    /// The same; where the unit is refused, also where the next one is: None where its length can't be read.
+    fn read_or_next(sections: &Sections<'_>, offset: usize) -> Result<Unit, (Error, Option<usize>)> {
+        let (section, big, size) = (sections.debug_line, sections.big_endian, sections.address_size);
+        let mut found = calls::Unit::default();
+        // The pointers are those of a slice and of a local.
+        let read = Error::of(unsafe { call!(gimli_line_unit([section], big, size, offset, &mut found)) });
+        let next = found.next as usize;
+        read.map_err(|error| (error, (next > offset).then_some(next)))?;
+        let mut rows = vec![calls::Row::default(); found.rows as usize];
+        let mut count = 0;
+        // The pointers are those of a slice, a vector and a local.
+        let status = unsafe { call!(gimli_line_rows([section], big, size, offset, 0, [mut rows], &mut count)) };
+        let fault = Error::fault(status);
+        if fault == Some(Error::OUT_OF_MEMORY) {
+            return Err((Error::OUT_OF_MEMORY, Some(next)));
         }
-        let start = Start::read(sections, offset).ok_or(Error::UNEXPECTED_EOF)?;
-        Ok(Unit { offset, next: start.next, version: start.version, fault, rows })
+        Ok(Unit {
+            offset,
+            next,
+            version: found.version,
+            directories: found.directories,
+            files: found.files,
+            fault,
+            rows: rows.iter().map(LineRow::new).collect(),
+        })
     }
 
     /// Its rows.
@@ -186,32 +208,7 @@ impl Unit {
     }
 }
 
-/// What the first words of a unit that was read say (DWARF 5, sections 6.2.4 and 7.4).
-struct Start {
-    next: usize,
-    version: u32,
-}
-
-impl Start {
-    fn read(sections: &Sections<'_>, offset: usize) -> Option<Start> {
-        let number = |at: usize, size: usize| -> Option<u64> {
-            let bytes = sections.debug_line.get(at..at.checked_add(size)?)?;
-            let joined = |number: u64, byte: &u8| number << 8 | u64::from(*byte);
-            let number = if sections.big_endian { bytes.iter().fold(0, joined) } else { bytes.iter().rev().fold(0, joined) };
-            Some(number)
-        };
-        let (words, length) = match number(offset, 4)? {
-            0xffff_ffff => (12, number(offset.checked_add(4)?, 8)?),
-            length => (4, length),
-        };
-        let version = offset.checked_add(words)?;
-        let next = version.checked_add(usize::try_from(length).ok()?)?;
-        Some(Start { next, version: number(version, 2)? as u32 })
-    }
-}
-
-/// The units of a section, one after the other. After a unit that is refused there are none, since where the next one is isn't
-/// known.
+/// The units of a section, one after the other. After a unit that is refused the next one follows, unless its length can't be read.
 pub struct Units<'a> {
     sections: Sections<'a>,
     offset: usize,
@@ -230,8 +227,11 @@ impl Iterator for Units<'_> {
         if self.offset >= self.sections.debug_line.len() {
             return None;
         }
-        let unit = Unit::read(&self.sections, self.offset);
-        self.offset = unit.as_ref().map_or(usize::MAX, |unit| unit.next);
-        Some(unit)
+        let unit = Unit::read_or_next(&self.sections, self.offset);
+        self.offset = match &unit {
+            Ok(unit) => unit.next,
+            Err((_, next)) => next.unwrap_or(usize::MAX),
+        };
+        Some(unit.map_err(|(error, _)| error))
     }
 }

@@ -45,7 +45,7 @@ impl Encoding {
 /// What a unit has: directories, files and rows. Numbers are those of rows: up to version 4 from 1 on, in version 5 from 0 on.
 ///
 /// ```
-/// use gimli_line_proved::{Contents, Encoding, Index, LineRow, Sections};
+/// use gimli_line_proved::{Contents, Encoding, LineRow, Sections};
 ///
 /// let mut contents = Contents::new(Encoding::new(4));
 /// contents.file(b"main.c", 0);
@@ -54,10 +54,10 @@ impl Encoding {
 /// let unit = contents.write()?;
 ///
 /// let sections = Sections { debug_line: &unit, debug_line_str: &[], debug_str: &[], big_endian: false, address_size: 8 };
-/// let index = Index::open(&sections, 1)?;
-/// let place = index.find(0x1003).ok_or(gimli_line_proved::Error::NO_ROW)?;
-/// assert_eq!(place.row.line().map(|line| line.get()), Some(7));
-/// assert_eq!(index.path(place.unit, place.row.file_index(), b"/source")?, b"/source/main.c");
+/// let read = sections.units().next().ok_or(gimli_line_proved::Error::UNEXPECTED_EOF)??;
+/// let lines: Vec<_> = read.rows().map(|row| (row.address(), row.line().map(|line| line.get()))).collect();
+/// assert_eq!(lines, [(0x1000, Some(7)), (0x1004, Some(7))]);
+/// assert_eq!(sections.path(0, 1, b"/source")?, b"/source/main.c");
 /// # Ok::<(), gimli_line_proved::Error>(())
 /// ```
 ///

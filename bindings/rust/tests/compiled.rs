@@ -1,8 +1,8 @@
-//! The index and the rows of a program that the C compiler makes, against addr2line of binutils. Where a tool is missing the test
+//! The map and the rows of a program that the C compiler makes, against addr2line of binutils. Where a tool is missing the test
 //! says so, and ends well.
 
 use gimli_line_proved::{
-    version, ColumnType, CompilationSections, Contents, Encoding, Error, Index, LineRow, Rows, Sections, Text,
+    version, ColumnType, CompilationSections, Contents, Elf, Encoding, Error, LineRow, Map, Sections, Text,
 };
 use std::collections::BTreeSet;
 use std::fs;
@@ -112,43 +112,49 @@ impl Built {
 #[test]
 fn places_are_those_of_addr2line() {
     for built in built() {
-        let index = Index::open(&built.sections(), 0).expect("the index is made");
+        let bytes = Map::write(&built.sections(), &built.compilations(), 0, &[]).expect("the map is made");
+        let map = Map::open(&bytes).expect("it is a map");
         let addresses = built.addresses();
         assert!(addresses.len() > 4);
         for address in addresses {
-            let place = index.find(address).expect("a row covers it");
-            assert!(place.row.address() <= address && address < place.end);
-            let offset = index.unit(place.unit).expect("there is such a unit").offset;
-            let comp_dir = built.compilations().comp_dir(offset).expect("there is memory");
-            let comp_dir = comp_dir.expect("the unit has one");
-            let path = index
-                .path(place.unit, place.row.file_index(), &comp_dir)
-                .expect("the path is told");
-            let path = String::from_utf8(path).expect("the path is text");
-            let line = place.row.line().map_or(0, |line| line.get());
-            assert_eq!(format!("{path}:{line}"), built.addr2line(address));
+            let place = map.find(address).expect("a row covers it");
+            let path = String::from_utf8(place.path.expect("it has a path").to_vec()).expect("the path is text");
+            assert_eq!(format!("{path}:{}", place.line), built.addr2line(address));
         }
     }
 }
 
 #[test]
-fn paths_that_are_kept_are_those_of_addr2line() {
+fn paths_of_files_are_those_of_the_map() {
     for built in built() {
-        let compilations = built.compilations();
-        let index = Index::open_with_info(&built.sections(), &compilations, 0).expect("the index is made");
-        for address in built.addresses() {
-            let place = index.find(address).expect("a row covers it");
-            let path = index.path(place.unit, place.row.file_index(), &[]).expect("the path is told");
-            let path = String::from_utf8(path).expect("the path is text");
-            let line = place.row.line().map_or(0, |line| line.get());
-            assert_eq!(format!("{path}:{line}"), built.addr2line(address));
-            let offset = index.unit(place.unit).expect("there is such a unit").offset;
-            assert_eq!(index.comp_dir(place.unit), compilations.comp_dir(offset));
+        let bytes = Map::write(&built.sections(), &built.compilations(), 0, &[]).expect("the map is made");
+        let map = Map::open(&bytes).expect("it is a map");
+        for unit in built.sections().units() {
+            let unit = unit.expect("the unit is read");
+            let comp_dir = built.compilations().comp_dir(unit.offset as u64).expect("there is memory");
+            let comp_dir = comp_dir.expect("the unit has one");
+            for row in unit.rows().filter(|row| !row.end_sequence()) {
+                let path = built.sections().path(unit.offset, row.file_index(), &comp_dir).expect("the path is told");
+                let place = map.find(row.address()).expect("a row covers it");
+                assert_eq!((place.path, place.unit), (Ok(path.as_slice()), unit.offset as u64));
+            }
         }
-        assert_eq!(index.comp_dir(u64::MAX), Err(Error::NO_SUCH_UNIT));
-        let without = Index::open(&built.sections(), 0).expect("the index is made");
-        assert_eq!(without.comp_dir(0), Ok(None));
     }
+}
+
+#[test]
+fn an_elf_file_has_the_map_of_its_sections() {
+    for built in built() {
+        let file = fs::read(&built.program).expect("it is there");
+        let elf = Elf::open(&file).expect("it is an ELF file");
+        assert_eq!((elf.address_size(), elf.is_big_endian()), (8, false));
+        assert_eq!(elf.section(".debug_line"), Ok(Some(built.line.clone())));
+        assert_eq!(elf.section(".no_such_section"), Ok(None));
+        let id = elf.build_id().expect("it can be read").unwrap_or_default();
+        let bytes = Map::write(&built.sections(), &built.compilations(), elf.lowest(), &id).expect("the map is made");
+        assert_eq!(Map::write_elf(&elf), Ok(bytes));
+    }
+    assert_eq!(Elf::open(b"no ELF").map(|_| ()), Err(Error::NO_ELF));
 }
 
 #[test]
@@ -162,17 +168,12 @@ fn no_unit_has_another_line_program() {
 fn a_unit_that_is_cut_has_no_directory() {
     for built in built() {
         let first = u32::from_le_bytes(built.info[..4].try_into().expect("it has four bytes"));
-        let line = Index::open(&built.sections(), 0)
-            .expect("the index is made")
-            .unit(0)
-            .expect("there is a unit")
-            .offset;
         let whole = built.compilations();
-        assert!(whole.comp_dir(line).expect("there is memory").is_some());
+        assert!(whole.comp_dir(0).expect("there is memory").is_some());
         for length in 0..4 + first as usize {
             let debug_info = &built.info[..length];
             let cut = CompilationSections { debug_info, ..whole };
-            assert_eq!(cut.comp_dir(line), Ok(None));
+            assert_eq!(cut.comp_dir(0), Ok(None));
         }
     }
 }
@@ -180,13 +181,13 @@ fn a_unit_that_is_cut_has_no_directory() {
 #[test]
 fn many_addresses_are_found_as_one_is() {
     for built in built() {
-        let index = Index::open(&built.sections(), 0).expect("the index is made");
+        let bytes = Map::write(&built.sections(), &built.compilations(), 0, &[]).expect("the map is made");
+        let map = Map::open(&bytes).expect("it is a map");
         let mut addresses: Vec<u64> = built.addresses().into_iter().flat_map(|address| [address, address + 1]).collect();
         addresses.extend([0, u64::MAX]);
-        let each: Vec<_> = addresses.iter().map(|address| index.find(*address)).collect();
+        let each: Vec<_> = addresses.iter().map(|address| map.find(*address)).collect();
         assert!(each.iter().any(Option::is_some) && each.iter().any(Option::is_none));
-        assert_eq!(index.find_all(&addresses), each);
-        assert_eq!(index.find_all(&[]), []);
+        assert_eq!(map.find_all(&addresses), each);
     }
 }
 
@@ -220,7 +221,7 @@ fn printed(row: &LineRow) -> String {
 }
 
 #[test]
-fn rows_as_they_come_are_those_of_linetool() {
+fn rows_are_those_of_linetool() {
     let linetool = sources().join("../crates/linetool/out/linetool");
     if !linetool.exists() {
         eprintln!("not tried: {} isn't built", linetool.display());
@@ -228,8 +229,7 @@ fn rows_as_they_come_are_those_of_linetool() {
     }
     for built in built() {
         let section = built.program.with_extension("debug_line");
-        let index = Index::open(&built.sections(), 0).expect("the index is made");
-        for (place, unit) in built.sections().units().enumerate() {
+        for unit in built.sections().units() {
             let unit = unit.expect("the unit is read");
             let output = Command::new(&linetool)
                 .arg("rows")
@@ -238,11 +238,8 @@ fn rows_as_they_come_are_those_of_linetool() {
                 .output()
                 .expect("linetool runs");
             let expected = String::from_utf8(output.stdout).expect("its answer is text");
-            let rows = Rows::open(&built.sections(), unit.offset).expect("the unit is read");
-            let lines: Vec<String> = rows.map(|row| printed(&row.expect("there is no fault"))).collect();
+            let lines: Vec<String> = unit.rows().map(printed).collect();
             assert_eq!(lines, expected.lines().collect::<Vec<_>>());
-            let again: Vec<_> = index.rows(place as u64).expect("the unit is there").map(|row| row.expect("there is no fault")).collect();
-            assert!(again.iter().eq(unit.rows()));
         }
     }
 }
@@ -274,11 +271,10 @@ fn sections_of(section: &[u8]) -> Sections<'_> {
 fn fault_comes_after_the_rows_before_it() {
     // The address 0x10, a row, and half of an instruction.
     let section = unit_of(&[0, 9, 2, 0x10, 0, 0, 0, 0, 0, 0, 0, 1, 2]);
-    let mut rows = Rows::open(&sections_of(&section), 0).expect("the unit is read");
-    assert_eq!(rows.next().map(|row| row.map(|row| row.address())), Some(Ok(0x10)));
-    assert_eq!(rows.next().map(|row| row.map(|_| ()).map_err(Error::number)), Some(Err(1)));
-    assert!(rows.next().is_none());
-    assert!(Rows::open(&sections_of(&section), section.len()).is_err());
+    let unit = sections_of(&section).units().next().expect("there is a unit").expect("the unit is read");
+    assert_eq!(unit.rows().map(|row| row.address()).collect::<Vec<_>>(), [0x10]);
+    assert_eq!(unit.fault, Some(Error::UNEXPECTED_EOF));
+    assert_eq!((unit.next, sections_of(&section).units().count()), (section.len(), 1));
 }
 
 #[test]
@@ -287,73 +283,57 @@ fn file_that_a_program_defines_has_a_path() {
     let section = unit_of(&[
         0, 8, 3, b'd', b'.', b'c', 0, 0, 0, 0, 0, 9, 2, 0x10, 0, 0, 0, 0, 0, 0, 0, 1, 2, 4, 0, 1, 1,
     ]);
-    let index = Index::open(&sections_of(&section), 0).expect("the index is made");
-    let place = index.find(0x13).expect("the row covers it");
-    assert_eq!((place.unit, place.row.file_index(), place.end), (0, 1, 0x14));
-    assert_eq!(index.path(0, 1, b"/comp"), Ok(b"/comp/d.c".to_vec()));
-    assert_eq!(index.path(0, 2, b"/comp"), Err(Error::NO_SUCH_FILE));
+    let sections = sections_of(&section);
+    assert_eq!(sections.path(0, 1, b"/comp"), Ok(b"/comp/d.c".to_vec()));
+    assert_eq!(sections.path(0, 1, b""), Ok(b"d.c".to_vec()));
+    assert_eq!(sections.path(0, 2, b"/comp"), Err(Error::NO_SUCH_FILE));
+    assert_eq!(sections.path(1, 1, b"/comp").map_err(Error::number), Err(1));
 }
 
 #[test]
-fn index_outlives_sections() {
+fn units_have_the_files_that_they_say() {
     for built in built() {
-        let address = *built.addresses().first().expect("there is a row");
-        let index = Index::open(&built.sections(), 0).expect("the index is made");
-        drop(built);
-        assert!(index.find(address).is_some());
-        assert!(index.find(u64::MAX).is_none());
-    }
-}
-
-#[test]
-fn units_are_those_of_the_section() {
-    for built in built() {
-        let index = Index::open(&built.sections(), 0).expect("the index is made");
-        let units: Vec<_> = built.sections().units().map(|unit| unit.expect("the unit is read")).collect();
-        assert_eq!(index.unit_count(), units.len() as u64);
-        for (place, unit) in units.iter().enumerate() {
-            let (place, found) = (place as u64, index.unit(place as u64).expect("there is such a unit"));
-            assert_eq!((found.offset, found.version, found.fault), (unit.offset as u64, unit.version, None));
-            assert_eq!((found.rows, found.first_file), (unit.rows().count() as u64, u32::from(unit.version <= 4)));
-            let first = u64::from(found.first_file);
-            assert!(index.file(place, first + found.files - 1).is_ok() && index.directory(place, first + found.directories - 1).is_ok());
-            assert_eq!(index.file(place, first + found.files), Err(Error::NO_SUCH_FILE));
-            assert_eq!(index.directory(place, first + found.directories), Err(Error::NO_SUCH_DIRECTORY));
+        let sections = built.sections();
+        for unit in sections.units() {
+            let unit = unit.expect("the unit is read");
+            let first = u64::from(unit.version <= 4);
+            assert!(sections.file(unit.offset, first + unit.files - 1).is_ok());
+            assert!(sections.directory(unit.offset, first + unit.directories - 1).is_ok());
+            assert_eq!(sections.file(unit.offset, first + unit.files), Err(Error::NO_SUCH_FILE));
+            assert_eq!(sections.directory(unit.offset, first + unit.directories), Err(Error::NO_SUCH_DIRECTORY));
         }
-        assert_eq!(index.unit(units.len() as u64), None);
     }
+}
+
+#[test]
+fn a_refused_unit_has_a_next_one() {
+    // Eight bytes of version 9, and a unit of no instructions; then three bytes of a length.
+    let mut section = vec![4, 0, 0, 0, 9, 0, 0, 0];
+    section.extend(unit_of(&[]));
+    section.extend([1, 2, 3]);
+    let units: Vec<_> = sections_of(&section).units().map(|unit| unit.map(|unit| unit.offset)).collect();
+    assert_eq!(units, [Err(Error::UNKNOWN_VERSION), Ok(8), Err(Error::UNEXPECTED_EOF)]);
 }
 
 #[test]
 fn addresses_of_a_line_have_that_line() {
     for built in built() {
-        let index = Index::open(&built.sections(), 0).expect("the index is made");
+        let bytes = Map::write(&built.sections(), &built.compilations(), 0, &[]).expect("the map is made");
+        let map = Map::open(&bytes).expect("it is a map");
         for address in built.addresses() {
-            let place = index.find(address).expect("a row covers it");
-            let Some(line) = place.row.line() else { continue };
-            if let Some(found) = index.addresses(place.unit, place.row.file_index(), line.get()).expect("memory is there") {
-                assert!(found.line >= line.get());
-                for at in found.addresses {
-                    let row = index.find(at).expect("a row covers it").row;
-                    assert_eq!(row.address(), at);
-                }
+            let place = map.find(address).expect("a row covers it");
+            let path = place.path.expect("it has a path");
+            if let Some(found) = map.addresses_of(path, u64::from(place.line)) {
+                assert!(found.line >= u64::from(place.line));
+                assert!(found.addresses.iter().all(|at| built.addresses().contains(at)));
+                let name = path.rsplit(|byte| *byte == b'/').next().expect("there is a last component");
+                assert_eq!(map.addresses_of(name, u64::from(place.line)), Some(found.clone()));
+                assert_eq!(map.addresses_of(&[b"./x/../", name].concat(), u64::from(place.line)), Some(found));
+                assert_eq!(map.addresses_of(&[b"x/", name].concat(), u64::from(place.line)), None);
             }
+            assert_eq!(map.addresses_of(path, u64::MAX), None);
         }
-        assert_eq!(index.addresses(0, 1, u64::MAX), Ok(None));
-        let address = *built.addresses().first().expect("there is a row");
-        let place = index.find(address).expect("a row covers it");
-        let line = place.row.line().map_or(0, |line| line.get());
-        let path = index.path(place.unit, place.row.file_index(), &[]).expect("the path is told");
-        let one = index.addresses(place.unit, place.row.file_index(), line).expect("memory is there").expect("it has code");
-        let all = index.addresses_of(&path, line).expect("memory is there").expect("it has code");
-        assert_eq!(all.line, one.line);
-        assert!(one.addresses.iter().all(|address| all.addresses.contains(address)));
-        let name = path.rsplit(|byte| *byte == b'/').next().expect("there is a last component");
-        let named = index.addresses_of(name, line).expect("memory is there").expect("it has code");
-        assert_eq!(named, all);
-        assert_eq!(index.addresses_of(&[b"./x/../", name].concat(), line), Ok(Some(named)));
-        assert_eq!(index.addresses_of(&[b"x/", name].concat(), line), Ok(None));
-        assert_eq!(index.addresses_of(b"no such file", 1), Ok(None));
+        assert_eq!(map.addresses_of(b"no such file", 1), None);
     }
 }
 
@@ -366,11 +346,9 @@ fn what_is_bad_is_refused() {
         big_endian: false,
         address_size: 8,
     };
-    let index = Index::open(&sections, 0).expect("a section of no unit has an index");
-    assert_eq!(index.find(0), None);
-    assert_eq!(index.path(7, 0, &[]), Err(Error::NO_SUCH_UNIT));
+    assert_eq!(sections.path(0, 0, &[]).map_err(Error::number), Err(1));
     let size = Sections { address_size: 3, ..sections };
-    assert_eq!(Index::open(&size, 0).map(|_| ()).map_err(Error::number), Err(6));
+    assert_eq!(size.path(0, 0, &[]).map_err(Error::number), Err(6));
     assert_eq!(sections.units().next().expect("bytes are left").map(|_| ()).map_err(Error::number), Err(1));
     assert_eq!(version(), 100);
 }
@@ -381,16 +359,13 @@ fn files_and_directories_are_told() {
     let section = unit_of(&[
         0, 8, 3, b'd', b'.', b'c', 0, 0, 0, 0, 0, 9, 2, 0x10, 0, 0, 0, 0, 0, 0, 0, 1, 2, 4, 0, 1, 1,
     ]);
-    let index = Index::open(&sections_of(&section), 0).expect("the index is made");
-    let file = index.file(0, 1).expect("there is such a file");
+    let sections = sections_of(&section);
+    let file = sections.file(0, 1).expect("there is such a file");
     assert_eq!((file.path, file.directory, file.directory_number), (Some(Text::Here(b"d.c".to_vec())), None, 0));
     assert_eq!((file.timestamp, file.size, file.md5), (Some(0), Some(0), None));
-    assert_eq!(index.file(0, 2).map(|_| ()), Err(Error::NO_SUCH_FILE));
-    assert_eq!(index.file(1, 1).map(|_| ()), Err(Error::NO_SUCH_UNIT));
-    assert_eq!(index.directory(0, 0), Err(Error::NO_SUCH_DIRECTORY));
-    assert_eq!(index.directory(1, 0), Err(Error::NO_SUCH_UNIT));
-    assert_eq!(index.addresses(1, 1, 1), Err(Error::NO_SUCH_UNIT));
-    assert_eq!(index.rows(1).map(|_| ()), Err(Error::NO_SUCH_UNIT));
+    assert_eq!(sections.file(0, 2).map(|_| ()), Err(Error::NO_SUCH_FILE));
+    assert_eq!(sections.file(1, 1).map(|_| ()).map_err(Error::number), Err(1));
+    assert_eq!(sections.directory(0, 0), Err(Error::NO_SUCH_DIRECTORY));
 }
 
 #[test]
@@ -410,8 +385,7 @@ fn what_is_written_is_read() {
         assert_eq!((read.version, read.next, read.fault), (u32::from(version), unit.len(), None));
         let again: Vec<LineRow> = read.rows().copied().collect();
         assert_eq!(again[..200], rows);
-        let index = Index::open(&sections_of(&unit), 1).expect("the index is made");
-        assert_eq!(index.path(0, first, &[]), Ok(b"/source/main.c".to_vec()));
+        assert_eq!(sections_of(&unit).path(0, first, &[]), Ok(b"/source/main.c".to_vec()));
         contents.row(LineRow::at(0).with_file(9));
         assert_eq!(contents.write(), Err(Error::NO_SUCH_FILE));
     }

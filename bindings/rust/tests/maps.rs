@@ -35,9 +35,9 @@ fn places_are_those_of_the_map() {
     assert_eq!(map.check(), Ok(()));
     assert_eq!((map.len(), map.is_empty(), map.identity(), map.address_size()), (3, false, &b"id"[..], 8));
     let place = map.find(0x100f).expect("it is known");
-    assert_eq!((place.path, place.line, place.column, place.unit), (Ok(&b"/a.c"[..]), 5, 2, 7));
+    assert_eq!((place.path, place.line, place.column, place.unit, place.is_stmt), (Ok(&b"/a.c"[..]), 5, 2, 7, true));
     let place = map.find(0x1010).expect("it is known");
-    assert_eq!((place.path, place.line, place.unit), (Err(NoPath::Reason(4)), 6, 9));
+    assert_eq!((place.path, place.line, place.unit, place.is_stmt), (Err(NoPath::Reason(4)), 6, 9, false));
     assert_eq!([0, 0xfff, 0x1020, u64::MAX].map(|address| map.find(address)), [None; 4]);
     let addresses = [0xfff, 0x1000, 0x101f, 0x1020];
     assert_eq!(map.find_all(&addresses), addresses.map(|address| map.find(address)));

@@ -39,8 +39,8 @@ fn contents(version: u16) -> Contents {
 /// The address, the line and whether it is an end of each row of a unit.
 fn rows(unit: &[u8]) -> Vec<(u64, u64, bool)> {
     let sections = Sections { debug_line: unit, debug_line_str: &[], debug_str: &[], big_endian: false, address_size: 8 };
-    let rows = gimli_line_proved::Rows::open(&sections, 0).expect("it is a unit");
-    rows.map(|row| row.expect("it is a row"))
+    let unit = sections.units().next().expect("there is a unit").expect("it is read");
+    unit.rows()
         .map(|row| (row.address(), row.line().map_or(0, |line| line.get()), row.end_sequence()))
         .collect()
 }

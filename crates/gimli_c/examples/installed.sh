@@ -35,6 +35,7 @@ read_header() {
     done
 }
 for compiler in gcc clang; do read_header $compiler header.c c99 c11 c17 c2x; done
+if command -v clang >/dev/null; then clang -std=c11 -Weverything -Wno-padded -Werror -I "$installed/include" -c "$work/header.c" -o "$work/header.o"; fi
 for compiler in g++ clang++; do read_header $compiler header.cc c++11 c++14 c++17 c++20 c++2b; done
 
 # A program over what was installed.

@@ -1,9 +1,9 @@
 #!/usr/bin/env bash
 # Looks for misused memory: the example where_is under valgrind; all examples built with the address sanitiser; each call over buffers
-# that end at a page that can't be read (guarded.c); many threads, each with an index of its own (threads.c), also under helgrind
-# of valgrind; what an index takes of memory for .debug_str (kept.c); and maps (maps.c): many threads and a signal handler over one,
-# with a malloc that ends the program where a question asks for memory, and maps with bytes that were changed or cut. Over compiled programs of versions 2 to 5. What a machine lacks is said, and passed over. The library is that of
-# `make`, or of .ci/library.
+# that end at a page that can't be read (guarded.c); many threads over the same sections (directories.c), also under helgrind of valgrind;
+# and maps (maps.c): many threads and a signal handler over one, with a malloc that ends the program where a question asks for memory, and
+# maps with bytes that were changed or cut. Over compiled programs of versions 2 to 5. What a machine lacks is said, and passed over. The
+# library is that of `make`, or of .ci/library.
 set -eu
 here=$(cd "$(dirname "$0")" && pwd)
 crate=$(dirname "$here")
@@ -43,13 +43,8 @@ for version in 2 3 4 5; do
 done
 echo "gimli_c: $calls answers over buffers that end at a page that can't be read"
 
-build threads threads
-for version in 2 3 4 5; do "$work/threads" "$work/line$version" 16 >/dev/null; done
-echo "gimli_c: 16 threads, each with an index of its own, find what one finds"
-
-build kept kept
-for version in 2 3 4 5; do "$work/kept" "$work/line$version" "$work/line_str$version"; done
-echo "gimli_c: an index keeps no .debug_str that no unit refers to, and one that a unit does"
+build directories directories
+echo "gimli_c: $("$work/directories") answers over sections made by hand, and the same in 8 threads at once"
 
 build maps maps
 echo "gimli_c: maps: $("$work/maps"), without memory"
@@ -62,31 +57,26 @@ else
 fi
 
 # Some machines have the compiler's word, and no library for it.
-if build sanitised where_is -fsanitize=address,undefined 2>/dev/null; then
-    build sanitised_rows addr2line -fsanitize=address,undefined
-    build sanitised_rewrite rewrite -fsanitize=address,undefined
-    build sanitised_directories directories -fsanitize=address,undefined
-    "$work/sanitised_directories" >/dev/null
+if build sanitised_where_is where_is -fsanitize=address,undefined 2>/dev/null; then
+    for example in addr2line directories map make_map compiler; do
+        build "sanitised_$example" "$example" -fsanitize=address,undefined
+    done
     build sanitised_maps maps -fsanitize=address,undefined -DSANITISED
+    "$work/sanitised_directories" >/dev/null
     "$work/sanitised_maps" >/dev/null
-    build sanitised_map map -fsanitize=address,undefined
     "$work/maps" "$work/small.map"
     "$work/sanitised_map" "$work/small.map" 400000 400015 400020 0.c:1 0.c:2 >/dev/null
-    build sanitised_make_map make_map -fsanitize=address,undefined
-    build sanitised_compiler compiler -fsanitize=address,undefined
     for version in 2 3 4 5; do
         # shellcheck disable=SC2086
-        "$work/sanitised" "$work/built$version" $addresses >/dev/null
+        "$work/sanitised_where_is" "$work/built$version" $addresses >/dev/null
+        "$work/sanitised_addr2line" "$work/line$version" >/dev/null
         # shellcheck disable=SC2086
-        echo $addresses | tr ' ' '\n' | "$work/sanitised" "$work/built$version" >/dev/null
-        "$work/sanitised_rows" "$work/line$version" >/dev/null
+        "$work/sanitised_addr2line" "$work/line$version" $addresses >/dev/null
         "$work/sanitised_make_map" "$work/built$version" "$work/made.map" >/dev/null
         # shellcheck disable=SC2086
         "$work/sanitised_map" "$work/made.map" $addresses main.c:1 sums.c:1 >/dev/null
         "$work/sanitised_compiler" "$version" >/dev/null
         "$work/sanitised_compiler" "$version" in-place >/dev/null
-        # It gives no memory of its own back before it ends.
-        ASAN_OPTIONS=detect_leaks=0 "$work/sanitised_rewrite" "$work/line$version" "$work/line_str$version" >/dev/null
     done
     echo "gimli_c: the address sanitiser finds nothing in the examples"
 else
@@ -94,17 +84,15 @@ else
 fi
 
 if have valgrind "memory by it"; then
-    build plain where_is
-    build plain_rows addr2line
-    build plain_make_map make_map
-    build plain_compiler compiler
+    checked() { valgrind -q --error-exitcode=9 --leak-check=full --errors-for-leak-kinds=all "$@" >/dev/null; }
+    for example in where_is addr2line make_map compiler; do build "$example" "$example"; done
     for version in 2 5; do
         # shellcheck disable=SC2086
-        valgrind -q --error-exitcode=9 --leak-check=full --errors-for-leak-kinds=all "$work/plain" "$work/built$version" $addresses >/dev/null
-        valgrind -q --error-exitcode=9 --leak-check=full --errors-for-leak-kinds=all "$work/plain_rows" "$work/line$version" >/dev/null
-        valgrind -q --error-exitcode=9 --leak-check=full --errors-for-leak-kinds=all "$work/plain_make_map" "$work/built$version" "$work/made.map" >/dev/null
-        valgrind -q --error-exitcode=9 --leak-check=full --errors-for-leak-kinds=all "$work/plain_compiler" "$version" >/dev/null
-        valgrind -q --error-exitcode=9 --tool=helgrind "$work/threads" "$work/line$version" 4 >/dev/null
+        checked "$work/where_is" "$work/built$version" $addresses
+        checked "$work/addr2line" "$work/line$version"
+        checked "$work/make_map" "$work/built$version" "$work/made.map"
+        checked "$work/compiler" "$version"
     done
+    valgrind -q --error-exitcode=9 --tool=helgrind "$work/directories" >/dev/null
     echo "gimli_c: valgrind finds no memory that is misused or lost, and no thread that meets another"
 fi

@@ -1,8 +1,9 @@
 #!/usr/bin/env bash
 # Builds a small program, takes its line information as raw bytes, builds the examples over libgimli_c.a, and compares what one
-# prints with what linetool prints: every row of every unit, and the rows round some addresses. Another writes what it reads as a
-# new unit, reads that, and compares the two itself. Two more, in C and in C++, print paths and lines by an index, which are
-# compared with those of addr2line of binutils. Another asks for directories of compilations, by sections that are made by hand.
+# prints with what linetool prints: every row of every unit, and the rows round some addresses. Others, in C and in C++, print
+# paths and lines by a map of the program, which are compared with those of addr2line of binutils. Another writes lines for an assembler,
+# which addr2line reads once they are linked. Another asks for directories of compilations, paths and lines, by sections that are made by
+# hand.
 # It needs a C compiler, objcopy and addr2line, and a C++ compiler for the one in C++.
 # Where one is missing it says so, and ends well. The examples in Rust are those of bindings/rust.
 #
@@ -16,7 +17,6 @@ top=$(cd "$crate/../.." && pwd)
 # and in file.rt.
 diff <(sed -nE 's/^ +GIMLI_([A-Z0-9_]+) = ([0-9]+).*/\1 \2/p' "$crate/include/gimli_line.h") \
     <(cd "$crate/src" && sed -nE 's/^pub const ([A-Z0-9_]+): u[0-9]+ = ([0-9]+);/\1 \2/p' status.rt row.rt file.rt)
-[ "$(sed -nE 's/^pub const OPTIONS_SIZE: usize = ([0-9]+);/\1/p' "$crate/src/index/open.rt")" = 24 ] # sizeof(gimli_open_options), below
 # So is its version.
 [ "$(sed -nE 's/^#define GIMLI_VERSION_[A-Z]+ ([0-9]+)$/\1/p' "$crate/include/gimli_line.h" | awk '{v = v * 100 + $1} END {print v}')" = \
     "$(sed -nE 's/^pub const VERSION: u32 = ([0-9]+);/\1/p' "$crate/src/version.rt")" ]
@@ -32,21 +32,13 @@ kit=$(dirname "$(rt doc)")/c
 work=$(mktemp -d)
 trap 'rm -rf "$work"' EXIT
 
-cc -std=c11 -Wall -Wextra -Werror -O2 -I "$crate/include" "$here/c/addr2line.c" "$library" "$kit/liblibc_c.a" -o "$work/addr2line"
-cc -std=c11 -Wall -Wextra -Werror -O2 -I "$crate/include" "$here/c/rewrite.c" "$library" "$kit/liblibc_c.a" -o "$work/rewrite"
-cc -std=c11 -Wall -Wextra -Werror -O2 -I "$crate/include" "$here/c/where_is.c" "$library" "$kit/liblibc_c.a" -o "$work/where_is"
-cc -std=c11 -Wall -Wextra -Werror -O2 -I "$crate/include" "$here/c/first.c" "$library" "$kit/liblibc_c.a" -o "$work/first"
-cc -std=c11 -Wall -Wextra -Werror -O2 -I "$crate/include" "$here/c/directories.c" "$library" \
-    "$kit/liblibc_c.a" -o "$work/directories"
-cc -std=c11 -Wall -Wextra -Werror -O2 -I "$crate/include" "$here/c/opened.c" "$library" "$kit/liblibc_c.a" -o "$work/opened"
-cc -std=c11 -Wall -Wextra -Werror -O2 -I "$crate/include" "$here/c/map.c" "$library" "$kit/liblibc_c.a" -o "$work/map"
-cc -std=c11 -Wall -Wextra -Werror -O2 -I "$crate/include" "$here/c/maps.c" "$library" "$kit/liblibc_c.a" -lpthread -o "$work/maps"
-cc -std=c11 -Wall -Wextra -Werror -O2 -I "$crate/include" "$here/c/make_map.c" "$library" "$kit/liblibc_c.a" -o "$work/make_map"
-cc -std=c11 -Wall -Wextra -Werror -O2 -I "$crate/include" "$here/c/compiler.c" "$library" "$kit/liblibc_c.a" -o "$work/compiler"
-indexed=where_is
+for example in addr2line where_is directories make_map map maps compiler; do
+    cc -std=c11 -Wall -Wextra -Werror -O2 -I "$crate/include" "$here/c/$example.c" "$library" "$kit/liblibc_c.a" -lpthread -o "$work/$example"
+done
+in_each=where_is
 if command -v c++ >/dev/null; then
     c++ -std=c++11 -Wall -Wextra -Werror -O2 -I "$crate/include" "$here/cpp/where_is.cc" "$library" "$kit/liblibc_c.a" -o "$work/where_is_cpp"
-    indexed="where_is where_is_cpp"
+    in_each="where_is where_is_cpp"
 else
     echo "gimli_c: the C++ example isn't tried, since c++ is missing"
 fi
@@ -65,16 +57,12 @@ expected() {
 }
 
 compared=0
-rewritten=0
 places=0
 mapped=0
 begins=0
 for version in 2 3 4 5; do
     (cd "$top/compare" && cc -g "-gdwarf-$version" -O1 sources/main.c sources/sums.c -o "$work/built")
     objcopy --dump-section ".debug_line=$work/line.bin" "$work/built" "$work/copy"
-    : >"$work/line_str.bin"
-    objcopy --dump-section ".debug_line_str=$work/line_str.bin" "$work/built" "$work/copy" 2>/dev/null || true
-    rewritten=$((rewritten + $("$work/rewrite" "$work/line.bin" "$work/line_str.bin")))
     expected >"$work/rows"
     addresses=$(cut -d' ' -f1 "$work/rows" | sort -u)
     for address in $addresses 0 ffffffffffffffff; do expected "$address"; done >"$work/pairs"
@@ -82,29 +70,18 @@ for version in 2 3 4 5; do
     covered=$(awk '$NF !~ /e/ {print $1}' "$work/rows" | sort -u)
     # shellcheck disable=SC2086
     addr2line -e "$work/built" $covered | sed -E 's/ \(discriminator [0-9]+\)//' >"$work/places"
-    for example in $indexed; do
-        # shellcheck disable=SC2086
-        "$work/$example" "$work/built" $covered | sed -E "s,:[0-9]+\$,," >"$work/answer"
-        cmp "$work/places" "$work/answer"
-        places=$((places + $(wc -l <"$work/places")))
-    done
-    # The example of the page: the place of one address, and how many rows its unit has.
-    address=$(head -n 1 <<<"$covered")
-    count=0
-    while read -r _ offset _; do
-        [ "$("$program" find "$work/line.bin" little 8 "$offset" "$address")" = none ] && continue
-        count=$("$program" rows "$work/line.bin" little 8 "$offset" | wc -l)
-        break
-    done < <("$program" units "$work/line.bin" little 8)
-    printf '%s\n%s rows\n' "$(head -n 1 "$work/places")" "$count" >"$work/first_place"
-    "$work/first" "$work/built" "$address" | cmp "$work/first_place" -
-    # The same where the sections are compressed, and of the index that is made of the file by itself.
+    # The same where the sections are compressed.
     objcopy --compress-debug-sections=zlib "$work/built" "$work/compressed"
-    # shellcheck disable=SC2086
-    "$work/where_is" "$work/compressed" $covered | sed -E "s,:[0-9]+\$,," | cmp "$work/places" -
-    # shellcheck disable=SC2086
-    "$work/opened" "$work/compressed" $covered | cmp "$work/places" -
-    # And of the maps of both, which are named by the build id, and say the same of every address.
+    for example in $in_each; do
+        for name in built compressed; do
+            # shellcheck disable=SC2086
+            "$work/$example" "$work/$name" $covered | sed -E "s,:[0-9]+\$,," | cmp "$work/places" -
+            [ "$("$work/$example" "$work/$name" 0 ffffffffffffffff)" = "none
+none" ]
+            places=$((places + $(wc -l <"$work/places")))
+        done
+    done
+    # The same by maps that stand in files, which are named by the build id, and say the same of every address.
     for name in built compressed; do
         "$work/make_map" "$work/$name" "$work/$name.map" >"$work/named"
         readelf -n "$work/$name" | sed -nE 's/.*Build ID: //p' | cmp - "$work/named"
@@ -135,9 +112,6 @@ none" ]
         done
         [ "$last" -gt 10 ]
     done
-    echo "$covered" | "$work/where_is" "$work/built" | sed -E "s,:[0-9]+\$,," | cmp "$work/places" -
-    [ "$("$work/where_is" "$work/built" 0 ffffffffffffffff)" = "none
-none" ]
     "$work/addr2line" "$work/line.bin" | cmp "$work/rows" -
     # shellcheck disable=SC2086
     "$work/addr2line" "$work/line.bin" $addresses 0 ffffffffffffffff | cmp "$work/pairs" -
@@ -153,9 +127,9 @@ printf '%s\n' /source/0.c:1:0 '??:2:1' none /source/0.c:4:3 none >"$work/expecte
 none
 none" ]
 ! "$work/map" "$crate/include/gimli_line.h" 400000 2>"$work/said"
-[ "$(cat "$work/said")" = "map: the bytes don't begin as a map does" ]
+[ "$(cat "$work/said")" = "the bytes don't begin as a map does" ]
 ! "$work/make_map" "$crate/include/gimli_line.h" "$work/no.map" 2>"$work/said"
-[ "$(cat "$work/said")" = "make_map: the bytes are no ELF file that can be read" ]
+[ "$(cat "$work/said")" = "the bytes are no ELF file that can be read" ]
 # The lines of two functions whose addresses a linker gives, by each form of relocations: addr2line finds what compiler.c wrote.
 linked=0
 if [ "$(uname -m)" = x86_64 ]; then
@@ -180,15 +154,19 @@ if [ "$(uname -m)" = x86_64 ]; then
     done
 fi
 # What is no ELF file, and a file without lines.
-[ "$("$work/opened" "$crate/include/gimli_line.h" 0 2>&1 || true)" = "opened: the bytes are no ELF file that can be read" ]
+[ "$("$work/where_is" "$crate/include/gimli_line.h" 0 2>&1 || true)" = "the bytes are no ELF file that can be read" ]
 objcopy --strip-debug "$work/built" "$work/stripped"
-[ "$("$work/opened" "$work/stripped" 0 2>&1 || true)" = "opened: the ELF file has no section of this name" ]
+[ "$("$work/where_is" "$work/stripped" 0 2>&1 || true)" = "the ELF file has no section of this name" ]
+# After a unit that is refused the rows of the next ones are still printed.
+printf '\4\0\0\0\11\0\0\0' | cat - "$work/line.bin" >"$work/refused.bin"
+! "$work/addr2line" "$work/refused.bin" >"$work/answer" 2>"$work/said"
+cmp "$work/rows" "$work/answer"
+[ "$(cat "$work/said")" = "unit at 0: the version of a unit is none of 2 to 5" ]
 directories=$("$work/directories")
 echo "gimli_c: a map that was written by docs/INDEX.md alone is read as it was written"
-echo "gimli_c: $directories answers on directories of compilations are as made by hand"
+echo "gimli_c: $directories answers on directories, paths and lines are as made by hand"
 echo "gimli_c: $mapped places by maps that make_map made are addr2line's, and each map has its program's build id"
 echo "gimli_c: $begins addresses of lines by those maps have these lines by addr2line too"
 echo "gimli_c: $linked lines at symbols that a linker placed are addr2line's"
-echo "gimli_c: $rewritten rows were written as they were read"
-echo "gimli_c: $places paths and lines of the examples ($indexed) are addr2line's"
+echo "gimli_c: $places paths and lines of the examples ($in_each) are addr2line's"
 echo "gimli_c: $compared lines of the example addr2line are linetool's"

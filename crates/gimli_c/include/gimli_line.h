@@ -6,18 +6,13 @@
  *
  *   cc program.c $(pkg-config --cflags --libs gimli_line)
  *
- * For the path, line and column of many addresses, from many threads or a signal handler: a map, which is an index as bytes, made
- * once and then mapped from a file: gimli_line_map_find, gimli_line_map_find_all. examples/c/map.c does this.
+ * For the path, line and column of addresses: a map, which is an index as bytes. gimli_line_map_of_elf makes it of an ELF file, and
+ * gimli_line_map_of_sections of its sections; gimli_line_map_find and gimli_line_map_find_all ask it, from any thread and from a signal
+ * handler, also after it was written to a file and mapped. examples/c/where_is.c and examples/c/map.c do this.
  *
- * For the same from an ELF file or its sections, on one thread: gimli_line_index_open_elf or gimli_line_index_open_sections once,
- * gimli_line_index_find for each address or gimli_line_index_find_all for an array of them, and gimli_line_index_path for the path of
- * the row's file. A map is the faster way. examples/c/where_is.c does this.
- *
- * For all rows of a unit, some at a time: gimli_line_rows_open once, gimli_line_rows_next until there are no more, and
- * gimli_line_rows_close. examples/c/addr2line.c does this.
- *
- * For one unit, without a handle: gimli_line_unit gives the units one after the other, gimli_line_rows the rows of one,
- * gimli_line_find the row of an address, and gimli_line_file and gimli_line_directory what a path is made of.
+ * For all units and their rows: gimli_line_unit gives the units one after the other, gimli_line_rows the rows of one, gimli_line_find
+ * the row of an address, gimli_line_path the whole path of a file, and gimli_line_file and gimli_line_directory what it is made of.
+ * examples/c/addr2line.c does this.
  *
  * `objcopy --dump-section .debug_line=line.bin --dump-section .debug_line_str=line_str.bin --dump-section .debug_str=str.bin
  * program copy` takes the sections out of a program. Where one isn't there, as .debug_line_str up to version 4, objcopy says so and
@@ -28,12 +23,9 @@
  * - A pointer is never null, also where its length is 0: GIMLI_BYTES(pointer) is the pointer, and some other place where it is
  *   null. (In C++ data() of what is empty may be null.)
  * - What a call writes to overlaps neither the section nor anything else that it writes to.
- * - No call but those of maps is made from a signal handler, or in the forked child of a process with threads.
- * - A handle is as GIMLI_LINE_INDEX_CLOSED or GIMLI_ROW_READER_CLOSED, or as the last call on it left it: its field isn't
- *   touched, and of a copy and its original only one is used on. So a class may move it, and leave a closed one.
- * - A handle stays on the thread that opened it: threads ask one map, or open a handle each, and may share the sections. (That a
- *   handle may be shared, or go to another thread, isn't proved: see gimli_line_index.)
- * Nothing of the caller is kept after a call. Calls with handles of their own, or without any, may run in several threads at once.
+ * - No call but those that ask maps is made from a signal handler, or in the forked child of a process with threads.
+ * Nothing of the caller is kept after a call, and no call has a thread of its own, an order or an end: any may run in several threads at
+ * once.
  *
  * What stays from 0.1 to the last 0.1.x: each name, struct and number of this page, and the symbols of the shared library, which
  * have the version GIMLI_LINE_0.1. A new call or status may come. Words: a `number` is that of a unit, file or directory; `first` is
@@ -56,10 +48,8 @@ extern "C" {
  * reads or writes, by the number of its parameter and of its length's. */
 #if defined(__GNUC__)
 #define GIMLI_CALL __attribute__((nonnull, warn_unused_result, nothrow))
-#define GIMLI_CLOSE __attribute__((nonnull, nothrow))
 #else
 #define GIMLI_CALL
-#define GIMLI_CLOSE
 #endif
 #if defined(__GNUC__) && !defined(__clang__) && __GNUC__ >= 10
 #define GIMLI_READS(array, length) __attribute__((access(read_only, array, length)))
@@ -121,7 +111,6 @@ enum gimli_status {
     GIMLI_NEED_VERSION_4 = 29,                         /* several operations in an instruction, before version 4 */
     GIMLI_UNIT_TOO_LONG = 30,                          /* a length, or the first address of a sequence, doesn't fit its word */
     GIMLI_NO_ROOM = 31,                                /* what is written is longer than the room for it */
-    GIMLI_CLOSED = 32,                                 /* the handle is closed */
     GIMLI_UNKNOWN_PATH = 33,                           /* a string of a path can't be told */
     /* 34 to 39 are answered by the calls that ask maps alone. */
     GIMLI_NO_MAP = 34,                                 /* the bytes don't begin as a map does */
@@ -130,7 +119,6 @@ enum gimli_status {
     GIMLI_MAP_HEADER = 37,                             /* a size or the base in the header of a map is one that can't be */
     GIMLI_MAP_DISORDERED = 38,                         /* the ranges of a map don't ascend */
     GIMLI_MAP_PATH_OUTSIDE = 39,                       /* a path isn't inside its map */
-    GIMLI_NO_SUCH_UNIT = 40,                           /* an index has no unit of this number */
     GIMLI_NO_CODE = 41,                                /* no line from the one asked for on has code */
     GIMLI_NO_COMP_DIR = 42,                            /* no unit of .debug_info tells the directory of the compilation */
     GIMLI_UNKNOWN_OPTIONS = 43,                        /* options have a size that this library doesn't know */
@@ -149,7 +137,7 @@ typedef struct gimli_unit {
     uint64_t next;         /* the offset of what follows it in the section */
     uint64_t directories;  /* how many its table has: numbers from 1 on up to version 4, and from 0 on in version 5 */
     uint64_t files;        /* how many it has, those that its program defines included; numbers as those of directories */
-    uint64_t rows;         /* how many its program gives before its first fault */
+    uint64_t rows;         /* how many its program gives before its first fault: at most `length` */
     uint32_t version;      /* 2 to 5 */
     uint32_t address_size; /* in bytes: 1, 2, 4 or 8 */
     uint32_t offset_size;  /* in bytes: 4 or 8 */
@@ -219,15 +207,17 @@ typedef struct gimli_file {
  * as long as it is below `length`. */
 
 /* Reads the unit at an offset, and runs its program. A fault of the program is no refusal: unit->fault has its number. Where
- * another number than 0 is answered, *unit stays as it was, and where the next unit is isn't known; an index goes on after a unit
- * whose length can be read (gimli_line_index_unit). */
+ * another number than 0 is answered, only unit->next is written, so that a caller goes on after a refused unit: it is the offset
+ * after the unit where its length can be read and says no more bytes than there are, whatever else is wrong, and `length` where not,
+ * since no unit follows then. */
 uint32_t gimli_line_unit(const uint8_t *section, size_t length, bool big, uint8_t address_size, size_t offset,
                          gimli_unit *unit) GIMLI_CALL GIMLI_READS(1, 2);
 
 /* Runs the program of the unit at an offset. Its rows from the skip-th on, from 0, go into rows[0] and so on, as far as
- * there is room; *count is how many rows it has in all. The first fault ends the run: its number is answered, and the rows
- * before it are there. Where no unit can be read *count is 0. Where memory is missing, *count is 0, and the first rows may
- * have been written. */
+ * there is room; *count is how many rows it has in all. A unit has at most as many rows as bytes, so an array of unit->length rows
+ * has room for all of them (and one of length - offset rows for those of any unit at the offset). The first fault ends the run: its
+ * number is answered, and the rows before it are there. Where no unit can be read *count is 0. Where memory is missing, *count is 0,
+ * and the first rows may have been written. */
 uint32_t gimli_line_rows(const uint8_t *section, size_t length, bool big, uint8_t address_size, size_t offset,
                          uint64_t skip, gimli_row *rows, size_t room, uint64_t *count) GIMLI_CALL GIMLI_READS(1, 2)
     GIMLI_WRITES(7, 8);
@@ -248,6 +238,18 @@ uint32_t gimli_line_file(const uint8_t *section, size_t length, bool big, uint8_
 uint32_t gimli_line_directory(const uint8_t *section, size_t length, bool big, uint8_t address_size, size_t offset,
                               uint64_t number, gimli_text *directory, uint8_t *bytes, size_t room)
     GIMLI_CALL GIMLI_READS(1, 2) GIMLI_WRITES(8, 9);
+
+/* Tells the whole path of the file of a number: a relative one goes on from its directory, and that one from the directory of the
+ * compilation, `comp_dir`, which gimli_line_comp_dir tells. In version 5 the unit has that one too, as its directory 0: where that is
+ * absolute, `comp_dir` isn't looked at; where it is relative, each other relative directory goes on from `comp_dir`, and directory 0
+ * too if `comp_dir` is absolute. Where `comp_dir` has no bytes, such a path stays relative. `line_strings` and `strings` are the
+ * sections .debug_line_str and .debug_str, or no bytes. The bytes go into path[0] and so on, as far as there is room; *size is how many
+ * there are. No zero byte is added. GIMLI_NO_SUCH_FILE where there is no such file, as gimli_line_file has it; GIMLI_UNKNOWN_PATH where a
+ * string of the path can't be told. Where another number than 0 is answered, nothing is written. */
+uint32_t gimli_line_path(const uint8_t *section, size_t length, const uint8_t *line_strings, size_t line_strings_length,
+                         const uint8_t *strings, size_t strings_length, bool big, uint8_t address_size, size_t offset, uint64_t number,
+                         const uint8_t *comp_dir, size_t comp_dir_length, uint8_t *path, size_t room, size_t *size)
+    GIMLI_CALL GIMLI_READS(1, 2) GIMLI_READS(3, 4) GIMLI_READS(5, 6) GIMLI_READS(11, 12) GIMLI_WRITES(13, 14);
 
 /* Looks an address up in the unit at an offset: *first is the row that it belongs to, *second the next row, up to whose
  * address that holds. They are the first two adjacent rows of one sequence of which the first has an address at most the
@@ -291,7 +293,8 @@ typedef struct gimli_map_place {
     uint32_t line;    /* from 1 on; 0 where none is known */
     uint32_t column;  /* from 1 on; 0 for the left edge of the line */
     uint32_t no_path; /* 0 where the path is there, else why not: a number of docs/INDEX.md, or GIMLI_NO_PATH_OUTSIDE */
-    uint32_t known;   /* 1; 0 where the map says nothing of the address */
+    bool known;       /* the map says something of the address */
+    bool is_stmt;     /* a good place for a breakpoint */
 } gimli_map_place;
 
 /* The path isn't inside the map, which is damaged. */
@@ -350,65 +353,22 @@ uint32_t gimli_elf_section(const uint8_t *file, size_t length, const uint8_t *na
 uint32_t gimli_elf_build_id(const uint8_t *file, size_t length, uint8_t *id, size_t room, size_t *size)
     GIMLI_CALL GIMLI_READS(1, 2) GIMLI_WRITES(3, 4);
 
-/* The handle of an index. It owns the index; a closed one owns nothing. It is for one thread: each call takes the handle for itself,
- * those that only read too, and a handle stays on the thread that opened it. For threads there are maps. (How a call could share what a
- * handle owns can't be proved of a type that crosses to C: docs/DECISIONS.md says what was tried.) */
-typedef struct gimli_line_index {
-    void *at; /* null where it is closed */
-} gimli_line_index;
-
-/* What a handle begins with. */
-#define GIMLI_LINE_INDEX_CLOSED {0}
-
-/* How an index is made. GIMLI_OPEN_OPTIONS begins one: addresses of 8 bytes, the least significant byte first, no code at 0. */
-typedef struct gimli_open_options {
-    size_t size;          /* sizeof(gimli_open_options), by which a later library knows the struct */
+/* How a map is made. GIMLI_MAP_OPTIONS begins one: addresses of 8 bytes, the least significant byte first, no code at 0. */
+typedef struct gimli_map_options {
+    size_t size;          /* sizeof(gimli_map_options), by which a later library knows the struct */
     uint64_t lowest;      /* the lowest address of code: sequences that begin below it are left out, since a linker leaves code that
                            * it drops at low addresses, mostly at 0. 1 is the least that answers right there; 0 leaves none out,
                            * as for code that does begin at 0 */
     uint8_t address_size; /* in bytes: 1, 2, 4 or 8. It counts up to version 4; version 5 says its own */
     bool big;             /* the most significant byte of a number comes first */
-} gimli_open_options;
-#define GIMLI_OPEN_OPTIONS {sizeof(gimli_open_options), 1, 8, false}
+} gimli_map_options;
+#define GIMLI_MAP_OPTIONS {sizeof(gimli_map_options), 1, 8, false}
 
-/* Makes an index over all units of the section .debug_line, and puts it behind the handle; an index that stood there is closed.
- * `line_strings` and `strings` are the sections .debug_line_str and .debug_str, or no bytes. The index has copies of what it needs:
- * the caller's may go. It has no copy of `strings` where no directory and no path of a file refers to it, which holds for all
- * programs up to version 4: no path needs it then. A unit that can't be read has no rows; of one whose run has a fault it has the
- * sequences that end before that. Rows that no end row follows are in no sequence, and that is no fault. Bytes behind the last unit
- * count as one that can't be read. It is GIMLI_OK for any bytes: gimli_line_index_unit tells what is wrong with a unit. Where another
- * number than 0 is answered, GIMLI_OUT_OF_MEMORY, GIMLI_UNSUPPORTED_ADDRESS_SIZE or GIMLI_UNKNOWN_OPTIONS, the handle has what it
- * had. */
-uint32_t gimli_line_index_open(const uint8_t *section, size_t length, const uint8_t *line_strings, size_t line_strings_length,
-                               const uint8_t *strings, size_t strings_length, const gimli_open_options *options,
-                               gimli_line_index *index)
-    GIMLI_CALL GIMLI_READS(1, 2) GIMLI_READS(3, 4) GIMLI_READS(5, 6);
-
-/* Does the same, and keeps the directory of each compilation (DW_AT_comp_dir), from which whole paths go on up to version 4: `info`,
- * `abbreviations` and `string_offsets` are the sections .debug_info, .debug_abbrev and .debug_str_offsets, or no bytes. The index has
- * no copy of these three. A unit that can't be read has no directory: see gimli_line_comp_dir. */
-uint32_t gimli_line_index_open_with_info(const uint8_t *section, size_t length, const uint8_t *line_strings,
-                                         size_t line_strings_length, const uint8_t *strings, size_t strings_length, const uint8_t *info,
-                                         size_t info_length, const uint8_t *abbreviations, size_t abbreviations_length,
-                                         const uint8_t *string_offsets, size_t string_offsets_length,
-                                         const gimli_open_options *options, gimli_line_index *index)
-    GIMLI_CALL GIMLI_READS(1, 2) GIMLI_READS(3, 4) GIMLI_READS(5, 6) GIMLI_READS(7, 8) GIMLI_READS(9, 10) GIMLI_READS(11, 12);
-
-/* The sections of a program that an index is made of, as one value. Set all of it to 0 first; what a program lacks may stay null. */
+/* The sections of a program, as one value. Set all of it to 0 first; what a program lacks may stay null. */
 typedef struct gimli_sections {
     const uint8_t *line, *line_strings, *strings, *info, *abbreviations, *string_offsets;
     size_t line_size, line_strings_size, strings_size, info_size, abbreviations_size, string_offsets_size;
 } gimli_sections;
-
-/* Does what gimli_line_index_open_with_info does, for sections. */
-static inline uint32_t gimli_line_index_open_sections(const gimli_sections *sections, const gimli_open_options *options,
-                                                      gimli_line_index *index) {
-    return gimli_line_index_open_with_info(
-        gimli_bytes(sections->line), sections->line_size, gimli_bytes(sections->line_strings), sections->line_strings_size,
-        gimli_bytes(sections->strings), sections->strings_size, gimli_bytes(sections->info), sections->info_size,
-        gimli_bytes(sections->abbreviations), sections->abbreviations_size, gimli_bytes(sections->string_offsets),
-        sections->string_offsets_size, options, index);
-}
 
 /* A section of an ELF file in memory of its own, which free() gives back; null with a size of 0 where the file has no such section, and
  * *status is why it can't be read, else 0. */
@@ -432,59 +392,65 @@ static inline uint8_t *gimli_elf_copy(const uint8_t *file, size_t length, const 
     }
 }
 
-/* Makes an index of an ELF file: of its .debug_line, .debug_line_str, .debug_str, .debug_info, .debug_abbrev and .debug_str_offsets, each
- * made whole, by its order of bytes, its size of addresses and its lowest address of code (in an object file, none is left out).
- * GIMLI_NO_ELF where it is none, GIMLI_NO_SECTION where it has no .debug_line, GIMLI_BAD_SECTION where one of these can't be read; else it
- * answers as gimli_line_index_open_with_info does. A file may lack the others: gimli_line_index_comp_dir answers GIMLI_NO_COMP_DIR then.
- * Where another number than 0 is answered, the handle has what it had. */
-static inline uint32_t gimli_line_index_open_elf(const uint8_t *file, size_t length, gimli_line_index *index) {
-    static const char *const names[6] = {".debug_line", ".debug_line_str", ".debug_str", ".debug_info", ".debug_abbrev",
-                                         ".debug_str_offsets"};
-    uint8_t *sections[6] = {NULL, NULL, NULL, NULL, NULL, NULL};
-    size_t sizes[6] = {0, 0, 0, 0, 0, 0};
-    gimli_elf elf;
-    gimli_open_options options = GIMLI_OPEN_OPTIONS;
-    uint32_t status = gimli_elf_open(file, length, &elf);
-    for (int i = 0; i < 6 && status == GIMLI_OK; i++) sections[i] = gimli_elf_copy(file, length, names[i], &sizes[i], &status);
-    if (status == GIMLI_OK && sections[0] == NULL) status = GIMLI_NO_SECTION;
-    if (status == GIMLI_OK) {
-        gimli_sections all = {sections[0], sections[1], sections[2], sections[3], sections[4], sections[5],
-                              sizes[0],    sizes[1],    sizes[2],    sizes[3],    sizes[4],    sizes[5]};
-        options.lowest = elf.relocatable ? 0 : elf.lowest;
-        options.address_size = elf.address_size;
-        options.big = elf.big;
-        status = gimli_line_index_open_sections(&all, &options, index);
-    }
-    for (int i = 0; i < 6; i++) free(sections[i]);
-    return status;
-}
-
 /* Makes the map of a program, at the front of `map`, and puts its number of bytes into *size. `section`, `line_strings`, `strings`,
  * `info`, `abbreviations` and `string_offsets` are the sections .debug_line, .debug_line_str, .debug_str, .debug_info, .debug_abbrev and
  * .debug_str_offsets, or no bytes; `identity` names what the map is made of: a build id, a checksum, or nothing. The map says of each
- * address what an index finds there, with the whole path over the directory of the compilation; of a path that can't be told it has the
- * reason. GIMLI_NO_ROOM where it is longer than `room`: *size is its length then. Where any other number than 0 is answered
- * (GIMLI_UNKNOWN_OPTIONS, GIMLI_UNSUPPORTED_ADDRESS_SIZE, GIMLI_OUT_OF_MEMORY, GIMLI_MAP_TOO_LARGE, GIMLI_PLACE_TOO_LARGE) *size is 0. In both
- * cases nothing is written to `map`. All units are read for each call, so give it room at once: 16 bytes for each byte of .debug_line
- * are mostly more than it takes, and what isn't written of them costs no memory. It takes memory: no signal handler calls it. */
+ * address what a lookup over all units finds there, with the whole path over the directory of the compilation; of a path that can't be
+ * told it has the reason. A unit that can't be read has no rows; of one whose run has a fault the sequences that end before that
+ * count. Rows that no end row follows are in no sequence, and that is no fault. So it is GIMLI_OK for any bytes of these sections.
+ * GIMLI_NO_ROOM where it is longer than `room`: *size is its length then. Where any other number than 0 is answered
+ * (GIMLI_UNKNOWN_OPTIONS, GIMLI_UNSUPPORTED_ADDRESS_SIZE, GIMLI_OUT_OF_MEMORY, GIMLI_MAP_TOO_LARGE, GIMLI_PLACE_TOO_LARGE) *size is
+ * 0. In both cases nothing is written to `map`. All units are read for each call, so give it room at once: 16 bytes for each byte of
+ * .debug_line are mostly more than it takes, and what isn't written of them costs no memory. It takes memory: no signal handler calls
+ * it. */
 uint32_t gimli_line_map_write(const uint8_t *section, size_t length, const uint8_t *line_strings, size_t line_strings_length,
                               const uint8_t *strings, size_t strings_length, const uint8_t *info, size_t info_length,
                               const uint8_t *abbreviations, size_t abbreviations_length, const uint8_t *string_offsets,
-                              size_t string_offsets_length, const gimli_open_options *options, const uint8_t *identity,
+                              size_t string_offsets_length, const gimli_map_options *options, const uint8_t *identity,
                               size_t identity_length, uint8_t *map, size_t room, size_t *size)
     GIMLI_CALL GIMLI_READS(1, 2) GIMLI_READS(3, 4) GIMLI_READS(5, 6) GIMLI_READS(7, 8) GIMLI_READS(9, 10) GIMLI_READS(11, 12)
     GIMLI_READS(14, 15) GIMLI_WRITES(16, 17);
 
+/* Makes the map of a program's sections, in memory of its own, which free() gives back. Answers as gimli_line_map_write does, but for
+ * GIMLI_NO_ROOM. Where another number than 0 is answered, *map is null and *size is 0. */
+static inline uint32_t gimli_line_map_of_sections(const gimli_sections *sections, const gimli_map_options *options, const void *identity,
+                                                  size_t identity_length, uint8_t **map, size_t *size) {
+    uint8_t *made = NULL, *fitted;
+    size_t room = sections->line_size <= SIZE_MAX / 32 ? 1024 + 16 * sections->line_size : 1024;
+    uint32_t status = GIMLI_NO_ROOM;
+    *map = NULL;
+    *size = 0;
+    while (status == GIMLI_NO_ROOM) {
+        free(made);
+        made = (uint8_t *)malloc(room);
+        if (made == NULL) return GIMLI_OUT_OF_MEMORY;
+        status = gimli_line_map_write(
+            gimli_bytes(sections->line), sections->line_size, gimli_bytes(sections->line_strings), sections->line_strings_size,
+            gimli_bytes(sections->strings), sections->strings_size, gimli_bytes(sections->info), sections->info_size,
+            gimli_bytes(sections->abbreviations), sections->abbreviations_size, gimli_bytes(sections->string_offsets),
+            sections->string_offsets_size, options, gimli_bytes(identity), identity_length, made, room, size);
+        room = *size;
+    }
+    if (status != GIMLI_OK) {
+        free(made);
+        return status;
+    }
+    fitted = (uint8_t *)realloc(made, *size); /* what the map doesn't take of the room is given back */
+    *map = fitted != NULL ? fitted : made;
+    return GIMLI_OK;
+}
+
 /* Makes the map of an ELF file, in memory of its own, which free() gives back: of its sections, each made whole, by its order of bytes,
  * its size of addresses and its lowest address of code (in an object file, none is left out), named by its build id where it has one.
  * GIMLI_NO_ELF where it is none, GIMLI_NO_SECTION where it has no .debug_line, GIMLI_BAD_SECTION where one of these can't be read; else it
- * answers as gimli_line_map_write does. Where another number than 0 is answered, *map is null and *size is 0. */
+ * answers as gimli_line_map_of_sections does. Where another number than 0 is answered, *map is null and *size is 0. */
 static inline uint32_t gimli_line_map_of_elf(const uint8_t *file, size_t length, uint8_t **map, size_t *size) {
-    static const char *const names[6] = {".debug_line", ".debug_line_str", ".debug_str", ".debug_info", ".debug_abbrev", ".debug_str_offsets"};
-    uint8_t *sections[6] = {NULL, NULL, NULL, NULL, NULL, NULL}, id[64], *made = NULL;
-    size_t sizes[6] = {0, 0, 0, 0, 0, 0}, id_size = 0, room = 0;
+    static const char *const names[6] = {".debug_line", ".debug_line_str", ".debug_str", ".debug_info", ".debug_abbrev",
+                                         ".debug_str_offsets"};
+    uint8_t *sections[6] = {NULL, NULL, NULL, NULL, NULL, NULL}, id[64];
+    size_t sizes[6] = {0, 0, 0, 0, 0, 0}, id_size = 0;
     gimli_elf elf;
-    gimli_open_options options = GIMLI_OPEN_OPTIONS;
+    gimli_map_options options = GIMLI_MAP_OPTIONS;
     uint32_t status = gimli_elf_open(file, length, &elf);
     *map = NULL;
     *size = 0;
@@ -494,74 +460,21 @@ static inline uint32_t gimli_line_map_of_elf(const uint8_t *file, size_t length,
         uint32_t has = gimli_elf_build_id(file, length, id, sizeof id, &id_size);
         if (has != GIMLI_OK || id_size > sizeof id) id_size = 0;
         if (has == GIMLI_BAD_SECTION) status = has;
+    }
+    if (status == GIMLI_OK) {
+        gimli_sections all = {sections[0], sections[1], sections[2], sections[3], sections[4], sections[5],
+                              sizes[0],    sizes[1],    sizes[2],    sizes[3],    sizes[4],    sizes[5]};
         options.lowest = elf.relocatable ? 0 : elf.lowest;
         options.address_size = elf.address_size;
         options.big = elf.big;
-        room = sizes[0] <= SIZE_MAX / 32 ? 1024 + 16 * sizes[0] : 1024;
-    }
-    while (status == GIMLI_OK) {
-        made = (uint8_t *)malloc(room);
-        if (made == NULL) status = GIMLI_OUT_OF_MEMORY;
-        else
-            status = gimli_line_map_write(sections[0], sizes[0], gimli_bytes(sections[1]), sizes[1], gimli_bytes(sections[2]), sizes[2],
-                                          gimli_bytes(sections[3]), sizes[3], gimli_bytes(sections[4]), sizes[4],
-                                          gimli_bytes(sections[5]), sizes[5], &options, id, id_size, made, room, size);
-        if (status == GIMLI_OK) break;
-        free(made);
-        made = NULL;
-        if (status == GIMLI_NO_ROOM) {
-            room = *size;
-            status = GIMLI_OK;
-        }
-    }
-    if (made != NULL) { /* what the map doesn't take of the room is given back */
-        *map = (uint8_t *)realloc(made, *size);
-        if (*map == NULL) *map = made;
+        status = gimli_line_map_of_sections(&all, &options, id, id_size, map, size);
     }
     for (int i = 0; i < 6; i++) free(sections[i]);
     return status;
 }
 
-/* Closes a handle: all memory of its index is given back. A closed one stays closed. The answer is 0. */
-uint32_t gimli_line_index_close(gimli_line_index *index) GIMLI_CLOSE;
-
-/* Where an address belongs. */
-typedef struct gimli_place {
-    uint64_t address; /* the address that is asked for */
-    gimli_row row;    /* the row of the address */
-    uint64_t end;     /* the address up to which the row holds: that of the next row of its sequence */
-    uint64_t unit;    /* the number of the unit, from 0 on */
-} gimli_place;
-
-/* Looks an address up in all units. The row is the first of the first two adjacent rows of one sequence of which the first has
- * an address at most the one that is looked up, and the second one above it, in the order of the units and of their sequences.
- * GIMLI_NO_ROW where there are none, and GIMLI_CLOSED where the handle is: then *place stays as it was. Takes no memory. */
-uint32_t gimli_line_index_find(gimli_line_index *index, uint64_t address, gimli_place *place) GIMLI_CALL;
-
-/* Looks `count` addresses up, each as gimli_line_index_find does: that of places[0] and so on. Where no row covers an address, all
- * other numbers of its place are 0; else `end` of the place is above the address, and so isn't 0. GIMLI_CLOSED where the handle is:
- * then no place is written. Takes no memory. */
-uint32_t gimli_line_index_find_all(gimli_line_index *index, gimli_place *places, size_t count) GIMLI_CALL GIMLI_CHANGES(2, 3);
-
-/* Tells the whole path of the file of a unit: its path, with the directories that it goes on from,
- * up to the directory of the compilation. `comp_dir` is that one (DW_AT_comp_dir, as
- * gimli_line_comp_dir tells it). Up to version 4 a relative path goes on from it. In version 5 the
- * unit has the directory too, as its directory 0: where that is absolute, `comp_dir` isn't looked
- * at; where it is relative, each relative directory goes on from `comp_dir`, directory 0 too. Where
- * `comp_dir` has no bytes, that counts which the index has of the unit (gimli_line_index_comp_dir),
- * and where it has none, such a path stays relative. The bytes go into path[0] and so on, as far
- * as there is room, without a zero byte; *size is how many there are. GIMLI_NO_SUCH_UNIT where there
- * is no such unit, GIMLI_NO_SUCH_FILE where the unit has no such file, GIMLI_UNKNOWN_PATH where a
- * string of the path can't be told, and GIMLI_CLOSED where the handle is; the number of the refusal
- * where the unit can't be read. Where another number than 0 is answered, nothing is written. The
- * index keeps the path of each file that a row has, by its own directory, of each unit without a fault; for any other file or directory
- * the header of the unit is read, and its program is run where only that defines the file (DW_LNE_define_file, up to version 4). */
-uint32_t gimli_line_index_path(gimli_line_index *index, uint64_t unit, uint64_t file,
-                               const uint8_t *comp_dir, size_t comp_dir_length, uint8_t *path,
-                               size_t room, size_t *size) GIMLI_CALL GIMLI_READS(4, 5) GIMLI_WRITES(6, 7);
-
 /* Tells the directory in which the compilation ran (DW_AT_comp_dir) whose line program begins at an
- * offset of .debug_line, as gimli_line_index_unit gives it: that of the first unit of .debug_info
+ * offset of .debug_line, as gimli_line_unit takes it: that of the first unit of .debug_info
  * that names this line program and has a directory. `info`, `abbreviations`, `line_strings`,
  * `strings` and `string_offsets` are the sections .debug_info, .debug_abbrev, .debug_line_str,
  * .debug_str and .debug_str_offsets, or no bytes. The bytes go into directory[0] and so on, as far
@@ -569,7 +482,7 @@ uint32_t gimli_line_index_path(gimli_line_index *index, uint64_t unit, uint64_t 
  * no directory, and the next one counts; what comes after a unit whose length can't be read, or
  * passes the end of the section, isn't read. GIMLI_NO_COMP_DIR where no unit has one. Where another
  * number than 0 is answered, GIMLI_NO_COMP_DIR or GIMLI_OUT_OF_MEMORY, nothing is written. The first
- * entry of each unit is read for each call: ask once for each unit of an index. */
+ * entry of each unit is read for each call: ask once for each unit. */
 uint32_t gimli_line_comp_dir(const uint8_t *info, size_t info_length, const uint8_t *abbreviations,
                              size_t abbreviations_length, const uint8_t *line_strings,
                              size_t line_strings_length, const uint8_t *strings,
@@ -578,100 +491,8 @@ uint32_t gimli_line_comp_dir(const uint8_t *info, size_t info_length, const uint
                              uint8_t *directory, size_t room, size_t *size)
     GIMLI_CALL GIMLI_READS(1, 2) GIMLI_READS(3, 4) GIMLI_READS(5, 6) GIMLI_READS(7, 8) GIMLI_READS(9, 10) GIMLI_WRITES(13, 14);
 
-/* Tells the directory of the compilation that an index has of a unit: none where it was opened without .debug_info, and where that tells
- * none. The bytes go into directory[0] and so on, as far as there is room, without a zero byte; *size is how many there are.
- * GIMLI_NO_SUCH_UNIT where there is no such unit, GIMLI_NO_COMP_DIR where there is no directory, or one of no bytes, and GIMLI_CLOSED where
- * the handle is; then nothing is written. Takes no memory. */
-uint32_t gimli_line_index_comp_dir(gimli_line_index *index, uint64_t unit, uint8_t *directory, size_t room, size_t *size)
-    GIMLI_CALL GIMLI_WRITES(3, 4);
-
-/* Tells how many units an index has. GIMLI_CLOSED where the handle is; then nothing is written. */
-uint32_t gimli_line_index_unit_count(gimli_line_index *index, size_t *count) GIMLI_CALL;
-
-/* A unit of an index. What its header says is 0 where it was refused. */
-typedef struct gimli_index_unit {
-    uint64_t offset;      /* in the section: DW_AT_stmt_list of its compilation unit, which has its DW_AT_comp_dir too */
-    uint64_t rows;        /* how many rows the index keeps of it: those of sequences that end before its first fault, but for those
-                           * that are left out */
-    uint64_t directories; /* how many directories its table has */
-    uint64_t files;       /* how many files its table has, those that its program defines before its first fault included */
-    uint32_t version;     /* from 2 to 5 */
-    uint32_t first_file;  /* the number of its first file, and of its first directory: 1 up to version 4, 0 in version 5 */
-    uint32_t fault;       /* why it can't be read, or the number of its program's first fault; 0 where it has none. Only a unit that
-                           * can be read is opened by gimli_line_index_rows_open */
-} gimli_index_unit;
-
-/* Tells where a unit stands, what its header says, how many rows the index keeps of it, and what is wrong with it. Nothing is read
- * anew. GIMLI_NO_SUCH_UNIT where there is no such unit, and GIMLI_CLOSED where the handle is; then nothing is written. */
-uint32_t gimli_line_index_unit(gimli_line_index *index, uint64_t unit, gimli_index_unit *found) GIMLI_CALL;
-
-/* Tells the addresses for a breakpoint at a line of a file of one unit: of each run of rows of that line that stand side by side
- * in a sequence, that of the first with GIMLI_IS_STMT. They come in the order of the sequences and rows; one address may come more
- * than once. Sequences that the index leaves out give none. Where the line has none, those of the next line that has; *found_line
- * is that line. The addresses go into addresses[0] and so on, as far as there is room; *count is how many there are.
- * GIMLI_NO_SUCH_UNIT where there is no such unit, GIMLI_NO_CODE where no line from it on has any; GIMLI_CLOSED where the handle is.
- * Where another number than 0 is answered, nothing is written. */
-uint32_t gimli_line_index_addresses(gimli_line_index *index, uint64_t unit, uint64_t file, uint64_t line,
-                                    uint64_t *found_line, uint64_t *addresses, size_t room, size_t *count)
-    GIMLI_CALL GIMLI_WRITES(6, 7);
-
-/* The same over all units, in their order, at a line of the files that a path names: by the last components of their whole paths
- * (stl_map.h, bits/stl_map.h), as the index keeps them; one from the root is a whole one. '/' and backslashes part components; '.',
- * '..' and doubled separators are resolved by text. The index has whole paths where it was opened with .debug_info, or the unit
- * itself has the directory of the compilation, as in version 5. A file without a row that the index keeps has no address. No
- * program is run: the kept paths are looked at, and each row of a unit is compared with the numbers of its files that are named.
- * GIMLI_NO_CODE where no line from it on has any; GIMLI_CLOSED where the handle is. Where another number than 0 is answered, nothing
- * is written. */
-uint32_t gimli_line_index_addresses_of(gimli_line_index *index, const uint8_t *path, size_t path_length, uint64_t line,
-                                       uint64_t *found_line, uint64_t *addresses, size_t room, size_t *count)
-    GIMLI_CALL GIMLI_READS(2, 3) GIMLI_WRITES(6, 7);
-
-/* Does what gimli_line_unit does, for a unit of an index: its version, its sizes, and how many directories, files and rows it has.
- * The program is run for each call. GIMLI_NO_SUCH_UNIT where there is no such unit, GIMLI_CLOSED where the handle is, and the number
- * of the refusal where the unit can't be read. Where another number than 0 is answered, *read stays as it was. */
-uint32_t gimli_line_index_read_unit(gimli_line_index *index, uint64_t unit, gimli_unit *read) GIMLI_CALL;
-
 /* The number of the first directory and of the first file of a unit: 1 up to version 4, 0 in version 5. */
 static inline uint64_t gimli_first_number(const gimli_unit *unit) { return unit->version <= 4; }
-
-/* Do what gimli_line_file and gimli_line_directory do, for a unit of an index: the header is read again for each call.
- * GIMLI_NO_SUCH_UNIT where there is no such unit, GIMLI_NO_SUCH_FILE or GIMLI_NO_SUCH_DIRECTORY where the unit has no such file or
- * directory, GIMLI_CLOSED where the handle is, and the number of the refusal where the unit can't be read. Where another number than
- * 0 is answered, nothing is written. */
-uint32_t gimli_line_index_file(gimli_line_index *index, uint64_t unit, uint64_t number, gimli_file *file, uint8_t *path,
-                               size_t path_room, uint8_t *directory, size_t directory_room)
-    GIMLI_CALL GIMLI_WRITES(5, 6) GIMLI_WRITES(7, 8);
-uint32_t gimli_line_index_directory(gimli_line_index *index, uint64_t unit, uint64_t number, gimli_text *directory,
-                                    uint8_t *bytes, size_t room) GIMLI_CALL GIMLI_WRITES(5, 6);
-
-/* The handle of a reader of rows. It owns the rows of a unit; a closed one owns nothing. */
-typedef struct gimli_row_reader {
-    void *at; /* null where it is closed */
-} gimli_row_reader;
-
-/* What a reader begins with. */
-#define GIMLI_ROW_READER_CLOSED {0}
-
-/* Runs the program of the unit at an offset, and puts its rows behind the handle; what stood there is given back. The rows are the
- * handle's own: the section may go. A fault of the program is no refusal: it comes after the rows before it. Where another number
- * than 0 is answered, the handle has what it had. */
-uint32_t gimli_line_rows_open(const uint8_t *section, size_t length, bool big, uint8_t address_size, size_t offset,
-                              gimli_row_reader *reader) GIMLI_CALL GIMLI_READS(1, 2);
-
-/* Does the same for a unit of an index. All rows of the unit come, those of sequences that the index leaves out too.
- * GIMLI_NO_SUCH_UNIT where there is no such unit, GIMLI_CLOSED where the handle of the index is, and the number of the refusal where
- * the unit can't be read. */
-uint32_t gimli_line_index_rows_open(gimli_line_index *index, uint64_t unit, gimli_row_reader *reader) GIMLI_CALL;
-
-/* Gives the next rows, from the first on: into rows[0] and so on, as far as there is room; *count is how many they are. Where
- * *count is less than `room`, the rows are at their end, and the answer is the number of the program's first fault, 0 where it has
- * none; such a call may come again. Before the end the answer is 0. `room` is above 0: with none, none come, and it never ends.
- * GIMLI_CLOSED where the handle is: then nothing is written. Takes no memory. */
-uint32_t gimli_line_rows_next(gimli_row_reader *reader, gimli_row *rows, size_t room, size_t *count)
-    GIMLI_CALL GIMLI_WRITES(2, 3);
-
-/* Closes a handle: all memory of its rows is given back. A closed one stays closed. The answer is 0. */
-uint32_t gimli_line_rows_close(gimli_row_reader *reader) GIMLI_CLOSE;
 
 /* What a unit that is written is encoded by. */
 typedef struct gimli_encoding {
@@ -847,7 +668,6 @@ static inline const char *gimli_status_name(uint32_t status) {
     case GIMLI_NEED_VERSION_4: return "GIMLI_NEED_VERSION_4";
     case GIMLI_UNIT_TOO_LONG: return "GIMLI_UNIT_TOO_LONG";
     case GIMLI_NO_ROOM: return "GIMLI_NO_ROOM";
-    case GIMLI_CLOSED: return "GIMLI_CLOSED";
     case GIMLI_UNKNOWN_PATH: return "GIMLI_UNKNOWN_PATH";
     case GIMLI_NO_MAP: return "GIMLI_NO_MAP";
     case GIMLI_UNKNOWN_MAP_VERSION: return "GIMLI_UNKNOWN_MAP_VERSION";
@@ -855,7 +675,6 @@ static inline const char *gimli_status_name(uint32_t status) {
     case GIMLI_MAP_HEADER: return "GIMLI_MAP_HEADER";
     case GIMLI_MAP_DISORDERED: return "GIMLI_MAP_DISORDERED";
     case GIMLI_MAP_PATH_OUTSIDE: return "GIMLI_MAP_PATH_OUTSIDE";
-    case GIMLI_NO_SUCH_UNIT: return "GIMLI_NO_SUCH_UNIT";
     case GIMLI_NO_CODE: return "GIMLI_NO_CODE";
     case GIMLI_NO_COMP_DIR: return "GIMLI_NO_COMP_DIR";
     case GIMLI_UNKNOWN_OPTIONS: return "GIMLI_UNKNOWN_OPTIONS";
@@ -903,7 +722,6 @@ static inline const char *gimli_status_sentence(uint32_t status) {
     case GIMLI_NEED_VERSION_4: return "several operations in an instruction, before version 4";
     case GIMLI_UNIT_TOO_LONG: return "a length or the first address of a sequence doesn't fit its word";
     case GIMLI_NO_ROOM: return "what is written is longer than the room for it";
-    case GIMLI_CLOSED: return "the handle is closed";
     case GIMLI_UNKNOWN_PATH: return "a string of a path can't be told";
     case GIMLI_NO_MAP: return "the bytes don't begin as a map does";
     case GIMLI_UNKNOWN_MAP_VERSION: return "the version of a map is unknown";
@@ -911,7 +729,6 @@ static inline const char *gimli_status_sentence(uint32_t status) {
     case GIMLI_MAP_HEADER: return "a size or the base in the header of a map is one that can't be";
     case GIMLI_MAP_DISORDERED: return "the ranges of a map don't ascend";
     case GIMLI_MAP_PATH_OUTSIDE: return "a path isn't inside its map";
-    case GIMLI_NO_SUCH_UNIT: return "an index has no unit of this number";
     case GIMLI_NO_CODE: return "no line from the one asked for on has code";
     case GIMLI_NO_COMP_DIR: return "no unit of .debug_info tells the directory of the compilation";
     case GIMLI_UNKNOWN_OPTIONS: return "options have a size that this library doesn't know";

@@ -1,8 +1,7 @@
 -- Arrays of the caller: what stands in them after a call.
-use Rattle.std.proofs.Common.{◌≡◌, ◌⊎◌, ℕ, zero, suc, ◌+◌, ◌<◌, ◌≤◌, Bool, true, false, List, [], ◌∷◌, ◌++◌, length, take, set, get_or, refl, sym, ap, ◌∙◌, inl}
+use Rattle.std.proofs.Common.{◌≡◌, ◌⊎◌, ℕ, zero, suc, ◌+◌, ◌<◌, ◌≤◌, List, [], ◌∷◌, ◌++◌, length, take, set, get_or, refl, sym, ap, ◌∙◌, inl}
 use Rattle.std.proofs.Common.{inr, arith}
-use Rattle.std.specs.Prelude.{Some, ltb, min, slice_get}
-use Rattle.std.proofs.lemmas.Bool.{ltb-true, ltb-false}
+use Rattle.std.specs.Prelude.{Some, slice_get}
 use Rattle.std.proofs.lemmas.List.{length-take-le, take_more}
 use Rattle.std.proofs.lemmas.Option.{get_or_from_slice_get, slice_get_within}
 use Rattle.gimli_c.specs.Written.{slots_with}
@@ -53,11 +52,3 @@ copied_next xs old now i x is so_far =
     ∙ ap (λ (n : ℕ). set (slots_with (take i xs) old) n x) place
     ∙ sym (written_more (take i xs) x old)
     ∙ ap (λ (zs : List _). slots_with zs old) (sym (take_more xs i x lt ∙ ap (λ (y : _). take i xs ++ y ∷ []) (get_or_from_slice_get xs i x x is)))
-
--- as far as there is room
-pub written_within : {A : Type 0} (n : ℕ) (xs old : List A) → n ≡ min (length xs) (length old) → slots_with (take n xs) old ≡ slots_with xs old
-written_within n xs old is = at_test (ltb (length old) (length xs)) refl
-  where
-    at_test : (b : Bool) → ltb (length old) (length xs) ≡ b → slots_with (take n xs) old ≡ slots_with xs old
-    at_test true e = let lt : length old < length xs = ltb-true (length old) (length xs) e in written_take n xs old (inr (omega (arith, is, lt)))
-    at_test false e = let le : length xs ≤ length old = ltb-false (length old) (length xs) e in written_take n xs old (inl (omega (arith, is, le)))

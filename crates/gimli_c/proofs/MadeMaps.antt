@@ -7,9 +7,7 @@ use Rattle.gimli_index.specs.Found.{IsIndexAppended}
 use Rattle.gimli_line.specs.Units.{AreUnits}
 use Rattle.gimli_lookup.specs.Section.{KeptUnit}
 use Rattle.gimli_lookup.specs.SectionUnits.{IsUnitOf}
-use Rattle.gimli_c.specs.Indexed.{program}
-use Rattle.gimli_c.specs.KeptUnits.{entry_of, section_read}
-use Rattle.gimli_c.specs.MadeMap.{MapSource, given_of, map_source, AreAllUnitsOf, IsMapOf}
+use Rattle.gimli_c.specs.MadeMap.{MapSource, given_of, map_source, program, entry_of, section_read, AreAllUnitsOf, IsMapOf}
 
 pub same_all_units : (section other : List ℕ) (big other_big : Bool) (size lowest : ℕ) (line_strings strings : List ℕ) (units : List KeptUnit)
     → other ≡ section → other_big ≡ big

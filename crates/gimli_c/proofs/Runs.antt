@@ -18,7 +18,10 @@ use Rattle.gimli_line.specs.run.Progress.{files_from}
 use Rattle.gimli_line.specs.run.Rows.{files_at_end}
 use Rattle.gimli_line.specs.run.RunState.{RunState}
 use Rattle.gimli_c.specs.declared.row.GimliRow.{GimliRow}
-use Rattle.gimli_c.specs.Location.{Location, notation_at, HasUnit}
+use Rattle.gimli_line.proofs.Bounds.{unit_bounded}
+use Rattle.gimli_line.proofs.HeaderLaws.{one_header}
+use Rattle.gimli_line.proofs.RowBounds.{events_bounded}
+use Rattle.gimli_c.specs.Location.{Location, notation_at, unit_entry_at, HasUnit}
 use Rattle.gimli_c.specs.Run.{rows_of, fault_of, Begun, Copied, HasEvents}
 use Rattle.gimli_c.specs.Seen.{row_seen}
 use Rattle.gimli_c.specs.Written.{slots_with}
@@ -141,13 +144,27 @@ without_files notation a h bytes events given = record {
 }
 
 -- rows are among the events
+few_of_events : (events : List Event) → length (rows_of events) ≤ length events
+few_of_events [] = omega arith
+few_of_events (row r ∷ events) = omega (arith, few_of_events events)
+few_of_events (fault e ∷ events) = omega arith
+
 pub few_rows : (events : List EventWithFiles) → length (rows_of (events_of events)) ≤ length events
-few_rows [] = omega arith
-few_rows (t ∷ events) = by t.event (few_rows events)
-  where
-    by : (e : Event) → length (rows_of (events_of events)) ≤ length events → length (rows_of (e ∷ events_of events)) ≤ length (t ∷ events)
-    by (row r) few = omega (arith, few)
-    by (fault e) few = omega arith
+few_rows events = omega (arith, few_of_events (events_of events), length-map events (λ (t : EventWithFiles). t.event))
+
+-- a unit has no more rows than bytes
+pub rows_at_most : (p : Location) (h k : Header) (events : List Event) → HasEvents p h events → HasUnit p k → length (rows_of events) ≤ k.unit_length
+rows_at_most p h k events given unit =
+    let bytes = drop p.offset p.section in
+    let same = one_header (notation_at p) (unit_entry_at p) bytes h k given.unit.1 unit.1 in
+    let bounds = unit_bounded (notation_at p) (unit_entry_at p) bytes h given.unit.1 in
+    omega (
+      arith,
+      few_of_events events,
+      events_bounded (notation_at p) h h.program events given.given,
+      bounds.1,
+      ap (λ (x : Header). x.unit_length) same,
+    )
 
 -- what the unit at a location gives, whatever the name of its notation
 pub has_events : (p : Location) (notation : Notation) (h : Header) (events : List EventWithFiles) → HasUnit p h → notation ≡ notation_at p

@@ -13,12 +13,7 @@ pub mod Handing
 pub mod Relocated
 pub mod Refused
 pub mod Causes
-pub mod Owned
-pub mod References
-pub mod KeptUnits
-pub mod Indexed
-pub mod Named
-pub mod Reader
+pub mod Path
 pub mod CompDir
 pub mod Mapped
 pub mod MadeMap

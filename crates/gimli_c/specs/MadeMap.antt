@@ -1,10 +1,12 @@
 -- The map that is made of a program (docs/INDEX.md).
-use Rattle.std.specs.Prelude.{◌≡◌, ◌≤◌, ◌<◌, ◌^◌, ℕ, Option, List, [], length, map, All}
+use Rattle.std.specs.Prelude.{◌≡◌, ◌≤◌, ◌<◌, ◌^◌, ℕ, Bool, Option, None, List, [], length, map, All}
 use Rattle.gimli_core.specs.Notation.{notation_of}
 use Rattle.gimli_compilation.specs.Directories.{TellsDirectories}
 use Rattle.gimli_compilation.specs.Sections.{Sections}
 use Rattle.gimli_index.specs.Found.{Given, IsIndexAppended}
 use Rattle.gimli_line.specs.Units.{AreUnits}
+use Rattle.gimli_line.specs.header.Header.{UnitEntry}
+use Rattle.gimli_line.specs.run.Unread.{Unread}
 use Rattle.gimli_lookup.specs.Section.{KeptUnit}
 use Rattle.gimli_lookup.specs.SectionUnits.{IsUnitOf}
 use Rattle.gimli_index.specs.declared.error.MakeError.{MakeError}
@@ -12,11 +14,29 @@ use Rattle.gimli_index.specs.declared.error.MakeError.TheVariants.{NotAscending,
 use Rattle.gimli_index.specs.declared.error.MakeError.TheVariants.{TooManySources, PathsTooLarge}
 use Rattle.gimli_index.specs.declared.error.MakeError.TheVariants.{IdentityTooLarge, LineTooLarge}
 use Rattle.gimli_index.specs.declared.error.MakeError.TheVariants.{ColumnTooLarge, OutOfMemory}
-use Rattle.gimli_c.specs.Indexed.{Program}
-use Rattle.gimli_c.specs.KeptUnits.{entry_of, section_read}
 use Rattle.gimli_c.specs.Written.{slots_with}
 
 -- ---- what a map is made of
+
+-- the sections of a program, its order of bytes, the size of its addresses up to version 4, and the
+-- address below which there is no code
+pub record Program : Type 0 where
+  pub section : List ℕ
+  pub big : Bool
+  pub address_size : ℕ
+  pub lowest : ℕ
+  pub line_strings : List ℕ
+  pub strings : List ℕ
+
+abbrev pub program : List ℕ → Bool → ℕ → ℕ → List ℕ → List ℕ → Program
+program section big address_size lowest line_strings strings = record {
+  section = section;
+  big = big;
+  address_size = address_size;
+  lowest = lowest;
+  line_strings = line_strings;
+  strings = strings;
+}
 
 -- a program, the sections that tell the directories of its compilations, and the name of what the
 -- map is made of
@@ -28,6 +48,13 @@ pub record MapSource : Type 0 where
 abbrev pub map_source : Program → Sections → List ℕ → MapSource
 map_source program compilations identity =
     record { program = program; compilations = compilations; identity = identity }
+
+-- offsets have 64 bits, and no directory and no name is handed in with a unit
+abbrev pub section_read : List ℕ → Bool → Unread
+section_read section big = record { bytes = section; notation = notation_of big (2 ^ 64) }
+
+abbrev pub entry_of : ℕ → UnitEntry
+entry_of address_size = record { address_size = address_size; directory = None; name = None }
 
 -- these are all units of a program, each with its header and the sequences that are kept of it
 pub record AreAllUnitsOf (p : Program) (units : List KeptUnit) : Type 0 where

@@ -1,6 +1,6 @@
 -- What a map says (docs/INDEX.md), as C sees it.
 use Rattle.std.specs.Prelude.{◌≡◌, ◌≤◌, ◌⊎◌, ℕ, ◌+◌, List, length, slice_range, Some, None, Result}
-use Rattle.std.specs.Prelude.{Ok, Err}
+use Rattle.std.specs.Prelude.{Ok, Err, true, false}
 use Rattle.std.specs.List.{AllZip}
 use Rattle.gimli_index.specs.Meaning.{place_at, starts_of, AreAscending, Place}
 use Rattle.gimli_index.specs.Parts.{index_at, Index}
@@ -80,9 +80,10 @@ SeesPath bytes (Err Outside) seen =
 pub record SeesPlace (bytes : List ℕ) (address : ℕ) (place : Place) (seen : GimliMapPlace)
     : Type 0 where
   pub address_is : seen.address ≡ address
-  pub known : seen.known ≡ 1
+  pub known : seen.known ≡ true
   pub line : seen.line ≡ place.line
   pub column : seen.column ≡ place.column
+  pub is_stmt : seen.is_stmt ≡ place.is_stmt
   pub unit : seen.unit ≡ place.unit
   pub path : SeesPath bytes place.path seen
 
@@ -110,7 +111,8 @@ no_map_place address = record {
   line = 0;
   column = 0;
   no_path = 0;
-  known = 0;
+  known = false;
+  is_stmt = false;
 }
 
 abbrev pub IsMapAnswer : List ℕ → ℕ → GimliMapPlace → Type 0

@@ -17,10 +17,10 @@ use Rattle.gimli_c.specs.declared.status.TheConstants.{TEXT_OUT_OF_BOUNDS, ZERO_
 use Rattle.gimli_c.specs.declared.status.TheConstants.{NO_SOURCE_FILE, NO_SUCH_DIRECTORY}
 use Rattle.gimli_c.specs.declared.status.TheConstants.{NO_SUCH_FILE, ROW_OUT_OF_ORDER, UNKNOWN_FLAG}
 use Rattle.gimli_c.specs.declared.status.TheConstants.{NEED_VERSION_4, UNIT_TOO_LONG, NO_ROOM}
-use Rattle.gimli_c.specs.declared.status.TheConstants.{CLOSED, UNKNOWN_PATH, NO_MAP}
+use Rattle.gimli_c.specs.declared.status.TheConstants.{UNKNOWN_PATH, NO_MAP}
 use Rattle.gimli_c.specs.declared.status.TheConstants.{UNKNOWN_MAP_VERSION, MAP_CUT, MAP_HEADER}
 use Rattle.gimli_c.specs.declared.status.TheConstants.{MAP_DISORDERED, MAP_PATH_OUTSIDE}
-use Rattle.gimli_c.specs.declared.status.TheConstants.{NO_SUCH_UNIT, NO_CODE, NO_COMP_DIR}
+use Rattle.gimli_c.specs.declared.status.TheConstants.{NO_CODE, NO_COMP_DIR}
 use Rattle.gimli_c.specs.declared.status.TheConstants.{UNKNOWN_OPTIONS, NO_ELF, NO_SECTION}
 use Rattle.gimli_c.specs.declared.status.TheConstants.{BAD_SECTION, MAP_TOO_LARGE, PLACE_TOO_LARGE}
 
@@ -59,7 +59,6 @@ pub record AreNumbered : Type 0 where
   pub need_version_4 : NEED_VERSION_4 ≡ 29
   pub unit_too_long : UNIT_TOO_LONG ≡ 30
   pub no_room : NO_ROOM ≡ 31
-  pub closed : CLOSED ≡ 32
   pub unknown_path : UNKNOWN_PATH ≡ 33
   pub no_map : NO_MAP ≡ 34
   pub unknown_map_version : UNKNOWN_MAP_VERSION ≡ 35
@@ -67,7 +66,6 @@ pub record AreNumbered : Type 0 where
   pub map_header : MAP_HEADER ≡ 37
   pub map_disordered : MAP_DISORDERED ≡ 38
   pub map_path_outside : MAP_PATH_OUTSIDE ≡ 39
-  pub no_such_unit : NO_SUCH_UNIT ≡ 40
   pub no_code : NO_CODE ≡ 41
   pub no_comp_dir : NO_COMP_DIR ≡ 42
   pub unknown_options : UNKNOWN_OPTIONS ≡ 43

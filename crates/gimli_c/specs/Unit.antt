@@ -1,9 +1,11 @@
--- What C sees of a unit.
-use Rattle.std.specs.Prelude.{◌≡◌, ℕ, true, List, length}
+-- What C sees of a unit, and where the next one begins.
+use Rattle.std.specs.Prelude.{◌≡◌, ◌⊎◌, ◌+◌, ℕ, true, List, drop, length}
+use Rattle.gimli_core.specs.Notation.{Notation}
 use Rattle.gimli_core.specs.Numbers.{word_size}
+use Rattle.gimli_core.specs.declared.error.Error.{Error}
 use Rattle.gimli_line.specs.header.File.{File}
 use Rattle.gimli_line.specs.header.Header.{Header}
-use Rattle.gimli_line.specs.Units.{offset_after}
+use Rattle.gimli_line.specs.Units.{offset_after, any_unit, BeginsWithUnit}
 use Rattle.gimli_line.specs.run.Events.{Event}
 use Rattle.gimli_line.specs.run.EventsWithFiles.{FilesAtEnd}
 use Rattle.gimli_c.specs.declared.unit.GimliUnit.{GimliUnit}
@@ -11,14 +13,14 @@ use Rattle.gimli_c.specs.Location.{Location, notation_at}
 use Rattle.gimli_c.specs.Run.{HasEvents, rows_of, fault_of}
 use Rattle.gimli_c.specs.Status.{fault_status}
 
--- the unit at an offset, with this header, whose program gives these events and has these files at
--- its end
+-- the unit with this header, whose program gives these events and has these files at its end; what
+-- follows it stands at the offset
 abbrev pub unit_seen : ℕ → Header → List Event → List File → GimliUnit
-unit_seen offset h events files =
+unit_seen next h events files =
     let encoding = h.parameters.encoding in
     record {
       length = h.unit_length;
-      next = offset_after offset h;
+      next = next;
       directories = length h.directories;
       files = length files;
       rows = length (rows_of events);
@@ -35,4 +37,20 @@ pub record GivesUnit (p : Location) (unit : GimliUnit) : Type 0 where
   pub has_events : HasEvents p header events
   pub files : List File
   pub at_end : FilesAtEnd (notation_at p) true header header.program files
-  pub seen : unit ≡ unit_seen p.offset header events files
+  pub seen : unit ≡ unit_seen (offset_after p.offset header) header events files
+
+-- the bytes begin with no unit, whatever its content were: their length can't be read, or it says
+-- more bytes than there are
+abbrev pub BeginsWithNone : Notation → List ℕ → Type 0
+BeginsWithNone notation bytes = (error : Error) × (any_unit notation).Fault bytes error
+
+-- where the next unit of a section begins: after the unit at an offset, whatever its content is;
+-- where no unit begins there, at the end of the section
+abbrev pub IsNext : Notation → List ℕ → ℕ → ℕ → Type 0
+IsNext notation section offset next =
+    BeginsWithUnit notation (drop offset section) (λ size rest. next ≡ offset + size)
+    ⊎ (BeginsWithNone notation (drop offset section) × (next ≡ length section))
+
+-- the same of the unit at a location
+abbrev pub TellsNext : Location → ℕ → Type 0
+TellsNext p next = IsNext (notation_at p) p.section p.offset next

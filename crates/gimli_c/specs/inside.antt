@@ -3,5 +3,4 @@ pub mod Causes
 pub mod Handed
 pub mod Run
 pub mod Unit
-pub mod KeptUnits
 pub mod Told

@@ -1,8 +1,8 @@
 //! Line number programs of DWARF, versions 2 to 5, for programs in C and in Rust.
 //!
-//! Each call takes the bytes of a section or of a map, or the handle of an index, and numbers, and
-//! returns a number of [`status`]; what it found goes into places of the caller. Nothing of the
-//! caller is kept after a call. `include/gimli_line.h` declares all of it.
+//! Each call takes the bytes of a section or of a map, and numbers, and returns a number of
+//! [`status`]; what it found goes into places of the caller. Nothing is kept after a call.
+//! `include/gimli_line.h` declares all of it.
 #![tactic(auto)]
 
 mod build_id;
@@ -12,15 +12,14 @@ mod elf;
 mod encoding;
 mod file;
 mod find;
-mod index;
 mod items;
 pub mod laws;
 mod location;
-mod loose;
 mod map;
+mod next_unit;
+mod path;
 mod relocatable;
 mod row;
-mod row_reader;
 mod rows;
 mod run;
 pub mod status;
@@ -40,25 +39,15 @@ pub use file::{
     TEXT_DEBUG_STR, TEXT_DEBUG_STR_SUP, TEXT_HERE, TEXT_INDEX, TEXT_NONE, gimli_line_file,
 };
 pub use find::gimli_line_find;
-pub use index::{
-    GimliIndexUnit, GimliLineIndex, GimliOpenOptions, GimliPlace, HeaderSummary, OPTIONS_SIZE,
-    SectionIndex, UnitPaths, gimli_line_index_addresses, gimli_line_index_addresses_of,
-    gimli_line_index_close, gimli_line_index_comp_dir, gimli_line_index_directory,
-    gimli_line_index_file, gimli_line_index_find, gimli_line_index_find_all, gimli_line_index_open,
-    gimli_line_index_open_with_info, gimli_line_index_path, gimli_line_index_read_unit,
-    gimli_line_index_unit, gimli_line_index_unit_count,
-};
 pub use items::GimliSymbol;
 pub use map::{
-    GimliMap, GimliMapPlace, NO_PATH_OUTSIDE, gimli_line_map_addresses_of, gimli_line_map_check,
-    gimli_line_map_find, gimli_line_map_find_all, gimli_line_map_open, gimli_line_map_write,
+    GimliMap, GimliMapOptions, GimliMapPlace, NO_PATH_OUTSIDE, OPTIONS_SIZE,
+    gimli_line_map_addresses_of, gimli_line_map_check, gimli_line_map_find,
+    gimli_line_map_find_all, gimli_line_map_open, gimli_line_map_write,
 };
+pub use path::gimli_line_path;
 pub use relocatable::{GimliRelocation, gimli_line_write_relocatable};
 pub use row::{BASIC_BLOCK, END_SEQUENCE, EPILOGUE_BEGIN, GimliRow, IS_STMT, PROLOGUE_END};
-pub use row_reader::{
-    GimliRowReader, UnitRows, gimli_line_index_rows_open, gimli_line_rows_close,
-    gimli_line_rows_next, gimli_line_rows_open,
-};
 pub use rows::gimli_line_rows;
 pub use tables::GimliFileName;
 pub use text::GimliName;

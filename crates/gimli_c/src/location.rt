@@ -2,7 +2,7 @@
 
 ghost use Rattle.gimli_core.specs.Order.{is_big};
 ghost use Rattle.gimli_core.specs.Numbers.{is_address_size};
-ghost use Rattle.std.specs.Prelude.{◌≡◌, ◌≢◌, Err, IfErr, IfOk, false, min};
+ghost use Rattle.std.specs.Prelude.{◌≡◌, ◌≢◌, Err, IfErr, IfOk, false};
 ghost use Rattle.gimli_c.specs.Location.{location, notation_at, HasUnit, HasNoUnit};
 
 use crate::status::{OUT_OF_MEMORY, UNSUPPORTED_ADDRESS_SIZE, error_status};
@@ -53,11 +53,4 @@ pub(crate) fn order(big: bool) -> RunTimeEndian
     } else {
         RunTimeEndian::Little
     }
-}
-
-/// The lesser of two numbers.
-pub(crate) fn lesser(first: usize, second: usize) -> usize
-    ensures { result ≡ min first second }
-{
-    if first < second { first } else { second }
 }

@@ -13,4 +13,4 @@ pub use ask::{gimli_line_map_find, gimli_line_map_find_all};
 pub use header::{GimliMap, gimli_line_map_check, gimli_line_map_open};
 pub use lines::gimli_line_map_addresses_of;
 pub use place::{GimliMapPlace, NO_PATH_OUTSIDE};
-pub use write::gimli_line_map_write;
+pub use write::{GimliMapOptions, OPTIONS_SIZE, gimli_line_map_write};

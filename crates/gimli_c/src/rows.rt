@@ -1,8 +1,9 @@
 //! The rows of a unit.
 
-ghost use Rattle.std.specs.Prelude.{◌≡◌, ◌≢◌, false};
+ghost use Rattle.std.specs.Prelude.{◌≡◌, ◌≢◌, ◌≤◌, false};
 ghost use Rattle.gimli_core.specs.Numbers.{is_address_size};
-ghost use Rattle.gimli_c.specs.Location.{location};
+ghost use Rattle.gimli_line.specs.header.Header.{Header};
+ghost use Rattle.gimli_c.specs.Location.{location, HasUnit};
 ghost use Rattle.gimli_c.specs.Run.{GivesFirstRowsOrNone, GivesRowsOrNone};
 
 use crate::location::program_at;
@@ -12,7 +13,8 @@ use crate::status::{OUT_OF_MEMORY, UNSUPPORTED_ADDRESS_SIZE, error_status};
 use std::alloc::Global;
 
 /// Runs the program of the unit at an offset. Its rows from the `skip`-th on, from 0, go into
-/// `rows`, as far as there is room; `count` is how many rows it has in all. The first fault ends
+/// `rows`, as far as there is room; `count` is how many rows it has in all. A unit has no more rows
+/// than bytes, so an array of as many rows as its `length` has room for all. The first fault ends
 /// the run: its number is returned, and the rows before it are there. Where memory is missing,
 /// `count` is 0, and the first rows may be there. For `address_size` and the order see
 /// `gimli_line_unit`.
@@ -32,6 +34,8 @@ pub extern "C" fn gimli_line_rows(
     ensures first_rows { result ≡ OUT_OF_MEMORY → GivesFirstRowsOrNone
         (location section.now big address_size offset) skip rows.old rows.new }
     ensures no_count { result ≡ OUT_OF_MEMORY → count.new ≡ 0 }
+    ensures at_most { (h : Header) → HasUnit (location section.now big address_size offset) h
+        → count.new ≤ h.unit_length }
     ensures size { is_address_size address_size ≡ false → result ≡ UNSUPPORTED_ADDRESS_SIZE }
 {
     *count = 0;

@@ -74,8 +74,6 @@ pub const UNIT_TOO_LONG: u32 = 30;
 /// The unit is longer than the room for it.
 pub const NO_ROOM: u32 = 31;
 
-/// A handle is closed.
-pub const CLOSED: u32 = 32;
 /// A string of a path can't be told: it is given by an index, stands in the supplementary file or
 /// outside its section, or has no zero byte at its end; or a file's directory isn't there.
 pub const UNKNOWN_PATH: u32 = 33;
@@ -93,8 +91,6 @@ pub const MAP_DISORDERED: u32 = 38;
 /// A path isn't inside its map.
 pub const MAP_PATH_OUTSIDE: u32 = 39;
 
-/// An index has no unit of this number.
-pub const NO_SUCH_UNIT: u32 = 40;
 /// No line from the one that is asked for on has code.
 pub const NO_CODE: u32 = 41;
 /// No unit of `.debug_info` that can be read tells the directory of the compilation.

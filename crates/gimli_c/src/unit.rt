@@ -1,17 +1,17 @@
 //! The unit at an offset.
 
-ghost use Rattle.std.specs.Prelude.{◌≡◌, ◌≢◌, ◌<◌, ◌+◌, ◌^◌, false, IfErr, IfOk};
+ghost use Rattle.std.specs.Prelude.{◌≡◌, ◌≢◌, ◌≤◌, false, IfErr, IfOk};
 ghost use Rattle.gimli_core.specs.Numbers.{is_address_size};
 ghost use Rattle.gimli_c.specs.Location.{location, HasNoUnit};
-ghost use Rattle.gimli_line.specs.Units.{offset_after};
-ghost use Rattle.gimli_c.specs.Unit.{GivesUnit};
+ghost use Rattle.gimli_c.specs.Unit.{GivesUnit, TellsNext};
 ghost use Rattle.gimli_c.specs.inside.Unit.{IsReadUnit};
 
 use crate::location::program_at;
+use crate::next_unit::next_unit;
 use crate::run::{copy_rows, fault_status, rows_fit, run_on};
 use crate::status::{OK, OUT_OF_MEMORY, UNSUPPORTED_ADDRESS_SIZE, error_status};
 use gimli_core::{Error, Reader, ReaderOffset, Result};
-use gimli_line::{IncompleteLineProgram, laws};
+use gimli_line::IncompleteLineProgram;
 use std::alloc::Global;
 
 /// A unit of a section `.debug_line`: its header, and what its program gives.
@@ -42,7 +42,10 @@ pub struct GimliUnit {
 
 /// Reads the unit at an offset, and runs its program. `big` says that the most significant byte of
 /// a number comes first. `address_size` is that of the compilation unit, which counts up to version
-/// 4; it has to be 1, 2, 4 or 8. Where another number than 0 is returned, `unit` stays as it was.
+/// 4; it has to be 1, 2, 4 or 8. Where another number than 0 is returned, `next` alone is written:
+/// a unit that is refused is passed over too, whatever its content is. Where its length can't be
+/// read, or says more bytes than there are, no unit follows, and `next` is the length of the
+/// section.
 #[unsafe(no_mangle)]
 pub extern "C" fn gimli_line_unit(
     alloc: Global,
@@ -56,14 +59,17 @@ pub extern "C" fn gimli_line_unit(
     ensures refused { result ≢ OK → result ≢ OUT_OF_MEMORY →
         HasNoUnit (location section.now big address_size offset) result }
     ensures size { is_address_size address_size ≡ false → result ≡ UNSUPPORTED_ADDRESS_SIZE }
-    ensures kept { result ≢ OK → unit.new ≡ unit.old }
+    ensures next { TellsNext (location section.now big address_size offset) unit.new.next }
+    ensures at_most { result ≡ OK → unit.new.rows ≤ unit.new.length }
+    ensures kept { result ≢ OK → unit.new ≡ record unit.old { next = unit.new.next } }
 {
+    let next = next_unit(section, big, offset);
+    unit.next = next;
     let program = match program_at(alloc, section, big, address_size, offset) {
         Ok(program) => program,
         Err(status) => return status,
     };
-    laws::units_follow_headers();
-    match read_unit(program, offset) {
+    match read_unit(program, next) {
         Ok(read) => {
             *unit = read;
             OK
@@ -72,17 +78,15 @@ pub extern "C" fn gimli_line_unit(
     }
 }
 
-/// What is said of the unit of a program, which stands at an offset. Requires that 64 bits hold the
-/// offset of what follows it. Refused by `OutOfMemory` alone.
-fn read_unit<R: Reader>(program: IncompleteLineProgram<R>, offset: usize) -> Result<GimliUnit>
-    requires { offset_after offset program.meaning < 2 ^ 64 }
-    ensures ok { IfOk result (λ unit. IsReadUnit offset program.meaning program.notation unit) }
+/// What is said of the unit of a program, which the next one follows at an offset. Refused by
+/// `OutOfMemory` alone.
+fn read_unit<R: Reader>(program: IncompleteLineProgram<R>, next: u64) -> Result<GimliUnit>
+    ensures ok { IfOk result (λ unit. IsReadUnit next program.meaning program.notation unit) }
     ensures err { IfErr result (λ e. e ≡ Error.OutOfMemory) }
 {
     rows_fit(&program);
     let header = program.header();
     let encoding = header.encoding();
-    let length_size = u64::from(encoding.format.initial_length_size());
     let length = header.unit_length().into_u64();
     let directories = header.include_directories().len() as u64;
     let mut rows = program.rows();
@@ -90,7 +94,7 @@ fn read_unit<R: Reader>(program: IncompleteLineProgram<R>, offset: usize) -> Res
     run_on(&mut rows)?;
     Ok(GimliUnit {
         length,
-        next: offset as u64 + length_size + length,
+        next,
         directories,
         files: rows.header().file_names().len() as u64,
         rows: run.count,

@@ -2,10 +2,9 @@
  * assembler, which makes the relocations of an object file: compiler VERSION [in-place], for x86-64. The place of a symbol is printed as
  * `.quad symbol + addend`; the addend is that of the list, or where `in-place` is said the number at the place. */
 #include <inttypes.h>
-#include <stdio.h>
-#include <stdlib.h>
 #include <string.h>
 
+#include "file.h"
 #include "gimli_line.h"
 
 static const char *const symbols[] = {"first", "second"};
@@ -50,34 +49,19 @@ int main(int argc, char **argv) {
     };
     /* The second function begins six bytes after the first: its symbol is the first one's, with an addend, where the version is even. */
     gimli_symbol starts[] = {{0, 0}, {version % 2 != 0, version % 2 != 0 ? 0 : 6}};
-    gimli_contents contents;
-    memset(&contents, 0, sizeof contents);
-    gimli_encoding encoding = GIMLI_ENCODING(version);
-    contents.encoding = encoding;
-    contents.texts = (const uint8_t *)texts;
-    contents.text_length = sizeof texts - 1;
-    contents.directories = &directory;
-    contents.directory_count = from_0;
-    contents.files = &file;
-    contents.file_count = 1;
-    contents.rows = rows;
-    contents.row_count = sizeof rows / sizeof rows[0];
-    contents.symbols = starts;
-    contents.symbol_count = sizeof starts / sizeof starts[0];
-    contents.in_place = argc > 2 && strcmp(argv[2], "in-place") == 0;
+    gimli_contents contents = {
+        .encoding = GIMLI_ENCODING(version), .texts = (const uint8_t *)texts, .text_length = sizeof texts - 1, .directories = &directory,
+        .directory_count = from_0, .files = &file, .file_count = 1, .rows = rows, .row_count = sizeof rows / sizeof rows[0],
+        .symbols = starts, .symbol_count = sizeof starts / sizeof starts[0], .in_place = argc > 2 && strcmp(argv[2], "in-place") == 0};
 
     /* How much room it takes is asked first. */
     size_t size, count;
     uint32_t status = gimli_line_write_relocatable_contents(&contents, NULL, 0, &size, NULL, 0, &count);
-    if (status != GIMLI_NO_ROOM) {
-        fprintf(stderr, "compiler: %s\n", gimli_status_sentence(status));
-        return 1;
-    }
-    uint8_t *unit = (uint8_t *)malloc(size);
-    gimli_relocation *relocations = (gimli_relocation *)malloc(count * sizeof *relocations);
+    if (status != GIMLI_NO_ROOM) stop_if(status);
+    uint8_t *unit = malloc(size);
+    gimli_relocation *relocations = malloc(count * sizeof *relocations);
     if (unit == NULL || relocations == NULL) return 2;
-    status = gimli_line_write_relocatable_contents(&contents, unit, size, &size, relocations, count, &count);
-    if (status != GIMLI_OK) return 1;
+    stop_if(gimli_line_write_relocatable_contents(&contents, unit, size, &size, relocations, count, &count));
 
     fputs(code, stdout);
     for (size_t at = 0, next = 0; at < size;) {

@@ -1,247 +1,159 @@
-/* Makes each call over buffers that end where a page begins that can't be read or written: a byte too much ends the program
- * by a signal. Each room is tried, from none to more than enough.
+/* Asks the sections of a program all that ask.h asks, by each room, and what its map says of each address near a row; writes its units,
+ * which are read back. Prints how many answers were as they had to be.
  *
  *   guarded line.bin line_str.bin info.bin abbrev.bin str.bin
  *
- * These are the sections .debug_line, .debug_line_str, .debug_info, .debug_abbrev and .debug_str, empty
- * where there is none; see memory.sh.
- *
- * For a little-endian program with addresses of 8 bytes. */
-#define _DEFAULT_SOURCE
-#include <stdio.h>
-#include <stdlib.h>
-#include <string.h>
-#include <sys/mman.h>
-#include <unistd.h>
+ * These are the sections .debug_line, .debug_line_str, .debug_info, .debug_abbrev and .debug_str, empty where there is none; see
+ * memory.sh. For a little-endian program with addresses of 8 bytes. */
+#define _GNU_SOURCE
+#include "ask.h"
 
-#include "gimli_line.h"
+enum { LINE = OWN, LINE_STR, INFO, ABBREV, STR, CUT, MADE };
 
-enum { ROOM = 40 };
-
-static unsigned long long calls;
-
-static void *no_memory(void) {
-    fprintf(stderr, "guarded: no memory\n");
-    exit(2);
+/* A file, whose last byte is the last of a page. */
+static const uint8_t *guarded(int area, const char *name, size_t *length) {
+    bytes read = read_file(name);
+    uint8_t *copy = memcpy(room_in(area, read.length), read.at, read.length);
+    *length = read.length;
+    free(read.at);
+    return copy;
 }
 
-/* Room for some bytes, the last of which is the last of a page; after it nothing can be read or written. */
-static void *guarded(size_t size) {
-    size_t page = (size_t)sysconf(_SC_PAGESIZE), pages = (size + page - 1) / page + 1;
-    uint8_t *all = mmap(NULL, pages * page, PROT_READ | PROT_WRITE, MAP_PRIVATE | MAP_ANONYMOUS, -1, 0);
-    if (all == MAP_FAILED || mprotect(all + (pages - 1) * page, page, PROT_NONE) != 0) return no_memory();
-    return all + (pages - 1) * page - size;
-}
-
-/* Gives back what `guarded` gave for this size. */
-static void give_back(void *bytes, size_t size) {
-    size_t page = (size_t)sysconf(_SC_PAGESIZE), pages = (size + page - 1) / page + 1;
-    munmap((uint8_t *)bytes + size - (pages - 1) * page, pages * page);
-}
-
-typedef struct section {
-    uint8_t *bytes;
-    size_t length;
-} section;
-
-static section read_file(const char *name) {
-    FILE *file = fopen(name, "rb");
-    if (file == NULL || fseek(file, 0, SEEK_END) != 0) exit(2);
-    long size = ftell(file);
-    rewind(file);
-    if (size < 0) exit(2);
-    section read = {guarded((size_t)size), (size_t)size};
-    if (fread(read.bytes, 1, read.length, file) != read.length) exit(2);
-    fclose(file);
-    return read;
-}
-
-static void expect(bool holds, const char *what) {
-    calls++;
-    if (holds) return;
-    fprintf(stderr, "guarded: %s\n", what);
-    exit(1);
-}
-
-/* The rows of a unit by a run each, and by a reader, into each room. */
-static void read_rows(section lines, size_t offset, uint64_t all) {
-    for (size_t room = 0; room <= ROOM; room++) {
-        gimli_row *rows = guarded(room * sizeof *rows), *next = guarded(room * sizeof *next);
-        gimli_row_reader reader = GIMLI_ROW_READER_CLOSED;
-        expect(gimli_line_rows_open(lines.bytes, lines.length, false, 8, offset, &reader) == GIMLI_OK, "gimli_line_rows_open");
-        uint64_t count = 0, skip = 0;
-        size_t given = 0;
-        do {
-            expect(gimli_line_rows(lines.bytes, lines.length, false, 8, offset, skip, rows, room, &count) == GIMLI_OK && count == all,
-                   "gimli_line_rows");
-            expect(gimli_line_rows_next(&reader, next, room, &given) == GIMLI_OK, "gimli_line_rows_next");
-            expect(given == (all - skip < room ? all - skip : room), "the count of gimli_line_rows_next");
-            expect(memcmp(rows, next, given * sizeof *rows) == 0, "the rows of gimli_line_rows_next");
-            skip += given;
-        } while (room != 0 && given == room);
-        expect(room == 0 || skip == all, "the rows of a reader");
-        expect(gimli_line_rows_close(&reader) == GIMLI_OK && reader.at == NULL, "gimli_line_rows_close");
-        give_back(rows, room * sizeof *rows);
-        give_back(next, room * sizeof *next);
+/* The directory of the first unit, by a .debug_info that is cut anywhere: where the first unit is cut no unit has one. */
+static void cut_info(void) {
+    static told home;
+    const uint8_t *info = in.info;
+    size_t whole = in.info_size, first = 4 + (info[0] | (size_t)info[1] << 8 | (size_t)info[2] << 16);
+    for (size_t length = 0; length < whole; length++) {
+        in.info = memcpy(room_in(CUT, length), info, length);
+        in.info_size = length;
+        uint32_t status = try_rooms(comp_dir_in, 0, 0, 1, sizeof(size_t), 0, &home);
+        is(status == (length < first ? GIMLI_NO_COMP_DIR : GIMLI_OK), "the status where .debug_info is cut");
     }
+    in.info = info;
+    in.info_size = whole;
 }
 
-/* A file and a directory of a unit, by a run and by the index, into each room. */
-static void read_tables(section lines, gimli_line_index *index, size_t offset, uint64_t unit, uint64_t number) {
-    for (size_t room = 0; room <= ROOM; room++) {
-        uint8_t *path = guarded(room), *directory = guarded(room), *other = guarded(room);
-        gimli_file *file = guarded(sizeof *file), *same = guarded(sizeof *same);
-        gimli_text *text = guarded(sizeof *text);
-        memset(path, 0, room);
-        memset(other, 0, room);
-        expect(gimli_line_file(lines.bytes, lines.length, false, 8, offset, number, file, path, room, directory, room) == GIMLI_OK,
-               "gimli_line_file");
-        expect(gimli_line_index_file(index, unit, number, same, other, room, directory, room) == GIMLI_OK, "gimli_line_index_file");
-        expect(memcmp(file, same, sizeof *file) == 0 && memcmp(path, other, room) == 0, "the file of gimli_line_index_file");
-        uint32_t status = gimli_line_directory(lines.bytes, lines.length, false, 8, offset, file->directory_number, text, directory, room);
-        expect(gimli_line_index_directory(index, unit, file->directory_number, text, directory, room) == status, "gimli_line_index_directory");
-        size_t *size = guarded(sizeof *size);
-        expect(gimli_line_index_path(index, unit, number, directory, 0, path, room, size) == GIMLI_OK, "gimli_line_index_path");
-        size_t *count = guarded(sizeof *count);
-        uint64_t *line = guarded(sizeof *line), *addresses = guarded(room * sizeof *addresses);
-        status = gimli_line_index_addresses(index, unit, number, 1, line, addresses, room, count);
-        expect(status == GIMLI_OK || status == GIMLI_NO_CODE, "gimli_line_index_addresses");
-        status = gimli_line_index_addresses_of(index, path, room, 1, line, addresses, room, count);
-        expect(status == GIMLI_OK || status == GIMLI_NO_CODE, "gimli_line_index_addresses_of");
-        give_back(path, room);
-        give_back(directory, room);
-        give_back(other, room);
-        give_back(file, sizeof *file);
-        give_back(same, sizeof *same);
-        give_back(text, sizeof *text);
-        give_back(size, sizeof *size);
-        give_back(count, sizeof *count);
-        give_back(line, sizeof *line);
-        give_back(addresses, room * sizeof *addresses);
+/* A call that writes all or nothing. */
+typedef uint32_t writer(const void *of, uint8_t *made, size_t room, size_t *size);
+
+/* What it writes, by rooms that are too small, too large, and just enough. */
+static uint8_t *made_by(writer *call, const void *of, size_t *whole) {
+    size_t *size = room_in(BESIDE, sizeof *size);
+    uint8_t *made = room_in(MADE, 0);
+    is(call(of, made, 0, size) == GIMLI_NO_ROOM, "how long it is");
+    *whole = *size;
+    const size_t rooms[] = {1, *whole - 1, *whole + 9, *whole};
+    for (size_t i = 0; i < 4; i++) {
+        size_t written = rooms[i] < *whole ? 0 : *whole;
+        made = room_in(MADE, rooms[i]);
+        is(call(of, made, rooms[i], size) == (written == 0 ? GIMLI_NO_ROOM : GIMLI_OK) && *size == *whole, "its status");
+        is(is_untouched(made + written, rooms[i] - written), "what is written beside it");
     }
+    return made;
 }
 
-/* Addresses of rows, one by one and at once. */
-static void look_up(gimli_line_index *index, uint64_t unit) {
-    gimli_row_reader reader = GIMLI_ROW_READER_CLOSED;
-    gimli_row rows[ROOM];
-    size_t count = 0;
-    expect(gimli_line_index_rows_open(index, unit, &reader) == GIMLI_OK, "gimli_line_index_rows_open");
-    expect(gimli_line_rows_next(&reader, rows, ROOM, &count) == GIMLI_OK, "gimli_line_rows_next");
-    gimli_line_rows_close(&reader);
-    for (size_t room = 0; room <= count; room++) {
-        gimli_place *places = guarded(room * sizeof *places), *place = guarded(sizeof *place);
-        for (size_t i = 0; i < room; i++) places[i].address = rows[i].address;
-        expect(gimli_line_index_find_all(index, places, room) == GIMLI_OK, "gimli_line_index_find_all");
-        for (size_t i = 0; i < room; i++) {
-            memset(place, 0, sizeof *place);
-            place->address = rows[i].address;
-            uint32_t status = gimli_line_index_find(index, rows[i].address, place);
-            expect(memcmp(place, &places[i], sizeof *place) == 0 && (status == GIMLI_OK) == (place->end != 0),
-                   "the places of gimli_line_index_find_all");
+static uint32_t map_of(const void *options, uint8_t *map, size_t room, size_t *size) {
+    return gimli_line_map_write(in.line, in.line_size, in.line_strings, in.line_strings_size, in.strings, in.strings_size, in.info, in.info_size,
+                                in.abbreviations, in.abbreviations_size, in.string_offsets, in.string_offsets_size, options,
+                                (const uint8_t *)"name", 4, map, room, size);
+}
+
+static uint32_t unit_of(const void *contents, uint8_t *unit, size_t room, size_t *size) {
+    return gimli_line_write_contents(contents, unit, room, size);
+}
+
+/* What the map says of an address is what the first unit says that has a row of it. */
+static void ask_address(const uint8_t *map, size_t length, uint64_t address) {
+    static told path, home;
+    gimli_row *first = room_in(ARRAY, sizeof *first), *second = room_in(BESIDE, sizeof *second), row;
+    gimli_unit unit;
+    size_t offset = 0;
+    uint32_t found = GIMLI_NO_ROW;
+    for (; offset < in.line_size; offset = unit.next) {
+        is(gimli_line_unit(in.line, in.line_size, false, 8, offset, &unit) == GIMLI_OK, "a unit");
+        found = gimli_line_find(in.line, in.line_size, false, 8, offset, address, first, second);
+        if (found == GIMLI_OK) break;
+        is(is_untouched(first, sizeof *first) && is_untouched(second, sizeof *second), "rows that aren't found");
+    }
+    gimli_map_place *there = room_in(ANOTHER, sizeof *there);
+    is(gimli_line_map_find(map, length, address, there) == found, "the status of a place");
+    is(found == GIMLI_OK || is_untouched(there, sizeof *there), "a place that isn't found");
+    if (found != GIMLI_OK) return;
+    row = *first;
+    is(try_rooms(comp_dir_in, offset, 0, 1, sizeof(size_t), 0, &home) == GIMLI_OK, "the directory of a compilation");
+    comp_dir = (const char *)home.array;
+    comp_dir_size = home.count;
+    is(try_rooms(path_in, offset, row.file, 1, sizeof(size_t), 0, &path) == GIMLI_OK, "the path of a row");
+    is(there->known && there->address == address && there->unit == offset && there->line == row.line && there->column == row.column &&
+           there->is_stmt == (row.flags & GIMLI_IS_STMT), "a place");
+    is(there->no_path == 0 && there->path_size == path.count && memcmp(gimli_map_path(map, there), path.array, path.count) == 0, "its path");
+    uint64_t *addresses = room_in(ARRAY, 2 * sizeof *addresses), *line = room_in(BESIDE, sizeof *line);
+    size_t count;
+    found = gimli_line_map_addresses_of(map, length, map + there->path, there->path_size, row.line, line, addresses, 2, &count);
+    is(found == GIMLI_OK ? *line >= row.line && (!there->is_stmt || *line == row.line) : found == GIMLI_NO_CODE && !there->is_stmt, "a line");
+    is(is_untouched(addresses + (found == GIMLI_OK ? count : 0), found != GIMLI_OK ? 16 : count < 2 ? 8 : 0), "the addresses of a line");
+}
+
+/* The map of the program, and what it says of each address near a row. */
+static void make_map(void) {
+    size_t whole;
+    uint8_t *map = made_by(map_of, &by, &whole);
+    gimli_map *found = room_in(ANOTHER, sizeof *found);
+    is(gimli_line_map_open(map, whole, found) == GIMLI_OK && found->identity_size == 4 && found->address_size == 8 &&
+           memcmp(map + found->identity, "name", 4) == 0, "what a map says of itself");
+    gimli_unit unit;
+    for (size_t offset = 0; offset < in.line_size; offset = unit.next) {
+        is(gimli_line_unit(in.line, in.line_size, false, 8, offset, &unit) == GIMLI_OK, "a unit");
+        for (uint64_t i = 0, count; i < unit.rows; i++) {
+            gimli_row row;
+            is(rows_in(offset, i, &row, 1, &count) == GIMLI_OK && ask_map(map, whole, row.address - 1, 1) == GIMLI_OK, "a map is sound");
+            for (uint64_t address = row.address - 1; address != row.address + 2; address++) ask_address(map, whole, address);
         }
-        give_back(places, room * sizeof *places);
-        give_back(place, sizeof *place);
     }
+    by.address_size = 3;
+    is(map_of(&by, map, whole, &whole) == GIMLI_UNSUPPORTED_ADDRESS_SIZE && whole == 0, "the size of addresses");
+    by.size--;
+    is(map_of(&by, map, 1, &whole) == GIMLI_UNKNOWN_OPTIONS && whole == 0, "the size of options");
 }
 
-/* The directory of the unit at an offset, by a .debug_info that ends so early, into some room. */
-static uint32_t directory_of(const section *sections, size_t length, size_t offset, size_t room) {
-    section lines = sections[0], line_strings = sections[1], info = sections[2];
-    section abbrev = sections[3], str = sections[4];
-    uint8_t *cut = guarded(length), *directory = guarded(room);
-    size_t *size = guarded(sizeof *size);
-    memcpy(cut, info.bytes, length);
-    memset(directory, 0xaa, room);
-    *size = 77;
-    uint32_t status = gimli_line_comp_dir(cut, length, abbrev.bytes, abbrev.length,
-                                          line_strings.bytes, line_strings.length, str.bytes,
-                                          str.length, lines.bytes, 0, false, offset, directory,
-                                          room, size);
-    expect(status == GIMLI_OK || status == GIMLI_NO_COMP_DIR, "gimli_line_comp_dir");
-    bool is_as_before = *size == 77;
-    for (size_t i = 0; i < room; i++) is_as_before = is_as_before && directory[i] == 0xaa;
-    expect(status == GIMLI_OK || is_as_before, "what gimli_line_comp_dir writes at a refusal");
-    give_back(cut, length);
-    give_back(directory, room);
-    give_back(size, sizeof *size);
-    return status;
-}
-
-/* The directory of a unit, into each room, and by a .debug_info that is cut anywhere: where the first
- * unit is cut no unit has one. */
-static void read_directory(const section *sections, size_t offset) {
-    section info = sections[2];
-    for (size_t room = 0; room <= ROOM; room++) {
-        expect(directory_of(sections, info.length, offset, room) == GIMLI_OK, "its status");
+/* The rows of a unit, and what is known of its files, are written as a unit of their own, into each room, and read back. Each file has its
+ * number as its name: so none comes twice, and all keep their numbers. */
+static void write_unit(size_t offset, const gimli_unit *unit) {
+    static gimli_row rows[4096], again[4096];
+    static gimli_file_name files[64];
+    static uint8_t texts[64 * 3 + 1];
+    static const gimli_name directory = {0, 1};
+    uint64_t first = gimli_first_number(unit), count;
+    is(rows_in(offset, 0, rows, 4096, &count) == GIMLI_OK && count <= 4096 && unit->files <= 64, "the rows of a unit");
+    gimli_contents contents = {.encoding = GIMLI_ENCODING(unit->version), .texts = texts, .text_length = sizeof texts, .directories = &directory,
+                               .directory_count = 1, .files = files, .file_count = unit->files, .rows = rows, .row_count = count};
+    contents.encoding.offset_size = (uint8_t)unit->offset_size;
+    texts[0] = 'd';
+    for (uint64_t i = 0; i < unit->files; i++) {
+        gimli_file file;
+        is(file_path_in(offset, i + first, texts, 0, &file) == GIMLI_OK, "a file");
+        snprintf((char *)texts + 1 + 3 * i, 3, "%02d", (int)i);
+        files[i] = (gimli_file_name){{1 + 3 * i, 2}, first, file.timestamp, file.size, {0}};
+        memcpy(files[i].md5, file.md5, sizeof file.md5);
+        contents.details = file.details;
     }
-    size_t first = 4 + (info.bytes[0] | (size_t)info.bytes[1] << 8 | (size_t)info.bytes[2] << 16);
-    for (size_t length = 0; length < info.length; length++) {
-        uint32_t status = directory_of(sections, length, offset, ROOM);
-        expect(length >= first || status == GIMLI_NO_COMP_DIR, "the status where .debug_info is cut");
+    gimli_sections before = in;
+    size_t whole;
+    in.line = made_by(unit_of, &contents, &whole);
+    in.line_size = whole;
+    is(rows_in(0, 0, again, 4096, &count) == GIMLI_OK && count == unit->rows, "the rows of a unit that was written");
+    for (uint64_t i = 0; i < count; i++)
+        is(rows[i].flags & again[i].flags & GIMLI_END_SEQUENCE ? rows[i].address == again[i].address && rows[i].op_index == again[i].op_index
+                                                               : memcmp(&rows[i], &again[i], sizeof rows[i]) == 0, "a row that was written");
+    for (uint64_t i = 0; i < unit->files; i++) {
+        gimli_file file;
+        uint8_t name[2];
+        is(file_path_in(0, i + first, name, 2, &file) == GIMLI_OK && memcmp(name, texts + files[i].path.first, 2) == 0 &&
+               file.timestamp == files[i].timestamp && file.size == files[i].size && memcmp(file.md5, files[i].md5, sizeof file.md5) == 0 &&
+               file.directory_number == first && file.directory.size == 1, "a file that was written");
     }
-}
-
-/* The map of the program, into some room. */
-static uint32_t map_of(const section *sections, const gimli_open_options *options, uint8_t *map, size_t room, size_t *size) {
-    section lines = sections[0], line_strings = sections[1], info = sections[2], abbrev = sections[3], str = sections[4];
-    return gimli_line_map_write(lines.bytes, lines.length, line_strings.bytes, line_strings.length, str.bytes, str.length, info.bytes,
-                                info.length, abbrev.bytes, abbrev.length, str.bytes, 0, options, (const uint8_t *)"name", 4, map, room,
-                                size);
-}
-
-/* The map of the program, into each room; what it says of each address near a row is what the index says. */
-static void make_map(const section *sections, gimli_open_options options, gimli_line_index *index, uint64_t units) {
-    size_t *size = guarded(sizeof *size), whole, rooms[] = {0, 1, 0, 0, 0};
-    expect(map_of(sections, &options, (uint8_t *)size, 0, size) == GIMLI_NO_ROOM && *size > 44, "gimli_line_map_write");
-    whole = *size;
-    rooms[2] = whole - 1;
-    rooms[3] = whole;
-    rooms[4] = whole + ROOM;
-    for (size_t i = 0; i < sizeof rooms / sizeof rooms[0]; i++) {
-        uint8_t *map = guarded(rooms[i]);
-        memset(map, 0xaa, rooms[i]);
-        expect(map_of(sections, &options, map, rooms[i], size) == (rooms[i] < whole ? GIMLI_NO_ROOM : GIMLI_OK) && *size == whole,
-               "gimli_line_map_write");
-        bool is_as_before = true;
-        for (size_t k = rooms[i] < whole ? 0 : whole; k < rooms[i]; k++) is_as_before = is_as_before && map[k] == 0xaa;
-        expect(is_as_before, "what gimli_line_map_write writes beside the map");
-        give_back(map, rooms[i]);
-    }
-    uint8_t *map = guarded(whole);
-    gimli_map *found = guarded(sizeof *found);
-    gimli_map_place *there = guarded(sizeof *there);
-    expect(map_of(sections, &options, map, whole, size) == GIMLI_OK && gimli_line_map_check(map, whole) == GIMLI_OK, "a map is sound");
-    expect(gimli_line_map_open(map, whole, found) == GIMLI_OK && found->identity_size == 4 && found->address_size == 8 &&
-               memcmp(map + found->identity, "name", 4) == 0, "what a map says of itself");
-    for (uint64_t unit = 0; unit < units; unit++) {
-        gimli_row_reader reader = GIMLI_ROW_READER_CLOSED;
-        gimli_index_unit about;
-        gimli_row row;
-        size_t count = 1;
-        expect(gimli_line_index_rows_open(index, unit, &reader) == GIMLI_OK, "gimli_line_index_rows_open");
-        expect(gimli_line_index_unit(index, unit, &about) == GIMLI_OK, "gimli_line_index_unit");
-        while (gimli_line_rows_next(&reader, &row, 1, &count) == GIMLI_OK && count == 1) {
-            for (uint64_t address = row.address - 1; address != row.address + 2; address++) {
-                gimli_place place;
-                uint32_t status = gimli_line_map_find(map, whole, address, there);
-                expect(gimli_line_index_find(index, address, &place) == status, "the status of gimli_line_map_find");
-                if (status != GIMLI_OK) continue;
-                expect(there->address == address && there->line == place.row.line && there->column == place.row.column &&
-                           there->no_path == 0 && gimli_map_path(map, there)[0] == '/', "the place of gimli_line_map_find");
-                expect(gimli_line_index_unit(index, place.unit, &about) == GIMLI_OK && there->unit == about.offset, "the unit of a place");
-            }
-        }
-        gimli_line_rows_close(&reader);
-    }
-    give_back(map, whole);
-    give_back(found, sizeof *found);
-    give_back(there, sizeof *there);
-    options.address_size = 3;
-    expect(map_of(sections, &options, (uint8_t *)size, 0, size) == GIMLI_UNSUPPORTED_ADDRESS_SIZE && *size == 0, "the size of addresses");
-    options.size--;
-    expect(map_of(sections, &options, (uint8_t *)size, 0, size) == GIMLI_UNKNOWN_OPTIONS && *size == 0, "the size of options");
-    give_back(size, sizeof *size);
+    in = before;
 }
 
 /* A unit at two symbols, into each room: the places are those of its addresses, and nothing else differs from the unit at 0. */
@@ -250,72 +162,32 @@ static void write_symbols(bool in_place) {
                                      {0, 0, 1, 8, 0, 0, 0, GIMLI_IS_STMT}, {6, 0, 0, 0, 0, 0, 0, GIMLI_END_SEQUENCE}};
     static const gimli_symbol symbols[] = {{5, 0x1122334455667788}, {9, -1}};
     static const gimli_file_name file = {{0, 1}, 0, 0, 0, {0}};
-    gimli_contents contents;
-    memset(&contents, 0, sizeof contents);
-    gimli_encoding encoding = GIMLI_ENCODING(4);
-    contents.encoding = encoding;
-    contents.texts = (const uint8_t *)"f";
-    contents.text_length = 1;
-    contents.files = &file;
-    contents.file_count = 1;
-    contents.rows = rows;
-    contents.row_count = 4;
-    contents.symbols = symbols;
-    contents.symbol_count = 2;
-    contents.in_place = in_place;
+    gimli_contents contents = {.encoding = GIMLI_ENCODING(4), .texts = (const uint8_t *)"f", .text_length = 1, .files = &file, .file_count = 1,
+                               .rows = rows, .row_count = 4, .symbols = symbols, .symbol_count = 2, .in_place = in_place};
     uint8_t plain[256];
-    size_t *size = guarded(sizeof *size), *count = guarded(sizeof *count), whole;
-    expect(gimli_line_write_contents(&contents, plain, sizeof plain, &whole) == GIMLI_OK, "gimli_line_write");
+    size_t *size = room_in(BESIDE, sizeof *size), *count = room_in(ANOTHER, sizeof *count), whole;
+    is(gimli_line_write_contents(&contents, plain, sizeof plain, &whole) == GIMLI_OK, "gimli_line_write");
     for (size_t room = 0; room <= whole + 1; room++)
         for (size_t slots = 0; slots <= 3; slots++) {
-            uint8_t *unit = guarded(room);
-            gimli_relocation *places = guarded(slots * sizeof *places);
-            memset(unit, 0xaa, room);
-            memset(places, 0xaa, slots * sizeof *places);
+            uint8_t *unit = room_in(ARRAY, room);
+            gimli_relocation *places = room_in(INPUT, slots * sizeof *places);
             uint32_t status = gimli_line_write_relocatable_contents(&contents, unit, room, size, places, slots, count);
-            bool fits = room >= whole && slots >= 2, is_as_before = true;
-            expect(status == (fits ? GIMLI_OK : GIMLI_NO_ROOM) && *size == whole && *count == 2, "gimli_line_write_relocatable");
-            for (size_t i = fits ? whole : 0; i < room; i++) is_as_before = is_as_before && unit[i] == 0xaa;
-            for (size_t i = fits ? 2 * sizeof *places : 0; i < slots * sizeof *places; i++)
-                is_as_before = is_as_before && ((const uint8_t *)places)[i] == 0xaa;
-            expect(is_as_before, "what gimli_line_write_relocatable writes beside the unit");
-            for (size_t i = 0; fits && i < 2; i++) {
-                expect(places[i].symbol == symbols[i].symbol && places[i].size == 8 && places[i].section == 0 &&
-                           places[i].addend == (in_place ? 0 : symbols[i].addend), "a relocation");
-                for (size_t k = 0; k < 8; k++) {
-                    uint8_t there = in_place ? (uint8_t)((uint64_t)symbols[i].addend >> 8 * k) : 0;
-                    expect(unit[places[i].offset + k] == there, "the place of a relocation");
-                    unit[places[i].offset + k] = 0;
-                }
+            bool fits = room >= whole && slots >= 2;
+            size_t written = fits ? whole : 0, filled = fits ? 2 : 0;
+            is(status == (fits ? GIMLI_OK : GIMLI_NO_ROOM) && *size == whole && *count == 2, "gimli_line_write_relocatable");
+            is(is_untouched(unit + written, room - written) && is_untouched(places + filled, (slots - filled) * sizeof *places), "beside the unit");
+            for (size_t i = 0; i < filled; i++) {
+                is(places[i].symbol == symbols[i].symbol && places[i].size == 8 && places[i].section == 0 &&
+                       places[i].addend == (in_place ? 0 : symbols[i].addend), "a relocation");
+                uint64_t there = in_place ? (uint64_t)symbols[i].addend : 0;
+                is(memcmp(unit + places[i].offset, &there, 8) == 0, "the place of a relocation");
+                memset(unit + places[i].offset, 0, 8);
             }
-            expect(!fits || memcmp(unit, plain, whole) == 0, "the other bytes of the unit");
-            give_back(unit, room);
-            give_back(places, slots * sizeof *places);
+            is(memcmp(unit, plain, written) == 0, "the other bytes of the unit");
         }
     contents.encoding.version = 6;
-    expect(gimli_line_write_relocatable_contents(&contents, NULL, 0, size, NULL, 0, count) == GIMLI_UNKNOWN_VERSION && *size == 0 && *count == 0,
-           "a refused version");
-    give_back(size, sizeof *size);
-    give_back(count, sizeof *count);
-}
-
-/* The directory that an index has of a unit, into each room: that which gimli_line_comp_dir tells. */
-static void read_own_directory(const section *sections, gimli_line_index *index, size_t offset, uint64_t unit) {
-    section line_strings = sections[1], info = sections[2], abbrev = sections[3], str = sections[4];
-    for (size_t room = 0; room <= ROOM; room++) {
-        uint8_t *own = guarded(room), *told = guarded(room);
-        size_t *size = guarded(sizeof *size), *same = guarded(sizeof *same);
-        memset(own, 0, room);
-        memset(told, 0, room);
-        expect(gimli_line_index_comp_dir(index, unit, own, room, size) == GIMLI_OK, "gimli_line_index_comp_dir");
-        expect(gimli_line_comp_dir(info.bytes, info.length, abbrev.bytes, abbrev.length, line_strings.bytes, line_strings.length, str.bytes,
-                                   str.length, str.bytes, 0, false, offset, told, room, same) == GIMLI_OK, "gimli_line_comp_dir");
-        expect(*size == *same && memcmp(own, told, room) == 0, "the directory of gimli_line_index_comp_dir");
-        give_back(own, room);
-        give_back(told, room);
-        give_back(size, sizeof *size);
-        give_back(same, sizeof *same);
-    }
+    is(gimli_line_write_relocatable_contents(&contents, NULL, 0, size, NULL, 0, count) == GIMLI_UNKNOWN_VERSION && *size == 0 && *count == 0,
+       "a refused version");
 }
 
 int main(int argc, char **argv) {
@@ -323,35 +195,23 @@ int main(int argc, char **argv) {
         fprintf(stderr, "usage: guarded LINES LINE_STRINGS INFO ABBREVIATIONS STRINGS\n");
         return 2;
     }
-    section sections[5];
-    for (int i = 0; i < 5; i++) sections[i] = read_file(argv[i + 1]);
-    section lines = sections[0], line_strings = sections[1];
-    gimli_line_index index = GIMLI_LINE_INDEX_CLOSED;
-    gimli_open_options options = GIMLI_OPEN_OPTIONS;
-    options.lowest = 0;
-    expect(gimli_line_index_open_with_info(lines.bytes, lines.length, line_strings.bytes, line_strings.length, sections[4].bytes,
-                                           sections[4].length, sections[2].bytes, sections[2].length, sections[3].bytes,
-                                           sections[3].length, lines.bytes, 0, &options, &index) == GIMLI_OK,
-           "gimli_line_index_open_with_info");
-    options.size--;
-    expect(gimli_line_index_open(lines.bytes, 0, lines.bytes, 0, lines.bytes, 0, &options, &index) == GIMLI_UNKNOWN_OPTIONS,
-           "the size of options");
-    uint64_t number = 0;
-    gimli_unit *unit = guarded(sizeof *unit);
-    for (size_t offset = 0; offset < lines.length; offset = unit->next) {
-        expect(gimli_line_unit(lines.bytes, lines.length, false, 8, offset, unit) == GIMLI_OK, "gimli_line_unit");
-        read_rows(lines, offset, unit->rows);
-        uint64_t first = unit->version <= 4;
-        for (uint64_t file = first; file < first + unit->files; file++) read_tables(lines, &index, offset, number, file);
-        read_own_directory(sections, &index, offset, number);
-        look_up(&index, number++);
-        read_directory(sections, offset);
+    in.line = guarded(LINE, argv[1], &in.line_size);
+    in.line_strings = guarded(LINE_STR, argv[2], &in.line_strings_size);
+    in.info = guarded(INFO, argv[3], &in.info_size);
+    in.abbreviations = guarded(ABBREV, argv[4], &in.abbreviations_size);
+    in.strings = guarded(STR, argv[5], &in.strings_size);
+    in.string_offsets = in.line;
+    by = (gimli_map_options){sizeof by, 0, 8, false};
+    ask_units();
+    gimli_unit unit;
+    for (size_t offset = 0; offset < in.line_size; offset = unit.next) {
+        is(gimli_line_unit(in.line, in.line_size, false, 8, offset, &unit) == GIMLI_OK, "a unit");
+        write_unit(offset, &unit);
     }
-    options.size++;
-    make_map(sections, options, &index, number);
+    cut_info();
+    make_map();
     write_symbols(false);
     write_symbols(true);
-    expect(gimli_line_index_close(&index) == GIMLI_OK && index.at == NULL, "gimli_line_index_close");
-    printf("%llu\n", calls);
+    printf("%lu\n", atomic_load(&answers));
     return 0;
 }

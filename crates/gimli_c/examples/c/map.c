@@ -3,20 +3,13 @@
 #define _DEFAULT_SOURCE
 #include <fcntl.h>
 #include <inttypes.h>
-#include <stdio.h>
-#include <stdlib.h>
 #include <string.h>
 #include <sys/mman.h>
 #include <sys/stat.h>
 #include <unistd.h>
 
+#include "file.h"
 #include "gimli_line.h"
-
-static void stop_if(uint32_t status) {
-    if (status == GIMLI_OK) return;
-    fprintf(stderr, "map: %s\n", gimli_status_sentence(status));
-    exit(1);
-}
 
 /* The addresses of a line, or of the next that has any: this line and an address on each line of output. */
 static void print_line(const uint8_t *map, size_t length, const char *path, const char *colon) {

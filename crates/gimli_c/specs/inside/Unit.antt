@@ -8,11 +8,11 @@ use Rattle.gimli_line.specs.run.EventsWithFiles.{FilesAtEnd}
 use Rattle.gimli_c.specs.declared.unit.GimliUnit.{GimliUnit}
 use Rattle.gimli_c.specs.Unit.{unit_seen}
 
--- what is read of a program, wherever it stands
-pub record IsReadUnit (offset : ℕ) (h : Header) (notation : Notation) (unit : GimliUnit)
+-- what is read of a program, wherever it stands, if the next unit begins at the offset
+pub record IsReadUnit (next : ℕ) (h : Header) (notation : Notation) (unit : GimliUnit)
     : Type 0 where
   pub events : List Event
   pub given : Events notation h h.program events
   pub files : List File
   pub at_end : FilesAtEnd notation true h h.program files
-  pub seen : unit ≡ unit_seen offset h events files
+  pub seen : unit ≡ unit_seen next h events files

@@ -16,7 +16,7 @@ use gimli_index::{IndexError, LineIndex};
 #[repr(C)]
 #[derive(Clone, Copy)]
 pub struct GimliMap {
-    /// How many ranges of addresses it has.
+    /// How many starts it has, of which several may have one address.
     pub ranges: usize,
     /// Where its identity begins, from its first byte on.
     pub identity: usize,

@@ -26,14 +26,16 @@ pub struct GimliMapPlace {
     pub column: u32,
     /// 0 where the path is there, else the number of why not.
     pub no_path: u32,
-    /// 1; 0 where the map says nothing of the address.
-    pub known: u32,
+    /// Whether the map says something of the address.
+    pub known: bool,
+    /// Whether the code is a recommended place for a breakpoint (DWARF 5, section 6.2.2).
+    pub is_stmt: bool,
 }
 
 /// Why a place has no path: the map is damaged.
 pub const NO_PATH_OUTSIDE: u32 = 0xffff_ffff;
 
-/// What is answered to an address of which a map says nothing.
+/// What is answered to an address of which a map says nothing: all else is 0.
 pub(crate) fn no_place(address: u64) -> GimliMapPlace
     ensures { result ≡ no_map_place address }
 {
@@ -45,7 +47,8 @@ pub(crate) fn no_place(address: u64) -> GimliMapPlace
         line: 0,
         column: 0,
         no_path: 0,
-        known: 0,
+        known: false,
+        is_stmt: false,
     }
 }
 
@@ -70,6 +73,7 @@ pub(crate) fn place_seen(index: &LineIndex<'_>, address: u64, place: PlaceSpan) 
         line: place.line,
         column: place.column,
         no_path,
-        known: 1,
+        known: true,
+        is_stmt: place.is_stmt,
     }
 }

@@ -5,13 +5,11 @@ ghost use Rattle.gimli_core.specs.Numbers.{is_address_size};
 ghost use Rattle.gimli_core.specs.Order.{is_big};
 ghost use Rattle.gimli_compilation.specs.Sections.{sections_of};
 ghost use Rattle.gimli_c.specs.CompDir.{sections_handed};
-ghost use Rattle.gimli_c.specs.Indexed.{program};
-ghost use Rattle.gimli_c.specs.MadeMap.{make_status, map_source, AreAllUnitsOf, GivesMapOf};
-ghost use Rattle.gimli_c.specs.MadeMap.{IsMapOf, IsMapRefusal, NeedsMapRoom};
+ghost use Rattle.gimli_c.specs.MadeMap.{make_status, map_source, program, AreAllUnitsOf};
+ghost use Rattle.gimli_c.specs.MadeMap.{GivesMapOf, IsMapOf, IsMapRefusal, NeedsMapRoom};
 
 use crate::comp_dir::sections_in;
 use crate::file::copy_bytes;
-use crate::index::{GimliOpenOptions, OPTIONS_SIZE};
 use crate::location::{is_address_size, order};
 use crate::status::{
     MAP_DISORDERED, MAP_TOO_LARGE, NO_ROOM, OK, OUT_OF_MEMORY, PLACE_TOO_LARGE, UNKNOWN_OPTIONS,
@@ -26,6 +24,23 @@ use std::alloc::Global;
 
 /// A reader of a section that is handed over.
 type Slice<'s> = EndianSlice<'s, RunTimeEndian>;
+
+/// How a map is made.
+#[repr(C)]
+#[derive(Clone, Copy)]
+pub struct GimliMapOptions {
+    /// `OPTIONS_SIZE`: the number of bytes of this struct, by which a later library knows it.
+    pub size: usize,
+    /// The address below which there is no code; 0 leaves no rows out.
+    pub lowest: u64,
+    /// The number of bytes of an address up to version 4: 1, 2, 4 or 8.
+    pub address_size: u8,
+    /// Whether the most significant byte of a number comes first.
+    pub big: bool,
+}
+
+/// The number of bytes of `GimliMapOptions`.
+pub const OPTIONS_SIZE: usize = 24;
 
 /// The number of a refusal.
 fn make_status(error: MakeError) -> u32
@@ -47,7 +62,7 @@ fn make_status(error: MakeError) -> u32
 fn units_of<'s>(
     alloc: Global,
     section: &'s [u8],
-    options: &GimliOpenOptions,
+    options: &GimliMapOptions,
 ) -> Result<SectionLookup<Slice<'s>>, u32>
     requires { is_address_size options.now.address_size ≡ true }
     ensures ok { (line_strings strings : List ℕ) → IfOk result (AreAllUnitsOf (program section.now
@@ -67,7 +82,7 @@ fn made_map<'s>(
     section: &'s [u8],
     texts: &StringSections<Slice<'s>>,
     sections: &CompilationSections<Slice<'s>>,
-    options: &GimliOpenOptions,
+    options: &GimliMapOptions,
     identity: &[u8],
 ) -> Result<Vec<u8>, u32>
     requires { is_address_size options.now.address_size ≡ true }
@@ -116,7 +131,7 @@ pub extern "C" fn gimli_line_map_write(
     info: &[u8],
     abbreviations: &[u8],
     string_offsets: &[u8],
-    options: &GimliOpenOptions,
+    options: &GimliMapOptions,
     identity: &[u8],
     map: &mut [u8],
     size: &mut usize,

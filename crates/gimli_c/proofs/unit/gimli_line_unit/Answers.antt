@@ -1,10 +1,16 @@
-use Rattle.std.proofs.Common.{arith}
-use Rattle.gimli_c.proofs.Units.{unit_fits}
-use Rattle.gimli_c.specs.Location.{location, notation_at, unit_entry_at}
+use Rattle.gimli_c.specs.Location.{location}
+use Rattle.gimli_c.proofs.Units.{few_rows_of_unit, unit_given}
 use Rattle.gimli_c.proofs.unit.gimli_line_unit.Goals as goal
 
-pub read_unit-requires : goal.read_unit-requires
-read_unit-requires c =
+pub returns-in-Ok-read_unit-clause-ok : goal.returns-in-Ok-read_unit-clause-ok
+returns-in-Ok-read_unit-clause-ok c = λ ok.
     let p = location c.args.section.now c.args.big c.args.address_size c.args.offset in
-    let h = c.in-Ok.program.meaning in
-    unit_fits p h (c.units_follow_headers.ensures.end (notation_at p) (unit_entry_at p) p.offset _ h c.in-Ok.ensures.unit.1) (omega arith) (omega arith)
+    unit_given p c.next_unit-next.result c.in-Ok.program.meaning c.in-Ok.program.notation c.in-Ok-read_unit.read c.in-Ok.ensures.unit c.in-Ok.ensures.notation
+    c.next_unit-next.ensures c.in-Ok-read_unit.ensures.ok
+
+pub returns-in-Ok-read_unit-clause-at_most : goal.returns-in-Ok-read_unit-clause-at_most
+returns-in-Ok-read_unit-clause-at_most c = λ ok.
+    let p = location c.args.section.now c.args.big c.args.address_size c.args.offset in
+    few_rows_of_unit p c.in-Ok-read_unit.read
+    (unit_given p c.next_unit-next.result c.in-Ok.program.meaning c.in-Ok.program.notation c.in-Ok-read_unit.read c.in-Ok.ensures.unit
+    c.in-Ok.ensures.notation c.next_unit-next.ensures c.in-Ok-read_unit.ensures.ok)

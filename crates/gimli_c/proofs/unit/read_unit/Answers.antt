@@ -2,7 +2,7 @@ use Rattle.std.proofs.Common.{◌∙◌, ap, sym, length}
 use Rattle.std.proofs.lemmas.List.{length-map}
 use Rattle.gimli_line.specs.run.Rows.{events_left, files_at_end}
 use Rattle.gimli_line.specs.run.Sequences.{events_of}
-use Rattle.gimli_core.specs.Numbers.{initial_length_size, word_size}
+use Rattle.gimli_core.specs.Numbers.{word_size}
 use Rattle.gimli_c.specs.Status.{fault_status}
 use Rattle.gimli_c.proofs.Runs.{without_files}
 use Rattle.gimli_c.proofs.Units.{unit_is}
@@ -21,9 +21,8 @@ returns-clause-ok g c =
       given = without_files _ _ _ _ _ c.rows-rows.ensures.events;
       files = files_at_end c.rows-rows.result;
       at_end = c.rows-rows.ensures.files;
-      seen = unit_is c.args.offset h _ _ _ _ _ _ _ _ _ _ _
+      seen = unit_is c.args.next h _ _ _ _ _ _ _ _ _ _
           (c.into_u64-length.ensures ∙ c.unit_length.ensures ∙ ap (λ p. p.meaning.unit_length) header_is)
-          (c.from-length_size.ensures ∙ c.initial_length_size.ensures ∙ ap (λ e. initial_length_size e.format) encoding)
           (sym (length-map _ _) ∙ ap length directories)
           (sym (length-map _ _) ∙ ap length files)
           copied.count_is

@@ -5,8 +5,7 @@ use Rattle.gimli_core.specs.Order.{is_big}
 use Rattle.gimli_compilation.specs.Directories.{directory_for}
 use Rattle.gimli_compilation.specs.Sections.{sections_of}
 use Rattle.gimli_index.specs.declared.error.MakeError.TheVariants.{OutOfMemory}
-use Rattle.gimli_c.specs.Indexed.{program}
-use Rattle.gimli_c.specs.MadeMap.{map_source}
+use Rattle.gimli_c.specs.MadeMap.{map_source, program}
 use Rattle.gimli_c.proofs.MadeMaps.{index_made}
 use Rattle.gimli_c.proofs.map.write.made_map.Goals as goal
 

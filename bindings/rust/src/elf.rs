@@ -1,0 +1,68 @@
+//! ELF files, from which sections are taken.
+
+use crate::calls::{self, call, unless, whole};
+use crate::error::Error;
+
+/// An ELF file.
+#[derive(Clone, Copy, Debug)]
+pub struct Elf<'a> {
+    bytes: &'a [u8],
+    found: calls::Elf,
+}
+
+impl<'a> Elf<'a> {
+    /// The ELF file that these bytes are.
+    ///
+    /// # Errors
+    ///
+    /// [`Error::NO_ELF`] where they are none that can be read.
+    pub fn open(bytes: &'a [u8]) -> Result<Elf<'a>, Error> {
+        let mut found = calls::Elf::default();
+        // The pointers are those of a slice and of a local.
+        Error::of(unsafe { call!(gimli_elf_open([bytes], &mut found)) })?;
+        Ok(Elf { bytes, found })
+    }
+
+    /// The lowest address of a section of code that isn't empty: a linker leaves code that it drops below it. In an object file, whose
+    /// sections all stand at 0, it is 0.
+    pub fn lowest(&self) -> u64 {
+        if self.found.relocatable { 0 } else { self.found.lowest }
+    }
+
+    /// The number of bytes of an address: 4 or 8.
+    pub fn address_size(&self) -> u8 {
+        self.found.address_size
+    }
+
+    /// Whether the most significant byte of a number comes first.
+    pub fn is_big_endian(&self) -> bool {
+        self.found.big
+    }
+
+    /// What the first section of a name holds: made whole where it is compressed by zlib, and relocated in an object file. None where
+    /// there is no such section.
+    ///
+    /// # Errors
+    ///
+    /// [`Error::BAD_SECTION`] where it can't be read, and [`Error::OUT_OF_MEMORY`].
+    pub fn section(&self, name: &str) -> Result<Option<Vec<u8>>, Error> {
+        let bytes = whole(0, |room, size| {
+            // The pointers are those of slices and of a local.
+            Error::of(unsafe { call!(gimli_elf_section([self.bytes], [name.as_bytes()], [mut room], size)) })
+        });
+        unless(Error::NO_SECTION, bytes)
+    }
+
+    /// The build id. None where there is none.
+    ///
+    /// # Errors
+    ///
+    /// [`Error::BAD_SECTION`] where the section of it can't be read.
+    pub fn build_id(&self) -> Result<Option<Vec<u8>>, Error> {
+        let id = whole(20, |room, size| {
+            // The pointers are those of slices and of a local.
+            Error::of(unsafe { call!(gimli_elf_build_id([self.bytes], [mut room], size)) })
+        });
+        unless(Error::NO_SECTION, id)
+    }
+}

@@ -1,0 +1,62 @@
+//! Where the next unit of a section begins.
+
+ghost use Rattle.std.specs.Prelude.{◌≡◌, ◌^◌, drop};
+ghost use Rattle.gimli_core.specs.Notation.{notation_of};
+ghost use Rattle.gimli_core.specs.Reading.{result_map};
+ghost use Rattle.gimli_line.specs.UnitReading.{after_unit, any_unit_at};
+ghost use Rattle.gimli_c.specs.Unit.{IsNext};
+
+use crate::location::order;
+use gimli_core::{EndianSlice, Reader, Result};
+
+/// Where the next unit of a section begins: after the one at an offset, whatever its content is; at
+/// the end of the section where none begins there.
+pub(crate) fn next_unit(section: &[u8], big: bool, offset: usize) -> u64
+    ensures { IsNext (notation_of big (2 ^ 64)) section.now offset result }
+{
+    next_offset(EndianSlice::new(section, order(big)), offset) as u64
+}
+
+/// The same, of any reader over the section.
+fn next_offset<R: Reader>(section: R, offset: R::Offset) -> R::Offset
+    ensures { IsNext (notation_of (R.big section) R.Offset.limit) (R.bytes section)
+        (R.Offset.number offset) (R.Offset.number result) }
+{
+    let mut rest = bytes_from(section, offset);
+    skip_unit(&mut rest);
+    rest.offset_from(&section)
+}
+
+/// The bytes from an offset on; none where it is past the end.
+fn bytes_from<R: Reader>(section: R, offset: R::Offset) -> R
+    ensures bytes { R.bytes result ≡ drop (R.Offset.number offset) (R.bytes section) }
+    ensures order { R.big result ≡ R.big section }
+{
+    let mut rest = section;
+    if rest.skip(offset).is_err() {
+        rest.empty();
+    }
+    rest
+}
+
+/// Lets the unit in front go, whatever its content is; all bytes where they begin with none.
+fn skip_unit<R: Reader>(input: &mut R)
+    ensures { R.bytes input.new
+        ≡ after_unit
+        (any_unit_at (notation_of (R.big input.old) R.Offset.limit) (R.bytes input.old)) }
+{
+    if split_unit(input).is_err() {
+        input.empty();
+    }
+}
+
+/// Takes a unit, whatever its content is: its length, and as many bytes as that says. Returns the
+/// latter.
+#[tactic(auto, unfolding(gimli_line::specs::UnitReading::any_unit_at))]
+fn split_unit<R: Reader>(input: &mut R) -> Result<R>
+    ensures { (result_map R.bytes result, R.bytes input.new)
+        ≡ any_unit_at (notation_of (R.big input.old) R.Offset.limit) (R.bytes input.old) }
+{
+    let (length, _format) = input.read_initial_length()?;
+    input.split(length)
+}
