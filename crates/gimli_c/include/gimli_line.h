@@ -76,60 +76,80 @@ static inline const uint8_t *gimli_bytes(const void *bytes) {
 }
 #define GIMLI_BYTES(pointer) gimli_bytes(pointer)
 
-/* What a call answers. gimli_status_name and gimli_status_sentence, at the end of this page, put it into words. */
+/* What a call answers: GIMLI_OK and so on, each with its number and what it says. 19 to 30 are answered by the calls that write units
+ * alone, but for 25 and 26; 34 to 39 by those that ask maps, 44 to 46 by those over ELF files, 47 and 48 by gimli_line_map_write. */
+#define GIMLI_STATUSES(X) \
+    X(OK, 0, "the call did what it says") \
+    X(UNEXPECTED_EOF, 1, "bytes are missing") \
+    X(BAD_UNSIGNED_LEB128, 2, "an unsigned LEB128 number is too large or too long") \
+    X(BAD_SIGNED_LEB128, 3, "a signed LEB128 number is too large or too long") \
+    X(UNKNOWN_RESERVED_LENGTH, 4, "the length of a unit is a reserved one") \
+    X(UNKNOWN_VERSION, 5, "the version of a unit is none of 2 to 5") \
+    X(UNSUPPORTED_ADDRESS_SIZE, 6, "an address size, the unit's or the caller's, isn't 1, 2, 4 or 8") \
+    X(UNSUPPORTED_SEGMENT_SIZE, 7, "the size of segment selectors isn't 0") \
+    X(MINIMUM_INSTRUCTION_LENGTH_ZERO, 8, "the minimum instruction length is 0") \
+    X(MAXIMUM_OPERATIONS_PER_INSTRUCTION_ZERO, 9, "the maximum number of operations of an instruction is 0") \
+    X(LINE_RANGE_ZERO, 10, "the line range is 0") \
+    X(OPCODE_BASE_ZERO, 11, "the opcode base is 0") \
+    X(MISSING_FILE_ENTRY_FORMAT_PATH, 12, "a table of version 5 doesn't have exactly one path format") \
+    X(UNKNOWN_FORM, 13, "a form isn't one that line programs know") \
+    X(ADDRESS_OVERFLOW, 14, "an address passes the greatest one of its size") \
+    X(UNSUPPORTED_OFFSET, 15, "a number doesn't fit an offset") \
+    X(EXPECTED_STRING_ATTRIBUTE_VALUE, 16, "a value that stands for a text is of another kind") \
+    X(OUT_OF_MEMORY, 17, "not enough memory") \
+    X(NO_ROW, 18, "no row covers the address, or a map says nothing of it") \
+    X(UNSUPPORTED_OFFSET_SIZE, 19, "the size of offsets isn't 4 or 8") \
+    X(UNSUPPORTED_LINE_ENCODING, 20, "rows can't be written by the line encoding") \
+    X(TEXT_OUT_OF_BOUNDS, 21, "a text isn't within the texts") \
+    X(ZERO_IN_TEXT, 22, "a text has a zero byte") \
+    X(EMPTY_TEXT, 23, "a text is empty, up to version 4") \
+    X(NO_SOURCE_FILE, 24, "no directory or no file, in version 5") \
+    X(NO_SUCH_DIRECTORY, 25, "no directory has the number: the one asked for, or that a file has") \
+    X(NO_SUCH_FILE, 26, "no file has the number: the one asked for, or that a row has") \
+    X(ROW_OUT_OF_ORDER, 27, "a row can't follow the one before it, or its line or op_index is too large") \
+    X(UNKNOWN_FLAG, 28, "a row has a flag that isn't known") \
+    X(NEED_VERSION_4, 29, "several operations in an instruction, before version 4") \
+    X(UNIT_TOO_LONG, 30, "a length or the first address of a sequence doesn't fit its word") \
+    X(NO_ROOM, 31, "what is written is longer than the room for it") \
+    X(UNKNOWN_PATH, 33, "a string of a path can't be told") \
+    X(NO_MAP, 34, "the bytes don't begin as a map does") \
+    X(UNKNOWN_MAP_VERSION, 35, "the version of a map is unknown") \
+    X(MAP_CUT, 36, "a map ends before its parts do") \
+    X(MAP_HEADER, 37, "a size or the base in the header of a map is one that can't be") \
+    X(MAP_DISORDERED, 38, "the ranges of a map don't ascend") \
+    X(MAP_PATH_OUTSIDE, 39, "a path isn't inside its map") \
+    X(NO_CODE, 41, "no line from the one asked for on has code") \
+    X(NO_COMP_DIR, 42, "no unit of .debug_info tells the directory of the compilation") \
+    X(UNKNOWN_OPTIONS, 43, "options have a size that this library doesn't know") \
+    X(NO_ELF, 44, "the bytes are no ELF file that can be read") \
+    X(NO_SECTION, 45, "the ELF file has no section of this name, or no build id") \
+    X(BAD_SECTION, 46, "a section is cut, or its compression or relocations are unknown") \
+    X(MAP_TOO_LARGE, 47, "a map would have more ranges, files or bytes than 32 bits count") \
+    X(PLACE_TOO_LARGE, 48, "a line or a column is more than 32 bits hold")
+
 enum gimli_status {
-    GIMLI_OK = 0,
-    GIMLI_UNEXPECTED_EOF = 1,                          /* bytes are missing */
-    GIMLI_BAD_UNSIGNED_LEB128 = 2,                     /* an unsigned LEB128 number is too large or too long */
-    GIMLI_BAD_SIGNED_LEB128 = 3,                       /* a signed one */
-    GIMLI_UNKNOWN_RESERVED_LENGTH = 4,                 /* the length of a unit is a reserved one */
-    GIMLI_UNKNOWN_VERSION = 5,                         /* the version is none of 2 to 5 */
-    GIMLI_UNSUPPORTED_ADDRESS_SIZE = 6,                /* an address size, the unit's or the caller's, isn't 1, 2, 4 or 8 */
-    GIMLI_UNSUPPORTED_SEGMENT_SIZE = 7,                /* the size of segment selectors isn't 0 */
-    GIMLI_MINIMUM_INSTRUCTION_LENGTH_ZERO = 8,
-    GIMLI_MAXIMUM_OPERATIONS_PER_INSTRUCTION_ZERO = 9,
-    GIMLI_LINE_RANGE_ZERO = 10,
-    GIMLI_OPCODE_BASE_ZERO = 11,
-    GIMLI_MISSING_FILE_ENTRY_FORMAT_PATH = 12,         /* a table of version 5 doesn't have exactly one path format */
-    GIMLI_UNKNOWN_FORM = 13,                           /* a form that line programs don't know */
-    GIMLI_ADDRESS_OVERFLOW = 14,                       /* an address passes the greatest one of its size */
-    GIMLI_UNSUPPORTED_OFFSET = 15,
-    GIMLI_EXPECTED_STRING_ATTRIBUTE_VALUE = 16,
-    GIMLI_OUT_OF_MEMORY = 17,
-    GIMLI_NO_ROW = 18,                                 /* no row covers the address, or a map says nothing of it */
-    /* 19 to 30 are answered by the calls that write units alone, but for 25 and 26. */
-    GIMLI_UNSUPPORTED_OFFSET_SIZE = 19,                /* the size of offsets isn't 4 or 8 */
-    GIMLI_UNSUPPORTED_LINE_ENCODING = 20,              /* rows can't be written by the line encoding */
-    GIMLI_TEXT_OUT_OF_BOUNDS = 21,                     /* a text isn't within the texts */
-    GIMLI_ZERO_IN_TEXT = 22,                           /* a text has a zero byte */
-    GIMLI_EMPTY_TEXT = 23,                             /* a text is empty, up to version 4 */
-    GIMLI_NO_SOURCE_FILE = 24,                         /* no directory or no file, in version 5 */
-    GIMLI_NO_SUCH_DIRECTORY = 25,                      /* no directory has the number: the one asked for, or that a file has */
-    GIMLI_NO_SUCH_FILE = 26,                           /* no file has the number: the one asked for, or that a row has */
-    GIMLI_ROW_OUT_OF_ORDER = 27,                       /* a row can't follow the one before it, or its line or op_index is too large */
-    GIMLI_UNKNOWN_FLAG = 28,                           /* a row has a flag that isn't known */
-    GIMLI_NEED_VERSION_4 = 29,                         /* several operations in an instruction, before version 4 */
-    GIMLI_UNIT_TOO_LONG = 30,                          /* a length, or the first address of a sequence, doesn't fit its word */
-    GIMLI_NO_ROOM = 31,                                /* what is written is longer than the room for it */
-    GIMLI_UNKNOWN_PATH = 33,                           /* a string of a path can't be told */
-    /* 34 to 39 are answered by the calls that ask maps alone. */
-    GIMLI_NO_MAP = 34,                                 /* the bytes don't begin as a map does */
-    GIMLI_UNKNOWN_MAP_VERSION = 35,                    /* the version of a map is unknown */
-    GIMLI_MAP_CUT = 36,                                /* a map ends before its parts do */
-    GIMLI_MAP_HEADER = 37,                             /* a size or the base in the header of a map is one that can't be */
-    GIMLI_MAP_DISORDERED = 38,                         /* the ranges of a map don't ascend */
-    GIMLI_MAP_PATH_OUTSIDE = 39,                       /* a path isn't inside its map */
-    GIMLI_NO_CODE = 41,                                /* no line from the one asked for on has code */
-    GIMLI_NO_COMP_DIR = 42,                            /* no unit of .debug_info tells the directory of the compilation */
-    GIMLI_UNKNOWN_OPTIONS = 43,                        /* options have a size that this library doesn't know */
-    /* 44 to 46 are answered by the calls over ELF files alone. */
-    GIMLI_NO_ELF = 44,                                 /* the bytes are no ELF file that can be read */
-    GIMLI_NO_SECTION = 45,                             /* an ELF file has no section of this name, or no build id */
-    GIMLI_BAD_SECTION = 46,                            /* a section is cut, or its compression or relocations are unknown */
-    /* 47 and 48 are answered by gimli_line_map_write alone. */
-    GIMLI_MAP_TOO_LARGE = 47,                          /* ranges, files, or bytes of paths or of the identity: 2^32 or more */
-    GIMLI_PLACE_TOO_LARGE = 48                         /* a line is 2^32 or above, or a column 2^31 or above */
+#define GIMLI_STATUS(name, number, sentence) GIMLI_##name = number,
+    GIMLI_STATUSES(GIMLI_STATUS)
+#undef GIMLI_STATUS
 };
+
+/* The name of a number that a call answered, and what it says. */
+static inline const char *gimli_status_name(uint32_t status) {
+    switch (status) {
+#define GIMLI_STATUS(name, number, sentence) case number: return "GIMLI_" #name;
+        GIMLI_STATUSES(GIMLI_STATUS)
+#undef GIMLI_STATUS
+    default: return "unknown status";
+    }
+}
+static inline const char *gimli_status_sentence(uint32_t status) {
+    switch (status) {
+#define GIMLI_STATUS(name, number, sentence) case number: return sentence;
+        GIMLI_STATUSES(GIMLI_STATUS)
+#undef GIMLI_STATUS
+    default: return "the number is none that a call answers";
+    }
+}
 
 /* A unit of the section .debug_line. */
 typedef struct gimli_unit {
@@ -631,114 +651,6 @@ static inline uint32_t gimli_line_write_relocatable_contents(const gimli_content
         contents->files != NULL ? contents->files : &no_file, contents->file_count, contents->rows != NULL ? contents->rows : &no_row,
         contents->row_count, contents->symbols != NULL ? contents->symbols : &no_symbol, contents->symbol_count,
         unit != NULL ? unit : &none, room, size, relocations != NULL ? relocations : &no_relocation, relocation_room, count);
-}
-
-/* The name of a number that a call answered. */
-static inline const char *gimli_status_name(uint32_t status) {
-    switch (status) {
-    case GIMLI_OK: return "GIMLI_OK";
-    case GIMLI_UNEXPECTED_EOF: return "GIMLI_UNEXPECTED_EOF";
-    case GIMLI_BAD_UNSIGNED_LEB128: return "GIMLI_BAD_UNSIGNED_LEB128";
-    case GIMLI_BAD_SIGNED_LEB128: return "GIMLI_BAD_SIGNED_LEB128";
-    case GIMLI_UNKNOWN_RESERVED_LENGTH: return "GIMLI_UNKNOWN_RESERVED_LENGTH";
-    case GIMLI_UNKNOWN_VERSION: return "GIMLI_UNKNOWN_VERSION";
-    case GIMLI_UNSUPPORTED_ADDRESS_SIZE: return "GIMLI_UNSUPPORTED_ADDRESS_SIZE";
-    case GIMLI_UNSUPPORTED_SEGMENT_SIZE: return "GIMLI_UNSUPPORTED_SEGMENT_SIZE";
-    case GIMLI_MINIMUM_INSTRUCTION_LENGTH_ZERO: return "GIMLI_MINIMUM_INSTRUCTION_LENGTH_ZERO";
-    case GIMLI_MAXIMUM_OPERATIONS_PER_INSTRUCTION_ZERO: return "GIMLI_MAXIMUM_OPERATIONS_PER_INSTRUCTION_ZERO";
-    case GIMLI_LINE_RANGE_ZERO: return "GIMLI_LINE_RANGE_ZERO";
-    case GIMLI_OPCODE_BASE_ZERO: return "GIMLI_OPCODE_BASE_ZERO";
-    case GIMLI_MISSING_FILE_ENTRY_FORMAT_PATH: return "GIMLI_MISSING_FILE_ENTRY_FORMAT_PATH";
-    case GIMLI_UNKNOWN_FORM: return "GIMLI_UNKNOWN_FORM";
-    case GIMLI_ADDRESS_OVERFLOW: return "GIMLI_ADDRESS_OVERFLOW";
-    case GIMLI_UNSUPPORTED_OFFSET: return "GIMLI_UNSUPPORTED_OFFSET";
-    case GIMLI_EXPECTED_STRING_ATTRIBUTE_VALUE: return "GIMLI_EXPECTED_STRING_ATTRIBUTE_VALUE";
-    case GIMLI_OUT_OF_MEMORY: return "GIMLI_OUT_OF_MEMORY";
-    case GIMLI_NO_ROW: return "GIMLI_NO_ROW";
-    case GIMLI_UNSUPPORTED_OFFSET_SIZE: return "GIMLI_UNSUPPORTED_OFFSET_SIZE";
-    case GIMLI_UNSUPPORTED_LINE_ENCODING: return "GIMLI_UNSUPPORTED_LINE_ENCODING";
-    case GIMLI_TEXT_OUT_OF_BOUNDS: return "GIMLI_TEXT_OUT_OF_BOUNDS";
-    case GIMLI_ZERO_IN_TEXT: return "GIMLI_ZERO_IN_TEXT";
-    case GIMLI_EMPTY_TEXT: return "GIMLI_EMPTY_TEXT";
-    case GIMLI_NO_SOURCE_FILE: return "GIMLI_NO_SOURCE_FILE";
-    case GIMLI_NO_SUCH_DIRECTORY: return "GIMLI_NO_SUCH_DIRECTORY";
-    case GIMLI_NO_SUCH_FILE: return "GIMLI_NO_SUCH_FILE";
-    case GIMLI_ROW_OUT_OF_ORDER: return "GIMLI_ROW_OUT_OF_ORDER";
-    case GIMLI_UNKNOWN_FLAG: return "GIMLI_UNKNOWN_FLAG";
-    case GIMLI_NEED_VERSION_4: return "GIMLI_NEED_VERSION_4";
-    case GIMLI_UNIT_TOO_LONG: return "GIMLI_UNIT_TOO_LONG";
-    case GIMLI_NO_ROOM: return "GIMLI_NO_ROOM";
-    case GIMLI_UNKNOWN_PATH: return "GIMLI_UNKNOWN_PATH";
-    case GIMLI_NO_MAP: return "GIMLI_NO_MAP";
-    case GIMLI_UNKNOWN_MAP_VERSION: return "GIMLI_UNKNOWN_MAP_VERSION";
-    case GIMLI_MAP_CUT: return "GIMLI_MAP_CUT";
-    case GIMLI_MAP_HEADER: return "GIMLI_MAP_HEADER";
-    case GIMLI_MAP_DISORDERED: return "GIMLI_MAP_DISORDERED";
-    case GIMLI_MAP_PATH_OUTSIDE: return "GIMLI_MAP_PATH_OUTSIDE";
-    case GIMLI_NO_CODE: return "GIMLI_NO_CODE";
-    case GIMLI_NO_COMP_DIR: return "GIMLI_NO_COMP_DIR";
-    case GIMLI_UNKNOWN_OPTIONS: return "GIMLI_UNKNOWN_OPTIONS";
-    case GIMLI_NO_ELF: return "GIMLI_NO_ELF";
-    case GIMLI_NO_SECTION: return "GIMLI_NO_SECTION";
-    case GIMLI_BAD_SECTION: return "GIMLI_BAD_SECTION";
-    case GIMLI_MAP_TOO_LARGE: return "GIMLI_MAP_TOO_LARGE";
-    case GIMLI_PLACE_TOO_LARGE: return "GIMLI_PLACE_TOO_LARGE";
-    default: return "unknown status";
-    }
-}
-
-/* What it says. */
-static inline const char *gimli_status_sentence(uint32_t status) {
-    switch (status) {
-    case GIMLI_OK: return "the call did what it says";
-    case GIMLI_UNEXPECTED_EOF: return "bytes are missing";
-    case GIMLI_BAD_UNSIGNED_LEB128: return "an unsigned LEB128 number is too large or too long";
-    case GIMLI_BAD_SIGNED_LEB128: return "a signed LEB128 number is too large or too long";
-    case GIMLI_UNKNOWN_RESERVED_LENGTH: return "the length of a unit is a reserved one";
-    case GIMLI_UNKNOWN_VERSION: return "the version of a unit is none of 2 to 5";
-    case GIMLI_UNSUPPORTED_ADDRESS_SIZE: return "the size of addresses isn't 1, 2, 4 or 8";
-    case GIMLI_UNSUPPORTED_SEGMENT_SIZE: return "the size of segment selectors isn't 0";
-    case GIMLI_MINIMUM_INSTRUCTION_LENGTH_ZERO: return "the minimum instruction length is 0";
-    case GIMLI_MAXIMUM_OPERATIONS_PER_INSTRUCTION_ZERO: return "the maximum number of operations of an instruction is 0";
-    case GIMLI_LINE_RANGE_ZERO: return "the line range is 0";
-    case GIMLI_OPCODE_BASE_ZERO: return "the opcode base is 0";
-    case GIMLI_MISSING_FILE_ENTRY_FORMAT_PATH: return "a table of version 5 doesn't have exactly one path format";
-    case GIMLI_UNKNOWN_FORM: return "a form isn't one that line programs know";
-    case GIMLI_ADDRESS_OVERFLOW: return "an address passes the greatest one of its size";
-    case GIMLI_UNSUPPORTED_OFFSET: return "a number doesn't fit an offset";
-    case GIMLI_EXPECTED_STRING_ATTRIBUTE_VALUE: return "a value that stands for a text is of another kind";
-    case GIMLI_OUT_OF_MEMORY: return "not enough memory";
-    case GIMLI_NO_ROW: return "no row covers the address";
-    case GIMLI_UNSUPPORTED_OFFSET_SIZE: return "the size of offsets isn't 4 or 8";
-    case GIMLI_UNSUPPORTED_LINE_ENCODING: return "rows can't be written by the line encoding";
-    case GIMLI_TEXT_OUT_OF_BOUNDS: return "a text isn't within the texts";
-    case GIMLI_ZERO_IN_TEXT: return "a text has a zero byte";
-    case GIMLI_EMPTY_TEXT: return "a text is empty, up to version 4";
-    case GIMLI_NO_SOURCE_FILE: return "no directory or no file, in version 5";
-    case GIMLI_NO_SUCH_DIRECTORY: return "no directory has this number";
-    case GIMLI_NO_SUCH_FILE: return "no file has this number";
-    case GIMLI_ROW_OUT_OF_ORDER: return "a row can't follow the one before it";
-    case GIMLI_UNKNOWN_FLAG: return "a row has a flag that isn't known";
-    case GIMLI_NEED_VERSION_4: return "several operations in an instruction, before version 4";
-    case GIMLI_UNIT_TOO_LONG: return "a length or the first address of a sequence doesn't fit its word";
-    case GIMLI_NO_ROOM: return "what is written is longer than the room for it";
-    case GIMLI_UNKNOWN_PATH: return "a string of a path can't be told";
-    case GIMLI_NO_MAP: return "the bytes don't begin as a map does";
-    case GIMLI_UNKNOWN_MAP_VERSION: return "the version of a map is unknown";
-    case GIMLI_MAP_CUT: return "a map ends before its parts do";
-    case GIMLI_MAP_HEADER: return "a size or the base in the header of a map is one that can't be";
-    case GIMLI_MAP_DISORDERED: return "the ranges of a map don't ascend";
-    case GIMLI_MAP_PATH_OUTSIDE: return "a path isn't inside its map";
-    case GIMLI_NO_CODE: return "no line from the one asked for on has code";
-    case GIMLI_NO_COMP_DIR: return "no unit of .debug_info tells the directory of the compilation";
-    case GIMLI_UNKNOWN_OPTIONS: return "options have a size that this library doesn't know";
-    case GIMLI_NO_ELF: return "the bytes are no ELF file that can be read";
-    case GIMLI_NO_SECTION: return "the ELF file has no section of this name";
-    case GIMLI_BAD_SECTION: return "a section is cut, or its compression or relocations are unknown";
-    case GIMLI_MAP_TOO_LARGE: return "a map would have more ranges, files or bytes than 32 bits count";
-    case GIMLI_PLACE_TOO_LARGE: return "a line or a column is more than 32 bits hold";
-    default: return "the number is none that a call answers";
-    }
 }
 
 #ifdef __cplusplus
