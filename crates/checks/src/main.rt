@@ -5,17 +5,15 @@
 //! They use public names alone.
 #![tactic(auto)]
 
-mod builder;
 mod compilations;
 mod converted;
 mod elf_files;
 mod errors;
 mod lookups;
-mod machine;
 mod many;
 mod readers;
+mod relocations;
 mod units;
-mod writers;
 
 use gimli_write::ConvertResult;
 use std::alloc::Global;
@@ -30,10 +28,8 @@ fn first_false(found: &[bool]) -> Option<usize> {
 }
 
 /// Each check, and what it finds.
-fn checks(alloc: Global) -> [(&'static str, Found); 26] {
+fn checks(alloc: Global) -> [(&'static str, Found); 17] {
     [
-        ("readers::calls", readers::calls(alloc)),
-        ("machine::executed", machine::executed(alloc)),
         ("lookups::narrow_unit", lookups::narrow_unit(alloc)),
         ("lookups::wide_numbers", lookups::wide_numbers(alloc)),
         ("lookups::many", lookups::many(alloc)),
@@ -45,15 +41,8 @@ fn checks(alloc: Global) -> [(&'static str, Found); 26] {
         ("elf_files::cut", elf_files::cut(alloc)),
         ("elf_files::huge", elf_files::huge(alloc)),
         ("elf_files::checksums", elf_files::checksums(alloc)),
-        ("elf_files::paths", elf_files::paths(alloc)),
-        ("writers::vector", writers::vector(alloc)),
-        ("writers::pieces", writers::pieces(alloc)),
-        ("writers::own", writers::own(alloc)),
-        ("writers::relocations", writers::relocations(alloc)),
-        ("builder::current_rows", builder::current_rows(alloc)),
-        ("builder::file", builder::file(alloc)),
-        ("builder::none", builder::none(alloc)),
-        ("converted::own_writer", converted::own_writer(alloc)),
+        ("relocations::calls", relocations::calls(alloc)),
+        ("relocations::unit", relocations::unit(alloc)),
         ("converted::refused", converted::refused(alloc)),
         ("many::writers_and_tables", many::writers_and_tables(alloc)),
         ("many::conversions", many::conversions(alloc)),
