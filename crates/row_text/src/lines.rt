@@ -48,13 +48,13 @@ impl Lines {
         }
     }
 
-    /// Prints a text, with a piece in the place of each `%`.
+    /// Prints a text, with a piece in the place of each `%`. Pieces that are left aren't printed.
     pub fn print(&mut self, text: &str, pieces: &[Piece<'_>]) {
         let mut words = text.split('%');
         self.write(words.next().unwrap_or("").as_bytes());
-        for piece in pieces {
+        for (piece, word) in pieces.iter().zip(words) {
             self.add(*piece);
-            self.write(words.next().unwrap_or("").as_bytes());
+            self.write(word.as_bytes());
         }
     }
 
@@ -79,24 +79,29 @@ impl Lines {
         self.is_refused = done.is_err();
     }
 
+    /// Prints a value, by its variant and what it holds.
+    pub fn put<D: Debug + Copy>(&mut self, value: D) {
+        if !self.is_refused {
+            self.is_refused = write!(self.bytes, "{value:?}").is_err();
+        }
+    }
+
     /// Prints the line of an error after a word: its variant.
     pub fn put_error<E: Debug + Copy>(&mut self, word: &str, error: E) {
-        if !self.is_refused {
-            self.is_refused = writeln!(self.bytes, "{word}{error:?}").is_err();
-        }
+        self.write(word.as_bytes());
+        self.put(error);
+        self.write(b"\n");
     }
 
     /// Prints the line of a refusal of reading: its variant, with what it holds where that is a
     /// version, a size or a form.
     pub fn put_refusal(&mut self, word: &str, error: Error) {
-        match error {
-            Error::UnexpectedEof(_) => self.print("%UnexpectedEof\n", &[Piece::Word(word)]),
-            Error::UnknownForm(form) => {
-                let form = Piece::Number(u64::from(form.0));
-                self.print("%UnknownForm(%)\n", &[Piece::Word(word), form]);
-            }
-            error => self.put_error(word, error),
-        }
+        let (text, form) = match error {
+            Error::UnexpectedEof(_) => ("%UnexpectedEof\n", 0),
+            Error::UnknownForm(form) => ("%UnknownForm(%)\n", form.0),
+            error => return self.put_error(word, error),
+        };
+        self.print(text, &[Piece::Word(word), Piece::Number(u64::from(form))]);
     }
 
     /// Prints bytes as they are.

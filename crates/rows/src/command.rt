@@ -11,6 +11,7 @@ use gimli_line::{DebugLine, IncompleteLineProgram};
 use line_text::{AddressSize, Slice};
 use row_text::{Arguments, Attempts, Lines, Stop};
 use std::alloc::Global;
+use std::fmt::Debug;
 
 /// A command over sections, by what it prints.
 #[derive(Clone, Copy)]
@@ -87,7 +88,7 @@ pub struct Sections<'i> {
 }
 
 /// A reader that lends the bytes left.
-pub(crate) trait Lender: Reader {
+pub(crate) trait Lender: Reader<Offset = usize> + Debug {
     /// The bytes left.
     fn lent_bytes(&self) -> &[u8];
 }
