@@ -17,12 +17,8 @@ const LONGEST_ARRAY: u64 = 0x10_0000;
 pub enum Target {
     /// A vector.
     Vector,
-    /// Pieces of one byte.
-    Bytes,
-    /// Pieces of four bytes.
-    Words,
-    /// Pieces of sixteen bytes.
-    Lines,
+    /// Pieces of so many bytes: 1, 4 or 16.
+    Pieces(u64),
     /// An array of this many bytes.
     Array(usize),
 }
@@ -189,9 +185,7 @@ impl<'a> Arguments<'a> {
             "vec" => Some(Target::Vector),
             "array" => Some(Target::Array(self.number(LONGEST_ARRAY) as usize)),
             "pieces" => match self.number(16) {
-                1 => Some(Target::Bytes),
-                4 => Some(Target::Words),
-                16 => Some(Target::Lines),
+                size @ (1 | 4 | 16) => Some(Target::Pieces(size)),
                 _ => None,
             },
             _ => None,

@@ -3,9 +3,8 @@
 ghost use Rattle.std.specs.Prelude.{◌≡◌, IsErr};
 
 use crate::conversion::Target;
-use crate::header_text::print_header;
-use crate::instruction_text::print_instructions;
 use crate::lookup_text::{print_lookup, print_paths, print_units, watch_rows};
+use crate::unit_text::{print_header, print_instructions};
 use gimli_core::{DebugLineOffset, EndianSlice, Error, Reader, ReaderOffset, RunTimeEndian};
 use gimli_line::{DebugLine, IncompleteLineProgram};
 use line_text::{AddressSize, Slice};
@@ -76,16 +75,8 @@ pub struct Request<'w> {
     pub attempts: Attempts,
 }
 
-/// The sections that a command reads.
-#[derive(Clone, Copy)]
-pub struct Sections<'i> {
-    /// The section `.debug_line`.
-    pub lines: &'i [u8],
-    /// The section `.debug_str`.
-    pub strings: &'i [u8],
-    /// The section `.debug_line_str`.
-    pub line_strings: &'i [u8],
-}
+/// The sections `.debug_line`, `.debug_str` and `.debug_line_str`.
+pub type Sections<'i> = [&'i [u8]; 3];
 
 /// A reader that lends the bytes left.
 pub(crate) trait Lender: Reader<Offset = usize> + Debug {
@@ -154,6 +145,7 @@ pub fn print(
     ensures { IsErr result → lines.new ≡ lines.old }
 {
     let alloc = request.alloc;
+    let [section, strings, line_strings] = sections;
     let mut words = Arguments::new(alloc, request.words);
     let order = words.order();
     let address_size = words.address_size();
@@ -177,9 +169,9 @@ pub fn print(
     let asked = Asked {
         alloc,
         attempts: request.attempts,
-        section: DebugLine::new(sections.lines, order),
-        strings: EndianSlice::new(sections.strings, order),
-        line_strings: EndianSlice::new(sections.line_strings, order),
+        section: DebugLine::new(section, order),
+        strings: EndianSlice::new(strings, order),
+        line_strings: EndianSlice::new(line_strings, order),
         order,
         address_size,
         offset,
@@ -197,21 +189,18 @@ pub fn print(
 
 /// A reader over a text that is handed in.
 fn reader(text: &Option<Vec<u8>>, order: RunTimeEndian) -> Option<Slice<'_>> {
-    match text {
-        Some(text) => Some(EndianSlice::new(text, order)),
-        None => None,
-    }
+    text.as_deref().map(|text| EndianSlice::new(text, order))
 }
 
 /// The same over any reader.
 fn perform<R: Lender>(command: Command, asked: &Asked<'_, R>, lines: &mut Lines) {
-    match command {
+    let program = match command {
         Command::Walk => return print_units(asked, lines),
         Command::Places => return print_lookup(asked, false, lines),
         Command::Addresses => return print_lookup(asked, true, lines),
-        _ => {}
-    }
-    match (command, asked.program()) {
+        _ => asked.program(),
+    };
+    match (command, program) {
         (_, Err(error)) => lines.put_refusal("error ", error),
         (Command::Header, Ok(program)) => print_header(program.header(), lines),
         (Command::Instructions, Ok(program)) => print_instructions(program.header(), lines),

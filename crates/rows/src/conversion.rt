@@ -3,10 +3,9 @@
 ghost use Rattle.std.specs.Prelude.{IsTrue};
 ghost use Rattle.rows.specs.Taken.{IsTaken};
 
-use crate::built::{print_row, put_refused};
+use crate::built::{Tables, print_row, put_refused};
 use crate::command::Asked;
 use crate::script::Script;
-use crate::tables::Tables;
 use gimli_core::{Encoding, LineEncoding, Reader};
 use gimli_write::{
     Address, ConvertError, ConvertLineHeader, ConvertLineProgram, ConvertLineRow,
@@ -225,18 +224,14 @@ fn print_next<R: Reader>(
     converter: &mut ConvertLineProgram<'_, '_, R>,
     lines: &mut Lines,
 ) -> ConvertResult<bool> {
-    if by_items {
-        match converter.read_row()? {
-            Some(item) => print_item(item, lines),
-            None => return Ok(false),
-        }
+    let printed = if by_items {
+        let item = converter.read_row()?;
+        item.map(|item| print_item(item, lines))
     } else {
-        match converter.read_sequence()? {
-            Some(sequence) => print_sequence(&sequence, lines),
-            None => return Ok(false),
-        }
-    }
-    Ok(true)
+        let sequence = converter.read_sequence()?;
+        sequence.map(|sequence| print_sequence(&sequence, lines))
+    };
+    Ok(printed.is_some())
 }
 
 /// Prints an item: an address, a row, or an end.

@@ -1,9 +1,8 @@
 //! Builder scripts: the calls of programs, and how each is written.
 
 use crate::array_section::{ArraySection, Section};
-use crate::built::{print_answer, put_refused};
+use crate::built::{Tables, print_answer, put_refused};
 use crate::command::Request;
-use crate::tables::Tables;
 use gimli_core::{Encoding, RunTimeEndian};
 use gimli_write::{
     ConvertError, ConvertResult, DebugLine, EndianVec, Error, LineProgram, LineString, PieceVec,
@@ -83,16 +82,10 @@ impl Script {
 
     /// Goes on with a script without a call.
     fn begin_anew(&mut self) {
-        self.program = LineProgram::none(self.alloc);
-        self.tables = Tables::new(self.alloc);
-        self.directories.clear();
-        self.order = RunTimeEndian::Little;
-        self.reads_back = false;
-        self.target = Target::Vector;
-        self.prefix.clear();
-        self.unit = None;
-        self.has_program = false;
-        self.is_ended = false;
+        let (number, status) = (self.number, self.status);
+        *self = Script::new(self.alloc, self.attempts);
+        self.number = number;
+        self.status = status;
     }
 
     /// Runs scripts one after the other, with a line between, and returns the status.
@@ -272,9 +265,9 @@ impl Script {
         let order = self.order;
         match self.target {
             Target::Vector => self.written_into(encoding, EndianVec::new(alloc, order)),
-            Target::Bytes => self.written_into(encoding, PieceVec::<_, 1>::new(alloc, order)),
-            Target::Words => self.written_into(encoding, PieceVec::<_, 4>::new(alloc, order)),
-            Target::Lines => self.written_into(encoding, PieceVec::<_, 16>::new(alloc, order)),
+            Target::Pieces(1) => self.written_into(encoding, PieceVec::<_, 1>::new(alloc, order)),
+            Target::Pieces(4) => self.written_into(encoding, PieceVec::<_, 4>::new(alloc, order)),
+            Target::Pieces(_) => self.written_into(encoding, PieceVec::<_, 16>::new(alloc, order)),
             Target::Array(count) => match ArraySection::new(alloc, count, order) {
                 Ok(section) => self.written_into(encoding, section),
                 Err(_) => (Vec::new(alloc), Some(Stop::Memory)),
@@ -301,7 +294,7 @@ impl Script {
             Ok(()) => Some(Stop::Condition),
             Err(error) => Some(Stop::Refused(error)),
         };
-        match section.0.to_bytes(self.alloc) {
+        match section.0.into_bytes() {
             Ok(bytes) => (bytes, end),
             Err(_) => (Vec::new(self.alloc), Some(Stop::Memory)),
         }

@@ -55,7 +55,7 @@ pub fn run_linetool(
     sections: Sections<'_>,
     lines: &mut Lines,
 ) -> Result<u8, Stop> {
-    let section = sections.lines;
+    let [section, _, _] = sections;
     let mut left = usize::MAX;
     let (words, file) = match words {
         ["room", room, words @ ..] => {

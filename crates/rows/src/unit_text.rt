@@ -1,9 +1,8 @@
-//! A header, a line for each part.
+//! A header, a line for each part, and the instructions of a program, a line for each.
 
 use crate::command::Lender;
-use crate::instruction_text::add_value;
-use gimli_core::{Format, ReaderOffset};
-use gimli_line::{FileEntry, FileEntryFormat, LineProgramHeader};
+use gimli_core::{AttributeValue, Format, ReaderOffset};
+use gimli_line::{FileEntry, FileEntryFormat, LineInstruction, LineProgramHeader};
 use row_text::Lines;
 use row_text::Piece::{Digits, Flags, Hex, Number, Signed, Word};
 
@@ -93,27 +92,86 @@ fn print_files<R: Lender>(header: &LineProgramHeader<R>, lines: &mut Lines) {
     let last = header.file_names().len() as u64;
     for index in 0..=last {
         if let Some(file) = header.file(index) {
-            lines.print("file % ", &[Number(index)]);
-            print_file(file, lines);
+            print_file(index, file, lines);
         }
     }
 }
 
 /// Prints a file: its values, in the order of the tables of version 5.
-fn print_file<R: Lender>(file: &FileEntry<R>, lines: &mut Lines) {
+fn print_file<R: Lender>(index: u64, file: &FileEntry<R>, lines: &mut Lines) {
+    let directory = Number(file.directory_index());
+    let time = Number(file.timestamp());
+    let numbers = [directory, time, Number(file.size()), Digits(file.md5())];
+    lines.print("file % ", &[Number(index)]);
     add_value(&file.path_name(), lines);
-    lines.print(
-        " dir % time % size % md5 % source ",
-        &[
-            Number(file.directory_index()),
-            Number(file.timestamp()),
-            Number(file.size()),
-            Digits(file.md5()),
-        ],
-    );
+    lines.print(" dir % time % size % md5 % source ", &numbers);
     match &file.source() {
         Some(source) => add_value(source, lines),
         None => lines.print("-", &[]),
     }
     lines.print("\n", &[]);
+}
+
+/// Prints the instructions of a program, up to the first refusal.
+pub(crate) fn print_instructions<R: Lender>(header: &LineProgramHeader<R>, lines: &mut Lines) {
+    let mut instructions = header.instructions();
+    'instructions: loop {
+        match instructions.next_instruction(header) {
+            Ok(Some(instruction)) => print_instruction(&instruction, lines),
+            Ok(None) => return,
+            Err(e) => return lines.put_refusal("error ", e),
+        }
+    }
+}
+
+/// Prints the line of an instruction: its variant and its operands.
+fn print_instruction<R: Lender>(instruction: &LineInstruction<R>, lines: &mut Lines) {
+    let (text, opcode, operands) = match instruction {
+        LineInstruction::UnknownStandard0(opcode) => ("UnknownStandard0(%)\n", opcode.0, Word("")),
+        LineInstruction::UnknownStandard1(opcode, n) => {
+            ("UnknownStandard1(%, %)\n", opcode.0, Number(*n))
+        }
+        LineInstruction::UnknownStandardN(opcode, operands) => {
+            (
+                "UnknownStandardN(%, %)\n",
+                opcode.0,
+                Digits(operands.lent_bytes()),
+            )
+        }
+        LineInstruction::UnknownExtended(opcode, operands) => {
+            (
+                "UnknownExtended(%, %)\n",
+                opcode.0,
+                Digits(operands.lent_bytes()),
+            )
+        }
+        LineInstruction::DefineFile(file) => return print_defined(file, lines),
+        known => return lines.put_error("", *known),
+    };
+    lines.print(text, &[Number(u64::from(opcode)), operands]);
+}
+
+/// Prints the line of a file that is defined: its path, directory, timestamp and size.
+fn print_defined<R: Lender>(file: &FileEntry<R>, lines: &mut Lines) {
+    let directory = Number(file.directory_index());
+    let time = Number(file.timestamp());
+    lines.print("DefineFile(", &[]);
+    add_value(&file.path_name(), lines);
+    lines.print(", %, %, %)\n", &[directory, time, Number(file.size())]);
+}
+
+/// Prints a value of a form, as a part of a line: its variant, and in brackets what it holds.
+fn add_value<R: Lender>(value: &AttributeValue<R>, lines: &mut Lines) {
+    let (text, held) = match value {
+        AttributeValue::Block(bytes) => ("Block(%)", Digits(bytes.lent_bytes())),
+        AttributeValue::String(bytes) => ("String(%)", Digits(bytes.lent_bytes())),
+        AttributeValue::DebugStrRef(n) => ("DebugStrRef(%)", Number(n.0.into_u64())),
+        AttributeValue::DebugStrRefSup(n) => ("DebugStrRefSup(%)", Number(n.0.into_u64())),
+        AttributeValue::DebugLineStrRef(n) => ("DebugLineStrRef(%)", Number(n.0.into_u64())),
+        AttributeValue::DebugStrOffsetsIndex(n) => {
+            ("DebugStrOffsetsIndex(%)", Number(n.0.into_u64()))
+        }
+        number => return lines.put(*number),
+    };
+    lines.print(text, &[held]);
 }
