@@ -114,16 +114,10 @@ impl<R: Reader> Asked<'_, R> {
         }
         let ending = match self.begin(&mut tables.line_strings) {
             Ok(header) => print_after_header(by_items, header, tables, lines),
-            Err(error) => {
-                put_refused(error, lines);
-                match error {
-                    ConvertError::OutOfMemory => Ending::OutOfMemory(true),
-                    _ => Ending::NotBegun,
-                }
-            }
+            Err(error) => print_ending(error, Ending::NotBegun, lines),
         };
         match ending {
-            Ending::OutOfMemory(stands) => Ending::OutOfMemory(stands && tables.begin_old()),
+            Ending::OutOfMemory(_) => Ending::OutOfMemory(tables.begin_old()),
             ending => ending,
         }
     }
@@ -192,8 +186,16 @@ impl<R: Reader> Asked<'_, R> {
     }
 }
 
-/// Prints what is read after a header, up to its end or to the first refusal. After a refusal for
-/// memory the next read must be refused for it too.
+/// Prints why a conversion is refused, and returns how reading it ends: for want of memory, or so.
+fn print_ending(error: ConvertError, ending: Ending, lines: &mut Lines) -> Ending {
+    put_refused(error, lines);
+    match error {
+        ConvertError::OutOfMemory => Ending::OutOfMemory(true),
+        _ => ending,
+    }
+}
+
+/// Prints what is read after a header, up to its end or to the first refusal.
 fn print_after_header<R: Reader>(
     by_items: bool,
     header: ConvertLineHeader<R>,
@@ -205,14 +207,7 @@ fn print_after_header<R: Reader>(
         match print_next(by_items, &mut converter, lines) {
             Ok(true) => {}
             Ok(false) => return Ending::Ended,
-            Err(error) => {
-                put_refused(error, lines);
-                let stands = matches!(converter.read_row(), Err(ConvertError::OutOfMemory));
-                return match error {
-                    ConvertError::OutOfMemory => Ending::OutOfMemory(stands),
-                    _ => Ending::Ended,
-                };
-            }
+            Err(error) => return print_ending(error, Ending::Ended, lines),
         }
     }
     Ending::Ended

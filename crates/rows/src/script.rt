@@ -36,8 +36,6 @@ pub(crate) struct Script {
     pub tables: Tables,
     /// The text of each call that added a directory.
     pub directories: Vec<LineString>,
-    /// The digest of the program and its tables before the last call of the library.
-    pub before: u64,
     /// The order of bytes.
     pub order: RunTimeEndian,
     /// Whether it is read back.
@@ -67,7 +65,6 @@ impl Script {
             program: LineProgram::none(alloc),
             tables: Tables::new(alloc),
             directories: Vec::new(alloc),
-            before: 0,
             order: RunTimeEndian::Little,
             reads_back: false,
             target: Target::Vector,
@@ -140,9 +137,6 @@ impl Script {
         self.has_program = self.has_program || begins;
         let mut end = self.perform(name, words);
         if self.is_made_again(end) {
-            if !self.stands() {
-                self.print_state(lines);
-            }
             end = self.perform(name, words);
         }
         match end {
@@ -161,11 +155,6 @@ impl Script {
     fn is_made_again(&self, end: Option<Stop>) -> bool {
         let is_refused = matches!(end, Some(Stop::Memory | Stop::Refused(Error::OutOfMemory)));
         is_refused && self.attempts == Attempts::Two
-    }
-
-    /// Says that something doesn't stand as it must.
-    fn print_state(&self, lines: &mut Lines) {
-        lines.print("state %\n", &[Piece::Number(self.number)]);
     }
 
     /// Prints the line of an end that isn't as it should be, and where the conditions were met the
@@ -237,24 +226,14 @@ impl Script {
     /// The section of the program, and how writing into it ends; by a second call where memory is
     /// refused to the first and attempts are two.
     fn written(&mut self, encoding: Encoding, lines: &mut Lines) -> (Vec<u8>, Option<Stop>) {
-        let before = self.table_bytes();
         let (bytes, end) = self.written_once(encoding);
         if !self.is_made_again(end) {
             return (bytes, end);
         }
-        // The old bytes are a beginning of the section, or where they weren't all written the
-        // section one of them.
-        let begins = bytes.starts_with(&self.prefix) || self.prefix.starts_with(&bytes);
-        let stand = match (&before, &self.table_bytes()) {
-            (Ok([lines, strings]), Ok([lines_now, strings_now])) => {
-                gains_empty(lines, lines_now) && gains_empty(strings, strings_now)
-            }
-            _ => true,
-        };
+        // What stands after a refusal is proved, but not that an array takes no memory.
         let takes_none = matches!(self.target, Target::Array(_));
-        let is_own = matches!(end, Some(Stop::Memory));
-        if !begins || !stand || takes_none && !is_own {
-            self.print_state(lines);
+        if takes_none && !matches!(end, Some(Stop::Memory)) {
+            lines.print("state %\n", &[Piece::Number(self.number)]);
         }
         self.written_once(encoding)
     }
@@ -332,9 +311,4 @@ fn print_table(word: &str, bytes: &[u8], lines: &mut Lines) {
     if !bytes.is_empty() {
         lines.print("% %\n", &[Piece::Word(word), Piece::Bytes(bytes)]);
     }
-}
-
-/// Whether a table is as it was when these were its bytes, or has gained the empty text alone.
-fn gains_empty(before: &[u8], now: &[u8]) -> bool {
-    matches!(now.strip_prefix(before), Some([] | [0]))
 }
