@@ -3,7 +3,7 @@
 ghost use Rattle.std.specs.Prelude.{◌≡◌, ◌≤◌, IsTrue, true};
 
 use crate::stop::Stop;
-use crate::words::{parse_number, parse_text, push_bytes};
+use crate::words::{parse_number, push_bytes, push_text};
 use gimli_bytes::Address;
 use gimli_core::{Encoding, Format, LineEncoding, RunTimeEndian};
 use line_text::{AddressSize, parse_order, parse_size};
@@ -241,13 +241,11 @@ impl<'a> Arguments<'a> {
             (Form::Usual, Some(("p:", word))) => (Form::Strings, word),
             _ => (form, all),
         };
-        match parse_text(self.alloc, word) {
-            Ok(text) => (form, text),
-            Err(stop) => {
-                self.refuse(stop);
-                (form, Vec::new(self.alloc))
-            }
+        let mut text = Vec::new(self.alloc);
+        if let Err(stop) = push_text(&mut text, word) {
+            self.refuse(stop);
         }
+        (form, text)
     }
 
     /// A text, or none for the word `-`; none without a word too, where none is asked for.

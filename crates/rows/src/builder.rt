@@ -49,12 +49,10 @@ impl Script {
             _ => LineString::new(&bytes, encoding, &mut tables.line_strings),
         };
         match made {
-            Ok(text) => { text }
-            Err(error) => {
-                words.refuse(Stop::Refused(error));
-                LineString::String(bytes)
-            }
+            Ok(text) => return text,
+            Err(error) => words.refuse(Stop::Refused(error)),
         }
+        LineString::String(bytes)
     }
 
     /// What is known of a file: its time, and if they are there its size, digest and source.
@@ -77,7 +75,7 @@ impl Script {
         let lines = words.line_encoding();
         let directory = self.text(Form::Usual, encoding, words);
         let file = self.text(Form::Usual, encoding, words);
-        let file_directory = if words.takes("in") {
+        let source_dir = if words.takes("in") {
             Some(self.text(Form::Usual, encoding, words))
         } else {
             None
@@ -86,21 +84,13 @@ impl Script {
         if !LineProgram::accepts(encoding, lines)
             || !directory.has_no_zero()
             || !file.has_no_zero()
-            || !is_optional_name(&file_directory)
+            || !is_optional_name(&source_dir)
         {
             return words.refuse(Stop::Condition);
         }
         if words.is_fine() {
             let alloc = self.alloc;
-            match LineProgram::new(
-                alloc,
-                encoding,
-                lines,
-                directory,
-                file_directory,
-                file,
-                info,
-            ) {
+            match LineProgram::new(alloc, encoding, lines, directory, source_dir, file, info) {
                 Ok(program) => {
                     self.directories.clear();
                     self.program = program;
@@ -268,9 +258,7 @@ fn set_row(alloc: Global, program: &mut LineProgram, words: &mut Arguments<'_>) 
     let row = program.row();
     row.address_offset = offset;
     row.op_index = op_index;
-    if let Some(file) = file {
-        row.file = file;
-    }
+    row.file = file.unwrap_or(row.file);
     row.line = words.number(u64::MAX);
     row.column = words.number(u64::MAX);
     row.discriminator = words.number(u64::MAX);
