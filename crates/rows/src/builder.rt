@@ -15,7 +15,7 @@ const LAST_FILE: u64 = 999;
 
 impl Script {
     /// Makes a call. Returns why it isn't made.
-    pub fn perform(&mut self, name: &str, mut words: Arguments<'_>) -> Option<Stop> {
+    pub fn perform(&mut self, name: &str, mut words: Arguments<'_>) -> Result<(), Stop> {
         let encoding = self.program.encoding();
         match name {
             "line_str" => drop(self.text(Form::LineStrings, encoding, &mut words)),

@@ -7,6 +7,7 @@ use crate::lookup_text::{print_lookup, print_paths, print_units};
 use crate::unit_text::{print_header, print_instructions};
 use gimli_core::{DebugLineOffset, EndianSlice, Error, Reader, ReaderOffset, RunTimeEndian};
 use gimli_line::{DebugLine, IncompleteLineProgram};
+use gimli_lookup::StringSections;
 use line_text::{AddressSize, Slice};
 use row_text::{Arguments, Attempts, Lines, Stop};
 use std::alloc::Global;
@@ -54,8 +55,7 @@ impl Command {
             Command::Header => [true, true, false],
             Command::Paths => [true, false, true],
             Command::Addresses => [false, false, true],
-            Command::Items => [true; 3],
-            Command::Sequences => [true; 3],
+            Command::Items | Command::Sequences => [true; 3],
             _ => [false; 3],
         }
     }
@@ -92,10 +92,9 @@ impl Lender for Slice<'_> {
 pub(crate) struct Asked<'w, R: Reader> {
     pub alloc: Global,
     pub attempts: Attempts,
-    /// The sections `.debug_line`, `.debug_str` and `.debug_line_str`.
+    /// The section `.debug_line`, and those of its texts.
     pub section: DebugLine<R>,
-    pub strings: R,
-    pub line_strings: R,
+    pub texts: StringSections<R>,
     pub order: RunTimeEndian,
     pub address_size: AddressSize,
     /// Where the unit stands, or the lowest address of code.
@@ -160,15 +159,15 @@ pub fn print(
     };
     let addresses = words.numbers(matches!(command, Command::Places));
     let target = Target::parse(alloc, has_name && has_last, &mut words);
-    if let Some(stop) = words.end() {
-        return Err(stop);
-    }
+    words.end()?;
     let asked = Asked {
         alloc,
         attempts: request.attempts,
         section: DebugLine::new(section, order),
-        strings: EndianSlice::new(strings, order),
-        line_strings: EndianSlice::new(line_strings, order),
+        texts: StringSections {
+            debug_line_str: EndianSlice::new(line_strings, order),
+            debug_str: EndianSlice::new(strings, order),
+        },
         order,
         address_size,
         offset,
@@ -202,8 +201,6 @@ fn perform<R: Lender>(command: Command, asked: &Asked<'_, R>, lines: &mut Lines)
         (Command::Header, Ok(program)) => print_header(program.header(), lines),
         (Command::Instructions, Ok(program)) => print_instructions(program.header(), lines),
         (Command::Paths, Ok(program)) => print_paths(asked, program.header(), lines),
-        (Command::Items, Ok(_program)) => asked.print_conversion(true, lines),
-        (Command::Sequences, Ok(_program)) => asked.print_conversion(false, lines),
-        (_, Ok(_program)) => {}
+        (_, Ok(_program)) => asked.print_conversion(matches!(command, Command::Items), lines),
     }
 }

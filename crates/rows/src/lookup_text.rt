@@ -3,7 +3,7 @@
 use crate::command::Asked;
 use gimli_core::{Error, Reader, ReaderOffset};
 use gimli_line::LineProgramHeader;
-use gimli_lookup::{PathError, Paths, SectionLookup, StringSections};
+use gimli_lookup::{PathError, Paths, SectionLookup};
 use row_text::Piece::{Address, Number, Row, Text};
 use row_text::{Lines, parse_number};
 
@@ -67,12 +67,8 @@ fn print_places<R: Reader>(lookup: &SectionLookup<R>, words: &[&str], lines: &mu
 fn print_place<R: Reader>(lookup: &SectionLookup<R>, address: u64, lines: &mut Lines) {
     match lookup.find(address) {
         Some(found) => {
-            let unit = Number(found.unit as u64);
-            let rows = (Row(found.row), Row(found.next));
-            lines.print(
-                "% unit %\n%\n%\n",
-                &[Address(address), unit, rows.0, rows.1],
-            );
+            lines.print("% unit %\n", &[Address(address), Number(found.unit as u64)]);
+            lines.print("%\n%\n", &[Row(found.row), Row(found.next)]);
         }
         None => lines.print("% none\n", &[Address(address)]),
     }
@@ -80,7 +76,7 @@ fn print_place<R: Reader>(lookup: &SectionLookup<R>, address: u64, lines: &mut L
 
 /// Prints a line, and the addresses at which its code begins.
 fn print_addresses<R: Reader>(asked: &Asked<'_, R>, lookup: &SectionLookup<R>, lines: &mut Lines) {
-    match lookup.addresses_of(&texts_of(asked), asked.path, asked.line) {
+    match lookup.addresses_of(&asked.texts, asked.path, asked.line) {
         Ok(Some(found)) => {
             lines.print("line %\n", &[Number(found.line)]);
             for address in &found.addresses {
@@ -92,21 +88,13 @@ fn print_addresses<R: Reader>(asked: &Asked<'_, R>, lookup: &SectionLookup<R>, l
     }
 }
 
-/// The sections of texts.
-fn texts_of<R: Reader>(asked: &Asked<'_, R>) -> StringSections<R> {
-    StringSections {
-        debug_line_str: asked.line_strings,
-        debug_str: asked.strings,
-    }
-}
-
 /// Prints the paths of the files of a header, or why they aren't known.
 pub(crate) fn print_paths<R: Reader>(
     asked: &Asked<'_, R>,
     header: &LineProgramHeader<R>,
     lines: &mut Lines,
 ) {
-    let paths = Paths::new(header, texts_of(asked), Some(asked.path));
+    let paths = Paths::new(header, asked.texts, Some(asked.path));
     let last = header.file_names().len() as u64;
     for index in 0..=last {
         let path = match header.file(index) {

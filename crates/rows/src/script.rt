@@ -56,6 +56,9 @@ pub(crate) struct Script {
     status: u8,
 }
 
+/// The bytes of a section, and why not all of it was written.
+type Written = (Vec<u8>, Option<Stop>);
+
 impl Script {
     /// A script without a call.
     pub fn new(alloc: Global, attempts: Attempts) -> Script {
@@ -75,14 +78,6 @@ impl Script {
             number: 0,
             status: 0,
         }
-    }
-
-    /// Goes on with a script without a call.
-    fn begin_anew(&mut self) {
-        let (number, status) = (self.number, self.status);
-        *self = Script::new(self.alloc, self.attempts);
-        self.number = number;
-        self.status = status;
     }
 
     /// Runs scripts one after the other, with a line between, and returns the status.
@@ -107,7 +102,10 @@ impl Script {
             ["next"] => {
                 self.finish(lines)?;
                 lines.print("--\n", &[]);
-                self.begin_anew();
+                let (number, status) = (self.number, self.status);
+                *self = Script::new(self.alloc, self.attempts);
+                self.number = number;
+                self.status = status;
             }
             ["order", ..] => self.order = rest.order(),
             ["writer", ..] => self.target = rest.target(),
@@ -116,10 +114,7 @@ impl Script {
             ["back"] => self.reads_back = true,
             [name, ..] => return self.take_call(name, rest, lines),
         }
-        match rest.end() {
-            Some(stop) => Err(stop),
-            None => Ok(()),
-        }
+        rest.end()
     }
 
     /// Makes a call, and tells how it ends the script, if it does. The program is begun once, and
@@ -135,9 +130,9 @@ impl Script {
             return Err(Stop::Bad);
         }
         self.has_program = self.has_program || begins;
-        let mut end = self.perform(name, words);
+        let mut end = self.perform(name, words).err();
         if self.is_made_again(end) {
-            end = self.perform(name, words);
+            end = self.perform(name, words).err();
         }
         match end {
             Some(Stop::Bad) => return Err(Stop::Bad),
@@ -173,9 +168,12 @@ impl Script {
     /// Prints the tables that aren't empty.
     fn print_tables(&self, lines: &mut Lines) {
         match self.table_bytes() {
-            Ok([line_strings, strings]) => {
-                print_table("line_str", &line_strings, lines);
-                print_table("str", &strings, lines);
+            Ok(tables) => {
+                for (word, bytes) in ["line_str", "str"].iter().zip(&tables) {
+                    if !bytes.is_empty() {
+                        lines.print("% %\n", &[Piece::Word(*word), Piece::Bytes(bytes)]);
+                    }
+                }
             }
             Err(_) => lines.refuse(),
         }
@@ -225,7 +223,7 @@ impl Script {
 
     /// The section of the program, and how writing into it ends; by a second call where memory is
     /// refused to the first and attempts are two.
-    fn written(&mut self, encoding: Encoding, lines: &mut Lines) -> (Vec<u8>, Option<Stop>) {
+    fn written(&mut self, encoding: Encoding, lines: &mut Lines) -> Written {
         let (bytes, end) = self.written_once(encoding);
         if !self.is_made_again(end) {
             return (bytes, end);
@@ -239,7 +237,7 @@ impl Script {
     }
 
     /// The section of the program, and how writing into it ends.
-    fn written_once(&mut self, encoding: Encoding) -> (Vec<u8>, Option<Stop>) {
+    fn written_once(&mut self, encoding: Encoding) -> Written {
         let alloc = self.alloc;
         let order = self.order;
         match self.target {
@@ -255,19 +253,13 @@ impl Script {
     }
 
     /// A section with the program after the bytes that it holds before, and how writing ends.
-    fn written_into<W: Section>(
-        &mut self,
-        encoding: Encoding,
-        section: W,
-    ) -> (Vec<u8>, Option<Stop>) {
+    fn written_into<W: Section>(&mut self, encoding: Encoding, section: W) -> Written {
         let mut section = DebugLine::from(section);
-        let line_strings = &mut self.tables.line_strings;
-        let strings = &mut self.tables.strings;
+        let program = &self.program;
+        let (lines, strings) = (&mut self.tables.line_strings, &mut self.tables.strings);
         let end = match section.0.write(self.prefix.as_slice()) {
-            Ok(()) if self.program.can_write(line_strings, strings) => {
-                let written = self
-                    .program
-                    .write(&mut section, encoding, line_strings, strings);
+            Ok(()) if program.can_write(lines, strings) => {
+                let written = program.write(&mut section, encoding, lines, strings);
                 written.err().map(Stop::Refused)
             }
             Ok(()) => Some(Stop::Condition),
@@ -303,12 +295,5 @@ impl Script {
         }
         let mut section = DebugLine::from(EndianVec::new(self.alloc, self.order));
         Some(round_trip(&self.program, &mut section, encoding, line_strings, strings))
-    }
-}
-
-/// Prints the bytes of a table after a word, if there are any.
-fn print_table(word: &str, bytes: &[u8], lines: &mut Lines) {
-    if !bytes.is_empty() {
-        lines.print("% %\n", &[Piece::Word(word), Piece::Bytes(bytes)]);
     }
 }
