@@ -28,8 +28,9 @@ fn first_false(found: &[bool]) -> Option<usize> {
 }
 
 /// Each check, and what it finds.
-fn checks(alloc: Global) -> [(&'static str, Found); 17] {
+fn checks(alloc: Global) -> [(&'static str, Found); 18] {
     [
+        ("readers::skipped", readers::skipped()),
         ("lookups::narrow_unit", lookups::narrow_unit(alloc)),
         ("lookups::wide_numbers", lookups::wide_numbers(alloc)),
         ("lookups::many", lookups::many(alloc)),

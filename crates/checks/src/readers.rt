@@ -4,10 +4,11 @@
 ghost use Rattle.std.specs.Prelude.{◌<◌, ◌^◌, length};
 ghost use Rattle.std.proofs.Common.{rules};
 
+use crate::{Found, first_false};
 use gimli_core::{EndianSlice, Error, LittleEndian, Reader, ReaderOffset, Result};
 use std::borrow::CowSlice;
 
-#[derive(Clone, Copy, Debug, PartialEq, Eq, PartialOrd, Ord)]
+#[derive(Clone, Copy, PartialEq, Eq, PartialOrd, Ord)]
 pub struct Narrow(pub u32);
 
 impl ReaderOffset for Narrow {
@@ -106,4 +107,20 @@ impl<'i> Reader for NarrowReader<'i> {
     fn read_slice(&mut self, buf: &mut [u8]) -> Result<()> {
         self.left.read_slice(buf)
     }
+}
+
+/// How many bytes stand before those that are left after a skip.
+fn first_left<R: Reader>(reader: R, len: R::Offset) -> Result<u64> {
+    let mut after = reader;
+    after.skip(len)?;
+    Ok(after.offset_from(&reader).into_u64())
+}
+
+/// The first reader that counts the bytes otherwise that were skipped.
+pub fn skipped() -> Found {
+    let bytes = b"\x01\x02\x03";
+    Ok(first_false(&[
+        first_left(EndianSlice::new(bytes, LittleEndian), 2) == Ok(2),
+        first_left(NarrowReader::new(bytes), Narrow(2)) == Ok(2),
+    ]))
 }

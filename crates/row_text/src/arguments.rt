@@ -63,11 +63,12 @@ impl<'a> Arguments<'a> {
         }
     }
 
-    /// Why the call isn't made; None where it is. Bad where a word is left.
-    pub fn end(&self) -> Option<Stop> {
-        match self.rest {
-            [] => self.stop,
-            _ => Some(Stop::Bad),
+    /// Refused where the call isn't made, and where a word is left.
+    pub fn end(&self) -> Result<(), Stop> {
+        match (self.rest, self.stop) {
+            ([], None) => Ok(()),
+            ([], Some(stop)) => Err(stop),
+            _ => Err(Stop::Bad),
         }
     }
 
@@ -78,7 +79,7 @@ impl<'a> Arguments<'a> {
         if !is_met {
             self.refuse(Stop::Condition);
         }
-        is_met && self.end().is_none()
+        is_met && self.end().is_ok()
     }
 
     /// Whether no text of the call is refused so far.

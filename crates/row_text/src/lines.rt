@@ -4,7 +4,7 @@ use gimli_core::Error;
 use gimli_line::LineRow;
 use line_text::{BytesLine, Digits, RowLine, Text, Words};
 use std::alloc::{AllocError, Global};
-use std::fmt::{Debug, Display};
+use std::fmt::Debug;
 use std::io::Write;
 
 /// A piece of a line.
@@ -70,11 +70,11 @@ impl Lines {
             Piece::Signed(number) => write!(out, "{number}"),
             Piece::Hex(number) => write!(out, "{number:x}"),
             Piece::Address(address) => write!(out, "{address:016x}"),
-            Piece::Flags(flags, none) => put(out, Words(flags, none)),
-            Piece::Digits(bytes) => put(out, Digits(bytes)),
-            Piece::Bytes(bytes) => put(out, BytesLine(bytes)),
-            Piece::Text(text) => put(out, Text(text)),
-            Piece::Row(row) => put(out, RowLine(row)),
+            Piece::Flags(flags, none) => write!(out, "{}", Words(flags, none)),
+            Piece::Digits(bytes) => write!(out, "{}", Digits(bytes)),
+            Piece::Bytes(bytes) => write!(out, "{}", BytesLine(bytes)),
+            Piece::Text(text) => write!(out, "{}", Text(text)),
+            Piece::Row(row) => write!(out, "{}", RowLine(row)),
         };
         self.is_refused = done.is_err();
     }
@@ -134,9 +134,4 @@ impl Lines {
             Ok(self.bytes)
         }
     }
-}
-
-/// Prints a value.
-fn put<D: Display + Drop>(out: &mut Vec<u8>, value: D) -> std::io::Result<()> {
-    write!(out, "{value}")
 }

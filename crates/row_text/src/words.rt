@@ -49,19 +49,14 @@ fn push_times(bytes: &mut Vec<u8>, count: &str, byte: &[u8]) -> Result<(), Stop>
     let (Some(count), Some(byte)) = (parse_number(count), parse_byte(byte)) else {
         return Err(Stop::Bad);
     };
-    match bytes.len().checked_add(count as usize) {
-        Some(length) => Ok(bytes.resize(length, byte)?),
-        None => Err(Stop::Bad),
-    }
+    let length = bytes.len().checked_add(count as usize);
+    Ok(bytes.resize(length.ok_or(Stop::Bad)?, byte)?)
 }
 
 /// Appends the bytes of a word of digits.
 fn push_digits(bytes: &mut Vec<u8>, word: &[u8]) -> Result<(), Stop> {
     for pair in word.chunks(2) {
-        match parse_byte(pair) {
-            Some(byte) => bytes.push(byte)?,
-            None => return Err(Stop::Bad),
-        }
+        bytes.push(parse_byte(pair).ok_or(Stop::Bad)?)?;
     }
     Ok(())
 }
@@ -69,7 +64,7 @@ fn push_digits(bytes: &mut Vec<u8>, word: &[u8]) -> Result<(), Stop> {
 /// The byte of two hexadecimal digits.
 fn parse_byte(digits: &[u8]) -> Option<u8> {
     match (digits, str::from_utf8(digits)) {
-        ([_, _], Ok(digits)) => parse_digits(digits, 16).map(|byte| byte as u8),
+        ([_, _], Ok(digits)) => u8::try_from(parse_digits(digits, 16)?).ok(),
         _ => None,
     }
 }

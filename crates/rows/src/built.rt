@@ -81,10 +81,7 @@ fn print_file(index: u64, file: &RoundTripFile, lines: &mut Lines) {
         Number(file.timestamp),
         Number(file.size),
         Digits(&file.md5),
-        match &file.source {
-            Some(source) => Text(source),
-            None => Word("-"),
-        },
+        file.source.as_deref().map_or(Word("-"), Text),
     ];
     lines.print("file % % dir % time % size % md5 % source %\n", &parts);
 }

@@ -216,10 +216,7 @@ fn print_item(item: ConvertLineRow, lines: &mut Lines) {
 
 /// Prints a sequence: its start, its rows and its end.
 fn print_sequence(sequence: &ConvertLineSequence, lines: &mut Lines) {
-    let start = match sequence.start {
-        Some(start) => Number(start),
-        None => Word("-"),
-    };
+    let start = sequence.start.map_or(Word("-"), Number);
     lines.print("sequence %\n", &[start]);
     for row in sequence.rows.as_slice() {
         print_row(*row, lines);

@@ -35,7 +35,7 @@ fn print_numbers<R: Lender>(header: &LineProgramHeader<R>, lines: &mut Lines) {
         Format::Dwarf64 => 64,
     };
     let instruction = header.minimum_instruction_length();
-    let operations = header.maximum_operations_per_instruction();
+    let operations = Number(u64::from(header.maximum_operations_per_instruction()));
     let is_stmt = [(header.default_is_stmt(), "true")];
     let numbers = [
         ("offset", Number(header.offset().0.into_u64())),
@@ -45,10 +45,7 @@ fn print_numbers<R: Lender>(header: &LineProgramHeader<R>, lines: &mut Lines) {
         ("address_size", Number(u64::from(header.address_size()))),
         ("header_length", Number(header.header_length().into_u64())),
         ("minimum_instruction_length", Number(u64::from(instruction))),
-        (
-            "maximum_operations_per_instruction",
-            Number(u64::from(operations)),
-        ),
+        ("maximum_operations_per_instruction", operations),
         ("default_is_stmt", Flags(&is_stmt, "false")),
         ("line_base", Signed(i64::from(header.line_base()))),
         ("line_range", Number(u64::from(header.line_range()))),
