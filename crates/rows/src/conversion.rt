@@ -74,8 +74,7 @@ impl<R: Reader> Asked<'_, R> {
         }
         let start = lines.len();
         let mut ending = self.print_read(by_items, lines);
-        let is_refused = matches!(ending, (_, Some(ConvertError::OutOfMemory)));
-        if is_refused && self.attempts == Attempts::Two {
+        if let (Attempts::Two, (_, Some(ConvertError::OutOfMemory))) = (self.attempts, ending) {
             lines.truncate(start);
             ending = self.print_read(by_items, lines);
         }
@@ -216,7 +215,10 @@ fn print_item(item: ConvertLineRow, lines: &mut Lines) {
 
 /// Prints a sequence: its start, its rows and its end.
 fn print_sequence(sequence: &ConvertLineSequence, lines: &mut Lines) {
-    let start = sequence.start.map_or(Word("-"), Number);
+    let start = match sequence.start {
+        Some(start) => Number(start),
+        None => Word("-"),
+    };
     lines.print("sequence %\n", &[start]);
     for row in sequence.rows.as_slice() {
         print_row(*row, lines);

@@ -44,8 +44,7 @@ pub(crate) fn print_units<R: Reader>(asked: &Asked<'_, R>, lines: &mut Lines) {
 /// line that has any; or the units, and for each address the rows that cover it.
 pub(crate) fn print_lookup<R: Reader>(asked: &Asked<'_, R>, is_line: bool, lines: &mut Lines) {
     let size = asked.address_size.bytes();
-    let section = asked.section;
-    match SectionLookup::new(&section, asked.alloc, size, asked.offset) {
+    match SectionLookup::new(&asked.section, asked.alloc, size, asked.offset) {
         Ok(lookup) if is_line => print_addresses(asked, &lookup, lines),
         Ok(lookup) => print_places(&lookup, asked.addresses, lines),
         Err(_) => lines.refuse(),
@@ -97,12 +96,11 @@ pub(crate) fn print_paths<R: Reader>(
     let paths = Paths::new(header, asked.texts, Some(asked.path));
     let last = header.file_names().len() as u64;
     for index in 0..=last {
-        let path = match header.file(index) {
-            Some(file) => paths.of_file(asked.alloc, file),
-            None => continue,
+        let Some(file) = header.file(index) else {
+            continue;
         };
         lines.print("file % ", &[Number(index)]);
-        match path {
+        match paths.of_file(asked.alloc, file) {
             Ok(path) => lines.print("%\n", &[Text(&path)]),
             Err(PathError::OutOfMemory) => lines.refuse(),
             Err(error) => lines.put_error("error ", error),

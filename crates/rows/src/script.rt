@@ -8,7 +8,8 @@ use gimli_write::{
     ConvertError, ConvertResult, DebugLine, EndianVec, Error, LineProgram, LineString, PieceVec,
     RoundTrip, round_trip,
 };
-use row_text::{Arguments, Attempts, Lines, Piece, Stop, Target};
+use row_text::Piece::{Bytes, Number, Word};
+use row_text::{Arguments, Attempts, Lines, Stop, Target};
 use std::alloc::Global;
 
 /// Builds the programs of a text's scripts and writes them; prints what that gives, and returns the
@@ -156,9 +157,7 @@ impl Script {
     /// tables.
     fn print_end(&self, end: Stop, lines: &mut Lines) {
         match end {
-            Stop::Condition => {
-                return lines.print("condition %\n", &[Piece::Number(self.number)]);
-            }
+            Stop::Condition => return lines.print("condition %\n", &[Number(self.number)]),
             Stop::Refused(error) => lines.put_error("error ", error),
             _ => lines.print("error OutOfMemory\n", &[]),
         }
@@ -168,12 +167,9 @@ impl Script {
     /// Prints the tables that aren't empty.
     fn print_tables(&self, lines: &mut Lines) {
         match self.table_bytes() {
-            Ok(tables) => {
-                for (word, bytes) in ["line_str", "str"].iter().zip(&tables) {
-                    if !bytes.is_empty() {
-                        lines.print("% %\n", &[Piece::Word(*word), Piece::Bytes(bytes)]);
-                    }
-                }
+            Ok([line_strings, strings]) => {
+                print_table("line_str", &line_strings, lines);
+                print_table("str", &strings, lines);
             }
             Err(_) => lines.refuse(),
         }
@@ -208,7 +204,7 @@ impl Script {
         match end {
             None => {
                 for bytes in bytes.chunks(16) {
-                    lines.print("%\n", &[Piece::Bytes(bytes)]);
+                    lines.print("%\n", &[Bytes(bytes)]);
                 }
                 self.print_tables(lines);
             }
@@ -229,9 +225,8 @@ impl Script {
             return (bytes, end);
         }
         // What stands after a refusal is proved, but not that an array takes no memory.
-        let takes_none = matches!(self.target, Target::Array(_));
-        if takes_none && !matches!(end, Some(Stop::Memory)) {
-            lines.print("state %\n", &[Piece::Number(self.number)]);
+        if let (Target::Array(_), Some(Stop::Refused(_))) = (self.target, end) {
+            lines.print("state %\n", &[Number(self.number)]);
         }
         self.written_once(encoding)
     }
@@ -295,5 +290,12 @@ impl Script {
         }
         let mut section = DebugLine::from(EndianVec::new(self.alloc, self.order));
         Some(round_trip(&self.program, &mut section, encoding, line_strings, strings))
+    }
+}
+
+/// Prints the bytes of a table after a word, if there are any.
+fn print_table(word: &str, bytes: &[u8], lines: &mut Lines) {
+    if !bytes.is_empty() {
+        lines.print("% %\n", &[Word(word), Bytes(bytes)]);
     }
 }

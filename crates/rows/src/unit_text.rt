@@ -9,11 +9,8 @@ use row_text::Piece::{Digits, Flags, Hex, Number, Signed, Word};
 /// Prints a header.
 pub(crate) fn print_header<R: Lender>(header: &LineProgramHeader<R>, lines: &mut Lines) {
     print_numbers(header, lines);
-    print_bytes(
-        "standard_opcode_lengths",
-        header.standard_opcode_lengths(),
-        lines,
-    );
+    let lengths = header.standard_opcode_lengths();
+    print_bytes("standard_opcode_lengths", lengths, lines);
     print_formats("directory_format", header.directory_entry_format(), lines);
     print_directories(header, lines);
     print_formats("file_format", header.file_name_entry_format(), lines);
@@ -98,10 +95,13 @@ fn print_files<R: Lender>(header: &LineProgramHeader<R>, lines: &mut Lines) {
 fn print_file<R: Lender>(index: u64, file: &FileEntry<R>, lines: &mut Lines) {
     let directory = Number(file.directory_index());
     let time = Number(file.timestamp());
-    let numbers = [directory, time, Number(file.size()), Digits(file.md5())];
     lines.print("file % ", &[Number(index)]);
     add_value(&file.path_name(), lines);
-    lines.print(" dir % time % size % md5 % source ", &numbers);
+    lines.print(
+        " dir % time % size %",
+        &[directory, time, Number(file.size())],
+    );
+    lines.print(" md5 % source ", &[Digits(file.md5())]);
     match &file.source() {
         Some(source) => add_value(source, lines),
         None => lines.print("-", &[]),
