@@ -1,13 +1,11 @@
 //! Checks in code, of what no clause and no row of input and output can say: tables of cases, each
 //! with what is expected of it by hand. A line for each check says whether it passed, or which case
-//! failed first; then come the texts of errors.
+//! failed first; then come the texts of errors. `checks_files` has those of the files of programs.
 //!
 //! They use public names alone.
 #![tactic(auto)]
 
-mod compilations;
 mod converted;
-mod elf_files;
 mod errors;
 mod lookups;
 mod many;
@@ -28,20 +26,12 @@ fn first_false(found: &[bool]) -> Option<usize> {
 }
 
 /// Each check, and what it finds.
-fn checks(alloc: Global) -> [(&'static str, Found); 18] {
+fn checks(alloc: Global) -> [(&'static str, Found); 10] {
     [
         ("readers::skipped", readers::skipped()),
         ("lookups::narrow_unit", lookups::narrow_unit(alloc)),
         ("lookups::wide_numbers", lookups::wide_numbers(alloc)),
         ("lookups::many", lookups::many(alloc)),
-        ("compilations::units", compilations::units()),
-        ("compilations::lines", compilations::lines(alloc)),
-        ("elf_files::relocated", elf_files::relocated(alloc)),
-        ("elf_files::sought", elf_files::sought(alloc)),
-        ("elf_files::outlines", elf_files::outlines(alloc)),
-        ("elf_files::cut", elf_files::cut(alloc)),
-        ("elf_files::huge", elf_files::huge(alloc)),
-        ("elf_files::checksums", elf_files::checksums(alloc)),
         ("relocations::calls", relocations::calls(alloc)),
         ("relocations::unit", relocations::unit(alloc)),
         ("converted::refused", converted::refused(alloc)),

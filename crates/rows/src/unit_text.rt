@@ -93,14 +93,11 @@ fn print_files<R: Lender>(header: &LineProgramHeader<R>, lines: &mut Lines) {
 
 /// Prints a file: its values, in the order of the tables of version 5.
 fn print_file<R: Lender>(index: u64, file: &FileEntry<R>, lines: &mut Lines) {
-    let directory = Number(file.directory_index());
-    let time = Number(file.timestamp());
     lines.print("file % ", &[Number(index)]);
     add_value(&file.path_name(), lines);
-    lines.print(
-        " dir % time % size %",
-        &[directory, time, Number(file.size())],
-    );
+    lines.print(" dir %", &[Number(file.directory_index())]);
+    lines.print(" time %", &[Number(file.timestamp())]);
+    lines.print(" size %", &[Number(file.size())]);
     lines.print(" md5 % source ", &[Digits(file.md5())]);
     match &file.source() {
         Some(source) => add_value(source, lines),
