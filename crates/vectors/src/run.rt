@@ -54,17 +54,12 @@ pub fn run(
 
 /// The sections of a row: that of lines, and after it those of texts, as far as they are named.
 fn sections_of<'r>(lines: &'r [u8], named: &'r [Vec<u8>]) -> Result<Sections<'r>, Stop> {
-    let (strings, line_strings) = match named {
-        [] => ([].as_slice(), [].as_slice()),
-        [strings] => (strings.as_slice(), [].as_slice()),
-        [strings, line_strings] => (strings.as_slice(), line_strings.as_slice()),
-        _ => return Err(Stop::Bad),
-    };
-    Ok(Sections {
-        lines,
-        strings,
-        line_strings,
-    })
+    match named {
+        [] => Ok([lines, &[], &[]]),
+        [strings] => Ok([lines, strings, &[]]),
+        [strings, line_strings] => Ok([lines, strings, line_strings]),
+        _ => Err(Stop::Bad),
+    }
 }
 
 /// Runs a command over sections, and returns its status.

@@ -2,7 +2,7 @@
 //! debug files of programs. `readelf -h -S -z -x -R` prints the same of each section.
 
 use crate::{Found, first_false};
-use debug_files::{Outline, Refusal, checksum, debug_file_paths};
+use debug_files::{Outline, Refusal, checksum};
 use elf_sections::SectionPlace::{self, AllAtZero, Only};
 use elf_sections::{Elf, ElfError};
 use inflate::Error::OutputSmaller;
@@ -200,17 +200,4 @@ fn checksum_of(alloc: Global, count: usize) -> Option<u32> {
 /// The first file that has another checksum.
 pub fn checksums(alloc: Global) -> Found {
     Ok(CHECKSUMS.iter().position(|(count, wanted)| checksum_of(alloc, *count) != Some(*wanted)))
-}
-
-/// The example of GDB's documentation ("Debugging Information in Separate Files").
-const PATHS: &str = "/usr/lib/debug/.build-id/ab/cdef1234.debug
-/usr/bin/ls.debug
-/usr/bin/.debug/ls.debug
-/usr/lib/debug/usr/bin/ls.debug";
-
-/// Whether the places of the debug files of a program are these, each on a line.
-pub fn paths(alloc: Global) -> Found {
-    let id: &[u8] = b"\xab\xcd\xef\x12\x34";
-    let paths = debug_file_paths(alloc, "/usr/bin/ls", Some(id), Some("ls.debug"))?;
-    Ok(first_false(&[paths.as_slice().join(alloc, "\n")?.as_str() == PATHS]))
 }
