@@ -21,14 +21,12 @@ pub enum Printing {
 }
 
 /// Tells that a command reads a whole section before it prints anything, where a person waits for
-/// it at a terminal. Returns whether it is told.
-pub fn show_reading(length: u64, output: &mut Output<'_>) -> bool {
-    let is_told = output.screen().is_err && length >= LONG;
-    if is_told {
+/// it at a terminal.
+pub fn show_reading(length: u64, output: &mut Output<'_>) {
+    if output.screen().is_err && length >= LONG {
         let megabytes = length >> 20;
         output.show(format_args!("lines: reading {megabytes} MB"));
     }
-    is_told
 }
 
 /// The offset of a unit in its section.
@@ -126,12 +124,9 @@ impl<R: Reader> Walk<R> {
         }
     }
 
-    /// Clears what was told, and reports that no unit was the chosen one.
+    /// Clears what was shown, and reports that no unit was the chosen one.
     fn end(&mut self, output: &mut Output<'_>) {
-        if self.told.is_some() {
-            output.clear();
-            self.told = None;
-        }
+        output.clear();
         match self.choice {
             UnitChoice::At(offset) if !self.is_found => output.tell(format_args!(
                 "no unit begins at 0x{offset:x}; the command units prints where they do"

@@ -3,14 +3,41 @@
 ghost use Rattle.std.specs.Prelude.{◌≡◌, ◌≤◌, ◌↔◌, IfOk, true, false};
 ghost use Rattle.lines_words.specs.Findings.{is_denied};
 
-use crate::json::{Json, JsonBytes, JsonText};
 use crate::kinds::{CheckChoice, FindingKind};
-use crate::names::NameText;
+use crate::path_text::{JsonBytes, JsonText, NameText};
 use crate::request::{Form, Request};
 use line_text::Digits;
 use std::alloc::Global;
 use std::io::{ErrorKind, Write};
 use std::{fmt, io};
+
+/// A value of a field of an object of JSON (RFC 8259).
+#[derive(Clone, Copy)]
+pub enum Json<'v> {
+    /// A number.
+    Number(u64),
+    /// A number, or null where there is none.
+    Count(Option<u64>),
+    /// An offset or an address, as a string, or null where there is none.
+    Offset(Option<u64>),
+    /// Two addresses.
+    Range(u64, u64),
+    /// Whether something holds.
+    Holds(bool),
+    /// The words that hold.
+    Flags(&'v [(bool, &'static str, char)]),
+    /// A word that has nothing to escape.
+    Word(&'v str),
+    /// A text of bytes, or null where there is none.
+    Text(Option<&'v [u8]>),
+    /// The same; where it isn't UTF-8, a second field, with `_bytes` after the name, has its bytes
+    /// in hexadecimal digits.
+    Bytes(Option<&'v [u8]>),
+    /// Bytes in hexadecimal digits, or null where there are none.
+    Digits(Option<&'v [u8]>),
+    /// A value that is written already.
+    Written(&'v str),
+}
 
 /// What the outputs are shown on.
 #[derive(Clone, Copy)]
@@ -56,6 +83,8 @@ pub struct Output<'o> {
     err: Vec<u8>,
     /// How far the command is, for standard error.
     progress: Vec<u8>,
+    /// Whether that was shown, and not cleared.
+    is_shown: bool,
     /// Whether something was reported on standard error, or a check found what is denied.
     is_faulty: bool,
     /// Whether something could not be kept, since memory is missing.
@@ -72,9 +101,15 @@ impl<'o> Output<'o> {
             out: Vec::new(alloc),
             err: Vec::new(alloc),
             progress: Vec::new(alloc),
+            is_shown: false,
             is_faulty: false,
             is_incomplete: false,
         }
+    }
+
+    /// Goes on with the file of another name.
+    pub fn turn_to(&mut self, name: &'o str) {
+        self.name = name;
     }
 
     /// What the outputs are shown on.
@@ -232,14 +267,18 @@ impl<'o> Output<'o> {
     /// Shows how far the command is, in a line of standard error that the next one is written over.
     pub fn show(&mut self, progress: impl fmt::Display + Drop) {
         self.progress.clear();
+        self.is_shown = true;
         if write!(self.progress, "{progress}\r").is_err() {
             self.is_incomplete = true;
         }
     }
 
-    /// Clears what shows how far the command is.
+    /// Clears what shows how far the command is, where something does.
     pub fn clear(&mut self) {
-        self.show(format_args!("{:40}", ""));
+        if self.is_shown {
+            self.show(format_args!("{:40}", ""));
+            self.is_shown = false;
+        }
     }
 
     /// Hands on what was printed. Fails where standard output takes no more, and where something

@@ -1,6 +1,8 @@
-//! Paths and lines of source, as they are printed.
+//! Paths, names and lines of source, as they are printed.
 
+use crate::names::byte_of;
 use crate::request::PathForm;
+use line_text::Digits;
 use std::fmt;
 use std::fmt::{Display, Formatter, Write};
 
@@ -33,6 +35,17 @@ impl Writing {
     fn write_characters<W: Write>(self, characters: &str, f: &mut Formatter<W>) -> fmt::Result {
         for character in characters.chars() {
             self.write(character, false, f)?;
+        }
+        Ok(())
+    }
+
+    /// Writes the characters of a word, or of lines of words.
+    fn write_name<W: Write>(self, name: &str, f: &mut Formatter<W>) -> fmt::Result {
+        for character in name.chars() {
+            match byte_of(character) {
+                Some(byte) => self.write(char::from(byte), true, f)?,
+                None => self.write(character, false, f)?,
+            }
         }
         Ok(())
     }
@@ -101,6 +114,27 @@ impl Display for PathText<'_> {
     }
 }
 
+/// A word as it is printed: a control character, and a byte that is no UTF-8, stands as `\x` and
+/// two hexadecimal digits.
+#[derive(Clone, Copy)]
+pub struct NameText<'n>(pub &'n str);
+
+impl Display for NameText<'_> {
+    fn fmt<W: Write>(&self, f: &mut Formatter<W>) -> fmt::Result {
+        Writing::Shown(' ').write_name(self.0, f)
+    }
+}
+
+/// A message that names words, whose lines stay apart.
+#[derive(Clone, Copy)]
+pub(crate) struct MessageText<'m>(pub(crate) &'m str);
+
+impl Display for MessageText<'_> {
+    fn fmt<W: Write>(&self, f: &mut Formatter<W>) -> fmt::Result {
+        Writing::Shown('\n').write_name(self.0, f)
+    }
+}
+
 /// A line of source as it is printed: tabs stay, and what else could change a terminal stands as in
 /// a path.
 #[derive(Clone, Copy)]
@@ -136,6 +170,42 @@ impl Display for ColumnMark<'_> {
             }
         }
         f.write_char('^')
+    }
+}
+
+/// Bytes as a string. Where they aren't UTF-8, each that isn't ASCII stands as U+FFFD.
+#[derive(Clone, Copy)]
+pub(crate) struct JsonText<'t>(pub(crate) &'t [u8]);
+
+impl Display for JsonText<'_> {
+    fn fmt<W: Write>(&self, f: &mut Formatter<W>) -> fmt::Result {
+        f.write_char('"')?;
+        Writing::Json.write_text(self.0, f)?;
+        f.write_char('"')
+    }
+}
+
+/// Bytes as the value of the field of a name, as `Json::Bytes` says.
+#[derive(Clone, Copy)]
+pub struct JsonBytes<'f> {
+    /// The name of the field.
+    pub name: &'f str,
+    /// The bytes.
+    pub bytes: Option<&'f [u8]>,
+}
+
+impl Display for JsonBytes<'_> {
+    fn fmt<W: Write>(&self, f: &mut Formatter<W>) -> fmt::Result {
+        let Some(bytes) = self.bytes else {
+            return f.write_str("null");
+        };
+        let text = JsonText(bytes);
+        if str::from_utf8(bytes).is_ok() {
+            return write!(f, "{text}");
+        }
+        let name = self.name;
+        let digits = Digits(bytes);
+        write!(f, "{text},\"{name}_bytes\":\"{digits}\"")
     }
 }
 

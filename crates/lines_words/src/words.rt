@@ -5,15 +5,15 @@
 
 use crate::grammar::{command, program};
 use crate::kinds::{CheckChoice, KindSet};
-use crate::names::{MessageText, NameText};
 use crate::numbers::{parse_address, parse_code_address, parse_offset, parse_target};
+use crate::path_text::{MessageText, NameText};
 use crate::request::{
     CodeAddress, Command, Form, Kind, LineNames, Notation, PathForm, Request, SourcePlace,
     UnitChoice,
 };
 use clap::error::ErrorKind;
 use clap::{ArgMatches, Error};
-use line_text::{parse_digits, parse_order, parse_size};
+use line_text::{AddressSize, parse_digits, parse_order, parse_size};
 use std::alloc::{AllocError, Global};
 
 /// How many lines the command `source` prints before a place and after it, where nothing is said.
@@ -22,8 +22,25 @@ const CONTEXT: u64 = 3;
 /// The most lines that it prints there.
 const MOST_CONTEXT: u64 = 100_000;
 
+/// What an address is.
+const ADDRESS: &str = "an address, up to 16 hexadecimal digits with or without 0x";
+
+/// What the value of a name says, as it is read; None where it isn't among the words. Of another
+/// value the function around it tells what must stand in its place.
+macro_rules! said {
+    ($matches:expr, $name:literal, $read:expr, $wanted:expr) => {
+        match $matches.get_str($name) {
+            Some(word) => match $read(word) {
+                None => return Err(Mistake::Word(word, $wanted)),
+                value => value,
+            },
+            None => None,
+        }
+    };
+}
+
 /// What words ask for, of which the first is the program's name.
-pub fn parse<'w>(alloc: Global, words: &'w [&'w str]) -> Result<Request<'w>, Error> {
+pub fn parse<'w>(alloc: Global, words: &'w [String]) -> Result<Request<'w>, Error> {
     let mut grammar = program(alloc)?;
     let matches = grammar.try_get_matches_from_mut(words)?;
     match request_of(alloc, &matches) {
@@ -72,10 +89,10 @@ fn request_of<'w>(alloc: Global, matches: &ArgMatches<'w>) -> Result<Request<'w>
         return Err(Mistake::Word("", "a command"));
     };
     let kind = kind_of(matches)?;
-    let bias = bias_of(matches)?;
+    let bias = said!(matches, "bias", parse_address, ADDRESS);
     let command = command_of(name, matches)?;
-    let context = context_of(matches)?;
-    let units = units_of(matches)?;
+    let context = said!(matches, "context", parse_context, "a number of lines up to 100000");
+    let unit = said!(matches, "UNIT", parse_offset, "an offset, decimal or hexadecimal after 0x");
     let check = CheckChoice {
         denied: kinds_of(matches, "deny")?,
         allowed: kinds_of(matches, "allow")?,
@@ -92,35 +109,31 @@ fn request_of<'w>(alloc: Global, matches: &ArgMatches<'w>) -> Result<Request<'w>
         strings: matches.get_str("str"),
         source: matches.get_str("source"),
         addresses: addresses_of(alloc, first, matches)?,
-        bias,
+        bias: bias.unwrap_or(0),
         form: form_of(matches),
         paths: path_form_of(matches),
         has_function: matches.get_flag("functions"),
         has_source: matches.get_flag("pretty"),
         has_column: matches.get_flag("columns"),
         has_range: matches.get_flag("range"),
-        context,
-        units,
+        context: context.unwrap_or(CONTEXT),
+        units: unit.map_or(UnitChoice::All, |offset| UnitChoice::At(offset)),
         check,
     })
 }
 
 /// How the file is read: an address of a raw section is so wide where its unit doesn't say.
 fn kind_of<'w>(matches: &ArgMatches<'w>) -> Result<Kind, Mistake<'w>> {
-    let Some(word) = matches.get_str("raw") else {
-        return Ok(Kind::Elf);
-    };
-    let order = parse_order(word).ok_or(Mistake::Word(word, "an order of bytes, little or big"))?;
-    let word = matches.get_str("address-size").unwrap_or("8");
-    let address_size = parse_size(word).ok_or(Mistake::Word(
-        word,
-        "an address size: 1, 2, 4 or 8",
-    ))?;
-    Ok(Kind::Raw(Notation {
-        order,
-        address_size,
-        lowest: 0,
-    }))
+    let order = said!(matches, "raw", parse_order, "an order of bytes, little or big");
+    let size = said!(matches, "address-size", parse_size, "an address size: 1, 2, 4 or 8");
+    Ok(match order {
+        Some(order) => Kind::Raw(Notation {
+            order,
+            address_size: size.unwrap_or(AddressSize::Eight),
+            lowest: 0,
+        }),
+        None => Kind::Elf,
+    })
 }
 
 /// The command of a name.
@@ -129,12 +142,15 @@ fn command_of<'w>(name: &'w str, matches: &ArgMatches<'w>) -> Result<Command<'w>
         "where" => where_of(matches),
         "index" => Command::Index(matches.get_str("output")),
         "at" => {
-            let word = matches.get_str("PATH:LINE").unwrap_or("");
-            let wanted = Mistake::Word(word, "a path, a colon and a line");
-            let (path, line) = parse_target(word).ok_or(wanted)?;
+            let target = said!(matches, "PATH:LINE", parse_target, "a path, a colon and a line");
+            let (path, line) = target.unwrap_or(("", 0));
             Command::At(path, line)
         }
-        "source" => Command::Source(source_place_of(matches)?),
+        "source" => {
+            let wanted = "a path, a colon and a line, or the name of a function";
+            let place = said!(matches, "PLACE", parse_source_place, wanted);
+            Command::Source(place.unwrap_or(SourcePlace::Function("")))
+        }
         "units" => Command::Units,
         "files" => Command::Files,
         "rows" => Command::Rows(form_of(matches)),
@@ -169,11 +185,8 @@ fn addresses_of<'w>(
         addresses.push(first).map_err(AllocError::from)?;
     }
     for word in matches.get_strs("ADDRESS").unwrap_or(&[]) {
-        let wanted = Mistake::Word(
-            word,
-            "an address, up to 16 hexadecimal digits with or without 0x, or SECTION+OFFSET",
-        );
-        let address = parse_code_address(word).ok_or(wanted)?;
+        let wanted = "an address, up to 16 hexadecimal digits with or without 0x, or SECTION+OFFSET";
+        let address = parse_code_address(word).ok_or(Mistake::Word(word, wanted))?;
         addresses.push(address).map_err(AllocError::from)?;
     }
     Ok(addresses)
@@ -190,37 +203,18 @@ fn kinds_of<'w>(matches: &ArgMatches<'w>, option: &str) -> Result<KindSet, Mista
     Ok(kinds)
 }
 
-/// The line of a path that is named, or else the function of a name.
-fn source_place_of<'w>(matches: &ArgMatches<'w>) -> Result<SourcePlace<'w>, Mistake<'w>> {
-    let word = matches.get_str("PLACE").unwrap_or("");
+/// The line of a path, or else the function of a name. None for no word.
+fn parse_source_place(word: &str) -> Option<SourcePlace<'_>> {
     match parse_target(word) {
-        Some((path, line)) => Ok(SourcePlace::Line { path, line }),
-        None if word.is_empty() => Err(Mistake::Word(
-            word,
-            "a path, a colon and a line, or the name of a function",
-        )),
-        None => Ok(SourcePlace::Function(word)),
+        Some((path, line)) => Some(SourcePlace::Line { path, line }),
+        None if word.is_empty() => None,
+        None => Some(SourcePlace::Function(word)),
     }
 }
 
 /// How many lines are printed before a place and after it.
-fn context_of<'w>(matches: &ArgMatches<'w>) -> Result<u64, Mistake<'w>> {
-    let Some(word) = matches.get_str("context") else {
-        return Ok(CONTEXT);
-    };
-    match parse_digits(word, 10) {
-        Some(context) if context <= MOST_CONTEXT => Ok(context),
-        _ => Err(Mistake::Word(word, "a number of lines up to 100000")),
-    }
-}
-
-/// The unit that is named, or all of them.
-fn units_of<'w>(matches: &ArgMatches<'w>) -> Result<UnitChoice, Mistake<'w>> {
-    let Some(word) = matches.get_str("UNIT") else {
-        return Ok(UnitChoice::All);
-    };
-    let wanted = Mistake::Word(word, "an offset, decimal or hexadecimal after 0x");
-    Ok(UnitChoice::At(parse_offset(word).ok_or(wanted)?))
+fn parse_context(word: &str) -> Option<u64> {
+    parse_digits(word, 10).filter(|lines| *lines <= MOST_CONTEXT)
 }
 
 /// How much of a path is printed.
@@ -230,15 +224,6 @@ fn path_form_of<'w>(matches: &ArgMatches<'w>) -> PathForm<'w> {
         None if matches.get_flag("basenames") => PathForm::LastPart,
         None => PathForm::Whole,
     }
-}
-
-/// What is subtracted from each address, 0 where nothing is named.
-fn bias_of<'w>(matches: &ArgMatches<'w>) -> Result<u64, Mistake<'w>> {
-    let Some(word) = matches.get_str("bias") else {
-        return Ok(0);
-    };
-    let wanted = "an address, up to 16 hexadecimal digits with or without 0x";
-    parse_address(word).ok_or(Mistake::Word(word, wanted))
 }
 
 /// How the output is written. Only the command `rows` has whole paths.
