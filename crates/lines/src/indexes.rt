@@ -8,18 +8,14 @@ ghost use Rattle.lines_answers.specs.Indexes.{IsStale};
 use crate::REFUSED;
 use crate::inputs::{Inputs, STANDARD_INPUT, can_be_opened, read, report};
 use crate::session::{Questions, Run, Session};
-use debug_files::{Outline, Refusal};
-use elf_sections::ElfError;
 use gimli_index::LineIndex;
 use lines_answers::{
     IndexPlaces, LineAnswers, MadeIndex, PlacePrinter, index_of_program, open_index,
     program_identity,
 };
-use lines_inputs::Program;
+use lines_inputs::{Program, build_id_in, write_file};
 use lines_words::{Command, Kind, LineNames};
-use std::fs::File;
-use std::io::{ErrorKind, Write};
-use std::{fs, io};
+use std::io::{self, Write};
 
 impl<'r> Run<'r> {
     /// The index of a program by its name. It is named by the build id where there is one, or else
@@ -37,19 +33,11 @@ impl<'r> Run<'r> {
         }
     }
 
-    /// The build id of a program by its name, where it is a file that is an ELF file; None where it
-    /// has none, and where it can't be read, which its reader reports.
+    /// The build id of a program by its name, where it is a file, as `build_id_in` has it.
     fn build_id_of(self, name: &str) -> io::Result<Option<Vec<u8>>> {
-        if !matches!(self.request.kind, Kind::Elf) || name == STANDARD_INPUT {
-            return Ok(None);
-        }
-        match read_build_id(self.rt, name) {
-            Ok(id) => Ok(id),
-            Err(Refusal::Elf(ElfError::OutOfMemory)) => {
-                Err(io::Error::from(ErrorKind::OutOfMemory))
-            }
-            Err(Refusal::Io(error)) if error.kind() == ErrorKind::OutOfMemory => Err(error),
-            Err(_) => Ok(None),
+        match self.request.kind {
+            Kind::Elf if name != STANDARD_INPUT => build_id_in(self.rt, name),
+            _ => Ok(None),
         }
     }
 
@@ -243,41 +231,4 @@ impl Session<'_> {
         answers.answer(name, address, &mut self.output);
         Ok(())
     }
-}
-
-/// The build id of a file.
-fn read_build_id(rt: &HostRuntime, name: &str) -> Result<Option<Vec<u8>>, Refusal> {
-    // Asked before it is opened: to open a pipe may take for ever.
-    if !fs::metadata(rt, name)?.is_file() {
-        return Ok(None);
-    }
-    let alloc = rt.alloc();
-    let mut file = File::open(rt, name)?;
-    let outline = Outline::read(alloc, &mut file)?;
-    let Some(section) = outline.section(alloc, &mut file, b".note.gnu.build-id")? else {
-        return Ok(None);
-    };
-    match outline.sections()?.build_id(&section) {
-        Some(id) => Ok(Some(Vec::from_slice(alloc, id)?)),
-        None => Ok(None),
-    }
-}
-
-/// Writes a file whole: it takes its name when all its bytes are written. What isn't a regular
-/// file, as a pipe, is written where it stands.
-fn write_file(rt: &HostRuntime, path: &str, bytes: &[u8]) -> io::Result<()> {
-    match fs::metadata(rt, path) {
-        Ok(found) if !found.is_file() => return fs::write(rt, path, bytes),
-        _ => {}
-    }
-    let part = format!(in rt.alloc(); "{path}.part")?;
-    let written = match fs::write(rt, &part, bytes) {
-        Ok(()) => fs::rename(rt, &part, path),
-        Err(error) => Err(error),
-    };
-    if written.is_err() {
-        // Where it can't be removed, what was written stays under the other name.
-        let _ = fs::remove_file(rt, &part);
-    }
-    written
 }

@@ -20,9 +20,7 @@ pub use numbers::{
     parse_place, parse_target,
 };
 pub use output::{Json, Output, Screen, Style};
-pub use path_text::{
-    ColumnMark, JsonBytes, NameText, PathText, SourceText, last_part, shown_path,
-};
+pub use path_text::{ColumnMark, JsonBytes, NameText, PathText, SourceText, last_part, shown_path};
 pub use request::{
     CodeAddress, Command, Files, Form, Kind, LineNames, Notation, PathForm, Request, SourcePlace,
     UnitChoice, UnitFiles,

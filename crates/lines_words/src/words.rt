@@ -91,8 +91,18 @@ fn request_of<'w>(alloc: Global, matches: &ArgMatches<'w>) -> Result<Request<'w>
     let kind = kind_of(matches)?;
     let bias = said!(matches, "bias", parse_address, ADDRESS);
     let command = command_of(name, matches)?;
-    let context = said!(matches, "context", parse_context, "a number of lines up to 100000");
-    let unit = said!(matches, "UNIT", parse_offset, "an offset, decimal or hexadecimal after 0x");
+    let context = said!(
+        matches,
+        "context",
+        parse_context,
+        "a number of lines up to 100000"
+    );
+    let unit = said!(
+        matches,
+        "UNIT",
+        parse_offset,
+        "an offset, decimal or hexadecimal after 0x"
+    );
     let check = CheckChoice {
         denied: kinds_of(matches, "deny")?,
         allowed: kinds_of(matches, "allow")?,
@@ -124,8 +134,18 @@ fn request_of<'w>(alloc: Global, matches: &ArgMatches<'w>) -> Result<Request<'w>
 
 /// How the file is read: an address of a raw section is so wide where its unit doesn't say.
 fn kind_of<'w>(matches: &ArgMatches<'w>) -> Result<Kind, Mistake<'w>> {
-    let order = said!(matches, "raw", parse_order, "an order of bytes, little or big");
-    let size = said!(matches, "address-size", parse_size, "an address size: 1, 2, 4 or 8");
+    let order = said!(
+        matches,
+        "raw",
+        parse_order,
+        "an order of bytes, little or big"
+    );
+    let size = said!(
+        matches,
+        "address-size",
+        parse_size,
+        "an address size: 1, 2, 4 or 8"
+    );
     Ok(match order {
         Some(order) => Kind::Raw(Notation {
             order,
@@ -142,7 +162,12 @@ fn command_of<'w>(name: &'w str, matches: &ArgMatches<'w>) -> Result<Command<'w>
         "where" => where_of(matches),
         "index" => Command::Index(matches.get_str("output")),
         "at" => {
-            let target = said!(matches, "PATH:LINE", parse_target, "a path, a colon and a line");
+            let target = said!(
+                matches,
+                "PATH:LINE",
+                parse_target,
+                "a path, a colon and a line"
+            );
             let (path, line) = target.unwrap_or(("", 0));
             Command::At(path, line)
         }
@@ -185,7 +210,8 @@ fn addresses_of<'w>(
         addresses.push(first).map_err(AllocError::from)?;
     }
     for word in matches.get_strs("ADDRESS").unwrap_or(&[]) {
-        let wanted = "an address, up to 16 hexadecimal digits with or without 0x, or SECTION+OFFSET";
+        let wanted =
+            "an address, up to 16 hexadecimal digits with or without 0x, or SECTION+OFFSET";
         let address = parse_code_address(word).ok_or(Mistake::Word(word, wanted))?;
         addresses.push(address).map_err(AllocError::from)?;
     }

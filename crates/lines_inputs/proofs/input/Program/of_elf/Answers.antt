@@ -1,7 +1,7 @@
 use Rattle.std.proofs.Common.{sym}
 use Rattle.elf_sections.specs.Elf.{file_of}
 use Rattle.elf_sections.specs.SectionBytes.{bytes_of}
-use Rattle.lines_inputs.proofs.program.Program.of_elf.Goals as goal
+use Rattle.lines_inputs.proofs.input.Program.of_elf.Goals as goal
 
 pub returns : goal.returns
 returns c = record {
