@@ -95,7 +95,10 @@ impl<'r> Session<'r> {
             }
             Command::Source(place) => {
                 let functions = Functions::new(alloc, program.symbols(), None)?;
-                self.print_source(place, input, &functions)
+                match SourceRows::new(alloc, input, &functions, place, request.context, output)? {
+                    Some(mut found) => self.print_found(place, &mut found),
+                    None => Ok(()),
+                }
             }
             _ => match Report::new(alloc, input, request, output)? {
                 Some(mut report) => self.print_steps(|output| report.print_next(output)),
@@ -223,23 +226,7 @@ impl<'r> Session<'r> {
         Ok(())
     }
 
-    /// Prints the lines of a place or of a function, with the addresses of their rows.
-    fn print_source<R: Reader>(
-        &mut self,
-        place: SourcePlace<'_>,
-        input: &Input<R>,
-        functions: &Functions<'_>,
-    ) -> io::Result<()> {
-        let alloc = self.run.rt.alloc();
-        let context = self.run.request.context;
-        let output = &mut self.output;
-        match SourceRows::new(alloc, input, functions, place, context, output)? {
-            Some(mut found) => self.print_found(place, &mut found),
-            None => Ok(()),
-        }
-    }
-
-    /// Finds the rows of a place, and prints their lines.
+    /// Finds the rows of a place or of a function, and prints their lines with their addresses.
     fn print_found<R: Reader>(
         &mut self,
         place: SourcePlace<'_>,

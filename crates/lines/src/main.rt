@@ -26,19 +26,15 @@ pub(crate) const REFUSED: u8 = 1;
 fn main(rt: HostRuntime) -> ExitCode {
     let status = match start(&rt) {
         Ok(status) => status,
-        Err(error) => tell(&rt, &error),
+        // Where standard output was closed, nothing is reported.
+        Err(error) if error.kind() == ErrorKind::BrokenPipe => REFUSED,
+        Err(error) => {
+            // Where standard error can't be written to, the status still says it.
+            let _ = writeln!(rt.stderr(), "lines: {error}");
+            REFUSED
+        }
     };
     ExitCode::from(status)
-}
-
-/// Tells an error, and returns the status of the program. Where standard output was closed, nothing
-/// is reported.
-fn tell(rt: &HostRuntime, error: &io::Error) -> u8 {
-    if error.kind() != ErrorKind::BrokenPipe {
-        // Where standard error can't be written to, the status still says it.
-        let _ = writeln!(rt.stderr(), "lines: {error}");
-    }
-    REFUSED
 }
 
 /// Runs on the words of the program, and returns its status.

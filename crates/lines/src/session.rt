@@ -95,14 +95,8 @@ impl<'r> Session<'r> {
 /// What the outputs are shown on. A terminal is shown colours, unless the variable `NO_COLOR` has a
 /// text, or `TERM` says that it knows none.
 fn screen(rt: &HostRuntime) -> Screen {
-    let is_refused = match env::var(rt, "NO_COLOR") {
-        Ok(text) => !text.is_empty(),
-        Err(_) => false,
-    };
-    let is_dumb = match env::var(rt, "TERM") {
-        Ok(name) => name.as_str() == "dumb",
-        Err(_) => false,
-    };
+    let is_refused = matches!(env::var(rt, "NO_COLOR"), Ok(text) if !text.is_empty());
+    let is_dumb = matches!(env::var(rt, "TERM"), Ok(name) if name.as_str() == "dumb");
     Screen {
         is_out: rt.stdout().is_terminal(),
         is_err: rt.stderr().is_terminal(),

@@ -29,7 +29,7 @@ pub enum Printing {
 /// Tells that a command reads a whole section before it prints anything, where a person waits for
 /// it at a terminal.
 pub fn show_reading(length: u64, output: &mut Output<'_>) {
-    if output.screen().is_err && length >= LONG {
+    if output.screen.is_err && length >= LONG {
         let megabytes = length >> 20;
         output.show(format_args!("lines: reading {megabytes} MB"));
     }
@@ -63,7 +63,7 @@ impl<R: Reader> Walk<R> {
         printing: Printing,
         output: &mut Output<'_>,
     ) -> Walk<R> {
-        let screen = output.screen();
+        let screen = output.screen;
         let is_seen = matches!(printing, Printing::Steady) && screen.is_out;
         let length = input.length();
         let mut walk = Walk {

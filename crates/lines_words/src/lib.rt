@@ -13,7 +13,7 @@ mod path_text;
 mod request;
 mod words;
 
-pub use kinds::{CheckChoice, FindingKind, KindSet, Severity};
+pub use kinds::{CheckChoice, FindingKind, Severity};
 pub use names::{bytes_of_word, text_of_word};
 pub use numbers::{
     build_id_of, map_path, parse_address, parse_code_address, parse_line_question, parse_offset,

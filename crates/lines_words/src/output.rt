@@ -78,7 +78,8 @@ impl Style {
 pub struct Output<'o> {
     request: &'o Request<'o>,
     name: &'o str,
-    screen: Screen,
+    /// What the outputs are shown on.
+    pub screen: Screen,
     out: Vec<u8>,
     err: Vec<u8>,
     /// How far the command is, for standard error.
@@ -110,11 +111,6 @@ impl<'o> Output<'o> {
     /// Goes on with the file of another name.
     pub fn turn_to(&mut self, name: &'o str) {
         self.name = name;
-    }
-
-    /// What the outputs are shown on.
-    pub fn screen(&self) -> Screen {
-        self.screen
     }
 
     /// Whether a JSON object a line is printed.
@@ -254,9 +250,9 @@ impl<'o> Output<'o> {
 
     /// Ends the command as one that was refused exactly where a choice denies a kind of findings.
     pub fn judge(&mut self, choice: CheckChoice, kind: FindingKind)
-        ensures denied { is_denied choice.allowed.0 choice.denied.0 kind ≡ true
+        ensures denied { is_denied choice.allowed choice.denied kind ≡ true
             → self.new.is_faulty ≡ true }
-        ensures other { is_denied choice.allowed.0 choice.denied.0 kind ≡ false
+        ensures other { is_denied choice.allowed choice.denied kind ≡ false
             → self.new.is_faulty ≡ self.old.is_faulty }
     {
         if choice.denies(kind) {

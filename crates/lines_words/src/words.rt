@@ -4,7 +4,7 @@
 //! version, is an error of `clap`, whose text and status are for the user.
 
 use crate::grammar::{command, program};
-use crate::kinds::{CheckChoice, KindSet};
+use crate::kinds::{CheckChoice, add_kinds};
 use crate::numbers::{parse_address, parse_code_address, parse_offset, parse_target};
 use crate::path_text::{MessageText, NameText};
 use crate::request::{
@@ -22,21 +22,36 @@ const CONTEXT: u64 = 3;
 /// The most lines that it prints there.
 const MOST_CONTEXT: u64 = 100_000;
 
-/// What an address is.
-const ADDRESS: &str = "an address, up to 16 hexadecimal digits with or without 0x";
-
-/// What the value of a name says, as it is read; None where it isn't among the words. Of another
-/// value the function around it tells what must stand in its place.
+/// What the value of a name says, as it is read; None where it isn't among the words. A wrong word
+/// is the mistake of the function around it.
 macro_rules! said {
-    ($matches:expr, $name:literal, $read:expr, $wanted:expr) => {
+    ($matches:expr, $name:literal, $read:expr) => {
         match $matches.get_str($name) {
             Some(word) => match $read(word) {
-                None => return Err(Mistake::Word(word, $wanted)),
+                None => return Err(Mistake::Word(word, $name)),
                 value => value,
             },
             None => None,
         }
     };
+}
+
+/// What must stand in the place of a wrong word, by the name of that place.
+fn wanted_of(name: &str) -> &'static str {
+    match name {
+        "raw" => "an order of bytes, little or big",
+        "address-size" => "an address size: 1, 2, 4 or 8",
+        "bias" => "an address, up to 16 hexadecimal digits with or without 0x",
+        "ADDRESS" => {
+            "an address, up to 16 hexadecimal digits with or without 0x, or SECTION+OFFSET"
+        }
+        "PATH:LINE" => "a path, a colon and a line",
+        "PLACE" => "a path, a colon and a line, or the name of a function",
+        "context" => "a number of lines up to 100000",
+        "UNIT" => "an offset, decimal or hexadecimal after 0x",
+        "deny" | "allow" => "a kind of findings, or fault, lost, odd or usual",
+        _ => "a command",
+    }
 }
 
 /// What words ask for, of which the first is the program's name.
@@ -46,18 +61,14 @@ pub fn parse<'w>(alloc: Global, words: &'w [String]) -> Result<Request<'w>, Erro
     match request_of(alloc, &matches) {
         Ok(request) => Ok(request),
         Err(Mistake::Memory) => Err(Error::from(AllocError)),
-        Err(Mistake::Word(word, wanted)) => {
-            let command = matches.subcommand_name().unwrap_or("");
-            Err(mistake_of(alloc, command, word, wanted)?)
+        Err(Mistake::Word(word, name)) => {
+            let word = NameText(word);
+            let wanted = wanted_of(name);
+            let mistake = format!(in alloc; "'{word}' is not {wanted}")?;
+            let mut command = command(alloc, matches.subcommand_name().unwrap_or(""))?;
+            Err(command.error(ErrorKind::ValueValidation, &mistake)?)
         }
     }
-}
-
-/// The error that a word of a command isn't what must stand in its place.
-fn mistake_of(alloc: Global, name: &str, word: &str, wanted: &str) -> Result<Error, AllocError> {
-    let word = NameText(word);
-    let mistake = format!(in alloc; "'{word}' is not {wanted}")?;
-    command(alloc, name)?.error(ErrorKind::ValueValidation, &mistake)
 }
 
 /// What is said of words that ask for nothing, or of help. A control character, and a byte that is
@@ -71,7 +82,7 @@ pub fn message_of(alloc: Global, error: &Error) -> Result<String, AllocError> {
 /// Why words that the grammar takes ask for nothing.
 #[derive(Clone, Copy)]
 enum Mistake<'w> {
-    /// A word, and what must stand in its place.
+    /// A word, and the name of its place.
     Word(&'w str, &'static str),
     /// Memory is missing.
     Memory,
@@ -86,66 +97,43 @@ impl From<AllocError> for Mistake<'_> {
 /// What words ask for that the grammar takes.
 fn request_of<'w>(alloc: Global, matches: &ArgMatches<'w>) -> Result<Request<'w>, Mistake<'w>> {
     let Some((name, matches)) = matches.subcommand() else {
-        return Err(Mistake::Word("", "a command"));
-    };
-    let kind = kind_of(matches)?;
-    let bias = said!(matches, "bias", parse_address, ADDRESS);
-    let command = command_of(name, matches)?;
-    let context = said!(
-        matches,
-        "context",
-        parse_context,
-        "a number of lines up to 100000"
-    );
-    let unit = said!(
-        matches,
-        "UNIT",
-        parse_offset,
-        "an offset, decimal or hexadecimal after 0x"
-    );
-    let check = CheckChoice {
-        denied: kinds_of(matches, "deny")?,
-        allowed: kinds_of(matches, "allow")?,
-        is_all: matches.get_flag("all"),
+        return Err(Mistake::Word("", ""));
     };
     // Beside an index the first word may be an address, and then no file is named.
     let word = matches.get_str("FILE").unwrap_or("");
     let first = matches.get_str("index").and(parse_address(word));
     Ok(Request {
-        command,
+        kind: kind_of(matches)?,
+        bias: said!(matches, "bias", parse_address).unwrap_or(0),
+        command: command_of(name, matches)?,
+        context: said!(matches, "context", parse_context).unwrap_or(CONTEXT),
+        units: match said!(matches, "UNIT", parse_offset) {
+            Some(offset) => UnitChoice::At(offset),
+            None => UnitChoice::All,
+        },
+        check: CheckChoice {
+            denied: kinds_of(matches, "deny")?,
+            allowed: kinds_of(matches, "allow")?,
+            is_all: matches.get_flag("all"),
+        },
         file: if first.is_some() { "" } else { word },
-        kind,
         line_str: matches.get_str("line-str"),
         strings: matches.get_str("str"),
         source: matches.get_str("source"),
-        addresses: addresses_of(alloc, first, matches)?,
-        bias: bias.unwrap_or(0),
         form: form_of(matches),
         paths: path_form_of(matches),
         has_function: matches.get_flag("functions"),
         has_source: matches.get_flag("pretty"),
         has_column: matches.get_flag("columns"),
         has_range: matches.get_flag("range"),
-        context: context.unwrap_or(CONTEXT),
-        units: unit.map_or(UnitChoice::All, |offset| UnitChoice::At(offset)),
-        check,
+        addresses: addresses_of(alloc, first, matches)?,
     })
 }
 
 /// How the file is read: an address of a raw section is so wide where its unit doesn't say.
 fn kind_of<'w>(matches: &ArgMatches<'w>) -> Result<Kind, Mistake<'w>> {
-    let order = said!(
-        matches,
-        "raw",
-        parse_order,
-        "an order of bytes, little or big"
-    );
-    let size = said!(
-        matches,
-        "address-size",
-        parse_size,
-        "an address size: 1, 2, 4 or 8"
-    );
+    let order = said!(matches, "raw", parse_order);
+    let size = said!(matches, "address-size", parse_size);
     Ok(match order {
         Some(order) => Kind::Raw(Notation {
             order,
@@ -162,18 +150,11 @@ fn command_of<'w>(name: &'w str, matches: &ArgMatches<'w>) -> Result<Command<'w>
         "where" => where_of(matches),
         "index" => Command::Index(matches.get_str("output")),
         "at" => {
-            let target = said!(
-                matches,
-                "PATH:LINE",
-                parse_target,
-                "a path, a colon and a line"
-            );
-            let (path, line) = target.unwrap_or(("", 0));
+            let (path, line) = said!(matches, "PATH:LINE", parse_target).unwrap_or(("", 0));
             Command::At(path, line)
         }
         "source" => {
-            let wanted = "a path, a colon and a line, or the name of a function";
-            let place = said!(matches, "PLACE", parse_source_place, wanted);
+            let place = said!(matches, "PLACE", parse_source_place);
             Command::Source(place.unwrap_or(SourcePlace::Function("")))
         }
         "units" => Command::Units,
@@ -182,7 +163,7 @@ fn command_of<'w>(name: &'w str, matches: &ArgMatches<'w>) -> Result<Command<'w>
         "check" => Command::Check,
         "stat" => Command::Stat,
         "diff" => Command::Diff(matches.get_str("NEW").unwrap_or("")),
-        _ => return Err(Mistake::Word(name, "a command")),
+        _ => return Err(Mistake::Word(name, "")),
     })
 }
 
@@ -210,20 +191,18 @@ fn addresses_of<'w>(
         addresses.push(first).map_err(AllocError::from)?;
     }
     for word in matches.get_strs("ADDRESS").unwrap_or(&[]) {
-        let wanted =
-            "an address, up to 16 hexadecimal digits with or without 0x, or SECTION+OFFSET";
-        let address = parse_code_address(word).ok_or(Mistake::Word(word, wanted))?;
+        let address = parse_code_address(word).ok_or(Mistake::Word(word, "ADDRESS"))?;
         addresses.push(address).map_err(AllocError::from)?;
     }
     Ok(addresses)
 }
 
 /// The kinds of findings that the words of an option name.
-fn kinds_of<'w>(matches: &ArgMatches<'w>, option: &str) -> Result<KindSet, Mistake<'w>> {
-    let mut kinds = KindSet::new();
+fn kinds_of<'w>(matches: &ArgMatches<'w>, option: &'static str) -> Result<[bool; 12], Mistake<'w>> {
+    let mut kinds = [false; 12];
     for word in matches.get_strs(option).unwrap_or(&[]) {
-        if !kinds.add(word) {
-            return Err(Mistake::Word(word, "a kind of findings, or fault, lost, odd or usual"));
+        if !add_kinds(&mut kinds, word) {
+            return Err(Mistake::Word(word, option));
         }
     }
     Ok(kinds)
