@@ -28,6 +28,7 @@ use gimli_lookup::{CoveringRows, Ranges, SectionLookup, SequenceRows, StringSect
 use std::alloc::Global;
 
 /// Whether two numbers are of sources that are the same.
+#[inline(always)]
 fn is_same_source(sources: &[Source], first: u32, second: u32) -> bool
     ensures yes { result ≡ true → slice_get sources.now first ≡ slice_get sources.now second }
     ensures no { result ≡ false → slice_get sources.now first ≡ slice_get sources.now second → ⊥ }
@@ -43,6 +44,7 @@ fn is_same_source(sources: &[Source], first: u32, second: u32) -> bool
 }
 
 /// Whether two places are the same.
+#[inline(always)]
 fn is_same(sources: &[Source], first: Option<SourceLine>, second: Option<SourceLine>) -> bool
     ensures yes { result ≡ true → SayTheSame sources.now first second }
     ensures no { result ≡ false → SayTheSame sources.now first second → ⊥ }
@@ -60,6 +62,7 @@ fn is_same(sources: &[Source], first: Option<SourceLine>, second: Option<SourceL
 }
 
 /// Appends an entry, unless the last one says the same.
+#[inline(always)]
 fn push(entries: &mut Vec<Entry>, sources: &[Source], entry: Entry) -> Result<(), MakeError>
     ensures pushed { OnOk result (IsPushed sources.now entries.old.items entries.new.items entry) }
     ensures err { IfErr result (λ e. e ≡ OutOfMemory) }

@@ -15,13 +15,6 @@ use std::marker::Model;
 /// by text.
 ///
 /// It is made once and asked of many files: of most that it doesn't name, the last bytes tell.
-///
-/// <!-- part of crates/gimli_c/src/index/lines.rt -->
-/// ```rust
-/// if path.is_end_of(own) && files.push(number).is_err() {
-///     return Err(OUT_OF_MEMORY);
-/// }
-/// ```
 #[derive(Clone, Debug, Drop)]
 pub struct PathEnd<'p> {
     path: &'p [u8],

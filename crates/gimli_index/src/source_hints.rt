@@ -46,6 +46,7 @@ impl SourceHints {
     }
 
     /// Where the number of a file stands.
+    #[inline(always)]
     fn slot(&self, unit: usize, file: u64) -> Option<usize> {
         let first = *self.firsts.get(unit)?;
         let end = *self.firsts.get(unit.checked_add(1)?)?;
@@ -54,6 +55,7 @@ impl SourceHints {
     }
 
     /// The number of the source that a file may have.
+    #[inline(always)]
     pub(crate) fn get(&self, unit: usize, file: u64) -> Option<u32> {
         let slot = self.slot(unit, file)?;
         self.numbers.get(slot).copied()

@@ -40,6 +40,7 @@ impl SourceKeys {
     }
 
     /// The file at an index.
+    #[inline(always)]
     pub(crate) fn get(&self, index: usize) -> Option<SourceKey>
         ensures { result ≡ slice_get self.now index }
     {

@@ -45,6 +45,7 @@ impl Model for SourceTable {
 }
 
 /// A line in 32 bits.
+#[inline(always)]
 fn line_of(row: &LineRow) -> Result<u32, MakeError>
     ensures ok { IfOk result (λ line. line ≡ row.now.line) }
     ensures err { IfErr result (λ e. (e ≡ LineTooLarge) × (2 ^ 32 ≤ row.now.line)) }
@@ -60,6 +61,7 @@ fn line_of(row: &LineRow) -> Result<u32, MakeError>
 }
 
 /// A column in 31 bits.
+#[inline(always)]
 fn column_of(row: &LineRow) -> Result<u32, MakeError>
     ensures ok { IfOk result (λ column. column ≡ row.now.column) }
     ensures few { IfOk result (λ column. column < 2 ^ 31) }
@@ -77,6 +79,7 @@ fn column_of(row: &LineRow) -> Result<u32, MakeError>
 }
 
 /// The file of a row.
+#[inline(always)]
 fn key_of(rows: &CoveringRows) -> SourceKey
     ensures { result ≡ key_of rows.now }
 {
@@ -118,6 +121,7 @@ impl SourceTable {
     }
 
     /// The number of the source of a file, where it is known at once.
+    #[inline(always)]
     fn known_number(&self, key: SourceKey) -> Option<u32>
         ensures { IfSome result (λ number. slice_get self.now.keys number ≡ Some key) }
     {
@@ -127,6 +131,7 @@ impl SourceTable {
     }
 
     /// The number of the source of a file, if it has one.
+    #[inline(always)]
     fn number_of(&self, key: SourceKey) -> Option<u32>
         requires { length self.now.keys < 2 ^ 32 }
         ensures { MatchOption result (All (λ k. k ≢ key) self.now.keys)
@@ -178,6 +183,7 @@ impl SourceTable {
 
     /// The number of the source of a row's file, which is appended where there is none. Requires an
     /// index of a unit.
+    #[inline(always)]
     fn source_of<R: Reader>(
         &mut self,
         origin: &Origin<'_, R>,
@@ -205,6 +211,7 @@ impl SourceTable {
     }
 
     /// The place of what a lookup finds. Requires an index of a unit.
+    #[inline(always)]
     pub(crate) fn place_of<R: Reader>(
         &mut self,
         origin: &Origin<'_, R>,

@@ -12,12 +12,6 @@ use crate::number::{long, word};
 use crate::place::NoPath;
 
 /// Bytes of the part of paths.
-///
-/// <!-- part of crates/gimli_c/src/map/place.rt -->
-/// ```rust
-/// let (path, path_size, no_path) = match place.path {
-///     Ok(span) => (index.paths_offset() + span.first, span.size, 0),
-/// ```
 #[derive(Clone, Copy, Debug, PartialEq, Eq)]
 pub struct Span {
     /// How many bytes of the part come before them.
@@ -28,12 +22,6 @@ pub struct Span {
 
 /// Where code comes from, with its path as a part of the bytes: a [`Place`](crate::Place) that
 /// borrows nothing.
-///
-/// <!-- part of crates/gimli_c/src/map/ask.rt -->
-/// ```rust
-/// let place = index.find_span(address)?;
-/// Some(place_seen(index, address, place))
-/// ```
 #[derive(Clone, Copy, Debug)]
 pub struct PlaceSpan {
     /// Where the whole path of the file stands, or why there is none.

@@ -8,6 +8,7 @@ use Rattle.gimli_core.specs.Reading.{result_map}
 use Rattle.gimli_line.specs.header.File.{File}
 use Rattle.gimli_lookup.specs.Strings.{Strings, string_of}
 use Rattle.gimli_lookup.specs.Paths.{Paths, is_separator, is_absolute, separator_after, path_in, path_from, ◌>>=◌, directory_string, known_directory}
+use Rattle.gimli_lookup.specs.Paths.{root_directory}
 use Rattle.gimli_lookup.specs.Paths.{base_directory, directory_path, file_path, EndsWithOwnPath, HasAbsoluteRoot}
 use Rattle.gimli_lookup.specs.declared.path_error.PathError.{PathError}
 
@@ -55,23 +56,26 @@ absolute_next : (r : Result (List ℕ) PathError) (directory : Result (List ℕ)
 absolute_next (Ok own) directory absolute path is = absolute_from directory own absolute path is
 absolute_next (Err e) directory absolute path is = absurd cc
 
--- directory 0 goes on from the known directory, which is the base where it is relative and the known one isn't empty
+-- directory 0 goes on from the known directory if that is absolute, and it is the base where directory 0 is relative and it isn't empty
 absolute_zero : (zero : Result (List ℕ) PathError) (known : List ℕ)
-    → IsAbsolute (result_map (λ own. if is_absolute own || nat_eq (length known) 0 then own else known) zero) → IsAbsolute (zero >>= path_from (Ok known))
-absolute_zero (Ok own) known absolute path is = at_test (is_absolute own) (nat_eq (length known) 0) refl absolute path is
+    → IsAbsolute (result_map (λ own. if is_absolute own || nat_eq (length known) 0 then own else known) zero)
+    → IsAbsolute (zero >>= path_from (Ok (if is_absolute known then known else [])))
+absolute_zero (Ok own) known absolute path is = at_test (is_absolute own) (nat_eq (length known) 0) (is_absolute known) refl refl absolute path is
   where
-    at_test : (b e : Bool) → is_absolute own ≡ b → IsAbsolute (Ok (if b || e then own else known)) → IsAbsolute (if b then Ok own else Ok (path_in known own))
-    at_test true e test all path is = let same : own ≡ path = cc in ap is_absolute (sym same) ∙ test
-    at_test false true test all path is = let whole = all own refl in absurd cc
-    at_test false false test all path is =
+    at_test : (b e k : Bool) → is_absolute own ≡ b → is_absolute known ≡ k → IsAbsolute (Ok (if b || e then own else known))
+        → IsAbsolute (if b then Ok own else Ok (path_in (if k then known else []) own))
+    at_test true e k test _ all path is = let same : own ≡ path = cc in ap is_absolute (sym same) ∙ test
+    at_test false true k test _ all path is = let whole = all own refl in absurd cc
+    at_test false false true test _ all path is =
         let same : path_in known own ≡ path = cc in
         ap is_absolute (sym same ∙ append_assoc known (separator_after known) own) ∙ absolute_more known (separator_after known ++ own) (all known refl)
+    at_test false false false test relative all path is = let whole = all known refl in absurd cc
 absolute_zero (Err e) known absolute path is = absurd cc
 
 absolute_directory : (p : Paths) (i : ℕ) → IsAbsolute (base_directory p) → IsAbsolute (directory_path p i)
 absolute_directory p i absolute = elim (cases_eq i 0) [
   | inl same ↦ subst (λ j. IsAbsolute (directory_path p j)) (sym same) (absolute_zero (directory_string p 0) (known_directory p) absolute)
-  | inr other ↦ subst (λ b. IsAbsolute (directory_string p i >>= path_from (if b then Ok (known_directory p) else base_directory p))) (sym (ne_eqb i 0 other))
+  | inr other ↦ subst (λ b. IsAbsolute (directory_string p i >>= path_from (if b then Ok (root_directory p) else base_directory p))) (sym (ne_eqb i 0 other))
       (absolute_next (directory_string p i) (base_directory p) absolute)
 ]
 

@@ -80,9 +80,8 @@ abbrev pub directory_string : Paths → ℕ → Result (List ℕ) PathError
 directory_string p i =
     option_map_or (string_of p.sections) (directory_of p.header i) (handed_directory p i)
 
--- what a relative directory 0 goes on from: in version 5 the directory of the compilation, as the
--- caller has it (section 3.1.1), which is empty where nobody knows it. Up to version 4 nothing:
--- there directory 0 is that directory itself
+-- the directory of the compilation of version 5, as the caller has it (section 3.1.1), which is
+-- empty where nobody knows it. Up to version 4 nothing: there directory 0 is that directory itself
 abbrev pub known_directory : Paths → List ℕ
 known_directory p =
     if nat_le p.header.parameters.encoding.version 4 then [] else unwrap_or p.comp_dir []
@@ -96,11 +95,16 @@ base_directory p =
     else known_directory p)
     (directory_string p 0)
 
+-- what a relative directory 0 goes on from: the caller's, if that is absolute. Else nothing: both
+-- are the directory of the compilation (section 6.2.4), which isn't joined to itself
+abbrev pub root_directory : Paths → List ℕ
+root_directory p = if is_absolute (known_directory p) then known_directory p else []
+
 -- the whole path of a directory
 abbrev pub directory_path : Paths → ℕ → Result (List ℕ) PathError
 directory_path p i =
     directory_string p i
-    >>= path_from (if nat_eq i 0 then Ok (known_directory p) else base_directory p)
+    >>= path_from (if nat_eq i 0 then Ok (root_directory p) else base_directory p)
 
 -- the whole path of a file
 abbrev pub file_path : Paths → File → Result (List ℕ) PathError

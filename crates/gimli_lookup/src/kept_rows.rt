@@ -80,6 +80,7 @@ impl KeptRows {
     }
 
     /// The row at an index, which is no probe. Requires an index of a row.
+    #[inline(always)]
     pub(crate) fn row(&self, index: usize) -> LineRow
         requires { index < length self.now }
         ensures { slice_get self.now index ≡ Some result }

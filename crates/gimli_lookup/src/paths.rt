@@ -96,8 +96,9 @@ fn string_bytes<R: Reader>(
 /// A path is absolute that begins with `/`, with a backslash, or with a drive and one of both, as
 /// `C:\`. One that isn't goes on from the directory of its file. A directory that isn't absolute
 /// goes on from the directory of the compilation, which is directory 0. In version 5 that one may
-/// be relative itself: then all relative directories, directory 0 too, go on from the directory
-/// that the caller knows. Where nobody knows an absolute one, the path stays relative.
+/// be relative itself: then the others go on from the directory that the caller knows, and so does
+/// directory 0 where that one is absolute. Where nobody knows an absolute one, the path stays
+/// relative.
 ///
 /// <!-- part of crates/uses/src/where_is.rt -->
 /// ```rust
@@ -130,6 +131,7 @@ impl<'a, R: Reader> Model for Paths<'a, R> {
 
 impl<'a, R: Reader> Paths<'a, R> {
     ghost use Rattle.gimli_lookup.specs.Paths.{directory_string, known_directory, base_directory};
+    ghost use Rattle.gimli_lookup.specs.Paths.{root_directory};
     ghost use Rattle.gimli_lookup.specs.Paths.{directory_path, file_path, row_path};
 
     /// The paths of this header. `comp_dir` is the directory of the compilation (`DW_AT_comp_dir`,
@@ -192,8 +194,8 @@ impl<'a, R: Reader> Paths<'a, R> {
             return Ok(directory);
         }
         if index == 0 {
-            let known = Vec::from_slice(alloc, self.known_directory())?;
-            return path_in(known, &directory);
+            let root = Vec::from_slice(alloc, self.root_directory())?;
+            return path_in(root, &directory);
         }
         let base = self.base_directory(alloc)?;
         path_in(base, &directory)
@@ -212,8 +214,16 @@ impl<'a, R: Reader> Paths<'a, R> {
         Ok(Vec::from_slice(alloc, known)?)
     }
 
-    /// What a relative directory 0 goes on from: in version 5 the caller's directory, and nothing
-    /// up to version 4.
+    /// What a relative directory 0 goes on from: the caller's directory if that is absolute, and
+    /// else nothing, since both are the same one.
+    fn root_directory(&self) -> &'a [u8]
+        ensures { result.now ≡ root_directory self.now }
+    {
+        let known = self.known_directory();
+        if is_absolute(known) { known } else { &[] }
+    }
+
+    /// The directory of the compilation of version 5, as the caller has it; none up to version 4.
     fn known_directory(&self) -> &'a [u8]
         ensures { result.now ≡ known_directory self.now }
     {

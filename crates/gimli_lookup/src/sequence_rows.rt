@@ -27,6 +27,7 @@ impl<'a> SequenceRows<'a> {
     }
 
     /// The row at an index. Requires an index of a row.
+    #[inline(always)]
     pub fn row(&self, index: usize) -> LineRow
         requires { index < length (rows_of self.now) }
         ensures { slice_get (rows_of self.now) index ≡ Some result }
