@@ -23,9 +23,8 @@ impl Writing {
     /// Writes a text.
     pub(crate) fn write_text<W: Write>(self, text: &[u8], f: &mut Formatter<W>) -> fmt::Result {
         match (str::from_utf8(text), self) {
-            (Ok(plain), Writing::Shown(_)) if text.iter().all(|byte| is_plain(*byte)) => {
-                f.write_str(plain)
-            }
+            (Ok(plain), Writing::Shown(_))
+                if text.iter().all(|byte| matches!(*byte, b' '..=b'~')) => { f.write_str(plain) }
             (Ok(characters), _) => self.write_characters(characters, f),
             (Err(_), _) => self.write_bytes(text, f),
         }
@@ -96,11 +95,6 @@ fn write_in_json<W: Write>(character: char, f: &mut Formatter<W>) -> fmt::Result
         _ => return f.write_char(character),
     };
     f.write_str(escape)
-}
-
-/// Whether a byte is printable ASCII.
-fn is_plain(byte: u8) -> bool {
-    byte == b' ' || byte.is_ascii_graphic()
 }
 
 /// A path as text. What could change a terminal stands as `\x` and two hexadecimal digits: a
