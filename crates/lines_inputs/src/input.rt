@@ -117,7 +117,8 @@ impl<'i> Program<'i> {
         match kind {
             Kind::Elf => {
                 let elf = Elf::parse(files.file)?;
-                Program::of_elf(alloc, files, elf, SectionPlace::AllAtZero)
+                let program = Program::of_elf(alloc, files, elf, SectionPlace::AllAtZero)?;
+                Ok(program)
             }
             Kind::Raw(notation) => Ok(Program {
                 notation,
