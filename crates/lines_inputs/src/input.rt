@@ -152,7 +152,7 @@ impl<'i> Program<'i> {
         elf: Elf<'i>,
         place: SectionPlace,
     ) -> Result<Program<'i>, InputError>
-        ensures { OnOk result ((section : List ℕ) × (relocated_at (file_of elf.entry) place.entry
+        ensures { OnOk result ((section : List ℕ) × (relocated_at (file_of elf.entry) place
             (codes ".debug_line") ≡ Ok (Some section))) }
     {
         let source = SectionSource {
