@@ -1,6 +1,6 @@
 //! The sections of a program, lent by its file or made anew, and why they can't be read.
 
-ghost use Rattle.std.specs.Prelude.{◌≡◌, ◌×◌, ℕ, List, IfErr, IfOk, Ok, OnOk, Some, codes};
+ghost use Rattle.std.specs.Prelude.{◌≡◌, ℕ, List, IfErr, IfOk, Ok, OnOk, Some, codes};
 ghost use Rattle.elf_sections.specs.Elf.{file_of};
 ghost use Rattle.elf_sections.specs.Relocating.{relocated_at};
 ghost use Rattle.elf_sections.specs.SectionBytes.{bytes_of};
