@@ -12,10 +12,10 @@ use crate::session::{Run, Session};
 use debug_files::{Outline, Refusal};
 use elf_sections::ElfError;
 use lines_answers::{
-    IndexPlaces, LineAnswers, MadeIndex, PlacePrinter, index_of_program, open_index,
-    program_identity,
+    IndexPlaces, LineAnswers, MadeIndex, index_of_program, open_index, program_identity,
 };
 use lines_inputs::Program;
+use lines_places::PlacePrinter;
 use lines_words::{Command, Kind, LineNames};
 use std::fs::File;
 use std::io::{BufRead, BufReader, ErrorKind, Write};

@@ -3,8 +3,9 @@
 use crate::questions::Questions;
 use crate::session::{Run, Session};
 use gimli_core::Reader;
-use lines_answers::{Answered, Asked, PlacePrinter, Places, SourceRows, print_below, print_lines};
+use lines_answers::SourceRows;
 use lines_inputs::{Functions, Input, Program, tell_refusal};
+use lines_places::{Answered, Asked, PlacePrinter, Places, print_below, print_lines};
 use lines_words::{CodeAddress, Files, PathText, SourcePlace};
 use std::io::ErrorKind;
 use std::{fs, io, str};
@@ -25,7 +26,7 @@ impl Session<'_> {
                 if self.locate_in_section(files, &name, &mut questions)? {
                     continue;
                 }
-                printer.print_unknown(None, None, &mut self.output);
+                printer.print(None, None, None, &mut self.output);
             } else {
                 printer.print_other(asked, &mut self.output);
             }

@@ -1,6 +1,6 @@
 //! What the command `where` is asked, one address after the other.
 
-use lines_answers::{Asked, asked_by};
+use lines_places::{Asked, asked_by};
 use lines_words::CodeAddress;
 use std::io::{self, BufRead, BufReader};
 use std::rt::Stdin;
