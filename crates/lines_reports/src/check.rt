@@ -112,8 +112,14 @@ fn print_overlap(
     };
     findings.unit = unit;
     let text = "the sequence from % to % overlaps that from % to % in the unit at %";
-    let addresses = [start, end, other.start, other.end, other.unit];
-    findings.find(kind, None, text, &addresses.map(Piece::Address), output);
+    let pieces = [
+        Piece::Address(start),
+        Piece::Address(end),
+        Piece::Address(other.start),
+        Piece::Address(other.end),
+        Piece::Address(other.unit),
+    ];
+    findings.find(kind, None, text, &pieces, output);
 }
 
 /// Prints each file of a unit that has no path, and each that has the path of a file before it.

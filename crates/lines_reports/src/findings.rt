@@ -83,7 +83,7 @@ impl Findings {
 }
 
 /// Prints how many findings of a kind there were.
-fn print_count(name: &str, severity: &str, count: u64, output: &mut Output<'_>) {
+fn print_count<'n>(name: &'n str, severity: &'n str, count: u64, output: &mut Output<'_>) {
     let (kind, severity) = (Piece::Word(name), Piece::Word(severity));
     let count = Piece::Number(count);
     if output.is_json() {

@@ -100,14 +100,14 @@ impl<R: Reader> Reading<R> {
     fn begin_entry(
         &self,
         unit: u64,
-        kind: &str,
+        kind: &'static str,
         index: u64,
         path: Result<Vec<u8>, PathError>,
         output: &mut Output<'_>,
     ) -> Result<()> {
         let (path, fault) = path_or_fault(&self.sources, path)?;
         let path = path.as_deref();
-        let (word, number) = (Piece::Word(kind), Piece::Number(index));
+        let number = Piece::Number(index);
         if output.is_json() {
             let fields = [
                 ("unit", Json::Offset(Some(unit))),
@@ -116,10 +116,12 @@ impl<R: Reader> Reading<R> {
             ];
             output.add_fields("{", &fields);
         } else {
-            add("% %  %", &[word, number, Piece::Path(path)], output);
+            let pieces = [Piece::Word(kind), number, Piece::Path(path)];
+            add("% %  %", &pieces, output);
         }
         if let Some(fault) = fault {
-            tell_of_unit(unit, "% %: %", &[word, number, Piece::Fault(fault)], output);
+            let pieces = [Piece::Word(kind), number, Piece::Fault(fault)];
+            tell_of_unit(unit, "% %: %", &pieces, output);
         }
         Ok(())
     }
@@ -144,16 +146,16 @@ impl<R: Reader> Reading<R> {
             ];
             return output.add_fields(",", &fields);
         }
-        let details = [
-            ("  time %", (time != 0).then_some(Piece::Number(time))),
-            ("  size %", (size != 0).then_some(Piece::Number(size))),
-            ("  md5 %", md5.map(Piece::Digits)),
-            ("  source of % bytes", source.map(Piece::Number)),
-        ];
-        for (text, detail) in details {
-            if let Some(piece) = detail {
-                add(text, &[piece], output);
+        for (text, number) in [("  time %", time), ("  size %", size)] {
+            if number != 0 {
+                add(text, &[Piece::Number(number)], output);
             }
+        }
+        if let Some(md5) = md5 {
+            add("  md5 %", &[Piece::Digits(md5)], output);
+        }
+        if let Some(source) = source {
+            add("  source of % bytes", &[Piece::Number(source)], output);
         }
     }
 
