@@ -9,10 +9,9 @@ use crate::inputs::Inputs;
 use crate::session::{Questions, Run, Session};
 use elf_sections::ElfError;
 use gimli_core::Reader;
-use lines_answers::{
-    Answered, Asked, PlacePrinter, Places, SourceRows, print_addresses, print_below, print_lines,
-};
+use lines_answers::{SourceRows, print_addresses};
 use lines_inputs::{Functions, Input, InputError, NOT_LINKED, Program, tell_refusal};
+use lines_places::{Answered, Asked, PlacePrinter, Places, print_below, print_lines};
 use lines_reports::{Diff, Report};
 use lines_words::{CodeAddress, Command, Files, Kind, PathText, SourcePlace};
 use std::io::ErrorKind;
@@ -150,7 +149,7 @@ impl<'r> Session<'r> {
                 if self.locate_in_section(files, &name, &mut questions)? {
                     continue;
                 }
-                printer.print_unknown(None, None, &mut self.output);
+                printer.print(None, None, None, &mut self.output);
             } else {
                 printer.print_other(asked, &mut self.output);
             }

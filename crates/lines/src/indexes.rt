@@ -10,10 +10,10 @@ use crate::inputs::{Inputs, STANDARD_INPUT, can_be_opened, read, report};
 use crate::session::{Questions, Run, Session};
 use gimli_index::LineIndex;
 use lines_answers::{
-    IndexPlaces, LineAnswers, MadeIndex, PlacePrinter, index_of_program, open_index,
-    program_identity,
+    IndexPlaces, LineAnswers, MadeIndex, index_of_program, open_index, program_identity,
 };
 use lines_inputs::{Program, build_id_in, write_file};
+use lines_places::PlacePrinter;
 use lines_words::{Command, Kind, LineNames};
 use std::io::{self, Write};
 
