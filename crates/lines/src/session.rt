@@ -3,8 +3,8 @@
 ghost use Rattle.std.specs.Prelude.{◌≡◌, ◌≤◌, ◌↔◌, IfOk, true};
 
 use crate::inputs::Inputs;
-use lines_answers::{Asked, asked_by};
 use lines_inputs::{Program, show_reading, tell_refusal};
+use lines_places::{Asked, asked_by};
 use lines_words::{CodeAddress, Output, Request, Screen};
 use std::alloc::AllocError;
 use std::io::{BufRead, BufReader, IsTerminal};
