@@ -174,7 +174,7 @@ const SENTENCES: [&str; 49] = [
     "no unit of .debug_info tells the directory of the compilation",
     "options have a size that this library doesn't know",
     "the bytes are no ELF file that can be read",
-    "the ELF file has no section of this name, or no build id",
+    "the ELF file has no section of this name",
     "a section is cut, or its compression or relocations are unknown",
     "a map would have more ranges, files or bytes than 32 bits count",
     "a line or a column is more than 32 bits hold",

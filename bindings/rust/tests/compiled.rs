@@ -133,7 +133,10 @@ fn paths_of_files_are_those_of_the_map() {
             let unit = unit.expect("the unit is read");
             let comp_dir = built.compilations().comp_dir(unit.offset as u64).expect("there is memory");
             let comp_dir = comp_dir.expect("the unit has one");
-            for row in unit.rows().filter(|row| !row.end_sequence()) {
+            let rows: Vec<_> = unit.rows().collect();
+            // Of several rows at one address the last one holds.
+            for pair in rows.windows(2).filter(|pair| pair[0].address() < pair[1].address() && !pair[0].end_sequence()) {
+                let row = pair[0];
                 let path = built.sections().path(unit.offset, row.file_index(), &comp_dir).expect("the path is told");
                 let place = map.find(row.address()).expect("a row covers it");
                 assert_eq!((place.path, place.unit), (Ok(path.as_slice()), unit.offset as u64));

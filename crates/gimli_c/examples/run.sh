@@ -15,7 +15,7 @@ crate=$(dirname "$here")
 top=$(cd "$crate/../.." && pwd)
 # Each number of the header is that of the constant of the same name: a law ties those of status.rt, the others stand in row.rt
 # and in file.rt.
-diff <(sed -nE 's/^ +GIMLI_([A-Z0-9_]+) = ([0-9]+).*/\1 \2/p' "$crate/include/gimli_line.h") \
+diff <(sed -nE 's/^ +(GIMLI_|X\()([A-Z0-9_]+)( =|,) ([0-9]+).*/\2 \4/p' "$crate/include/gimli_line.h") \
     <(cd "$crate/src" && sed -nE 's/^pub const ([A-Z0-9_]+): u[0-9]+ = ([0-9]+);/\1 \2/p' status.rt row.rt file.rt)
 # So is its version.
 [ "$(sed -nE 's/^#define GIMLI_VERSION_[A-Z]+ ([0-9]+)$/\1/p' "$crate/include/gimli_line.h" | awk '{v = v * 100 + $1} END {print v}')" = \

@@ -122,7 +122,7 @@ static inline const uint8_t *gimli_bytes(const void *bytes) {
     X(NO_COMP_DIR, 42, "no unit of .debug_info tells the directory of the compilation") \
     X(UNKNOWN_OPTIONS, 43, "options have a size that this library doesn't know") \
     X(NO_ELF, 44, "the bytes are no ELF file that can be read") \
-    X(NO_SECTION, 45, "the ELF file has no section of this name, or no build id") \
+    X(NO_SECTION, 45, "the ELF file has no section of this name") \
     X(BAD_SECTION, 46, "a section is cut, or its compression or relocations are unknown") \
     X(MAP_TOO_LARGE, 47, "a map would have more ranges, files or bytes than 32 bits count") \
     X(PLACE_TOO_LARGE, 48, "a line or a column is more than 32 bits hold")
