@@ -5,9 +5,9 @@ use Rattle.lines_inputs.proofs.input.Program.new.Goals as goal
 pub returns-in_ok-program-in-Elf : goal.returns-in_ok-program-in-Elf
 returns-in_ok-program-in-Elf c = record {
   elf = λ k. record {
-    file = file_of c.in_ok-elf.elf;
-    is_file = sym c.in_ok-elf.ensures;
-    section = c.in_ok-program.ensures.0;
-    is_section = c.in_ok-program.ensures.1;
+    file = file_of c.in_ok-elf-in-Elf.elf;
+    is_file = sym c.in_ok-elf-in-Elf.ensures;
+    section = c.in_ok-program-in-Elf.ensures.0;
+    is_section = c.in_ok-program-in-Elf.ensures.1;
   };
 }
