@@ -107,7 +107,6 @@ impl<R: Reader> Reading<R> {
     ) -> Result<()> {
         let (path, fault) = path_or_fault(&self.sources, path)?;
         let path = path.as_deref();
-        let number = Piece::Number(index);
         if output.is_json() {
             let fields = [
                 ("unit", Json::Offset(Some(unit))),
@@ -116,11 +115,11 @@ impl<R: Reader> Reading<R> {
             ];
             output.add_fields("{", &fields);
         } else {
-            let pieces = [Piece::Word(kind), number, Piece::Path(path)];
+            let pieces = [Piece::Word(kind), Piece::Number(index), Piece::Path(path)];
             add("% %  %", &pieces, output);
         }
         if let Some(fault) = fault {
-            let pieces = [Piece::Word(kind), number, Piece::Fault(fault)];
+            let pieces = [Piece::Word(kind), Piece::Number(index), Piece::Fault(fault)];
             tell_of_unit(unit, "% %: %", &pieces, output);
         }
         Ok(())
