@@ -100,7 +100,7 @@ impl<R: Reader> Reading<R> {
     fn begin_entry(
         &self,
         unit: u64,
-        kind: &'static str,
+        kind: &str,
         index: u64,
         path: Result<Vec<u8>, PathError>,
         output: &mut Output<'_>,
@@ -115,8 +115,8 @@ impl<R: Reader> Reading<R> {
             ];
             output.add_fields("{", &fields);
         } else {
-            let pieces = [Piece::Word(kind), Piece::Number(index), Piece::Path(path)];
-            add("% %  %", &pieces, output);
+            add("% %  ", &[Piece::Word(kind), Piece::Number(index)], output);
+            add("%", &[Piece::Path(path)], output);
         }
         if let Some(fault) = fault {
             let pieces = [Piece::Word(kind), Piece::Number(index), Piece::Fault(fault)];
