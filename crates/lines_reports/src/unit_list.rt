@@ -108,12 +108,9 @@ impl<R: Reader> Reading<R> {
         let (path, fault) = path_or_fault(&self.sources, path)?;
         let path = path.as_deref();
         if output.is_json() {
-            let fields = [
-                ("unit", Json::Offset(Some(unit))),
-                (kind, Json::Number(index)),
-                ("path", Json::Bytes(path)),
-            ];
-            output.add_fields("{", &fields);
+            let unit = Json::Offset(Some(unit));
+            output.add_fields("{", &[("unit", unit), (kind, Json::Number(index))]);
+            output.add_fields(",", &[("path", Json::Bytes(path))]);
         } else {
             add("% %  ", &[Piece::Word(kind), Piece::Number(index)], output);
             add("%", &[Piece::Path(path)], output);
