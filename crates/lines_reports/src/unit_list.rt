@@ -100,27 +100,23 @@ impl<R: Reader> Reading<R> {
     fn begin_entry(
         &self,
         unit: u64,
-        kind: &'static str,
+        kind: &str,
         index: u64,
         path: Result<Vec<u8>, PathError>,
         output: &mut Output<'_>,
     ) -> Result<()> {
         let (path, fault) = path_or_fault(&self.sources, path)?;
         let path = path.as_deref();
-        let number = Piece::Number(index);
         if output.is_json() {
-            let fields = [
-                ("unit", Json::Offset(Some(unit))),
-                (kind, Json::Number(index)),
-                ("path", Json::Bytes(path)),
-            ];
-            output.add_fields("{", &fields);
+            let unit = Json::Offset(Some(unit));
+            output.add_fields("{", &[("unit", unit), (kind, Json::Number(index))]);
+            output.add_fields(",", &[("path", Json::Bytes(path))]);
         } else {
-            let pieces = [Piece::Word(kind), number, Piece::Path(path)];
-            add("% %  %", &pieces, output);
+            add("% %  ", &[Piece::Word(kind), Piece::Number(index)], output);
+            add("%", &[Piece::Path(path)], output);
         }
         if let Some(fault) = fault {
-            let pieces = [Piece::Word(kind), number, Piece::Fault(fault)];
+            let pieces = [Piece::Word(kind), Piece::Number(index), Piece::Fault(fault)];
             tell_of_unit(unit, "% %: %", &pieces, output);
         }
         Ok(())
