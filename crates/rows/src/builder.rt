@@ -39,14 +39,11 @@ impl Script {
             words.refuse(Stop::Condition);
             return LineString::String(bytes);
         }
-        let tables = &mut self.tables;
+        let (strings, lines) = (&mut self.tables.strings, &mut self.tables.line_strings);
         let made = match form {
-            Form::Strings => tables.strings.add(&bytes).map(LineString::StringRef),
-            Form::LineStrings => tables
-                .line_strings
-                .add(&bytes)
-                .map(LineString::LineStringRef),
-            _ => LineString::new(&bytes, encoding, &mut tables.line_strings),
+            Form::Strings => strings.add(&bytes).map(LineString::StringRef),
+            Form::LineStrings => lines.add(&bytes).map(LineString::LineStringRef),
+            _ => LineString::new(&bytes, encoding, lines),
         };
         match made {
             Ok(text) => return text,

@@ -86,19 +86,24 @@ fn print_files<R: Lender>(header: &LineProgramHeader<R>, lines: &mut Lines) {
     let last = header.file_names().len() as u64;
     for index in 0..=last {
         if let Some(file) = header.file(index) {
-            print_file(index, file, lines);
+            lines.print("file % ", &[Number(index)]);
+            print_file(file, lines);
         }
     }
 }
 
 /// Prints a file: its values, in the order of the tables of version 5.
-fn print_file<R: Lender>(index: u64, file: &FileEntry<R>, lines: &mut Lines) {
-    lines.print("file % ", &[Number(index)]);
+fn print_file<R: Lender>(file: &FileEntry<R>, lines: &mut Lines) {
     add_value(&file.path_name(), lines);
-    lines.print(" dir %", &[Number(file.directory_index())]);
-    lines.print(" time %", &[Number(file.timestamp())]);
-    lines.print(" size %", &[Number(file.size())]);
-    lines.print(" md5 % source ", &[Digits(file.md5())]);
+    lines.print(
+        " dir % time % size % md5 % source ",
+        &[
+            Number(file.directory_index()),
+            Number(file.timestamp()),
+            Number(file.size()),
+            Digits(file.md5()),
+        ],
+    );
     match &file.source() {
         Some(source) => add_value(source, lines),
         None => lines.print("-", &[]),
