@@ -5,8 +5,8 @@ use gimli_core::{AttributeValue, Format, Reader, ReaderOffset};
 use gimli_line::{FileEntry, LineProgramHeader};
 use gimli_lookup::PathError;
 use lines_inputs::UnitRows;
-use lines_pieces::{Piece, Result, add, path_or_fault, print_fields, tell_of_unit};
-use lines_words::{Json, Output};
+use lines_pieces::{Piece, Result, add, path_or_fault, print_fields};
+use lines_words::{Json, Output, PathText};
 
 /// Prints what stands above the lines of units.
 pub(crate) fn print_heading(output: &mut Output<'_>) {
@@ -108,16 +108,18 @@ impl<R: Reader> Reading<R> {
         let (path, fault) = path_or_fault(&self.sources, path)?;
         let path = path.as_deref();
         if output.is_json() {
-            let unit = Json::Offset(Some(unit));
-            output.add_fields("{", &[("unit", unit), (kind, Json::Number(index))]);
-            output.add_fields(",", &[("path", Json::Bytes(path))]);
+            let fields = [
+                ("unit", Json::Offset(Some(unit))),
+                (kind, Json::Number(index)),
+                ("path", Json::Bytes(path)),
+            ];
+            output.add_fields("{", &fields);
         } else {
-            add("% %  ", &[Piece::Word(kind), Piece::Number(index)], output);
-            add("%", &[Piece::Path(path)], output);
+            let path = PathText(path.unwrap_or(b"??"));
+            output.add(format_args!("{kind} {index}  {path}"));
         }
         if let Some(fault) = fault {
-            let pieces = [Piece::Word(kind), Piece::Number(index), Piece::Fault(fault)];
-            tell_of_unit(unit, "% %: %", &pieces, output);
+            output.tell_of_unit(unit, format_args!("{kind} {index}: {fault}"));
         }
         Ok(())
     }
