@@ -4,17 +4,20 @@
 ghost use Rattle.std.specs.Prelude.{◌<◌, IsTrue, length};
 
 use crate::readers::NarrowReader;
-use crate::units::{HEADER, many_entries, program, slice, unit};
+use crate::units::{many_entries, program, slice};
 use crate::{Found, first_false};
-use gimli_core::{EndianSlice, Endianity, Error, LittleEndian, Reader, Result, RunTimeEndian};
+use gimli_core::{EndianSlice, Endianity, Error, LittleEndian, Reader, Result};
 use gimli_line::{DebugLine, IncompleteLineProgram, LineProgramHeader};
 use gimli_lookup::{Addresses, Lookup, SectionLookup, StringSections};
 use std::alloc::Global;
 
 // ---- a unit over a reader of one's own
 
-/// A program of the rows 0x1000, of line 1, and 0x1004, of line 3, and an end at 0x1008.
-const PROGRAM: &[u8] = b"\0\x05\x02\0\x10\0\0\x01\x4c\x02\x04\0\x01\x01";
+/// A unit of version 4 with the file `a.c`: the rows 0x1000, of line 1, and 0x1004, of line 3, and
+/// an end at 0x1008.
+const DEMO: &[u8] =
+    b"\x2f\0\0\0\x04\0\x1b\0\0\0\x01\x01\x01\xfb\x0e\x0d\0\x01\x01\x01\x01\0\0\0\x01\0\0\x01\0\
+      a.c\0\0\0\0\0\0\x05\x02\0\x10\0\0\x01\x4c\x02\x04\0\x01\x01";
 
 /// The address of the row that covers an address in a section.
 fn covering<R: Reader>(alloc: Global, section: &DebugLine<R>, address: u64) -> Result<Option<u64>> {
@@ -24,8 +27,8 @@ fn covering<R: Reader>(alloc: Global, section: &DebugLine<R>, address: u64) -> R
 
 /// Whether a row is found over offsets of 32 bits.
 pub fn narrow_unit(alloc: Global) -> Found {
-    let owned = DebugLine::from(unit(alloc, HEADER, [PROGRAM, b""])?);
-    let section = owned.borrow(|bytes| NarrowReader::new(alloc, bytes, RunTimeEndian::Little));
+    let owned = DebugLine::from(Vec::from_slice(alloc, DEMO)?);
+    let section = owned.borrow(|bytes| NarrowReader::new(bytes));
     let found = covering(alloc, &section, 0x1005)?;
     Ok(first_false(&[found == Some(0x1004)]))
 }
@@ -41,8 +44,7 @@ const WIDE: [&[u8]; 2] = [
 
 /// Why a unit is refused.
 fn refusal(alloc: Global, unit: &[u8]) -> Option<Error> {
-    let section = NarrowReader::new(alloc, unit, RunTimeEndian::Little);
-    program(alloc, section, None).err()
+    program(alloc, NarrowReader::new(unit), None).err()
 }
 
 /// The first unit that is refused otherwise.

@@ -1,21 +1,17 @@
 //! Checks in code, of what no clause and no row of input and output can say: tables of cases, each
 //! with what is expected of it by hand. A line for each check says whether it passed, or which case
-//! failed first; then come the texts of errors.
+//! failed first; then come the texts of errors. `checks_files` has those of the files of programs.
 //!
 //! They use public names alone.
 #![tactic(auto)]
 
-mod builder;
-mod compilations;
 mod converted;
-mod elf_files;
 mod errors;
 mod lookups;
-mod machine;
 mod many;
 mod readers;
+mod relocations;
 mod units;
-mod writers;
 
 use gimli_write::ConvertResult;
 use std::alloc::Global;
@@ -30,30 +26,14 @@ fn first_false(found: &[bool]) -> Option<usize> {
 }
 
 /// Each check, and what it finds.
-fn checks(alloc: Global) -> [(&'static str, Found); 26] {
+fn checks(alloc: Global) -> [(&'static str, Found); 10] {
     [
-        ("readers::calls", readers::calls(alloc)),
-        ("machine::executed", machine::executed(alloc)),
+        ("readers::skipped", readers::skipped()),
         ("lookups::narrow_unit", lookups::narrow_unit(alloc)),
         ("lookups::wide_numbers", lookups::wide_numbers(alloc)),
         ("lookups::many", lookups::many(alloc)),
-        ("compilations::units", compilations::units()),
-        ("compilations::lines", compilations::lines(alloc)),
-        ("elf_files::relocated", elf_files::relocated(alloc)),
-        ("elf_files::sought", elf_files::sought(alloc)),
-        ("elf_files::outlines", elf_files::outlines(alloc)),
-        ("elf_files::cut", elf_files::cut(alloc)),
-        ("elf_files::huge", elf_files::huge(alloc)),
-        ("elf_files::checksums", elf_files::checksums(alloc)),
-        ("elf_files::paths", elf_files::paths(alloc)),
-        ("writers::vector", writers::vector(alloc)),
-        ("writers::pieces", writers::pieces(alloc)),
-        ("writers::own", writers::own(alloc)),
-        ("writers::relocations", writers::relocations(alloc)),
-        ("builder::current_rows", builder::current_rows(alloc)),
-        ("builder::file", builder::file(alloc)),
-        ("builder::none", builder::none(alloc)),
-        ("converted::own_writer", converted::own_writer(alloc)),
+        ("relocations::calls", relocations::calls(alloc)),
+        ("relocations::unit", relocations::unit(alloc)),
         ("converted::refused", converted::refused(alloc)),
         ("many::writers_and_tables", many::writers_and_tables(alloc)),
         ("many::conversions", many::conversions(alloc)),

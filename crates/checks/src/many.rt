@@ -99,29 +99,55 @@ fn build_half<R: Reader>(conversion: &mut ConvertLineProgram<'_, '_, R>) -> Conv
     Ok(sequence.map_or(0, |sequence| sequence.rows.len()))
 }
 
-/// Whether a program is copied, written behind three bytes and read back. The working directory
-/// comes first; in version 5 the name is a file more than those of the source.
-fn is_whole<E: Endianity>(
+/// Whether a program is written behind three bytes, and read back. The working directory comes
+/// first; in version 5 the name is a file more than those of the source.
+fn is_read_back<E: Endianity>(
     program: &LineProgram,
-    section: EndianVec<E>,
+    unit: &mut DebugLine<EndianVec<E>>,
     texts: &mut Texts,
 ) -> ConvertResult<bool> {
-    let copied = program.clone()?.items().count();
-    let mut unit = DebugLine::from(section);
     unit.0.write(b"\xaa\xbb\xcc")?;
     let (lines, strings) = (&mut texts.line_strings, &mut texts.strings);
     if !program.can_write(lines, strings) {
         return Ok(false);
     }
-    let answer = round_trip(program, &mut unit, program.encoding(), lines, strings)?;
+    let answer = round_trip(program, unit, program.encoding(), lines, strings)?;
     let files = 2 * ENTRIES + usize::from(program.version() == 5);
     let counted = (answer.directories.len(), answer.files.len()) == (ENTRIES + 1, files);
-    let placed = (answer.rows.len(), answer.offset) == (4 * ENTRIES + 1, DebugLineOffset(3));
-    Ok(counted && placed && copied == ITEMS + ENTRIES + 2)
+    Ok(counted && (answer.rows.len(), answer.offset) == (4 * ENTRIES + 1, DebugLineOffset(3)))
 }
 
-/// Whether a source is converted in two halves, the second one by `convert`, and the program is
-/// whole.
+/// Whether a program has all its items, and so has its copy, and is read back.
+fn is_whole<E: Endianity>(
+    program: &LineProgram,
+    order: E,
+    texts: &mut Texts,
+) -> ConvertResult<bool> {
+    let copied = program.clone().map(|copy| copy.items().count());
+    if copied != Ok(ITEMS + ENTRIES + 2) {
+        return Ok(false);
+    }
+    let section = EndianVec::new(*texts.line_strings.allocator(), order);
+    is_read_back(program, &mut DebugLine::from(section), texts)
+}
+
+/// The program of a source that is converted in two halves, the second one by `convert`, and
+/// whether its first sequence and its files are all there.
+fn converted<R: Reader>(
+    source: IncompleteLineProgram<R>,
+    name: R,
+    encoding: Option<Encoding>,
+    texts: &mut Texts,
+) -> ConvertResult<(LineProgram, bool)>
+    requires { IfSome encoding (λ e. IsTrue (is_address_size e.address_size)) }
+{
+    let mut conversion = conversion(source, Some(name), encoding, texts)?;
+    let rows = build_half(&mut conversion)?;
+    let (program, files) = conversion.convert(|address| Some(Constant(address)))?;
+    Ok((program, (rows, files.len()) == (ENTRIES, 2 * ENTRIES + 1)))
+}
+
+/// Whether this is so, and the program is whole.
 fn is_converted<R: Reader>(
     source: IncompleteLineProgram<R>,
     name: R,
@@ -130,12 +156,8 @@ fn is_converted<R: Reader>(
 ) -> ConvertResult<bool>
     requires { IfSome encoding (λ e. IsTrue (is_address_size e.address_size)) }
 {
-    let section = EndianVec::new(*texts.line_strings.allocator(), name.endian());
-    let mut conversion = conversion(source, Some(name), encoding, texts)?;
-    let rows = build_half(&mut conversion)?;
-    let (program, files) = conversion.convert(|address| Some(Constant(address)))?;
-    let counted = (rows, files.len()) == (ENTRIES, 2 * ENTRIES + 1);
-    is_whole(&program, section, texts).map(|whole| counted && whole)
+    let (program, counted) = converted(source, name, encoding, texts)?;
+    is_whole(&program, name.endian(), texts).map(|whole| counted && whole)
 }
 
 /// The same of a unit, with tables that are empty.

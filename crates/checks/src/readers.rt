@@ -1,21 +1,14 @@
-//! What no worked line of `gimli_core` says of a reader, over lent bytes and over a reader of one's
-//! own: its offsets have 32 bits, it copies where it is asked for a slice, and it has none of the
-//! bodies that a reader may leave out.
+//! A reader of one's own, whose offsets have 32 bits. It has none of the bodies that a reader may
+//! leave out.
 
 ghost use Rattle.std.specs.Prelude.{◌<◌, ◌^◌, length};
 ghost use Rattle.std.proofs.Common.{rules};
 
-use crate::writers::LETTERS;
 use crate::{Found, first_false};
-use gimli_core::Error::{OutOfMemory, UnexpectedEof, UnsupportedOffset};
-use gimli_core::RunTimeEndian::{self, Big, Little};
-use gimli_core::{
-    BigEndian, EndianSlice, Endianity, LittleEndian, Reader, ReaderOffset, ReaderOffsetId, Result,
-};
-use std::alloc::Global;
+use gimli_core::{EndianSlice, Error, LittleEndian, Reader, ReaderOffset, Result};
 use std::borrow::CowSlice;
 
-#[derive(Clone, Copy, Debug, PartialEq, Eq, PartialOrd, Ord)]
+#[derive(Clone, Copy, PartialEq, Eq, PartialOrd, Ord)]
 pub struct Narrow(pub u32);
 
 impl ReaderOffset for Narrow {
@@ -41,7 +34,7 @@ impl ReaderOffset for Narrow {
         if offset <= 0xffff_ffff {
             Ok(Narrow(offset as u32))
         } else {
-            Err(UnsupportedOffset)
+            Err(Error::UnsupportedOffset)
         }
     }
 
@@ -52,29 +45,28 @@ impl ReaderOffset for Narrow {
 
 #[derive(Clone, Copy)]
 pub struct NarrowReader<'i> {
-    alloc: Global,
-    left: EndianSlice<'i, RunTimeEndian>,
-    ghost short: { length (⟦<EndianSlice<'static, RunTimeEndian> as Reader>⟧.bytes left) < 2 ^ 32 },
+    left: EndianSlice<'i, LittleEndian>,
+    ghost short: { length (⟦<EndianSlice<'static, LittleEndian> as Reader>⟧.bytes left) < 2 ^ 32 },
 }
 
 impl<'i> NarrowReader<'i> {
     /// A reader of the bytes, up to the greatest number of them that it counts.
-    pub fn new(alloc: Global, slice: &'i [u8], order: RunTimeEndian) -> Self {
-        let left = EndianSlice::new(&slice[..slice.len().min(0xffff_ffff)], order);
-        NarrowReader { alloc, left }
+    pub fn new(slice: &'i [u8]) -> Self {
+        let left = EndianSlice::new(&slice[..slice.len().min(0xffff_ffff)], LittleEndian);
+        NarrowReader { left }
     }
 }
 
 impl<'i> Reader for NarrowReader<'i> {
-    type Endian = RunTimeEndian;
+    type Endian = LittleEndian;
 
     type Offset = Narrow;
 
-    ghost bytes = { λ r. ⟦<EndianSlice<'static, RunTimeEndian> as Reader>⟧.bytes r.left };
+    ghost bytes = { λ r. ⟦<EndianSlice<'static, LittleEndian> as Reader>⟧.bytes r.left };
 
-    ghost big = { λ r. ⟦<EndianSlice<'static, RunTimeEndian> as Reader>⟧.big r.left };
+    ghost big = { λ r. ⟦<EndianSlice<'static, LittleEndian> as Reader>⟧.big r.left };
 
-    fn endian(&self) -> RunTimeEndian {
+    fn endian(&self) -> LittleEndian {
         self.left.endian()
     }
 
@@ -105,17 +97,11 @@ impl<'i> Reader for NarrowReader<'i> {
 
     fn split(&mut self, len: Narrow) -> Result<Self> {
         let left = self.left.split(len.0 as usize)?;
-        Ok(NarrowReader {
-            alloc: self.alloc,
-            left,
-        })
+        Ok(NarrowReader { left })
     }
 
     fn to_slice(&self) -> Result<CowSlice<'_, u8>> {
-        match Vec::from_slice(self.alloc, self.left.slice()) {
-            Ok(copy) => Ok(CowSlice::Owned(copy)),
-            Err(_) => Err(OutOfMemory),
-        }
+        self.left.to_slice()
     }
 
     fn read_slice(&mut self, buf: &mut [u8]) -> Result<()> {
@@ -123,60 +109,18 @@ impl<'i> Reader for NarrowReader<'i> {
     }
 }
 
-/// Three bytes over others.
-fn filled<R: Reader>(reader: &mut R) -> (Result<()>, [u8; 3]) {
-    let mut buf = [7; 3];
-    let answer = reader.read_slice(&mut buf);
-    (answer, buf)
-}
-
 /// How many bytes stand before those that are left after a skip.
-fn skipped<R: Reader>(reader: R, len: R::Offset) -> Result<u64> {
+fn first_left<R: Reader>(reader: R, len: R::Offset) -> Result<u64> {
     let mut after = reader;
     after.skip(len)?;
     Ok(after.offset_from(&reader).into_u64())
 }
 
-/// Whether a reader has these bytes.
-fn has<R: Reader>(found: Result<R>, wanted: &[u8]) -> bool {
-    match found {
-        Ok(part) => match part.to_slice() {
-            Ok(slice) => *slice == *wanted,
-            Err(_) => false,
-        },
-        Err(_) => false,
-    }
-}
-
-/// The first call that answers otherwise over the bytes 1, 2, 3, `a.c`, 0, 4 and 5, or of its order
-/// of bytes over the letters from a on.
-fn first_wrong<R: Reader>(mut reader: R, big: bool) -> Option<usize> {
-    let offset = R::Offset::from_u8;
-    let order = reader.endian();
-    let number = if big { LETTERS } else { LETTERS.swap_bytes() };
-    first_false(&[
-        order.is_big_endian() == big && order.is_little_endian() != big,
-        order.read_u128(b"abcdefghijklmnop") == number,
-        filled(&mut reader) == (Ok(()), [1, 2, 3]),
-        skipped(reader, offset(2)) == Ok(2),
-        has(reader.read_null_terminated_slice(), b"a.c"),
-        !reader.is_empty() && reader.len().into_u64() == 2,
-        filled(&mut reader) == (Err(UnexpectedEof(ReaderOffsetId(2))), [7, 7, 7]),
-        has(reader.split(offset(1)), b"\x04"),
-        has(Ok(reader), b"\x05"),
-        {
-            reader.empty();
-            reader.is_empty()
-        },
-    ])
-}
-
-/// The first call that answers otherwise over either reader, in either order, which is a type or a
-/// value.
-pub fn calls(alloc: Global) -> Found {
-    let bytes = b"\x01\x02\x03a.c\0\x04\x05";
-    let failed = first_wrong(EndianSlice::new(bytes, LittleEndian), false);
-    let failed = failed.or(first_wrong(EndianSlice::new(bytes, BigEndian), true));
-    let failed = failed.or(first_wrong(NarrowReader::new(alloc, bytes, Little), false));
-    Ok(failed.or(first_wrong(NarrowReader::new(alloc, bytes, Big), true)))
+/// The first reader that counts the bytes otherwise that were skipped.
+pub fn skipped() -> Found {
+    let bytes = b"\x01\x02\x03";
+    Ok(first_false(&[
+        first_left(EndianSlice::new(bytes, LittleEndian), 2) == Ok(2),
+        first_left(NarrowReader::new(bytes), Narrow(2)) == Ok(2),
+    ]))
 }

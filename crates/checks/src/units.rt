@@ -2,7 +2,7 @@
 
 ghost use Rattle.std.specs.Prelude.{◌≢◌, All};
 
-use gimli_core::{DebugLineOffset, EndianSlice, Error, LittleEndian, Reader, ReaderOffset, Result};
+use gimli_core::{DebugLineOffset, EndianSlice, LittleEndian, Reader, ReaderOffset, Result};
 use gimli_line::{DebugLine, IncompleteLineProgram};
 use gimli_write::ConvertResult;
 use std::alloc::Global;
@@ -12,23 +12,11 @@ pub fn slice(bytes: &[u8]) -> EndianSlice<'_, LittleEndian> {
     EndianSlice::new(bytes, LittleEndian)
 }
 
-/// A header of version 4 without the unit length, with the default line encoding, opcode base 13
-/// and the file `a.c`.
-pub const HEADER: &[u8] = b"\x04\0\x1b\0\0\0\x01\x01\x01\xfb\x0e\x0d\
-    \0\x01\x01\x01\x01\0\0\0\x01\0\0\x01\0a.c\0\0\0\0\0";
-
-/// The same with three operations in an instruction.
-pub const HEADER_OF_THREE: &[u8] = b"\x04\0\x1b\0\0\0\x01\x03\x01\xfb\x0e\x0d\
-    \0\x01\x01\x01\x01\0\0\0\x01\0\0\x01\0a.c\0\0\0\0\0";
-
-/// A unit: its length, a header and the two parts of a program.
-pub fn unit(alloc: Global, header: &[u8], [front, rest]: [&[u8]; 2]) -> Result<Vec<u8>> {
-    let length = header.len().saturating_add(front.len());
-    let length = u32::try_from(length.saturating_add(rest.len())).unwrap_or(0);
-    [&length.to_le_bytes(), header, front, rest]
-        .concat(alloc)
-        .map_err(|_| Error::OutOfMemory)
-}
+/// A unit of version 4 with the file `a.c`: an address of 0x10 with a row, an address of 0x1020
+/// with a row, and an end 4 bytes after it.
+pub const TWO_ADDRESSES: &[u8] =
+    b"\x38\0\0\0\x04\0\x1b\0\0\0\x01\x01\x01\xfb\x0e\x0d\0\x01\x01\x01\x01\0\0\0\x01\0\0\x01\0\
+      a.c\0\0\0\0\0\0\x05\x02\x10\0\0\0\x01\x02\x04\0\x05\x02\x20\x10\0\0\x01\x02\x04\0\x01\x01";
 
 /// The program at the front of a section, with addresses of four bytes.
 pub fn program<R: Reader>(

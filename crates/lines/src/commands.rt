@@ -6,14 +6,16 @@ ghost use Rattle.lines_inputs.specs.Lines.{HasLines};
 
 use crate::REFUSED;
 use crate::inputs::Inputs;
-use crate::session::{Run, Session};
-use elf_sections::{ElfError, SymbolTable};
+use crate::session::{Questions, Run, Session};
+use elf_sections::ElfError;
 use gimli_core::Reader;
-use lines_answers::{Places, print_addresses};
+use lines_answers::{SourceRows, print_addresses};
 use lines_inputs::{Functions, Input, InputError, NOT_LINKED, Program, tell_refusal};
+use lines_places::{Answered, Asked, PlacePrinter, Places, print_below, print_lines};
 use lines_reports::{Diff, Report};
-use lines_words::{Command, Files, Kind};
-use std::io::{self, ErrorKind};
+use lines_words::{CodeAddress, Command, Files, Kind, PathText, SourcePlace};
+use std::io::ErrorKind;
+use std::{fs, io, str};
 
 impl<'r> Run<'r> {
     /// Does what the request asks for over the bytes of files, and returns the status of the
@@ -30,10 +32,10 @@ impl<'r> Run<'r> {
     {
         let mut session = self.over(self.request.file);
         match Program::new(self.rt.alloc(), kind, files) {
-            Ok(program) => match session.print_program(&program, files) {
-                Ok(()) => session.finish(),
-                Err(error) => Err(error),
-            },
+            Ok(program) => {
+                let printed = session.print(&program, &program.input(), files);
+                session.finish(printed)
+            }
             Err(InputError::Elf(ElfError::OutOfMemory)) => {
                 Err(io::Error::from(ErrorKind::OutOfMemory))
             }
@@ -48,128 +50,213 @@ impl<'r> Run<'r> {
 
     /// Prints how the program that the request names differs from a new one, and returns the
     /// status: 0, or 1 where they differ, or something was refused. Fails as `perform` does.
-    pub(crate) fn compare(self, old: &Inputs, new_name: &'r str, new: &Inputs) -> io::Result<u8>
+    pub(crate) fn compare(self, new_name: &'r str) -> io::Result<u8>
         ensures { IfOk result (λ status. status ≤ 1) }
     {
-        let mut old_session = self.over(self.request.file);
-        let mut new_session = self.over(new_name);
-        compare_inputs(old, new, &mut old_session, &mut new_session)?;
-        let old_status = old_session.finish()?;
-        let new_status = new_session.finish()?;
-        Ok(old_status.max(new_status))
+        let Some(old) = self.inputs_of(self.request.file)? else {
+            return Ok(REFUSED);
+        };
+        let Some(new) = self.inputs_of(new_name)? else {
+            return Ok(REFUSED);
+        };
+        let mut session = self.over(self.request.file);
+        let printed = session.compare(&old, new_name, &new);
+        session.finish(printed)
     }
 }
 
-impl Session<'_> {
+impl<'r> Session<'r> {
     /// Prints what the request asks for over a program.
-    fn print_program(&mut self, program: &Program<'_>, files: Files<'_>) -> io::Result<()> {
-        let input = &program.input();
-        match self.run.request.command {
-            Command::Where { .. } if !input.is_linked => self.locate_in_sections(files),
-            _ => self.print(input, program.symbols()),
-        }
-    }
-
-    /// Prints what a command asks for, but for `where` over an object file.
-    fn print<R: Reader>(&mut self, input: &Input<R>, symbols: SymbolTable<'_>) -> io::Result<()> {
+    fn print<R: Reader>(
+        &mut self,
+        program: &Program<'_>,
+        input: &Input<R>,
+        files: Files<'_>,
+    ) -> io::Result<()> {
         let Run { rt, request } = self.run;
         let alloc = rt.alloc();
+        let output = &mut self.output;
         match request.command {
+            Command::Where { .. } if !input.is_linked => self.locate_in_sections(files),
             Command::Where { .. } => {
-                let functions = Functions::new(alloc, symbols, None)?;
-                let is_told = self.begin_reading(input)?;
-                let output = &mut self.output;
-                let places = Places::new(alloc, input, functions, request, None, output)?;
-                if is_told {
-                    output.clear();
-                }
-                self.answer_named(&places)
+                let mut questions = Questions::new(rt, &request.addresses)?;
+                self.locate(program, input, None, &mut questions)
             }
             Command::At(_, _) | Command::Source(_) if !input.is_linked => {
-                self.output.tell(NOT_LINKED);
+                output.tell(NOT_LINKED);
                 Ok(())
             }
             Command::At(path, line) => {
-                let is_told = self.begin_reading(input)?;
+                self.begin_reading(input.length())?;
                 print_addresses(alloc, input, request, path, line, &mut self.output)?;
-                if is_told {
-                    self.output.clear();
-                }
+                self.output.clear();
                 Ok(())
             }
             Command::Source(place) => {
-                let functions = Functions::new(alloc, symbols, None)?;
-                self.print_source(place, input, &functions)
+                let functions = Functions::new(alloc, program.symbols(), None)?;
+                match SourceRows::new(alloc, input, &functions, place, request.context, output)? {
+                    Some(mut found) => self.print_found(place, &mut found),
+                    None => Ok(()),
+                }
             }
-            _ => match Report::new(alloc, input, request, &mut self.output)? {
-                Some(mut report) => self.print_report(&mut report),
+            _ => match Report::new(alloc, input, request, output)? {
+                Some(mut report) => self.print_steps(|output| report.print_next(output)),
                 None => Ok(()),
             },
         }
     }
 
-    /// Prints what line programs hold, piece by piece.
-    fn print_report<R: Reader>(&mut self, report: &mut Report<R>) -> io::Result<()> {
-        self.hand_on()?;
+    /// Prints how a program differs from a new one, where both can be read.
+    fn compare(&mut self, old: &Inputs, new_name: &'r str, new: &Inputs) -> io::Result<()> {
+        let Some(old) = self.program_of(old)? else {
+            return Ok(());
+        };
+        self.output.turn_to(new_name);
+        match self.program_of(new)? {
+            Some(new) => self.compare_programs(&old.input(), new_name, &new.input()),
+            None => Ok(()),
+        }
+    }
+
+    /// Prints how a program differs from a new one.
+    fn compare_programs<R: Reader>(
+        &mut self,
+        old: &Input<R>,
+        new_name: &'r str,
+        new: &Input<R>,
+    ) -> io::Result<()> {
+        let Run { rt, request } = self.run;
+        self.output.turn_to(request.file);
+        let mut diff = Diff::new(rt.alloc(), old, new, &mut self.output)?;
+        self.print_steps(|output| diff.print_next(output))?;
+        self.output.turn_to(new_name);
+        diff.begin_new();
+        self.print_steps(|output| diff.print_next(output))
+    }
+
+    /// Prints the place of each address in an object file. Each section has rows of its own, which
+    /// are kept until another section is asked for.
+    fn locate_in_sections(&mut self, files: Files<'_>) -> io::Result<()> {
+        let Run { rt, request } = self.run;
+        let printer = PlacePrinter::new(rt.alloc(), request)?;
+        let mut questions = Questions::new(rt, &request.addresses)?;
         for _ in 0..u64::MAX {
-            let printed = report.print_next(&mut self.output);
-            if !self.go_on(printed)? {
+            let Some(asked) = questions.current()? else {
                 break;
+            };
+            if let Asked::Address(CodeAddress::InSection { section, .. }) = asked {
+                let name = Vec::from_slice(rt.alloc(), section.as_bytes())?;
+                if self.locate_in_section(files, &name, &mut questions)? {
+                    continue;
+                }
+                printer.print(None, None, None, &mut self.output);
+            } else {
+                printer.print_other(asked, &mut self.output);
             }
+            self.hand_on()?;
+            questions.go_on();
         }
         Ok(())
     }
 
-    /// Adds the code of a program to what is compared, unit by unit.
-    fn add_program<R: Reader>(&mut self, diff: &mut Diff<R>) -> io::Result<()> {
-        self.hand_on()?;
-        for _ in 0..u64::MAX {
-            let printed = diff.print_next(&mut self.output);
-            if !self.go_on(printed)? {
-                break;
+    /// Prints the places of the addresses that follow each other in a section. False where it can't
+    /// be read, which is reported.
+    fn locate_in_section(
+        &mut self,
+        files: Files<'_>,
+        name: &[u8],
+        questions: &mut Questions<'_>,
+    ) -> io::Result<bool> {
+        match Program::of_section(self.run.rt.alloc(), files, name) {
+            Ok(Some(program)) => {
+                self.locate(&program, &program.input(), Some(name), questions)?;
+                return Ok(true);
             }
+            Ok(None) => {
+                let name = PathText(name);
+                self.output.tell(format_args!("there is no section {name}"));
+            }
+            Err(refusal) => tell_refusal(refusal, &mut self.output)?,
+        }
+        Ok(false)
+    }
+
+    /// Prints the places of addresses by the rows of a program, or of the section of a name.
+    fn locate<R: Reader>(
+        &mut self,
+        program: &Program<'_>,
+        input: &Input<R>,
+        section: Option<&[u8]>,
+        questions: &mut Questions<'_>,
+    ) -> io::Result<()> {
+        let Run { rt, request } = self.run;
+        if section.is_none() {
+            self.begin_reading(input.length())?;
+        }
+        let functions = Functions::new(rt.alloc(), program.symbols(), program.section())?;
+        let output = &mut self.output;
+        let places = Places::new(rt.alloc(), input, functions, request, section, output)?;
+        output.clear();
+        self.answer_all(&places, questions)
+    }
+
+    /// Answers questions up to the first that is asked of another section.
+    fn answer_all<R: Reader>(
+        &mut self,
+        places: &Places<'_, '_, R>,
+        questions: &mut Questions<'_>,
+    ) -> io::Result<()> {
+        for _ in 0..u64::MAX {
+            let Some(asked) = questions.current()? else {
+                break;
+            };
+            match places.answer(asked, &mut self.output)? {
+                Answered::Elsewhere => break,
+                Answered::Whole => {}
+                Answered::Above(place) => {
+                    if let Some(file) = self.read_source(&place.path)? {
+                        print_below(self.run.rt.alloc(), &place, &file, &mut self.output)?;
+                    }
+                }
+            }
+            self.hand_on()?;
+            questions.go_on();
         }
         Ok(())
     }
 
-    /// The sections of a program. None where they can't be read, which is reported.
-    pub(crate) fn program_of<'i>(&mut self, inputs: &'i Inputs) -> io::Result<Option<Program<'i>>> {
-        match Program::new(self.run.rt.alloc(), inputs.kind, inputs.files()) {
-            Ok(program) => Ok(Some(program)),
-            Err(refusal) => {
-                tell_refusal(refusal, &mut self.output)?;
-                Ok(None)
-            }
+    /// Finds the rows of a place or of a function, and prints their lines with their addresses.
+    fn print_found<R: Reader>(
+        &mut self,
+        place: SourcePlace<'_>,
+        found: &mut SourceRows<'_, R>,
+    ) -> io::Result<()> {
+        self.print_steps(|output| found.add_next(output))?;
+        let Run { rt, request } = self.run;
+        for number in 0..usize::MAX {
+            let Some((path, rows)) = found.get(number) else {
+                break;
+            };
+            let file = self.read_source(path)?;
+            let output = &mut self.output;
+            print_lines(rt.alloc(), path, file, rows, place, request.context, output)?;
+            self.hand_on()?;
+        }
+        Ok(())
+    }
+
+    /// The bytes of the source file of a path, or of the one that the request names in its place.
+    /// None where it can't be read.
+    fn read_source(&self, path: &[u8]) -> io::Result<Option<Vec<u8>>> {
+        let name = match (self.run.request.source, str::from_utf8(path)) {
+            (Some(name), _) => name,
+            (None, Ok(name)) => name,
+            (None, Err(_)) => return Ok(None),
+        };
+        match fs::read(self.run.rt, name) {
+            Ok(bytes) => Ok(Some(bytes)),
+            Err(error) if error.kind() == ErrorKind::OutOfMemory => Err(error),
+            Err(_) => Ok(None),
         }
     }
-}
-
-/// Prints how a program differs from a new one, where both can be read.
-fn compare_inputs(
-    old: &Inputs,
-    new: &Inputs,
-    old_session: &mut Session<'_>,
-    new_session: &mut Session<'_>,
-) -> io::Result<()> {
-    let Some(old) = old_session.program_of(old)? else {
-        return Ok(());
-    };
-    let Some(new) = new_session.program_of(new)? else {
-        return Ok(());
-    };
-    compare_programs(&old.input(), &new.input(), old_session, new_session)
-}
-
-/// Prints how a program differs from a new one.
-fn compare_programs<R: Reader>(
-    old: &Input<R>,
-    new: &Input<R>,
-    old_session: &mut Session<'_>,
-    new_session: &mut Session<'_>,
-) -> io::Result<()> {
-    let alloc = old_session.run.rt.alloc();
-    let mut diff = Diff::new(alloc, old, new, &mut old_session.output)?;
-    old_session.add_program(&mut diff)?;
-    diff.begin_new();
-    new_session.add_program(&mut diff)
 }

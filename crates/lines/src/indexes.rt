@@ -7,19 +7,15 @@ ghost use Rattle.lines_answers.specs.Indexes.{IsStale};
 
 use crate::REFUSED;
 use crate::inputs::{Inputs, STANDARD_INPUT, can_be_opened, read, report};
-use crate::questions::Questions;
-use crate::session::{Run, Session};
-use debug_files::{Outline, Refusal};
-use elf_sections::ElfError;
+use crate::session::{Questions, Run, Session};
+use gimli_index::LineIndex;
 use lines_answers::{
-    IndexPlaces, LineAnswers, MadeIndex, PlacePrinter, index_of_program, open_index,
-    program_identity,
+    IndexPlaces, LineAnswers, MadeIndex, index_of_program, open_index, program_identity,
 };
-use lines_inputs::Program;
+use lines_inputs::{Program, build_id_in, write_file};
+use lines_places::PlacePrinter;
 use lines_words::{Command, Kind, LineNames};
-use std::fs::File;
-use std::io::{BufRead, BufReader, ErrorKind, Write};
-use std::{fs, io};
+use std::io::{self, Write};
 
 impl<'r> Run<'r> {
     /// The index of a program by its name. It is named by the build id where there is one, or else
@@ -27,32 +23,21 @@ impl<'r> Run<'r> {
     fn index_of(self, name: &'r str) -> io::Result<MadeIndex>
         ensures { IfOk result (λ made. made.status ≤ 1) }
     {
-        let Some(inputs) = self.inputs_of(name)? else {
-            return Ok(MadeIndex {
+        let build_id = self.build_id_of(name)?;
+        match self.inputs_of(name)? {
+            Some(inputs) => self.over(name).make_index(&inputs, build_id.as_deref()),
+            None => Ok(MadeIndex {
                 bytes: None,
                 status: REFUSED,
-            });
-        };
-        let build_id = self.build_id_of(name)?;
-        let mut session = self.over(name);
-        let bytes = session.make_index(&inputs, build_id.as_deref())?;
-        let status = session.finish()?;
-        Ok(MadeIndex { bytes, status })
+            }),
+        }
     }
 
-    /// The build id of a program by its name, where it is a file that is an ELF file; None where it
-    /// has none, and where it can't be read, which its reader reports.
+    /// The build id of a program by its name, where it is a file, as `build_id_in` has it.
     fn build_id_of(self, name: &str) -> io::Result<Option<Vec<u8>>> {
-        if !matches!(self.request.kind, Kind::Elf) || name == STANDARD_INPUT {
-            return Ok(None);
-        }
-        match read_build_id(self.rt, name) {
-            Ok(id) => Ok(id),
-            Err(Refusal::Elf(ElfError::OutOfMemory)) => {
-                Err(io::Error::from(ErrorKind::OutOfMemory))
-            }
-            Err(Refusal::Io(error)) if error.kind() == ErrorKind::OutOfMemory => Err(error),
-            Err(_) => Ok(None),
+        match self.request.kind {
+            Kind::Elf if name != STANDARD_INPUT => build_id_in(self.rt, name),
+            _ => Ok(None),
         }
     }
 
@@ -131,12 +116,14 @@ impl<'r> Run<'r> {
         let mut session = self.over(name);
         match open_index(index, identity) {
             Ok(index) => {
-                let printer = PlacePrinter::new(self.rt.alloc(), self.request)?;
-                session.answer_by_index(&IndexPlaces { index, printer })?;
+                let printed = session.answer_by_index(index);
+                session.finish(printed)
             }
-            Err(fault) => session.output.tell(fault),
+            Err(fault) => {
+                session.output.tell(fault);
+                session.finish(Ok(()))
+            }
         }
-        session.finish()
     }
 
     /// Prints the place of each line of standard input, which names what it asks and then an
@@ -151,8 +138,8 @@ impl<'r> Run<'r> {
             LineNames::Files => STANDARD_INPUT,
         });
         let mut answers = LineAnswers::new(self.rt.alloc(), names, self.request)?;
-        session.answer_lines(&mut answers)?;
-        session.finish()
+        let printed = session.answer_lines(&mut answers);
+        session.finish(printed)
     }
 
     /// The index at a place: of a file that is an index, or of a program.
@@ -172,60 +159,57 @@ impl<'r> Run<'r> {
 }
 
 impl Session<'_> {
-    /// The bytes of the index of a program; None where there is none, which is reported.
-    fn make_index(
-        &mut self,
-        inputs: &Inputs,
-        build_id: Option<&[u8]>,
-    ) -> io::Result<Option<Vec<u8>>> {
-        match self.program_of(inputs)? {
-            Some(program) => self.index_program(&program, inputs, build_id),
-            None => Ok(None),
-        }
+    /// The index of a program. None where it can't be read, which is reported.
+    fn make_index(mut self, inputs: &Inputs, build_id: Option<&[u8]>) -> io::Result<MadeIndex>
+        ensures { IfOk result (λ made. made.status ≤ 1) }
+    {
+        let bytes = match self.program_of(inputs)? {
+            Some(program) => self.index_program(&program, inputs, build_id)?,
+            None => None,
+        };
+        let status = self.finish(Ok(()))?;
+        Ok(MadeIndex { bytes, status })
     }
 
-    /// The same of a program that is read. A fault of a unit is reported; what stands before it is
-    /// in the index all the same.
+    /// The bytes of the index of a program that is read; None where there is none, which is
+    /// reported. A fault of a unit is reported; what stands before it is in the index all the same.
     fn index_program(
         &mut self,
         program: &Program<'_>,
         inputs: &Inputs,
         build_id: Option<&[u8]>,
     ) -> io::Result<Option<Vec<u8>>> {
-        let is_told = self.begin_reading(&program.input())?;
+        self.begin_reading(program.lines().len() as u64)?;
         let alloc = self.run.rt.alloc();
         let output = &mut self.output;
         let files = inputs.files();
         let made = index_of_program(alloc, program, inputs.kind, files, build_id, output)?;
-        if is_told {
-            output.clear();
-        }
+        output.clear();
         Ok(made)
     }
 
     /// Answers questions by an index.
-    fn answer_by_index(&mut self, places: &IndexPlaces<'_, '_>) -> io::Result<()> {
+    fn answer_by_index(&mut self, index: LineIndex<'_>) -> io::Result<()> {
         let Run { rt, request } = self.run;
+        let printer = PlacePrinter::new(rt.alloc(), request)?;
+        let places = IndexPlaces { index, printer };
         let mut questions = Questions::new(rt, &request.addresses)?;
         for _ in 0..u64::MAX {
-            match questions.current() {
+            match questions.current()? {
                 Some(asked) => places.answer(asked, &mut self.output),
                 None => break,
             }
             self.hand_on()?;
-            questions.go_on()?;
+            questions.go_on();
         }
         Ok(())
     }
 
     /// Answers the lines of standard input.
     fn answer_lines(&mut self, answers: &mut LineAnswers<'_>) -> io::Result<()> {
-        let rt = self.run.rt;
-        let mut input = BufReader::new(rt.alloc(), rt.stdin())?;
-        let mut line = Vec::new(rt.alloc());
+        let mut lines = Questions::new(self.run.rt, &[])?;
         for _ in 0..u64::MAX {
-            line.clear();
-            input.read_until(b'\n', &mut line)?;
+            let line = lines.read_line()?;
             if line.is_empty() {
                 break;
             }
@@ -247,41 +231,4 @@ impl Session<'_> {
         answers.answer(name, address, &mut self.output);
         Ok(())
     }
-}
-
-/// The build id of a file.
-fn read_build_id(rt: &HostRuntime, name: &str) -> Result<Option<Vec<u8>>, Refusal> {
-    // Asked before it is opened: to open a pipe may take for ever.
-    if !fs::metadata(rt, name)?.is_file() {
-        return Ok(None);
-    }
-    let alloc = rt.alloc();
-    let mut file = File::open(rt, name)?;
-    let outline = Outline::read(alloc, &mut file)?;
-    let Some(section) = outline.section(alloc, &mut file, b".note.gnu.build-id")? else {
-        return Ok(None);
-    };
-    match outline.sections()?.build_id(&section) {
-        Some(id) => Ok(Some(Vec::from_slice(alloc, id)?)),
-        None => Ok(None),
-    }
-}
-
-/// Writes a file whole: it takes its name when all its bytes are written. What isn't a regular
-/// file, as a pipe, is written where it stands.
-fn write_file(rt: &HostRuntime, path: &str, bytes: &[u8]) -> io::Result<()> {
-    match fs::metadata(rt, path) {
-        Ok(found) if !found.is_file() => return fs::write(rt, path, bytes),
-        _ => {}
-    }
-    let part = format!(in rt.alloc(); "{path}.part")?;
-    let written = match fs::write(rt, &part, bytes) {
-        Ok(()) => fs::rename(rt, &part, path),
-        Err(error) => Err(error),
-    };
-    if written.is_err() {
-        // Where it can't be removed, what was written stays under the other name.
-        let _ = fs::remove_file(rt, &part);
-    }
-    written
 }

@@ -94,13 +94,7 @@ impl Inputs {
                 file,
                 line_str: &self.line_str,
                 strings: &self.strings,
-                units: UnitFiles {
-                    info: &[],
-                    abbreviations: &[],
-                    string_offsets: &[],
-                },
-                symbols: &[],
-                symbol_names: &[],
+                ..Files::default()
             },
             Found::Sections(source) => Files {
                 file: &source.lines,

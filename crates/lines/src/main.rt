@@ -4,8 +4,6 @@
 mod commands;
 mod indexes;
 mod inputs;
-mod places;
-mod questions;
 mod session;
 
 use crate::session::Run;
@@ -28,54 +26,40 @@ pub(crate) const REFUSED: u8 = 1;
 fn main(rt: HostRuntime) -> ExitCode {
     let status = match start(&rt) {
         Ok(status) => status,
-        Err(error) => tell(&rt, &error),
+        // Where standard output was closed, nothing is reported.
+        Err(error) if error.kind() == ErrorKind::BrokenPipe => REFUSED,
+        Err(error) => {
+            // Where standard error can't be written to, the status still says it.
+            let _ = writeln!(rt.stderr(), "lines: {error}");
+            REFUSED
+        }
     };
     ExitCode::from(status)
 }
 
-/// Tells an error, and returns the status of the program. Where standard output was closed, nothing
-/// is reported.
-fn tell(rt: &HostRuntime, error: &io::Error) -> u8 {
-    if error.kind() != ErrorKind::BrokenPipe {
-        // Where standard error can't be written to, the status still says it.
-        let _ = writeln!(rt.stderr(), "lines: {error}");
-    }
-    REFUSED
-}
-
 /// Runs on the words of the program, and returns its status.
 fn start(rt: &HostRuntime) -> io::Result<u8> {
-    let alloc = rt.alloc();
-    let arguments = arguments(rt)?;
-    let mut words = Vec::with_capacity(alloc, arguments.len())?;
-    for word in &arguments {
-        words.push(word.as_str())?;
-    }
-    match lines_words::parse(alloc, &words) {
-        Ok(request) => run(rt, &request),
+    let words = words_of_program(rt)?;
+    match lines_words::parse(rt.alloc(), &words) {
+        Ok(request) => perform(rt, &request),
         Err(error) => explain(rt, &error),
     }
 }
 
-/// Does what a request asks for, and returns the status of the program.
-fn run(rt: &HostRuntime, request: &Request<'_>) -> io::Result<u8> {
-    perform(Run { rt, request })
-}
-
 /// The words of the program, each as text, as `text_of_word` has it.
-fn arguments(rt: &HostRuntime) -> io::Result<Vec<String>> {
+fn words_of_program(rt: &HostRuntime) -> io::Result<Vec<String>> {
     let alloc = rt.alloc();
     let mut room = vec![in alloc; 0u8; LONGEST_WORD]?;
-    let mut arguments = Vec::new(alloc);
+    let mut words = Vec::new(alloc);
     for index in 0..usize::MAX {
         let length = match rt.arg(index, &mut room) {
             Ok(length) => length,
             Err(FillError::TooLong) => return Err(io::Error::from(io::ErrorKind::InvalidInput)),
             Err(FillError::NotPresent) => break,
         };
-        arguments.push(lines_words::text_of_word(alloc, &room[..length])?)?;
+        words.push(lines_words::text_of_word(alloc, &room[..length])?)?;
     }
-    Ok(arguments)
+    Ok(words)
 }
 
 /// Prints what is said of words that ask for nothing, or of help, and returns the status.
@@ -87,29 +71,23 @@ fn explain(rt: &HostRuntime, error: &Error) -> io::Result<u8> {
     if error.use_stderr() {
         // Where standard error can't be written to, the status still says it.
         let _ = write!(rt.stderr(), "{message}");
-        Ok(USAGE)
-    } else {
-        write!(rt.stdout(), "{message}")?;
-        Ok(0)
+        return Ok(USAGE);
     }
+    write!(rt.stdout(), "{message}")?;
+    Ok(0)
 }
 
 /// Does what a request asks for, and returns the status of the program.
-fn perform(run: Run<'_>) -> io::Result<u8> {
-    match run.request.command {
-        Command::Index(out) => return run.write_index(out),
-        Command::Ask(index) => return run.ask(index),
-        Command::AskLines(names) => return run.ask_lines(names),
-        _ => {}
-    }
-    let Some(inputs) = run.inputs_of(run.request.file)? else {
-        return Ok(REFUSED);
-    };
-    let Command::Diff(new) = run.request.command else {
-        return run.perform(inputs.kind, inputs.files());
-    };
-    match run.inputs_of(new)? {
-        Some(new_inputs) => run.compare(&inputs, new, &new_inputs),
-        None => Ok(REFUSED),
+fn perform(rt: &HostRuntime, request: &Request<'_>) -> io::Result<u8> {
+    let run = Run { rt, request };
+    match request.command {
+        Command::Index(out) => run.write_index(out),
+        Command::Ask(index) => run.ask(index),
+        Command::AskLines(names) => run.ask_lines(names),
+        Command::Diff(new) => run.compare(new),
+        _ => match run.inputs_of(request.file)? {
+            Some(inputs) => run.perform(inputs.kind, inputs.files()),
+            None => Ok(REFUSED),
+        },
     }
 }

@@ -1,12 +1,14 @@
-//! What a command runs with, and what it prints.
+//! What a command runs with, what it is asked, and what it prints.
 
 ghost use Rattle.std.specs.Prelude.{◌≡◌, ◌≤◌, ◌↔◌, IfOk, true};
 
-use gimli_core::Reader;
-use lines_inputs::{Input, show_reading};
-use lines_words::{Output, Request, Screen};
+use crate::inputs::Inputs;
+use lines_inputs::{Program, show_reading, tell_refusal};
+use lines_places::{Asked, asked_by};
+use lines_words::{CodeAddress, Output, Request, Screen};
 use std::alloc::AllocError;
-use std::io::IsTerminal;
+use std::io::{BufRead, BufReader, IsTerminal};
+use std::rt::Stdin;
 use std::{env, io};
 
 /// What a command runs with.
@@ -34,7 +36,18 @@ impl<'r> Run<'r> {
     }
 }
 
-impl Session<'_> {
+impl<'r> Session<'r> {
+    /// The sections of a program. None where they can't be read, which is reported.
+    pub(crate) fn program_of<'i>(&mut self, inputs: &'i Inputs) -> io::Result<Option<Program<'i>>> {
+        match Program::new(self.run.rt.alloc(), inputs.kind, inputs.files()) {
+            Ok(program) => Ok(Some(program)),
+            Err(refusal) => {
+                tell_refusal(refusal, &mut self.output)?;
+                Ok(None)
+            }
+        }
+    }
+
     /// Hands on what was printed. Fails where standard output takes no more, and where memory is
     /// missing.
     pub(crate) fn hand_on(&mut self) -> io::Result<()> {
@@ -42,27 +55,38 @@ impl Session<'_> {
         self.output.hand_on(&mut rt.stdout(), &mut rt.stderr())
     }
 
-    /// Hands on what a step printed, and returns whether more may follow.
-    pub(crate) fn go_on(&mut self, step: Result<bool, AllocError>) -> io::Result<bool> {
+    /// Prints step by step, and hands on what each printed. A step returns whether more may follow.
+    pub(crate) fn print_steps<F: FnMut(&mut Output<'r>) -> Result<bool, AllocError>>(
+        &mut self,
+        mut step: F,
+    ) -> io::Result<()>
+        requires { F.IsAlwaysCallable step }
+    {
         self.hand_on()?;
-        Ok(step?)
+        for _ in 0..u64::MAX {
+            let printed = step(&mut self.output);
+            self.hand_on()?;
+            if !printed? {
+                break;
+            }
+        }
+        Ok(())
     }
 
-    /// Tells at a terminal that a whole section is read, where that is long, and returns whether it
-    /// is told.
-    pub(crate) fn begin_reading<R: Reader>(&mut self, input: &Input<R>) -> io::Result<bool> {
-        let is_told = show_reading(input.length(), &mut self.output);
-        self.hand_on()?;
-        Ok(is_told)
+    /// Tells at a terminal that a whole section is read, where that is long.
+    pub(crate) fn begin_reading(&mut self, length: u64) -> io::Result<()> {
+        show_reading(length, &mut self.output);
+        self.hand_on()
     }
 
-    /// Hands on what was printed, and returns the status of the program: 0, or 1 where something
-    /// was reported, or a check found what is denied.
-    pub(crate) fn finish(self) -> io::Result<u8>
+    /// Hands on what was printed, where nothing failed before, and returns the status of the
+    /// program: 0, or 1 where something was reported, or a check found what is denied.
+    pub(crate) fn finish(self, printed: io::Result<()>) -> io::Result<u8>
         ensures bound { IfOk result (λ status. status ≤ 1) }
         ensures exact { IfOk result
             (λ status. (status ≡ 1) ↔ (self.entry.output.is_faulty ≡ true)) }
     {
+        printed?;
         let rt = self.run.rt;
         self.output.finish(&mut rt.stdout(), &mut rt.stderr())
     }
@@ -71,17 +95,71 @@ impl Session<'_> {
 /// What the outputs are shown on. A terminal is shown colours, unless the variable `NO_COLOR` has a
 /// text, or `TERM` says that it knows none.
 fn screen(rt: &HostRuntime) -> Screen {
-    let is_refused = match env::var(rt, "NO_COLOR") {
-        Ok(text) => !text.is_empty(),
-        Err(_) => false,
-    };
-    let is_dumb = match env::var(rt, "TERM") {
-        Ok(name) => name.as_str() == "dumb",
-        Err(_) => false,
-    };
+    let is_refused = matches!(env::var(rt, "NO_COLOR"), Ok(text) if !text.is_empty());
+    let is_dumb = matches!(env::var(rt, "TERM"), Ok(name) if name.as_str() == "dumb");
     Screen {
         is_out: rt.stdout().is_terminal(),
         is_err: rt.stderr().is_terminal(),
         is_coloured: !is_refused && !is_dumb,
+    }
+}
+
+/// What the command `where` is asked: the addresses that are named, or where none is, those of
+/// standard input, one a line.
+#[derive(Drop)]
+pub(crate) struct Questions<'q> {
+    /// The named addresses that are left.
+    named: &'q [CodeAddress<'q>],
+    /// Where lines are read from, if none is named.
+    lines: Option<BufReader<Stdin>>,
+    /// The line that was read last, empty at the end.
+    line: Vec<u8>,
+    /// Whether the line was answered, or none was read.
+    is_answered: bool,
+}
+
+impl<'q> Questions<'q> {
+    /// The questions from the first on.
+    pub(crate) fn new(rt: &HostRuntime, named: &'q [CodeAddress<'q>]) -> io::Result<Questions<'q>> {
+        let lines = if named.is_empty() {
+            Some(BufReader::new(rt.alloc(), rt.stdin())?)
+        } else {
+            None
+        };
+        Ok(Questions {
+            named,
+            lines,
+            line: Vec::new(rt.alloc()),
+            is_answered: true,
+        })
+    }
+
+    /// What is asked now; None at the end.
+    pub(crate) fn current(&mut self) -> io::Result<Option<Asked<'_>>> {
+        if let Some(address) = self.named.first() {
+            return Ok(Some(Asked::Address(*address)));
+        }
+        if self.is_answered {
+            self.read_line()?;
+        }
+        Ok(asked_by(&self.line))
+    }
+
+    /// Goes on to the next question.
+    pub(crate) fn go_on(&mut self) {
+        self.is_answered = true;
+        if let [_, rest @ ..] = self.named {
+            self.named = rest;
+        }
+    }
+
+    /// The next line, where lines are read; empty at the end.
+    pub(crate) fn read_line(&mut self) -> io::Result<&[u8]> {
+        self.line.clear();
+        if let Some(lines) = &mut self.lines {
+            lines.read_until(b'\n', &mut self.line)?;
+        }
+        self.is_answered = false;
+        Ok(&self.line)
     }
 }

@@ -6,8 +6,8 @@ use Rattle.sha2.specs.Sha256.{sha256}
 use Rattle.gimli_index.specs.Meaning.{Place, place_at, starts_of}
 use Rattle.gimli_index.specs.Parts.{Index, index_at}
 use Rattle.gimli_index.specs.Sound.{IsFaultOf, IsSound}
-use Rattle.lines_answers.specs.declared.index_fault.IndexFault.{IndexFault}
-use Rattle.lines_answers.specs.declared.index_fault.IndexFault.TheVariants.{Index as Bytes, Stale}
+use Rattle.lines_answers.specs.declared.opened_index.IndexFault.{IndexFault}
+use Rattle.lines_answers.specs.declared.opened_index.IndexFault.TheVariants.{Index as Bytes, Stale}
 
 -- what names a program in its index: its build id, or where it has none, the SHA-256 of its line
 -- programs

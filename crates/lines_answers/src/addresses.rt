@@ -1,11 +1,12 @@
 //! The command `at`: the addresses of a line, in the files whose path ends with what is asked for.
 
-use gimli_core::{Error, Reader};
+use gimli_core::Reader;
 use gimli_index::PathEnd;
-use gimli_line::{LineRow, OneShotLineRows};
-use gimli_lookup::{Addresses, SectionLookup, join_addresses};
+use gimli_line::LineRow;
+use gimli_lookup::{Addresses, SectionLookup, SequenceRows, join_addresses};
 use lines_inputs::{Input, PathSources, column_of, line_of, look_up};
-use lines_words::{Json, NameText, Output, PathText, Request, bytes_of_word};
+use lines_pieces::{Piece, Result, add, note};
+use lines_words::{Json, Output, Request, bytes_of_word};
 use std::alloc::{AllocError, Global};
 use std::collections::BTreeMap;
 
@@ -20,12 +21,11 @@ pub fn print_addresses<R: Reader>(
     path: &str,
     line: u64,
     output: &mut Output<'_>,
-) -> Result<(), AllocError> {
+) -> Result<()> {
     let sources = PathSources::new(alloc, input)?;
     let lookup = look_up(alloc, input, output)?;
     let search = Search {
         alloc,
-        input,
         sources: &sources,
         lookup: &lookup,
         request,
@@ -50,12 +50,7 @@ struct PathFiles {
 }
 
 /// Adds a file to those of its path, by whatever spelling.
-fn add_file(
-    alloc: Global,
-    all: &mut Vec<PathFiles>,
-    path: Vec<u8>,
-    file: SeenFile,
-) -> Result<(), AllocError> {
+fn add_file(alloc: Global, all: &mut Vec<PathFiles>, path: Vec<u8>, file: SeenFile) -> Result<()> {
     let end = PathEnd::new(&path);
     for one in all.iter_mut() {
         let is_same = one.path == path
@@ -70,11 +65,18 @@ fn add_file(
     Ok(())
 }
 
+/// A line that was found in the files of one path: its statements, or else its other rows.
+#[derive(Clone, Copy)]
+struct FoundLine<'f> {
+    of: &'f PathFiles,
+    line: u64,
+    is_stmt: bool,
+}
+
 /// A search for the addresses of a line.
 #[derive(Clone, Copy)]
 struct Search<'s, R: Reader> {
     alloc: Global,
-    input: &'s Input<R>,
     sources: &'s PathSources<R>,
     lookup: &'s SectionLookup<R>,
     request: &'s Request<'s>,
@@ -82,16 +84,15 @@ struct Search<'s, R: Reader> {
 
 impl<R: Reader> Search<'_, R> {
     /// Prints the addresses of a line in the files whose path ends so.
-    fn print(&self, path: &str, line: u64, output: &mut Output<'_>) -> Result<(), AllocError> {
+    fn print(&self, path: &str, line: u64, output: &mut Output<'_>) -> Result<()> {
         let end = bytes_of_word(self.alloc, path)?;
         let all = self.find_files(PathEnd::new(&end))?;
         if all.is_empty() {
-            let end = NameText(path);
-            output.note(format_args!("no file's path ends with {end}"));
+            note("no file's path ends with %", &[Piece::Name(path)], output);
         }
         let mut is_found = false;
-        for PathFiles { path, files } in &all {
-            is_found |= self.print_of_path(path, files, line, output)?;
+        for of in &all {
+            is_found |= self.print_of_path(of, line, output)?;
         }
         if !is_found {
             output.refuse();
@@ -100,7 +101,7 @@ impl<R: Reader> Search<'_, R> {
     }
 
     /// The files that are meant in all units. One that has no path is passed over.
-    fn find_files(&self, end: PathEnd<'_>) -> Result<Vec<PathFiles>, AllocError> {
+    fn find_files(&self, end: PathEnd<'_>) -> Result<Vec<PathFiles>> {
         let mut files = Vec::new(self.alloc);
         for (unit, kept) in self.lookup.units().iter().enumerate() {
             let Some(header) = kept.header() else {
@@ -119,44 +120,35 @@ impl<R: Reader> Search<'_, R> {
     }
 
     /// Prints the addresses in the files of one path, and returns whether there is any.
-    fn print_of_path(
-        &self,
-        path: &[u8],
-        files: &[SeenFile],
-        line: u64,
-        output: &mut Output<'_>,
-    ) -> Result<bool, AllocError> {
-        let found = self.addresses_of(files, line)?;
+    fn print_of_path(&self, of: &PathFiles, line: u64, output: &mut Output<'_>) -> Result<bool> {
+        let found = self.addresses_of(&of.files, line)?;
         let next = found.as_ref().map(|found| found.line);
         if next != Some(line) {
-            if self.print_others(path, files, line, output)? {
+            if self.print_others(of, line, output)? {
                 return Ok(true);
             }
-            let text = PathText(path);
+            let (asked, path) = (Piece::Number(line), Piece::Path(Some(&of.path)));
             match next {
-                Some(next) => output.note(format_args!(
-                    "no code at line {line} of {text}; the next is line {next}"
-                )),
-                None => output.note(format_args!("no code from line {line} on in {text}")),
+                Some(next) => {
+                    let text = "no code at line % of %; the next is line %";
+                    note(text, &[asked, path, Piece::Number(next)], output);
+                }
+                None => note("no code from line % on in %", &[asked, path], output),
             }
         }
         match &found {
-            Some(found) => self.print_statements(path, files, found, output),
+            Some(found) => self.print_statements(of, found, output),
             None => Ok(false),
         }
     }
 
     /// Prints the rows of a line that are no statements, and returns whether there is any.
-    fn print_others(
-        &self,
-        path: &[u8],
-        files: &[SeenFile],
-        line: u64,
-        output: &mut Output<'_>,
-    ) -> Result<bool, AllocError> {
-        let others = self.columns_of(files, line, false)?;
+    fn print_others(&self, of: &PathFiles, line: u64, output: &mut Output<'_>) -> Result<bool> {
+        let is_stmt = false;
+        let found = FoundLine { of, line, is_stmt };
+        let others = self.columns_of(&of.files, found)?;
         for (address, column) in &others {
-            self.print_address(path, line, false, *address, Some(*column), output);
+            self.print_address(found, *address, Some(*column), output);
         }
         Ok(!others.is_empty())
     }
@@ -164,17 +156,21 @@ impl<R: Reader> Search<'_, R> {
     /// Prints the statements of a line, and returns true.
     fn print_statements(
         &self,
-        path: &[u8],
-        files: &[SeenFile],
-        found: &Addresses,
+        of: &PathFiles,
+        Addresses { line, addresses }: &Addresses,
         output: &mut Output<'_>,
-    ) -> Result<bool, AllocError> {
+    ) -> Result<bool> {
         let has_column = self.request.has_column || output.is_json();
-        let files = if has_column { files } else { &[] };
-        let columns = self.columns_of(files, found.line, true)?;
-        for address in &found.addresses {
+        let files = if has_column { of.files.as_slice() } else { &[] };
+        let found = FoundLine {
+            of,
+            line: *line,
+            is_stmt: true,
+        };
+        let columns = self.columns_of(files, found)?;
+        for address in addresses {
             let column = columns.get(address).copied();
-            self.print_address(path, found.line, true, *address, column, output);
+            self.print_address(found, *address, column, output);
         }
         Ok(true)
     }
@@ -182,9 +178,7 @@ impl<R: Reader> Search<'_, R> {
     /// Prints an address of a line.
     fn print_address(
         &self,
-        path: &[u8],
-        line: u64,
-        is_stmt: bool,
+        FoundLine { of, line, is_stmt }: FoundLine<'_>,
         address: u64,
         column: Option<u64>,
         output: &mut Output<'_>,
@@ -193,7 +187,7 @@ impl<R: Reader> Search<'_, R> {
         if output.is_json() {
             let fields = [
                 ("address", Json::Offset(Some(address))),
-                ("path", Json::Bytes(Some(path))),
+                ("path", Json::Bytes(Some(&of.path))),
                 ("line", Json::Number(line)),
                 ("column", Json::Number(column.unwrap_or(0))),
                 ("range", Json::Range(address, end)),
@@ -201,14 +195,14 @@ impl<R: Reader> Search<'_, R> {
             ];
             return output.print_object(&fields);
         }
-        output.add(format_args!("0x{address:x}"));
+        add("%", &[Piece::Address(address)], output);
         if self.request.has_range {
-            output.add(format_args!("-0x{end:x}"));
+            add("-%", &[Piece::Address(end)], output);
         }
-        let path = PathText(path);
-        output.add(format_args!("  {path}:{line}"));
+        let place = [Piece::Path(Some(&of.path)), Piece::Number(line)];
+        add("  %:%", &place, output);
         match column {
-            Some(column) if self.request.has_column => output.add(format_args!(":{column}")),
+            Some(column) if self.request.has_column => add(":%", &[Piece::Number(column)], output),
             _ => {}
         }
         output.print(if is_stmt { "" } else { "  not a statement" });
@@ -223,62 +217,42 @@ impl<R: Reader> Search<'_, R> {
     }
 
     /// The addresses in files: those of the first line from the asked one on that has any.
-    fn addresses_of(&self, files: &[SeenFile], line: u64) -> Result<Option<Addresses>, AllocError> {
+    fn addresses_of(&self, files: &[SeenFile], line: u64) -> Result<Option<Addresses>> {
         let mut found = None;
         for file in files {
             let in_file = addresses_in(self.lookup, *file, line)?;
-            match join_addresses(found, in_file) {
-                Ok(joined) => found = joined,
-                Err(_) => return Err(AllocError),
-            }
+            found = join_addresses(found, in_file).map_err(|_| AllocError)?;
         }
         Ok(found)
     }
 
-    /// The columns of rows of a line, by their addresses: of those that are statements, or of those
-    /// that aren't. The faults of the units were reported before.
-    fn columns_of(
-        &self,
-        files: &[SeenFile],
-        line: u64,
-        is_stmt: bool,
-    ) -> Result<BTreeMap<u64, u64>, AllocError> {
+    /// The columns of the rows of a line in files, by their addresses.
+    fn columns_of(&self, files: &[SeenFile], found: FoundLine<'_>) -> Result<BTreeMap<u64, u64>> {
         let mut columns = BTreeMap::new(self.alloc);
-        let size = self.input.address_size.bytes();
         for file in files {
-            if let Some(unit) = self.lookup.units().get(file.unit) {
-                let lines = &self.input.lines;
-                match lines.program(self.alloc, unit.offset(), size, None, None) {
-                    Ok(program) => {
-                        self.add_columns(&mut program.rows(), *file, line, is_stmt, &mut columns)?;
-                    }
-                    Err(_) => return Err(AllocError),
-                }
+            for index in 0..usize::MAX {
+                let Some(rows) = sequence_in(self.lookup, file.unit, index) else {
+                    break;
+                };
+                self.add_columns(rows, *file, found, &mut columns)?;
             }
         }
         Ok(columns)
     }
 
-    /// Adds the columns of rows of a line in one file.
+    /// Adds the columns of the rows of a line in one file.
     fn add_columns(
         &self,
-        rows: &mut OneShotLineRows<R>,
+        rows: SequenceRows<'_>,
         file: SeenFile,
-        line: u64,
-        is_stmt: bool,
+        found: FoundLine<'_>,
         columns: &mut BTreeMap<u64, u64>,
-    ) -> Result<(), AllocError> {
-        for _ in 0..u64::MAX {
-            match rows.next_row() {
-                Ok(Some((_, row))) => {
-                    let is_meant = row.file_index() == file.index && line_of(row) == line;
-                    if is_meant && row.is_stmt() == is_stmt && self.is_code(file.unit, row) {
-                        columns.insert(row.address(), column_of(row))?;
-                    }
-                }
-                Ok(None) => break,
-                Err(Error::OutOfMemory) => return Err(AllocError),
-                Err(_) => break,
+    ) -> Result<()> {
+        for index in 0..rows.len() {
+            let row = rows.row(index);
+            let is_meant = row.file_index() == file.index && line_of(&row) == found.line;
+            if is_meant && row.is_stmt() == found.is_stmt && self.is_code(file.unit, &row) {
+                columns.insert(row.address(), column_of(&row))?;
             }
         }
         Ok(())
@@ -295,17 +269,27 @@ impl<R: Reader> Search<'_, R> {
     }
 }
 
+/// The rows of a sequence of a unit; None where there is none of the index.
+fn sequence_in<R: Reader>(
+    lookup: &SectionLookup<R>,
+    unit: usize,
+    index: usize,
+) -> Option<SequenceRows<'_>> {
+    if unit >= lookup.units().len() {
+        return None;
+    }
+    lookup.sequence(unit, index)
+}
+
 /// The addresses in one file.
 fn addresses_in<R: Reader>(
     lookup: &SectionLookup<R>,
     file: SeenFile,
     line: u64,
-) -> Result<Option<Addresses>, AllocError> {
+) -> Result<Option<Addresses>> {
     if file.unit >= lookup.units().len() {
         return Ok(None);
     }
-    match lookup.addresses_of_file(file.unit, file.index, line) {
-        Ok(found) => Ok(found),
-        Err(_) => Err(AllocError),
-    }
+    let found = lookup.addresses_of_file(file.unit, file.index, line);
+    found.map_err(|_| AllocError)
 }

@@ -1,15 +1,13 @@
 //! The command `where` over lines that name what they ask.
 
-use crate::index_places::print_place;
 use crate::made_index::MadeIndex;
-use crate::opened_index::open_index;
-use crate::place_printer::PlacePrinter;
+use crate::opened_index::{open_index, print_place};
 use gimli_index::LineIndex;
-use lines_words::{
-    LineNames, NameText, Output, PathText, Request, build_id_of, map_path, parse_line_question,
-};
+use lines_pieces::{Piece, Result, tell};
+use lines_places::PlacePrinter;
+use lines_words::{LineNames, Output, Request, build_id_of, map_path, parse_line_question};
 use lru::LruCache;
-use std::alloc::{AllocError, Global};
+use std::alloc::Global;
 use std::collections::HashSet;
 use std::num::NonZeroUsize;
 
@@ -34,7 +32,7 @@ impl<'n> LineAnswers<'n> {
         alloc: Global,
         names: LineNames<'n>,
         request: &'n Request<'n>,
-    ) -> Result<LineAnswers<'n>, AllocError> {
+    ) -> Result<LineAnswers<'n>> {
         let most = NonZeroUsize::new(KEPT).unwrap_or(NonZeroUsize::MIN);
         let printer = PlacePrinter::new(alloc, request)?;
         let kept = LruCache::new(alloc, most)?;
@@ -57,25 +55,21 @@ impl<'n> LineAnswers<'n> {
         if let Some((name, address)) = asked {
             return Some((name.trim_end(), address));
         }
-        self.printer.print_unknown(None, None, output);
+        self.printer.print(None, None, None, output);
         if !line.is_empty() {
             let wanted = match self.names {
                 LineNames::BuildIds(_) => "a build id and an address",
                 LineNames::Files => "a file and an address",
             };
-            let line = PathText(line);
-            output.tell(format_args!("'{line}' is not {wanted}"));
+            let pieces = [Piece::Path(Some(line)), Piece::Word(wanted)];
+            tell("'%' is not %", &pieces, output);
         }
         None
     }
 
     /// Where the index is that has to be read for what a line names. None where it is kept, or
     /// can't be asked, which is reported once.
-    pub fn missing(
-        &mut self,
-        name: &str,
-        output: &mut Output<'_>,
-    ) -> Result<Option<String>, AllocError> {
+    pub fn missing(&mut self, name: &str, output: &mut Output<'_>) -> Result<Option<String>> {
         if self.kept.contains(name) || self.refused.contains(name) {
             return Ok(None);
         }
@@ -87,8 +81,8 @@ impl<'n> LineAnswers<'n> {
             return Ok(Some(map_path(self.alloc, folder, *first, rest)?));
         }
         self.refuse(name)?;
-        let name = NameText(name);
-        output.tell(format_args!("'{name}' is no build id, hexadecimal digits in pairs"));
+        let text = "'%' is no build id, hexadecimal digits in pairs";
+        tell(text, &[Piece::Name(name)], output);
         Ok(None)
     }
 
@@ -100,7 +94,7 @@ impl<'n> LineAnswers<'n> {
         place: &str,
         made: MadeIndex,
         output: &mut Output<'_>,
-    ) -> Result<(), AllocError> {
+    ) -> Result<()> {
         if made.status != 0 {
             output.refuse();
         }
@@ -120,7 +114,7 @@ impl<'n> LineAnswers<'n> {
     }
 
     /// Remembers that something can't be asked.
-    fn refuse(&mut self, name: &str) -> Result<(), AllocError> {
+    fn refuse(&mut self, name: &str) -> Result<()> {
         let name = String::from_str(self.alloc, name)?;
         self.refused.insert(name)?;
         Ok(())
@@ -128,13 +122,10 @@ impl<'n> LineAnswers<'n> {
 
     /// Prints the place of an address of what a line names.
     pub fn answer(&mut self, name: &str, address: u64, output: &mut Output<'_>) {
-        let index = match self.kept.get(name) {
-            Some(bytes) => LineIndex::open(bytes).ok(),
-            None => None,
-        };
-        match index {
+        let kept = self.kept.get(name);
+        match kept.and_then(|bytes| LineIndex::open(bytes).ok()) {
             Some(index) => print_place(&self.printer, index, address, output),
-            None => self.printer.print_unknown(Some(address), None, output),
+            None => self.printer.print(Some(address), None, None, output),
         }
     }
 }

@@ -8,6 +8,7 @@ use elf_sections::{Elf, ElfError};
 use gimli_core::Reader;
 use gimli_index::{MakeError, write_index};
 use lines_inputs::{Input, InputError, NOT_LINKED, PathSources, Program, look_up};
+use lines_pieces::Result;
 use lines_words::{Files, Kind, Output};
 use std::alloc::{AllocError, Global};
 
@@ -52,7 +53,7 @@ pub fn index_of_program(
     files: Files<'_>,
     build_id: Option<&[u8]>,
     output: &mut Output<'_>,
-) -> Result<Option<Vec<u8>>, AllocError> {
+) -> Result<Option<Vec<u8>>> {
     let input = program.input();
     if !input.is_linked {
         output.tell(NOT_LINKED);
@@ -69,7 +70,7 @@ fn index_of_input<R: Reader>(
     input: &Input<R>,
     identity: &[u8],
     output: &mut Output<'_>,
-) -> Result<Option<Vec<u8>>, AllocError>
+) -> Result<Option<Vec<u8>>>
     ensures { IfOk result (λ made. IfSome made (λ made.
         IsMade R.bytes R.big R.Offset.limit input.now identity.now made.items)) }
 {
@@ -79,15 +80,8 @@ fn index_of_input<R: Reader>(
     let size = u16::from(input.address_size.bytes());
     let strings = sources.strings();
     let compilations = sources.compilations();
-    match write_index(
-        alloc,
-        &lookup,
-        strings,
-        compilations,
-        size,
-        identity,
-        &mut bytes,
-    ) {
+    let out = &mut bytes;
+    match write_index(alloc, &lookup, strings, compilations, size, identity, out) {
         Ok(()) => Ok(Some(bytes)),
         Err(MakeError::OutOfMemory) => Err(AllocError),
         Err(refusal) => {

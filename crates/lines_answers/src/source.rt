@@ -5,26 +5,11 @@ use gimli_index::PathEnd;
 use gimli_line::{LineProgramHeader, LineRow};
 use indexmap::IndexSet;
 use lines_inputs::{Functions, Input, PathSources, Printing, UnitRows, Walk, line_of};
-use lines_words::{NameText, Output, SourcePlace, UnitChoice, bytes_of_word};
-use std::alloc::{AllocError, Global};
+use lines_pieces::{Piece, Result, tell};
+use lines_places::SourceRow;
+use lines_words::{Output, SourcePlace, UnitChoice, bytes_of_word};
+use std::alloc::Global;
 use std::collections::BTreeMap;
-
-/// A row of a line of a file.
-#[derive(Clone, Copy, PartialEq, Eq, PartialOrd, Ord)]
-pub struct SourceRow {
-    /// The number of the path.
-    pub(crate) path: usize,
-    pub(crate) line: u64,
-    pub(crate) address: u64,
-    pub(crate) is_stmt: bool,
-}
-
-impl SourceRow {
-    /// Whether another row has its address and its line.
-    fn is_beside(&self, other: &SourceRow) -> bool {
-        self.path == other.path && self.line == other.line && self.address == other.address
-    }
-}
 
 /// The rows of a place, which are found unit by unit.
 #[derive(Drop)]
@@ -57,14 +42,13 @@ impl<'w, R: Reader> SourceRows<'w, R> {
         place: SourcePlace<'w>,
         context: u64,
         output: &mut Output<'_>,
-    ) -> Result<Option<SourceRows<'w, R>>, AllocError> {
+    ) -> Result<Option<SourceRows<'w, R>>> {
         let (end, code) = match place {
             SourcePlace::Line { path, .. } => (bytes_of_word(alloc, path)?, (0, 0)),
             SourcePlace::Function(name) => {
                 let word = bytes_of_word(alloc, name)?;
                 let Some(code) = functions.range_of(&word) else {
-                    let name = NameText(name);
-                    output.tell(format_args!("no function has the name {name}"));
+                    tell("no function has the name %", &[Piece::Name(name)], output);
                     return Ok(None);
                 };
                 (word, code)
@@ -95,11 +79,7 @@ impl<'w, R: Reader> SourceRows<'w, R> {
     }
 
     /// Adds the rows of a unit that are wanted. Its fault is reported.
-    fn add_unit(
-        &mut self,
-        unit: &mut UnitRows<R>,
-        output: &mut Output<'_>,
-    ) -> Result<bool, AllocError> {
+    fn add_unit(&mut self, unit: &mut UnitRows<R>, output: &mut Output<'_>) -> Result<bool> {
         self.numbers = BTreeMap::new(self.alloc);
         if matches!(self.place, SourcePlace::Line { .. }) {
             for index in 0..=unit.header().file_names().len() as u64 {
@@ -134,7 +114,7 @@ impl<'w, R: Reader> SourceRows<'w, R> {
     }
 
     /// Adds a row, where those of its file are wanted.
-    fn add_row(&mut self, header: &LineProgramHeader<R>, row: &LineRow) -> Result<(), AllocError> {
+    fn add_row(&mut self, header: &LineProgramHeader<R>, row: &LineRow) -> Result<()> {
         let Some(path) = self.number_of(header, row.file_index())? else {
             return Ok(());
         };
@@ -149,11 +129,7 @@ impl<'w, R: Reader> SourceRows<'w, R> {
 
     /// The number of the path of a file; None where it has none, or its rows aren't wanted. Those
     /// of a unit that were asked for are kept.
-    fn number_of(
-        &mut self,
-        header: &LineProgramHeader<R>,
-        index: u64,
-    ) -> Result<Option<usize>, AllocError> {
+    fn number_of(&mut self, header: &LineProgramHeader<R>, index: u64) -> Result<Option<usize>> {
         if let Some(number) = self.numbers.get(&index).copied() {
             return Ok(number);
         }
@@ -169,12 +145,12 @@ impl<'w, R: Reader> SourceRows<'w, R> {
     }
 
     /// Puts the rows in order, each address of a line once: a statement where one of its rows is.
-    fn sort(&mut self) -> Result<(), AllocError> {
+    fn sort(&mut self) -> Result<()> {
         self.rows.sort()?;
         let mut distinct: Vec<SourceRow> = Vec::new(self.alloc);
         for row in &self.rows {
             match distinct.last_mut() {
-                Some(before) if before.is_beside(row) => before.is_stmt |= row.is_stmt,
+                Some(before) if is_beside(before, row) => before.is_stmt |= row.is_stmt,
                 _ => distinct.push(*row)?,
             }
         }
@@ -185,7 +161,7 @@ impl<'w, R: Reader> SourceRows<'w, R> {
     /// Adds the rows of the next unit, whose fault is reported, and returns whether more may
     /// follow. After the last one the rows are put in order; that no file has the place is
     /// reported.
-    pub fn add_next(&mut self, output: &mut Output<'_>) -> Result<bool, AllocError> {
+    pub fn add_next(&mut self, output: &mut Output<'_>) -> Result<bool> {
         match self.walk.next_rows(output)? {
             Some(mut unit) => self.add_unit(&mut unit, output),
             None => self.finish(output),
@@ -193,20 +169,20 @@ impl<'w, R: Reader> SourceRows<'w, R> {
     }
 
     /// Puts the rows in order, and reports that no file has the place.
-    fn finish(&mut self, output: &mut Output<'_>) -> Result<bool, AllocError> {
+    fn finish(&mut self, output: &mut Output<'_>) -> Result<bool> {
         self.sort()?;
         if self.paths.is_empty() {
-            match self.place {
-                SourcePlace::Line { path, .. } => {
-                    let path = NameText(path);
-                    output.tell(format_args!("no file's path ends with {path}"));
-                }
-                SourcePlace::Function(name) => {
-                    let name = NameText(name);
-                    output.tell(format_args!("no rows have the code of {name}"));
-                }
-            }
+            let (text, name) = match self.place {
+                SourcePlace::Line { path, .. } => ("no file's path ends with %", path),
+                SourcePlace::Function(name) => ("no rows have the code of %", name),
+            };
+            tell(text, &[Piece::Name(name)], output);
         }
         Ok(false)
     }
+}
+
+/// Whether two rows have one address and one line.
+fn is_beside(one: &SourceRow, other: &SourceRow) -> bool {
+    one.path == other.path && one.line == other.line && one.address == other.address
 }

@@ -62,9 +62,7 @@ impl<'n> Functions<'n> {
         }
         self.table.name(range.name)
     }
-}
 
-impl Functions<'_> {
     /// The addresses of the first function of a name: where it begins, and where it ends. One whose
     /// bytes aren't counted ends where the next begins.
     pub fn range_of(&self, name: &[u8]) -> Option<(u64, u64)> {
@@ -74,16 +72,10 @@ impl Functions<'_> {
         if range.size > 0 {
             return Some((range.start, range.start.saturating_add(range.size)));
         }
-        Some((range.start, self.next_start(range.start)))
-    }
-
-    /// Where the first function after an address begins; the greatest address where none does.
-    fn next_start(&self, address: u64) -> u64 {
-        let after = self.ranges.partition_point(|range| range.start <= address);
-        match self.ranges.get(after) {
-            Some(range) => range.start,
-            None => u64::MAX,
-        }
+        let start = range.start;
+        let after = self.ranges.partition_point(|range| range.start <= start);
+        let end = self.ranges.get(after).map_or(u64::MAX, |next| next.start);
+        Some((start, end))
     }
 }
 

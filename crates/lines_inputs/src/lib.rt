@@ -2,20 +2,18 @@
 //! of its files, its units and their rows.
 #![tactic(auto)]
 
+mod files;
 mod functions;
 mod input;
-mod input_error;
 mod lookup;
 mod path_sources;
-mod program;
-mod unit_rows;
-mod walk;
+mod units;
 
+pub use files::{build_id_in, write_file};
 pub use functions::Functions;
-pub use input::{Input, NOT_LINKED};
-pub use input_error::{InputError, tell_refusal};
+pub use input::{Input, InputError, NOT_LINKED, Program, tell_refusal};
 pub use lookup::{Covering, look_up, look_up_any, look_up_each};
 pub use path_sources::{PathFault, PathSources};
-pub use program::Program;
-pub use unit_rows::{FlagLetters, RowCount, UnitRows, column_of, flags_of, line_of};
-pub use walk::{Printing, Walk, show_reading};
+pub use units::{
+    FlagLetters, Printing, RowCount, UnitRows, Walk, column_of, flags_of, line_of, show_reading,
+};

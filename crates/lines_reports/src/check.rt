@@ -1,14 +1,14 @@
 //! The command `check`: what is wrong, lost, odd or usual in a section.
 
 use crate::findings::Findings;
-use crate::reading::Reading;
+use crate::report::Reading;
 use crate::unit_check::{Sequence, UnitCheck};
 use gimli_core::{Reader, ReaderOffset};
 use gimli_line::LineProgramHeader;
-use gimli_lookup::PathError;
+use lines_pieces::{Piece, Result, path_or_fault};
 use lines_words::{FindingKind, Output};
 use sha2::{Digest, Sha256};
-use std::alloc::{AllocError, Global};
+use std::alloc::Global;
 
 /// A check of the units of a section, one after the other.
 #[derive(Drop)]
@@ -38,9 +38,10 @@ impl<R: Reader> Check<R> {
         &mut self,
         reading: &mut Reading<R>,
         output: &mut Output<'_>,
-    ) -> Result<bool, AllocError> {
+    ) -> Result<bool> {
         if let Some(unit) = &mut self.unit {
-            if !unit.run_some(&mut self.sequences, &mut self.findings, output)? {
+            if !unit.run_some(&mut self.sequences, output)? {
+                self.findings = unit.findings;
                 check_files(reading, unit.header(), &mut self.findings, output)?;
                 self.unit = None;
             }
@@ -58,11 +59,7 @@ impl<R: Reader> Check<R> {
     }
 
     /// Goes on to the next unit. False where there is none.
-    fn begin_unit(
-        &mut self,
-        reading: &mut Reading<R>,
-        output: &mut Output<'_>,
-    ) -> Result<bool, AllocError> {
+    fn begin_unit(&mut self, reading: &mut Reading<R>, output: &mut Output<'_>) -> Result<bool> {
         let Some(unit) = reading.walk.next_unit(output)? else {
             return Ok(false);
         };
@@ -71,18 +68,19 @@ impl<R: Reader> Check<R> {
         self.findings.unit = offset;
         match unit.program {
             Ok(program) => {
-                self.unit = Some(UnitCheck::new(reading.lowest, reading.is_linked, program));
+                self.unit = Some(UnitCheck::new(self.findings, reading, program));
             }
             Err(refusal) => {
+                let (kind, byte) = (FindingKind::Header, Some(offset));
                 self.findings
-                    .find(FindingKind::Header, Some(offset), refusal, output);
+                    .find(kind, byte, "%", &[Piece::Error(refusal)], output);
             }
         }
         Ok(true)
     }
 
     /// Prints each sequence that begins before the end of one that begins no later than it.
-    fn print_overlaps(&mut self, output: &mut Output<'_>) -> Result<(), AllocError> {
+    fn print_overlaps(&mut self, output: &mut Output<'_>) -> Result<()> {
         self.sequences.sort()?;
         let mut furthest: Option<Sequence> = None;
         for sequence in self.sequences.iter() {
@@ -107,18 +105,21 @@ fn print_overlap(
     findings: &mut Findings,
     output: &mut Output<'_>,
 ) {
-    let (from, to, beside) = (other.start, other.end, other.unit);
-    let kind = if start == from && end == to {
+    let kind = if start == other.start && end == other.end {
         FindingKind::Merged
     } else {
         FindingKind::Overlap
     };
     findings.unit = unit;
-    let sentence = format_args!(
-        "the sequence from 0x{start:x} to 0x{end:x} overlaps that from 0x{from:x} to 0x{to:x} in \
-         the unit at 0x{beside:x}"
-    );
-    findings.find(kind, None, sentence, output);
+    let text = "the sequence from % to % overlaps that from % to % in the unit at %";
+    let pieces = [
+        Piece::Address(start),
+        Piece::Address(end),
+        Piece::Address(other.start),
+        Piece::Address(other.end),
+        Piece::Address(other.unit),
+    ];
+    findings.find(kind, None, text, &pieces, output);
 }
 
 /// Prints each file of a unit that has no path, and each that has the path of a file before it.
@@ -127,21 +128,21 @@ fn check_files<R: Reader>(
     header: &LineProgramHeader<R>,
     findings: &mut Findings,
     output: &mut Output<'_>,
-) -> Result<(), AllocError> {
+) -> Result<()> {
     // Each by the digest of its whole path, so that it takes no more memory than the file does.
     let mut files = Vec::new(reading.alloc);
     for index in 0..=header.file_names().len() as u64 {
         let Some(file) = header.file(index) else {
             continue;
         };
-        match reading.sources.of_file(reading.alloc, header, file) {
-            Ok(path) => files.push((Sha256::digest(path.as_slice()), index))?,
-            Err(PathError::OutOfMemory) => return Err(AllocError),
-            Err(error) => {
-                let error = reading.sources.fault(error);
-                let sentence = format_args!("file {index}: {error}");
-                findings.find(FindingKind::NoPath, None, sentence, output);
-            }
+        let path = reading.sources.of_file(reading.alloc, header, file);
+        let (path, fault) = path_or_fault(&reading.sources, path)?;
+        if let Some(path) = path {
+            files.push((Sha256::digest(path.as_slice()), index))?;
+        }
+        if let Some(fault) = fault {
+            let pieces = [Piece::Number(index), Piece::Fault(fault)];
+            findings.find(FindingKind::NoPath, None, "file %: %", &pieces, output);
         }
     }
     files.sort()?;
@@ -161,8 +162,9 @@ fn print_duplicates(files: &[([u8; 32], u64)], findings: &mut Findings, output: 
                 } else {
                     FindingKind::SamePath
                 };
-                let sentence = format_args!("files {first} and {second} have the same path");
-                findings.find(kind, None, sentence, output);
+                let pieces = [Piece::Number(*first), Piece::Number(*second)];
+                let text = "files % and % have the same path";
+                findings.find(kind, None, text, &pieces, output);
             }
             _ => {}
         }

@@ -1,13 +1,14 @@
 //! The command `diff`: which lines have other code in a new program than in an old one.
 
-use crate::coverage::{Change, Coverage, Place};
 use crate::path_numbers::PathNumbers;
-use crate::reading::Reading;
+use crate::report::Reading;
 use gimli_core::Reader;
 use gimli_line::{LineProgramHeader, LineRow};
+use lines_counts::{Change, Coverage, Place};
 use lines_inputs::{Input, Printing, UnitRows, line_of};
-use lines_words::{Json, Output, PathText, UnitChoice};
-use std::alloc::{AllocError, Global};
+use lines_pieces::{Piece, Result, add, print, print_fields};
+use lines_words::{Json, Output, UnitChoice};
+use std::alloc::Global;
 
 /// The code of each line of two programs.
 #[derive(Drop)]
@@ -26,7 +27,7 @@ impl<R: Reader> Diff<R> {
         old: &Input<R>,
         new: &Input<R>,
         output: &mut Output<'_>,
-    ) -> Result<Diff<R>, AllocError> {
+    ) -> Result<Diff<R>> {
         let old = Side::new(alloc, old, output)?;
         let new = Side::new(alloc, new, output)?;
         Ok(Diff {
@@ -44,7 +45,7 @@ impl<R: Reader> Diff<R> {
 
     /// Prints each line that has another number of bytes of code in the new program than in the old
     /// one, and how many lines there are. The command ends as refused where there is a difference.
-    fn print_differences(&self, output: &mut Output<'_>) -> Result<(), AllocError> {
+    fn print_differences(&self, output: &mut Output<'_>) -> Result<()> {
         let Side { reading, coverage } = &self.old;
         let differences = coverage.differences(reading.alloc, &self.new.coverage)?;
         for (place, change) in &differences {
@@ -53,51 +54,44 @@ impl<R: Reader> Diff<R> {
         if !differences.is_empty() {
             output.refuse();
         }
-        let old = coverage.count();
-        let new = self.new.coverage.count();
-        let count = differences.len();
         let fields = [
-            ("old_lines", Json::Number(old as u64)),
-            ("new_lines", Json::Number(new as u64)),
-            ("differences", Json::Number(count as u64)),
+            ("old_lines", Piece::Number(coverage.count() as u64)),
+            ("new_lines", Piece::Number(self.new.coverage.count() as u64)),
+            ("differences", Piece::Number(differences.len() as u64)),
         ];
-        if output.is_json() {
-            output.print_object(&fields);
-        } else {
-            output.print(format_args!(
-                "lines with code: {old} in the old program, {new} in the new one; differences: \
-                 {count}"
-            ));
-        }
+        let text = "lines with code: % in the old program, % in the new one; differences: %";
+        print_fields(text, &fields, output);
         Ok(())
     }
 
     /// Prints a line that differs.
     fn print_change(&self, place: Place, change: Change, output: &mut Output<'_>) {
         let path = self.paths.path(place.path);
-        let line = place.line;
         if output.is_json() {
             let fields = [
-                ("path", Json::Bytes(Some(path))),
-                ("line", Json::Number(line)),
+                ("path", Json::Bytes(path)),
+                ("line", Json::Number(place.line)),
                 ("old_bytes", Json::Count(change.old)),
                 ("new_bytes", Json::Count(change.new)),
             ];
             return output.print_object(&fields);
         }
-        let path = PathText(path);
-        output.add(format_args!("{path}:{line}  "));
+        let pieces = [Piece::Path(path), Piece::Number(place.line)];
+        add("%:%  ", &pieces, output);
         match (change.old, change.new) {
-            (Some(old), Some(new)) => output.print(format_args!("{old} bytes, now {new}")),
-            (Some(old), None) => output.print(format_args!("{old} bytes, now no code")),
-            (None, Some(new)) => output.print(format_args!("no code, now {new} bytes")),
+            (Some(old), Some(new)) => {
+                let pieces = [Piece::Number(old), Piece::Number(new)];
+                print("% bytes, now %", &pieces, output);
+            },
+            (Some(old), None) => print("% bytes, now no code", &[Piece::Number(old)], output),
+            (None, Some(new)) => print("no code, now % bytes", &[Piece::Number(new)], output),
             (None, None) => output.print("no code"),
         }
     }
 
     /// Adds the code of the next unit. After the last one of the new program follow the lines that
     /// differ.
-    pub fn print_next(&mut self, output: &mut Output<'_>) -> Result<bool, AllocError> {
+    pub fn print_next(&mut self, output: &mut Output<'_>) -> Result<bool> {
         if !self.is_new {
             return self.old.add_next(&mut self.paths, output);
         }
@@ -118,22 +112,14 @@ struct Side<R: Reader> {
 
 impl<R: Reader> Side<R> {
     /// No line is known.
-    fn new(
-        alloc: Global,
-        input: &Input<R>,
-        output: &mut Output<'_>,
-    ) -> Result<Side<R>, AllocError> {
+    fn new(alloc: Global, input: &Input<R>, output: &mut Output<'_>) -> Result<Side<R>> {
         let reading = Reading::new(alloc, input, UnitChoice::All, Printing::Rare, output)?;
         let coverage = Coverage::new(alloc);
         Ok(Side { reading, coverage })
     }
 
     /// Adds the code of the next unit. False where there is none.
-    fn add_next(
-        &mut self,
-        paths: &mut PathNumbers,
-        output: &mut Output<'_>,
-    ) -> Result<bool, AllocError> {
+    fn add_next(&mut self, paths: &mut PathNumbers, output: &mut Output<'_>) -> Result<bool> {
         match self.reading.walk.next_rows(output)? {
             Some(mut unit) => self.add_unit(&mut unit, paths, output),
             None => Ok(false),
@@ -146,7 +132,7 @@ impl<R: Reader> Side<R> {
         unit: &mut UnitRows<R>,
         paths: &mut PathNumbers,
         output: &mut Output<'_>,
-    ) -> Result<bool, AllocError> {
+    ) -> Result<bool> {
         paths.begin_unit();
         let mut before: Option<LineRow> = None;
         for _ in 0..u64::MAX {
@@ -169,12 +155,12 @@ impl<R: Reader> Side<R> {
         row: &LineRow,
         end: u64,
         paths: &mut PathNumbers,
-    ) -> Result<(), AllocError> {
+    ) -> Result<()> {
         if row.address() < self.reading.lowest || end <= row.address() {
             return Ok(());
         }
         let place = Place {
-            path: paths.number_of(header, row.file_index(), &self.reading.sources)?,
+            path: paths.number_of(header, row.file_index(), &self.reading)?,
             line: line_of(row),
         };
         self.coverage.add(place, end.saturating_sub(row.address()))

@@ -1,7 +1,7 @@
 //! What a check has found, and what of it is told.
 
+use lines_pieces::{Piece, add, print, print_fields};
 use lines_words::{FindingKind, Json, Output, Style};
-use std::fmt;
 
 /// What was found so far.
 #[derive(Clone, Copy)]
@@ -28,7 +28,8 @@ impl Findings {
         &mut self,
         kind: FindingKind,
         byte: Option<u64>,
-        sentence: impl fmt::Display + Drop,
+        text: &str,
+        pieces: &[Piece<'_>],
         output: &mut Output<'_>,
     ) {
         let (number, name, severity) = kind.entry();
@@ -38,22 +39,25 @@ impl Findings {
         if !choice.is_all && !choice.counts(kind) {
             return;
         }
-        let unit = self.unit;
         let severity = severity.name();
         if output.is_json() {
             let fields = [
-                ("unit", Json::Offset(Some(unit))),
+                ("unit", Json::Offset(Some(self.unit))),
                 ("severity", Json::Word(severity)),
                 ("kind", Json::Word(name)),
                 ("byte", Json::Offset(byte)),
+                ("message", Json::Written("\"")),
             ];
             output.add_fields("{", &fields);
-            return output.print(format_args!(",\"message\":\"{sentence}\"}}"));
+            add(text, pieces, output);
+            return output.print("\"}");
         }
         let Style { begin, end } = output.heading();
-        output.print(format_args!(
-            "{begin}unit at 0x{unit:x}:{end} {severity}: {sentence} [{name}]"
-        ));
+        let (begin, unit) = (Piece::Word(begin), Piece::Address(self.unit));
+        let (end, severity) = (Piece::Word(end), Piece::Word(severity));
+        add("%unit at %:% %: ", &[begin, unit, end, severity], output);
+        add(text, pieces, output);
+        print(" [%]", &[Piece::Word(name)], output);
     }
 
     /// Prints how many findings of each kind there were in so many units, and how many of them
@@ -62,33 +66,29 @@ impl Findings {
         let mut findings = 0u64;
         for kind in FindingKind::ALL {
             let (number, name, severity) = kind.entry();
-            let severity = severity.name();
             let count = self.counts[number];
-            if count == 0 {
-                continue;
-            }
-            let fields = [
-                ("severity", Json::Word(severity)),
-                ("kind", Json::Word(name)),
-                ("count", Json::Number(count)),
-            ];
-            if output.is_json() {
-                output.print_object(&fields);
-            } else {
-                output.print(format_args!("{name} ({severity}): {count}"));
+            if count > 0 {
+                print_count(name, severity.name(), count, output);
             }
             if output.check().counts(kind) {
                 findings = findings.saturating_add(count);
             }
         }
         let fields = [
-            ("units", Json::Number(units)),
-            ("findings", Json::Number(findings)),
+            ("units", Piece::Number(units)),
+            ("findings", Piece::Number(findings)),
         ];
-        if output.is_json() {
-            output.print_object(&fields);
-        } else {
-            output.print(format_args!("units: {units}, findings: {findings}"));
-        }
+        print_fields("units: %, findings: %", &fields, output);
     }
+}
+
+/// Prints how many findings of a kind there were.
+fn print_count<'n>(name: &'n str, severity: &'n str, count: u64, output: &mut Output<'_>) {
+    let (kind, severity) = (Piece::Word(name), Piece::Word(severity));
+    let count = Piece::Number(count);
+    if output.is_json() {
+        let fields = [("severity", severity), ("kind", kind), ("count", count)];
+        return print_fields("", &fields, output);
+    }
+    print("% (%): %", &[kind, severity, count], output);
 }

@@ -1,30 +1,16 @@
 //! The commands of `lines` that tell what line programs hold: `units`, `files`, `rows`, `check`,
-//! `stat` and `diff`; and what they count.
-//!
-//! [`Tally`] counts what the bytes of a section are spent on, [`Coverage`] which bytes of code each
-//! line of a file has, and [`Change`] says how those of two programs differ.
+//! `stat` and `diff`.
 #![tactic(auto)]
 
 mod check;
-mod coverage;
 mod diff;
-mod file_list;
 mod findings;
-pub mod laws;
 mod path_numbers;
-mod reading;
 mod report;
 mod row_list;
-mod sizes;
-mod spent;
 mod stat;
-mod tally;
 mod unit_check;
 mod unit_list;
 
-pub use coverage::{Change, Coverage, Place};
 pub use diff::Diff;
 pub use report::Report;
-pub use sizes::{InstructionBytes, instruction_bytes};
-pub use spent::Spent;
-pub use tally::{Share, Tally};

@@ -1,10 +1,11 @@
 //! The paths of files, each by a number.
 
+use crate::report::Reading;
 use gimli_core::Reader;
 use gimli_line::LineProgramHeader;
 use indexmap::IndexSet;
-use lines_inputs::PathSources;
-use std::alloc::{AllocError, Global};
+use lines_pieces::Result;
+use std::alloc::Global;
 use std::collections::BTreeMap;
 
 /// The numbers of paths.
@@ -37,12 +38,12 @@ impl PathNumbers {
         &mut self,
         header: &LineProgramHeader<R>,
         file: u64,
-        sources: &PathSources<R>,
-    ) -> Result<usize, AllocError> {
+        reading: &Reading<R>,
+    ) -> Result<usize> {
         if let Some(number) = self.of_unit.get(&file).copied() {
             return Ok(number);
         }
-        let path = match sources.known_path(self.alloc, header, file)? {
+        let path = match reading.sources.known_path(self.alloc, header, file)? {
             Some(path) => path,
             None => Vec::from_slice(self.alloc, b"??")?,
         };
@@ -51,11 +52,9 @@ impl PathNumbers {
         Ok(number)
     }
 
-    /// The path of a number.
-    pub(crate) fn path(&self, number: usize) -> &[u8] {
-        match self.paths.get_index(number) {
-            Some(path) => path,
-            None => b"??",
-        }
+    /// The path of a number; None past the last one.
+    pub(crate) fn path(&self, number: usize) -> Option<&[u8]> {
+        let path = self.paths.get_index(number)?;
+        Some(path)
     }
 }

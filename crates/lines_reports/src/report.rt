@@ -1,15 +1,49 @@
 //! What is printed of line programs, piece by piece.
 
 use crate::check::Check;
-use crate::file_list::print_unit_files;
-use crate::reading::Reading;
 use crate::row_list::RowList;
 use crate::stat::Stat;
-use crate::unit_list::{print_heading, print_unit};
+use crate::unit_list::{print_heading, print_unit, print_unit_files};
 use gimli_core::Reader;
-use lines_inputs::{Input, Printing, UnitRows};
+use lines_inputs::{Input, PathSources, Printing, UnitRows, Walk};
+use lines_pieces::Result;
 use lines_words::{Command, Output, Request, UnitChoice};
-use std::alloc::{AllocError, Global};
+use std::alloc::Global;
+
+/// The chosen units of a section, one after the other, and what whole paths are made of.
+#[derive(Drop)]
+pub(crate) struct Reading<R: Reader> {
+    pub(crate) alloc: Global,
+    pub(crate) walk: Walk<R>,
+    pub(crate) sources: PathSources<R>,
+    /// The length of the section in bytes.
+    pub(crate) length: u64,
+    /// An address below which there is no code.
+    pub(crate) lowest: u64,
+    /// Whether code has its addresses.
+    pub(crate) is_linked: bool,
+}
+
+impl<R: Reader> Reading<R> {
+    /// The units from the start of the section on.
+    pub(crate) fn new(
+        alloc: Global,
+        input: &Input<R>,
+        units: UnitChoice,
+        printing: Printing,
+        output: &mut Output<'_>,
+    ) -> Result<Reading<R>> {
+        let sources = PathSources::new(alloc, input)?;
+        Ok(Reading {
+            alloc,
+            walk: Walk::new(alloc, input, units, printing, output),
+            sources,
+            length: input.length(),
+            lowest: input.lowest,
+            is_linked: input.is_linked,
+        })
+    }
+}
 
 /// What a command prints of line programs.
 #[derive(Drop)]
@@ -37,14 +71,13 @@ impl<R: Reader> Report<R> {
         input: &Input<R>,
         request: &Request<'_>,
         output: &mut Output<'_>,
-    ) -> Result<Option<Report<R>>, AllocError> {
-        let (printing, units) = match request.command {
-            Command::Units => (Printing::Steady, UnitChoice::All),
-            Command::Files | Command::Rows(_) => (Printing::Steady, request.units),
-            Command::Check | Command::Stat => (Printing::Rare, UnitChoice::All),
+    ) -> Result<Option<Report<R>>> {
+        let printing = match request.command {
+            Command::Units | Command::Files | Command::Rows(_) => Printing::Steady,
+            Command::Check | Command::Stat => Printing::Rare,
             _ => return Ok(None),
         };
-        let reading = Reading::new(alloc, input, units, printing, output)?;
+        let reading = Reading::new(alloc, input, request.units, printing, output)?;
         let task = match request.command {
             Command::Files => Task::Files,
             Command::Rows(form) => Task::Rows(RowList::new(alloc, form)),
@@ -63,7 +96,7 @@ impl<R: Reader> Report<R> {
     }
 
     /// Prints the next piece, and returns whether more may follow.
-    pub fn print_next(&mut self, output: &mut Output<'_>) -> Result<bool, AllocError> {
+    pub fn print_next(&mut self, output: &mut Output<'_>) -> Result<bool> {
         if let Task::Check(check) = &mut self.task {
             return check.print_next(&mut self.reading, output);
         }
@@ -71,19 +104,18 @@ impl<R: Reader> Report<R> {
         if is_new {
             self.unit = self.reading.walk.next_rows(output)?;
         }
-        match &mut self.unit {
-            Some(unit) => {
-                if !self.task.print_unit(&self.reading, unit, is_new, output)? {
+        match (&mut self.unit, &mut self.task) {
+            (Some(unit), task) => {
+                if !task.print_unit(&self.reading, unit, is_new, output)? {
                     self.unit = None;
                 }
                 Ok(true)
             }
-            None => {
-                if let Task::Stat(stat) = &mut self.task {
-                    stat.finish(self.reading.length, output)?;
-                }
+            (None, Task::Stat(stat)) => {
+                stat.finish(self.reading.length, output)?;
                 Ok(false)
             }
+            (None, _) => Ok(false),
         }
     }
 }
@@ -97,7 +129,7 @@ impl<R: Reader> Task<R> {
         unit: &mut UnitRows<R>,
         is_new: bool,
         output: &mut Output<'_>,
-    ) -> Result<bool, AllocError> {
+    ) -> Result<bool> {
         match self {
             Task::Rows(list) if is_new => {
                 list.begin(unit, output);

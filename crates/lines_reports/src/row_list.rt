@@ -1,12 +1,12 @@
 //! The command `rows`: the rows of units.
 
-use crate::reading::Reading;
+use crate::report::Reading;
 use gimli_core::Reader;
 use gimli_line::LineRow;
-use gimli_lookup::PathError;
-use lines_inputs::{FlagLetters, RowCount, UnitRows, column_of, flags_of, line_of};
+use lines_inputs::{FlagLetters, UnitRows, column_of, flags_of, line_of};
+use lines_pieces::{Piece, Result, path_or_fault, tell_of_unit};
 use lines_words::{Form, Json, JsonBytes, Output, PathText, last_part};
-use std::alloc::{AllocError, Global};
+use std::alloc::Global;
 
 /// How many rows are printed before they are handed on.
 const SOME: u64 = 1024;
@@ -44,7 +44,7 @@ impl RowList {
         reading: &Reading<R>,
         unit: &mut UnitRows<R>,
         output: &mut Output<'_>,
-    ) -> Result<bool, AllocError> {
+    ) -> Result<bool> {
         for _ in 0..SOME {
             let Some(row) = unit.next_row()? else {
                 unit.tell_fault(output);
@@ -69,33 +69,30 @@ impl RowList {
         unit: &UnitRows<R>,
         row: &LineRow,
         output: &mut Output<'_>,
-    ) -> Result<(), AllocError> {
+    ) -> Result<()> {
         self.file = Some(row.file_index());
-        let path = match reading.sources.of_row(reading.alloc, unit.header(), row) {
-            Ok(path) => Some(path),
-            Err(PathError::OutOfMemory) => return Err(AllocError),
-            Err(fault) => {
-                let fault = reading.sources.fault(fault);
-                let rows = RowCount(unit.count.saturating_sub(1));
-                output.tell_of_unit(unit.offset, format_args!("after {rows}: {fault}"));
-                None
+        let path = reading.sources.of_row(reading.alloc, unit.header(), row);
+        let (path, fault) = path_or_fault(&reading.sources, path)?;
+        if let Some(fault) = fault {
+            let rows = Piece::Rows(unit.count.saturating_sub(1));
+            let pieces = [rows, Piece::Fault(fault)];
+            tell_of_unit(unit.offset, "after %: %", &pieces, output);
+        }
+        self.path = match self.form {
+            Form::Json => {
+                let (name, bytes) = ("path", path.as_deref());
+                let path = JsonBytes { name, bytes };
+                format!(in reading.alloc; "{path}")?
+            }
+            form => {
+                let path = path.as_deref().unwrap_or(b"??");
+                let path = PathText(match form {
+                    Form::Text => last_part(path),
+                    _ => path,
+                });
+                format!(in reading.alloc; "{path}")?
             }
         };
-        if matches!(self.form, Form::Json) {
-            let path = JsonBytes {
-                name: "path",
-                bytes: path.as_deref(),
-            };
-            self.path = format!(in reading.alloc; "{path}")?;
-            return Ok(());
-        }
-        let path = match &path {
-            Some(path) if matches!(self.form, Form::Text) => last_part(path),
-            Some(path) => path.as_slice(),
-            None => b"??",
-        };
-        let path = PathText(path);
-        self.path = format!(in reading.alloc; "{path}")?;
         Ok(())
     }
 }

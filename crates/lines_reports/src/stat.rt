@@ -1,17 +1,16 @@
 //! The command `stat`: what the bytes of the section are spent on.
 
 use crate::path_numbers::PathNumbers;
-use crate::reading::Reading;
-use crate::spent::NAMES;
-use crate::tally::{Share, Tally};
+use crate::report::Reading;
 use crate::unit_list::unit_bytes;
 use gimli_core::Reader;
 use gimli_line::LineRow;
+use lines_counts::{Spent, Tally};
 use lines_inputs::UnitRows;
-use lines_words::{Json, Output, PathText};
-use std::alloc::{AllocError, Global};
+use lines_pieces::{Piece, Result, print, print_fields};
+use lines_words::Output;
+use std::alloc::Global;
 use std::collections::BTreeMap;
-use std::fmt;
 
 /// How many of the largest units and files are printed.
 const LARGEST: usize = 10;
@@ -58,7 +57,7 @@ impl Stat {
         reading: &Reading<R>,
         unit: &mut UnitRows<R>,
         output: &mut Output<'_>,
-    ) -> Result<(), AllocError> {
+    ) -> Result<()> {
         let bytes = unit_bytes(unit.header());
         self.bytes = self.bytes.saturating_add(bytes);
         self.units.push((bytes, unit.offset))?;
@@ -74,9 +73,7 @@ impl Stat {
         self.ends = self.ends.saturating_add(unit.ends);
         self.paths.begin_unit();
         for (file, count) in &self.of_unit {
-            let number = self
-                .paths
-                .number_of(unit.header(), *file, &reading.sources)?;
+            let number = self.paths.number_of(unit.header(), *file, reading)?;
             count_more(&mut self.files, number, *count)?;
         }
         unit.tell_fault(output);
@@ -84,7 +81,7 @@ impl Stat {
     }
 
     /// Counts a row that is no end.
-    fn add_row(&mut self, row: &LineRow) -> Result<(), AllocError> {
+    fn add_row(&mut self, row: &LineRow) -> Result<()> {
         if row.end_sequence() {
             return Ok(());
         }
@@ -94,67 +91,44 @@ impl Stat {
     }
 
     /// Prints what was counted in a section of so many bytes.
-    pub(crate) fn finish(&mut self, all: u64, output: &mut Output<'_>) -> Result<(), AllocError> {
+    pub(crate) fn finish(&mut self, all: u64, output: &mut Output<'_>) -> Result<()> {
         self.tally.add_unread(all.saturating_sub(self.bytes));
         self.print_shares(all, output);
         self.units.sort()?;
         self.print_units(all, output);
         self.print_files(output)?;
-        let units = self.units.len();
-        let Stat {
-            rows,
-            ends,
-            not_statements,
-            ..
-        } = self;
+        let whole = all.checked_div(self.rows).unwrap_or(0);
+        let rest = all.checked_rem(self.rows).unwrap_or(0);
+        let tenths = rest.saturating_mul(10).checked_div(self.rows).unwrap_or(0);
         let fields = [
-            ("units", Json::Number(units as u64)),
-            ("rows", Json::Number(*rows)),
-            ("sequences", Json::Number(*ends)),
-            ("not_statements", Json::Number(*not_statements)),
-            ("bytes", Json::Number(all)),
+            ("units", Piece::Number(self.units.len() as u64)),
+            ("rows", Piece::Number(self.rows)),
+            ("sequences", Piece::Number(self.ends)),
+            ("not_statements", Piece::Number(self.not_statements)),
+            ("bytes", Piece::Number(all)),
+            ("", Piece::Number(whole)),
+            ("", Piece::Number(tenths)),
         ];
-        let whole = all.checked_div(*rows).unwrap_or(0);
-        let rest = all.checked_rem(*rows).unwrap_or(0);
-        let tenths = rest.saturating_mul(10).checked_div(*rows).unwrap_or(0);
-        if output.is_json() {
-            output.print_object(&fields);
-        } else {
-            output.print(format_args!(
-                "units: {units}, rows: {rows}, ends: {ends}, not statements: {not_statements}, \
-                 bytes: {all}, a row: {whole}.{tenths}"
-            ));
-        }
+        let text = "units: %, rows: %, ends: %, not statements: %, bytes: %, a row: %.%";
+        print_fields(text, &fields, output);
         Ok(())
     }
 
     /// Prints what the bytes are spent on.
     fn print_shares(&self, all: u64, output: &mut Output<'_>) {
         output.print_heading("what                   times     bytes  operands   share");
-        for (name, share) in NAMES.iter().zip(&self.tally.shares) {
-            let Share {
-                times,
-                bytes,
-                operands,
-            } = *share;
-            if times == 0 {
+        for (name, share) in Spent::NAMES.split(' ').zip(&self.tally.shares) {
+            if share.times == 0 {
                 continue;
             }
-            let name = *name;
             let fields = [
-                ("what", Json::Word(name)),
-                ("times", Json::Number(times)),
-                ("bytes", Json::Number(bytes)),
-                ("operands", Json::Number(operands)),
+                ("what", Piece::WideWord(name)),
+                ("times", Piece::WideNumber(share.times, 8)),
+                ("bytes", Piece::WideNumber(share.bytes, 8)),
+                ("operands", Piece::WideNumber(share.operands, 8)),
+                ("", Piece::Share(share.all_bytes(), all)),
             ];
-            let percent = Percent(share.all_bytes(), all);
-            if output.is_json() {
-                output.print_object(&fields);
-            } else {
-                output.print(format_args!(
-                    "{name:<18}  {times:>8}  {bytes:>8}  {operands:>8}  {percent}"
-                ));
-            }
+            print_fields("%  %  %  %  %", &fields, output);
         }
     }
 
@@ -163,22 +137,16 @@ impl Stat {
         output.print_heading("largest units                 bytes             share");
         for (bytes, offset) in self.units.iter().rev().take(LARGEST) {
             let fields = [
-                ("unit", Json::Offset(Some(*offset))),
-                ("bytes", Json::Number(*bytes)),
+                ("unit", Piece::Unit(*offset)),
+                ("bytes", Piece::WideNumber(*bytes, 12)),
+                ("", Piece::Share(*bytes, all)),
             ];
-            let percent = Percent(*bytes, all);
-            if output.is_json() {
-                output.print_object(&fields);
-            } else {
-                output.print(format_args!(
-                    "0x{offset:08x}                {bytes:>12}            {percent}"
-                ));
-            }
+            print_fields("%                %            %", &fields, output);
         }
     }
 
     /// Prints the files with the most rows.
-    fn print_files(&self, output: &mut Output<'_>) -> Result<(), AllocError> {
+    fn print_files(&self, output: &mut Output<'_>) -> Result<()> {
         output.print_heading("most rows");
         let mut largest = Vec::new(*self.units.allocator());
         for (number, count) in &self.files {
@@ -187,17 +155,14 @@ impl Stat {
         largest.sort()?;
         let all = self.rows.saturating_sub(self.ends);
         for (count, number) in largest.iter().rev().take(LARGEST) {
-            let path = self.paths.path(*number);
-            let fields = [
-                ("path", Json::Bytes(Some(path))),
-                ("rows", Json::Number(*count)),
-            ];
-            let path = PathText(path);
-            let percent = Percent(*count, all);
+            let path = Piece::Path(self.paths.path(*number));
             if output.is_json() {
-                output.print_object(&fields);
+                let fields = [("path", path), ("rows", Piece::Number(*count))];
+                print_fields("", &fields, output);
             } else {
-                output.print(format_args!("{count:>9}  {path}  {percent}"));
+                let share = Piece::Share(*count, all);
+                let count = Piece::WideNumber(*count, 9);
+                print("%  %  %", &[count, path, share], output);
             }
         }
         Ok(())
@@ -205,34 +170,8 @@ impl Stat {
 }
 
 /// Counts so many more of a key.
-fn count_more<K: Copy + Ord>(
-    counts: &mut BTreeMap<K, u64>,
-    key: K,
-    more: u64,
-) -> Result<(), AllocError> {
+fn count_more<K: Copy + Ord>(counts: &mut BTreeMap<K, u64>, key: K, more: u64) -> Result<()> {
     let before = counts.get(&key).copied().unwrap_or(0);
     counts.insert(key, before.saturating_add(more))?;
     Ok(())
-}
-
-/// A share of a whole, in percent and as a bar.
-#[derive(Clone, Copy)]
-struct Percent(u64, u64);
-
-impl fmt::Display for Percent {
-    fn fmt<W: fmt::Write>(&self, f: &mut fmt::Formatter<W>) -> fmt::Result {
-        let whole = u128::from(self.1.max(1));
-        let tenths = u128::from(self.0) * 1000 / whole;
-        let percent = tenths / 10;
-        let tenth = tenths % 10;
-        write!(f, "{percent:>3}.{tenth}%")?;
-        let bar = tenths.min(1000) / 50;
-        if bar > 0 {
-            f.write_str("  ")?;
-        }
-        for _ in 0..bar {
-            f.write_char('#')?;
-        }
-        Ok(())
-    }
 }

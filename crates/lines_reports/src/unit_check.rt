@@ -1,12 +1,13 @@
 //! What is found in the rows of one unit.
 
 use crate::findings::Findings;
-use crate::sizes::instruction_bytes;
+use crate::report::Reading;
 use gimli_core::{Error, Reader, ReaderOffset};
 use gimli_line::{
     IncompleteLineProgram, LineInstruction, LineInstructions, LineProgramHeader, LineRow,
 };
-use lines_inputs::RowCount;
+use lines_counts::instruction_bytes;
+use lines_pieces::{Piece, Result};
 use lines_words::{FindingKind, Output};
 use std::alloc::AllocError;
 
@@ -27,6 +28,8 @@ pub(crate) struct Sequence {
 /// A look at the instructions of a unit, and at the rows that they make.
 #[derive(Drop)]
 pub(crate) struct UnitCheck<R: Reader> {
+    /// What was found, in units before this one too.
+    pub(crate) findings: Findings,
     program: IncompleteLineProgram<R>,
     instructions: LineInstructions<R>,
     row: LineRow,
@@ -42,28 +45,26 @@ pub(crate) struct UnitCheck<R: Reader> {
     rows_since_end: u64,
     /// The least address of the rows since the last end.
     start: Option<u64>,
-    /// Whether rows are left out, since an address was set that is a tombstone for them.
-    is_left_out: bool,
 }
 
 impl<R: Reader> UnitCheck<R> {
     /// No instruction of a unit was looked at.
     pub(crate) fn new(
-        lowest: u64,
-        is_linked: bool,
+        findings: Findings,
+        reading: &Reading<R>,
         program: IncompleteLineProgram<R>,
     ) -> UnitCheck<R> {
         UnitCheck {
+            findings,
             instructions: program.header().instructions(),
             row: LineRow::new(program.header()),
             program,
             executed: 0,
-            lowest,
-            is_linked,
+            lowest: reading.lowest,
+            is_linked: reading.is_linked,
             rows: 0,
             rows_since_end: 0,
             start: None,
-            is_left_out: false,
         }
     }
 
@@ -77,25 +78,24 @@ impl<R: Reader> UnitCheck<R> {
     pub(crate) fn run_some(
         &mut self,
         sequences: &mut Vec<Sequence>,
-        findings: &mut Findings,
         output: &mut Output<'_>,
-    ) -> Result<bool, AllocError> {
+    ) -> Result<bool> {
         for _ in 0..SOME {
-            match self.execute_next(findings, output) {
+            match self.execute_next(output) {
                 Ok(Some(true)) => {
-                    if let Some(sequence) = self.take_row(findings, output) {
+                    if let Some(sequence) = self.take_row(output) {
                         sequences.push(sequence)?;
                     }
                     self.row.reset(self.program.header());
                 }
                 Ok(Some(false)) => {}
                 Ok(None) => {
-                    self.finish(findings, output);
+                    self.finish(output);
                     return Ok(false);
                 }
                 Err(Error::OutOfMemory) => return Err(AllocError),
                 Err(fault) => {
-                    self.stop(fault, findings, output);
+                    self.stop(fault, output);
                     return Ok(false);
                 }
             }
@@ -105,11 +105,7 @@ impl<R: Reader> UnitCheck<R> {
     }
 
     /// Executes the next instruction, and returns whether it makes a row; None at the end.
-    fn execute_next(
-        &mut self,
-        findings: &mut Findings,
-        output: &mut Output<'_>,
-    ) -> Result<Option<bool>, Error> {
+    fn execute_next(&mut self, output: &mut Output<'_>) -> Result<Option<bool>, Error> {
         let Some(instruction) = self.instructions.next_instruction(self.program.header())? else {
             return Ok(None);
         };
@@ -120,75 +116,66 @@ impl<R: Reader> UnitCheck<R> {
         let before = self.row.address();
         let is_made = self.row.execute(instruction, &mut self.program)?;
         if let Some(address) = set {
-            self.look_at_address(address, before, findings, output);
+            self.look_at_address(address, before, output);
         }
         Ok(Some(is_made))
     }
 
     /// Prints the fault of the next instruction, which ends the program.
-    fn stop(&self, fault: Error, findings: &mut Findings, output: &mut Output<'_>) {
+    fn stop(&mut self, fault: Error, output: &mut Output<'_>) {
         let start = instruction_start(self.program.header(), self.executed);
-        let byte = start.unwrap_or(findings.unit);
-        let rows = RowCount(self.rows);
-        let sentence = format_args!("at byte 0x{byte:x}, after {rows}: {fault}");
-        findings.find(FindingKind::Program, Some(byte), sentence, output);
+        let byte = start.unwrap_or(self.findings.unit);
+        let (kind, rows) = (FindingKind::Program, Piece::Rows(self.rows));
+        let pieces = [Piece::Address(byte), rows, Piece::Error(fault)];
+        self.findings
+            .find(kind, Some(byte), "at byte %, after %: %", &pieces, output);
     }
 
-    /// Looks at an address that was set. It is a tombstone for the rows that follow where the
-    /// address of the row isn't it: then code was dropped, or addresses go down. In an object file
-    /// each section stands at 0, so that they may.
-    fn look_at_address(
-        &mut self,
-        address: u64,
-        before: u64,
-        findings: &mut Findings,
-        output: &mut Output<'_>,
-    ) {
-        self.is_left_out = address != self.row.address();
-        let rows = RowCount(self.rows);
-        let is_dropped = address >= before || address == 0 && self.lowest > 0;
-        if self.is_left_out && is_dropped {
-            let sentence = format_args!(
-                "after {rows}: the address 0x{address:x} stands for dropped code, and what \
-                 follows is left out"
-            );
-            findings.find(FindingKind::Dropped, None, sentence, output);
-        } else if self.is_left_out && self.is_linked {
-            let sentence = format_args!(
-                "after {rows}: the address goes down from 0x{before:x} to 0x{address:x}, and \
-                 what follows is left out"
-            );
-            findings.find(FindingKind::GoesDown, None, sentence, output);
+    /// Looks at an address that was set. Where it is a tombstone for the rows that follow, they are
+    /// left out: then code was dropped, or addresses go down. In an object file each section stands
+    /// at 0, so that they may.
+    fn look_at_address(&mut self, address: u64, before: u64, output: &mut Output<'_>) {
+        if !self.row.is_under_tombstone() {
+            return;
+        }
+        let rows = Piece::Rows(self.rows);
+        let (from, to) = (Piece::Address(before), Piece::Address(address));
+        if address >= before || address == 0 && self.lowest > 0 {
+            let text =
+                "after %: the address % stands for dropped code, and what follows is left out";
+            self.findings
+                .find(FindingKind::Dropped, None, text, &[rows, to], output);
+        } else if self.is_linked {
+            let text = "after %: the address goes down from % to %, and what follows is left out";
+            self.findings.find(FindingKind::GoesDown, None, text, &[rows, from, to], output);
         }
     }
 
     /// Looks at the row that is made, and returns the sequence that it ends. One that begins below
     /// the lowest address of code is dead, and one without an address between overlaps nothing.
-    fn take_row(&mut self, findings: &mut Findings, output: &mut Output<'_>) -> Option<Sequence> {
-        let end = self.row.address();
-        if !self.is_left_out {
+    fn take_row(&mut self, output: &mut Output<'_>) -> Option<Sequence> {
+        let is_left_out = self.row.is_under_tombstone();
+        let (end, unit) = (self.row.address(), self.findings.unit);
+        if !is_left_out {
             self.rows = self.rows.saturating_add(1);
         }
         if !self.row.end_sequence() {
-            if !self.is_left_out {
-                self.begin_at(findings, output);
+            if !is_left_out {
+                self.begin_at(output);
             }
             return None;
         }
-        let unit = findings.unit;
-        let start = self.start.filter(|_| !self.is_left_out);
-        let start = start.filter(|start| *start < end && *start >= self.lowest);
-        self.is_left_out = false;
         self.rows_since_end = 0;
-        self.start = None;
-        start.map(|start| Sequence { start, end, unit })
+        let start = self.start.take()?;
+        let is_alive = !is_left_out && start < end && start >= self.lowest;
+        is_alive.then_some(Sequence { start, end, unit })
     }
 
     /// Keeps the least address of the rows of a sequence, and looks at the first one, and at the
     /// file of each.
-    fn begin_at(&mut self, findings: &mut Findings, output: &mut Output<'_>) {
+    fn begin_at(&mut self, output: &mut Output<'_>) {
         self.rows_since_end = self.rows_since_end.saturating_add(1);
-        let number = self.rows;
+        let row = Piece::Number(self.rows);
         let address = self.row.address();
         let lowest = self.lowest;
         if self.start.is_none() && address < lowest {
@@ -198,28 +185,27 @@ impl<R: Reader> UnitCheck<R> {
             } else {
                 FindingKind::BelowCode
             };
-            let sentence = format_args!(
-                "row {number}: a sequence begins at 0x{address:x}, below the lowest address of \
-                 code, 0x{lowest:x}"
-            );
-            findings.find(kind, None, sentence, output);
+            let text = "row %: a sequence begins at %, below the lowest address of code, %";
+            let pieces = [row, Piece::Address(address), Piece::Address(lowest)];
+            self.findings.find(kind, None, text, &pieces, output);
         }
         self.start = Some(self.start.unwrap_or(address).min(address));
         let file = self.row.file_index();
         if self.program.header().file(file).is_none() {
-            let sentence = format_args!(
-                "row {number} at 0x{address:x}: the header has no file {file}"
-            );
-            findings.find(FindingKind::NoFile, None, sentence, output);
+            let text = "row % at %: the header has no file %";
+            let pieces = [row, Piece::Address(address), Piece::Number(file)];
+            self.findings
+                .find(FindingKind::NoFile, None, text, &pieces, output);
         }
     }
 
     /// Looks at the end of the program.
-    fn finish(&self, findings: &mut Findings, output: &mut Output<'_>) {
+    fn finish(&mut self, output: &mut Output<'_>) {
         if self.rows_since_end > 0 {
-            let rows = RowCount(self.rows_since_end);
-            let sentence = format_args!("no sequence ends after the last {rows}");
-            findings.find(FindingKind::NoEnd, None, sentence, output);
+            let pieces = [Piece::Rows(self.rows_since_end)];
+            let text = "no sequence ends after the last %";
+            self.findings
+                .find(FindingKind::NoEnd, None, text, &pieces, output);
         }
     }
 }

@@ -109,44 +109,34 @@ impl Severity {
     }
 }
 
-/// Some kinds of findings.
-#[derive(Clone, Copy)]
-pub struct KindSet([bool; 12]);
-
-impl KindSet {
-    /// No kind.
-    pub fn new() -> KindSet {
-        KindSet([false; 12])
-    }
-
-    /// Adds the kinds that a word names: one, or each that is so grave. False where it names none.
-    pub fn add(&mut self, word: &str) -> bool {
-        let mut is_known = false;
-        for kind in FindingKind::ALL {
-            let (number, name, severity) = kind.entry();
-            if word == name || word == severity.name() {
-                self.0[number] = true;
-                is_known = true;
-            }
+/// Adds to these the kinds that a word names: one, or each that is so grave. False where it names
+/// none.
+pub(crate) fn add_kinds(kinds: &mut [bool; 12], word: &str) -> bool {
+    let mut is_known = false;
+    for kind in FindingKind::ALL {
+        let (number, name, severity) = kind.entry();
+        if word == name || word == severity.name() {
+            kinds[number] = true;
+            is_known = true;
         }
-        is_known
     }
+    is_known
+}
 
-    /// Whether a kind is among these.
-    fn holds(self, kind: FindingKind) -> bool
-        ensures { result ≡ is_in self.0 kind }
-    {
-        self.0[kind.entry().0]
-    }
+/// Whether a kind is among these.
+fn holds(kinds: [bool; 12], kind: FindingKind) -> bool
+    ensures { result ≡ is_in kinds kind }
+{
+    kinds[kind.entry().0]
 }
 
 /// What a check tells, and what makes its status 1.
 #[derive(Clone, Copy)]
 pub struct CheckChoice {
-    /// What makes it 1 beside faults and lost rows.
-    pub denied: KindSet,
-    /// What is only counted, whatever else is said of it.
-    pub allowed: KindSet,
+    /// The kinds that make it 1 beside faults and lost rows.
+    pub denied: [bool; 12],
+    /// Those that are only counted, whatever else is said of them.
+    pub allowed: [bool; 12],
     /// Whether what is only counted is told too.
     pub is_all: bool,
 }
@@ -154,14 +144,14 @@ pub struct CheckChoice {
 impl CheckChoice {
     /// Whether a finding of a kind makes the status 1.
     pub fn denies(self, kind: FindingKind) -> bool
-        ensures { result ≡ is_denied self.allowed.0 self.denied.0 kind }
+        ensures { result ≡ is_denied self.allowed self.denied kind }
     {
-        !self.allowed.holds(kind) && (kind.entry().2.is_grave() || self.denied.holds(kind))
+        !holds(self.allowed, kind) && (kind.entry().2.is_grave() || holds(self.denied, kind))
     }
 
     /// Whether it counts as something to look at.
     pub fn counts(self, kind: FindingKind) -> bool {
         let is_odd = matches!(kind.entry().2, Severity::Odd);
-        self.denies(kind) || is_odd && !self.allowed.holds(kind)
+        self.denies(kind) || is_odd && !holds(self.allowed, kind)
     }
 }

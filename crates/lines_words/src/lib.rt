@@ -5,9 +5,7 @@
 #![tactic(auto)]
 
 mod grammar;
-mod json;
 mod kinds;
-mod line_question;
 mod names;
 mod numbers;
 mod output;
@@ -15,13 +13,14 @@ mod path_text;
 mod request;
 mod words;
 
-pub use json::{Json, JsonBytes};
-pub use kinds::{CheckChoice, FindingKind, KindSet, Severity};
-pub use line_question::{build_id_of, map_path, parse_line_question};
-pub use names::{NameText, bytes_of_word, text_of_word};
-pub use numbers::{parse_address, parse_code_address, parse_offset, parse_place, parse_target};
-pub use output::{Output, Screen, Style};
-pub use path_text::{ColumnMark, PathText, SourceText, last_part, shown_path};
+pub use kinds::{CheckChoice, FindingKind, Severity};
+pub use names::{bytes_of_word, text_of_word};
+pub use numbers::{
+    build_id_of, map_path, parse_address, parse_code_address, parse_line_question, parse_offset,
+    parse_place, parse_target,
+};
+pub use output::{Json, Output, Screen, Style};
+pub use path_text::{ColumnMark, JsonBytes, NameText, PathText, SourceText, last_part, shown_path};
 pub use request::{
     CodeAddress, Command, Files, Form, Kind, LineNames, Notation, PathForm, Request, SourcePlace,
     UnitChoice, UnitFiles,

@@ -3,10 +3,7 @@
 //! A byte of a word that is no UTF-8 stands in the text as a character of a private area, by its
 //! number, and so does each byte of such a character. So each word of bytes has a text of its own.
 
-use crate::path_text::Writing;
 use std::alloc::{AllocError, Global};
-use std::fmt;
-use std::fmt::{Display, Formatter, Write};
 
 /// The number that a byte counts from in the private area.
 const FIRST: u32 = 0x10_fe00;
@@ -59,41 +56,9 @@ fn push_bytes(bytes: &[u8], text: &mut String) -> Result<(), AllocError> {
 }
 
 /// The byte that a character stands for.
-fn byte_of(character: char) -> Option<u8> {
+pub(crate) fn byte_of(character: char) -> Option<u8> {
     match u32::from(character).checked_sub(FIRST) {
         Some(byte) if byte > 0x7f => u8::try_from(byte).ok(),
         _ => None,
     }
-}
-
-/// A word as it is printed: a control character, and a byte that is no UTF-8, stands as `\x` and
-/// two hexadecimal digits.
-#[derive(Clone, Copy)]
-pub struct NameText<'n>(pub &'n str);
-
-impl Display for NameText<'_> {
-    fn fmt<W: Write>(&self, f: &mut Formatter<W>) -> fmt::Result {
-        write_name(self.0, Writing::Shown(' '), f)
-    }
-}
-
-/// A message that names words, whose lines stay apart.
-#[derive(Clone, Copy)]
-pub(crate) struct MessageText<'m>(pub(crate) &'m str);
-
-impl Display for MessageText<'_> {
-    fn fmt<W: Write>(&self, f: &mut Formatter<W>) -> fmt::Result {
-        write_name(self.0, Writing::Shown('\n'), f)
-    }
-}
-
-/// Writes the characters of a word, or of lines of words.
-fn write_name<W: Write>(name: &str, writing: Writing, f: &mut Formatter<W>) -> fmt::Result {
-    for character in name.chars() {
-        match byte_of(character) {
-            Some(byte) => writing.write(char::from(byte), true, f)?,
-            None => writing.write(character, false, f)?,
-        }
-    }
-    Ok(())
 }

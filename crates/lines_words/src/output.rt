@@ -3,14 +3,41 @@
 ghost use Rattle.std.specs.Prelude.{◌≡◌, ◌≤◌, ◌↔◌, IfOk, true, false};
 ghost use Rattle.lines_words.specs.Findings.{is_denied};
 
-use crate::json::{Json, JsonBytes, JsonText};
 use crate::kinds::{CheckChoice, FindingKind};
-use crate::names::NameText;
+use crate::path_text::{JsonBytes, JsonText, NameText};
 use crate::request::{Form, Request};
 use line_text::Digits;
 use std::alloc::Global;
 use std::io::{ErrorKind, Write};
 use std::{fmt, io};
+
+/// A value of a field of an object of JSON (RFC 8259).
+#[derive(Clone, Copy)]
+pub enum Json<'v> {
+    /// A number.
+    Number(u64),
+    /// A number, or null where there is none.
+    Count(Option<u64>),
+    /// An offset or an address, as a string, or null where there is none.
+    Offset(Option<u64>),
+    /// Two addresses.
+    Range(u64, u64),
+    /// Whether something holds.
+    Holds(bool),
+    /// The words that hold.
+    Flags(&'v [(bool, &'static str, char)]),
+    /// A word that has nothing to escape.
+    Word(&'v str),
+    /// A text of bytes, or null where there is none.
+    Text(Option<&'v [u8]>),
+    /// The same; where it isn't UTF-8, a second field, with `_bytes` after the name, has its bytes
+    /// in hexadecimal digits.
+    Bytes(Option<&'v [u8]>),
+    /// Bytes in hexadecimal digits, or null where there are none.
+    Digits(Option<&'v [u8]>),
+    /// A value that is written already.
+    Written(&'v str),
+}
 
 /// What the outputs are shown on.
 #[derive(Clone, Copy)]
@@ -51,11 +78,14 @@ impl Style {
 pub struct Output<'o> {
     request: &'o Request<'o>,
     name: &'o str,
-    screen: Screen,
+    /// What the outputs are shown on.
+    pub screen: Screen,
     out: Vec<u8>,
     err: Vec<u8>,
     /// How far the command is, for standard error.
     progress: Vec<u8>,
+    /// Whether that was shown, and not cleared.
+    is_shown: bool,
     /// Whether something was reported on standard error, or a check found what is denied.
     is_faulty: bool,
     /// Whether something could not be kept, since memory is missing.
@@ -72,14 +102,15 @@ impl<'o> Output<'o> {
             out: Vec::new(alloc),
             err: Vec::new(alloc),
             progress: Vec::new(alloc),
+            is_shown: false,
             is_faulty: false,
             is_incomplete: false,
         }
     }
 
-    /// What the outputs are shown on.
-    pub fn screen(&self) -> Screen {
-        self.screen
+    /// Goes on with the file of another name.
+    pub fn turn_to(&mut self, name: &'o str) {
+        self.name = name;
     }
 
     /// Whether a JSON object a line is printed.
@@ -219,9 +250,9 @@ impl<'o> Output<'o> {
 
     /// Ends the command as one that was refused exactly where a choice denies a kind of findings.
     pub fn judge(&mut self, choice: CheckChoice, kind: FindingKind)
-        ensures denied { is_denied choice.allowed.0 choice.denied.0 kind ≡ true
+        ensures denied { is_denied choice.allowed choice.denied kind ≡ true
             → self.new.is_faulty ≡ true }
-        ensures other { is_denied choice.allowed.0 choice.denied.0 kind ≡ false
+        ensures other { is_denied choice.allowed choice.denied kind ≡ false
             → self.new.is_faulty ≡ self.old.is_faulty }
     {
         if choice.denies(kind) {
@@ -232,14 +263,18 @@ impl<'o> Output<'o> {
     /// Shows how far the command is, in a line of standard error that the next one is written over.
     pub fn show(&mut self, progress: impl fmt::Display + Drop) {
         self.progress.clear();
+        self.is_shown = true;
         if write!(self.progress, "{progress}\r").is_err() {
             self.is_incomplete = true;
         }
     }
 
-    /// Clears what shows how far the command is.
+    /// Clears what shows how far the command is, where something does.
     pub fn clear(&mut self) {
-        self.show(format_args!("{:40}", ""));
+        if self.is_shown {
+            self.show(format_args!("{:40}", ""));
+            self.is_shown = false;
+        }
     }
 
     /// Hands on what was printed. Fails where standard output takes no more, and where something

@@ -1,6 +1,8 @@
-//! Paths and lines of source, as they are printed.
+//! Paths, names and lines of source, as they are printed.
 
+use crate::names::byte_of;
 use crate::request::PathForm;
+use line_text::Digits;
 use std::fmt;
 use std::fmt::{Display, Formatter, Write};
 
@@ -21,9 +23,8 @@ impl Writing {
     /// Writes a text.
     pub(crate) fn write_text<W: Write>(self, text: &[u8], f: &mut Formatter<W>) -> fmt::Result {
         match (str::from_utf8(text), self) {
-            (Ok(plain), Writing::Shown(_)) if text.iter().all(|byte| is_plain(*byte)) => {
-                f.write_str(plain)
-            }
+            (Ok(plain), Writing::Shown(_))
+                if text.iter().all(|byte| matches!(*byte, b' '..=b'~')) => { f.write_str(plain) }
             (Ok(characters), _) => self.write_characters(characters, f),
             (Err(_), _) => self.write_bytes(text, f),
         }
@@ -33,6 +34,17 @@ impl Writing {
     fn write_characters<W: Write>(self, characters: &str, f: &mut Formatter<W>) -> fmt::Result {
         for character in characters.chars() {
             self.write(character, false, f)?;
+        }
+        Ok(())
+    }
+
+    /// Writes the characters of a word, or of lines of words.
+    fn write_name<W: Write>(self, name: &str, f: &mut Formatter<W>) -> fmt::Result {
+        for character in name.chars() {
+            match byte_of(character) {
+                Some(byte) => self.write(char::from(byte), true, f)?,
+                None => self.write(character, false, f)?,
+            }
         }
         Ok(())
     }
@@ -85,11 +97,6 @@ fn write_in_json<W: Write>(character: char, f: &mut Formatter<W>) -> fmt::Result
     f.write_str(escape)
 }
 
-/// Whether a byte is printable ASCII.
-fn is_plain(byte: u8) -> bool {
-    byte == b' ' || byte.is_ascii_graphic()
-}
-
 /// A path as text. What could change a terminal stands as `\x` and two hexadecimal digits: a
 /// control character, and in a path that isn't UTF-8 each byte that isn't ASCII.
 #[derive(Clone, Copy)]
@@ -98,6 +105,27 @@ pub struct PathText<'p>(pub &'p [u8]);
 impl Display for PathText<'_> {
     fn fmt<W: Write>(&self, f: &mut Formatter<W>) -> fmt::Result {
         Writing::Shown(' ').write_text(self.0, f)
+    }
+}
+
+/// A word as it is printed: a control character, and a byte that is no UTF-8, stands as `\x` and
+/// two hexadecimal digits.
+#[derive(Clone, Copy)]
+pub struct NameText<'n>(pub &'n str);
+
+impl Display for NameText<'_> {
+    fn fmt<W: Write>(&self, f: &mut Formatter<W>) -> fmt::Result {
+        Writing::Shown(' ').write_name(self.0, f)
+    }
+}
+
+/// A message that names words, whose lines stay apart.
+#[derive(Clone, Copy)]
+pub(crate) struct MessageText<'m>(pub(crate) &'m str);
+
+impl Display for MessageText<'_> {
+    fn fmt<W: Write>(&self, f: &mut Formatter<W>) -> fmt::Result {
+        Writing::Shown('\n').write_name(self.0, f)
     }
 }
 
@@ -136,6 +164,42 @@ impl Display for ColumnMark<'_> {
             }
         }
         f.write_char('^')
+    }
+}
+
+/// Bytes as a string. Where they aren't UTF-8, each that isn't ASCII stands as U+FFFD.
+#[derive(Clone, Copy)]
+pub(crate) struct JsonText<'t>(pub(crate) &'t [u8]);
+
+impl Display for JsonText<'_> {
+    fn fmt<W: Write>(&self, f: &mut Formatter<W>) -> fmt::Result {
+        f.write_char('"')?;
+        Writing::Json.write_text(self.0, f)?;
+        f.write_char('"')
+    }
+}
+
+/// Bytes as the value of the field of a name, as `Json::Bytes` says.
+#[derive(Clone, Copy)]
+pub struct JsonBytes<'f> {
+    /// The name of the field.
+    pub name: &'f str,
+    /// The bytes.
+    pub bytes: Option<&'f [u8]>,
+}
+
+impl Display for JsonBytes<'_> {
+    fn fmt<W: Write>(&self, f: &mut Formatter<W>) -> fmt::Result {
+        let Some(bytes) = self.bytes else {
+            return f.write_str("null");
+        };
+        let text = JsonText(bytes);
+        if str::from_utf8(bytes).is_ok() {
+            return write!(f, "{text}");
+        }
+        let name = self.name;
+        let digits = Digits(bytes);
+        write!(f, "{text},\"{name}_bytes\":\"{digits}\"")
     }
 }
 

@@ -189,7 +189,7 @@ pub struct Notation {
 
 /// The bytes of the files that a request names: a file, and of a raw section those that it goes
 /// with. No bytes stand for one that isn't known.
-#[derive(Clone, Copy)]
+#[derive(Clone, Copy, Default)]
 pub struct Files<'i> {
     /// The file.
     pub file: &'i [u8],
@@ -206,7 +206,7 @@ pub struct Files<'i> {
 }
 
 /// The sections that say where compilations ran; no bytes where none is known.
-#[derive(Clone, Copy)]
+#[derive(Clone, Copy, Default)]
 pub struct UnitFiles<'i> {
     /// `.debug_info`
     pub info: &'i [u8],

@@ -4,16 +4,16 @@
 //! version, is an error of `clap`, whose text and status are for the user.
 
 use crate::grammar::{command, program};
-use crate::kinds::{CheckChoice, KindSet};
-use crate::names::{MessageText, NameText};
+use crate::kinds::{CheckChoice, add_kinds};
 use crate::numbers::{parse_address, parse_code_address, parse_offset, parse_target};
+use crate::path_text::{MessageText, NameText};
 use crate::request::{
     CodeAddress, Command, Form, Kind, LineNames, Notation, PathForm, Request, SourcePlace,
     UnitChoice,
 };
 use clap::error::ErrorKind;
 use clap::{ArgMatches, Error};
-use line_text::{parse_digits, parse_order, parse_size};
+use line_text::{AddressSize, parse_digits, parse_order, parse_size};
 use std::alloc::{AllocError, Global};
 
 /// How many lines the command `source` prints before a place and after it, where nothing is said.
@@ -22,25 +22,53 @@ const CONTEXT: u64 = 3;
 /// The most lines that it prints there.
 const MOST_CONTEXT: u64 = 100_000;
 
+/// What the value of a name says, as it is read; None where it isn't among the words. A wrong word
+/// is the mistake of the function around it.
+macro_rules! said {
+    ($matches:expr, $name:literal, $read:expr) => {
+        match $matches.get_str($name) {
+            Some(word) => match $read(word) {
+                None => return Err(Mistake::Word(word, $name)),
+                value => value,
+            },
+            None => None,
+        }
+    };
+}
+
+/// What must stand in the place of a wrong word, by the name of that place.
+fn wanted_of(name: &str) -> &'static str {
+    match name {
+        "raw" => "an order of bytes, little or big",
+        "address-size" => "an address size: 1, 2, 4 or 8",
+        "bias" => "an address, up to 16 hexadecimal digits with or without 0x",
+        "ADDRESS" => {
+            "an address, up to 16 hexadecimal digits with or without 0x, or SECTION+OFFSET"
+        }
+        "PATH:LINE" => "a path, a colon and a line",
+        "PLACE" => "a path, a colon and a line, or the name of a function",
+        "context" => "a number of lines up to 100000",
+        "UNIT" => "an offset, decimal or hexadecimal after 0x",
+        "deny" | "allow" => "a kind of findings, or fault, lost, odd or usual",
+        _ => "a command",
+    }
+}
+
 /// What words ask for, of which the first is the program's name.
-pub fn parse<'w>(alloc: Global, words: &'w [&'w str]) -> Result<Request<'w>, Error> {
+pub fn parse<'w>(alloc: Global, words: &'w [String]) -> Result<Request<'w>, Error> {
     let mut grammar = program(alloc)?;
     let matches = grammar.try_get_matches_from_mut(words)?;
     match request_of(alloc, &matches) {
         Ok(request) => Ok(request),
         Err(Mistake::Memory) => Err(Error::from(AllocError)),
-        Err(Mistake::Word(word, wanted)) => {
-            let command = matches.subcommand_name().unwrap_or("");
-            Err(mistake_of(alloc, command, word, wanted)?)
+        Err(Mistake::Word(word, name)) => {
+            let word = NameText(word);
+            let wanted = wanted_of(name);
+            let mistake = format!(in alloc; "'{word}' is not {wanted}")?;
+            let mut command = command(alloc, matches.subcommand_name().unwrap_or(""))?;
+            Err(command.error(ErrorKind::ValueValidation, &mistake)?)
         }
     }
-}
-
-/// The error that a word of a command isn't what must stand in its place.
-fn mistake_of(alloc: Global, name: &str, word: &str, wanted: &str) -> Result<Error, AllocError> {
-    let word = NameText(word);
-    let mistake = format!(in alloc; "'{word}' is not {wanted}")?;
-    command(alloc, name)?.error(ErrorKind::ValueValidation, &mistake)
 }
 
 /// What is said of words that ask for nothing, or of help. A control character, and a byte that is
@@ -54,7 +82,7 @@ pub fn message_of(alloc: Global, error: &Error) -> Result<String, AllocError> {
 /// Why words that the grammar takes ask for nothing.
 #[derive(Clone, Copy)]
 enum Mistake<'w> {
-    /// A word, and what must stand in its place.
+    /// A word, and the name of its place.
     Word(&'w str, &'static str),
     /// Memory is missing.
     Memory,
@@ -69,58 +97,51 @@ impl From<AllocError> for Mistake<'_> {
 /// What words ask for that the grammar takes.
 fn request_of<'w>(alloc: Global, matches: &ArgMatches<'w>) -> Result<Request<'w>, Mistake<'w>> {
     let Some((name, matches)) = matches.subcommand() else {
-        return Err(Mistake::Word("", "a command"));
-    };
-    let kind = kind_of(matches)?;
-    let bias = bias_of(matches)?;
-    let command = command_of(name, matches)?;
-    let context = context_of(matches)?;
-    let units = units_of(matches)?;
-    let check = CheckChoice {
-        denied: kinds_of(matches, "deny")?,
-        allowed: kinds_of(matches, "allow")?,
-        is_all: matches.get_flag("all"),
+        return Err(Mistake::Word("", ""));
     };
     // Beside an index the first word may be an address, and then no file is named.
     let word = matches.get_str("FILE").unwrap_or("");
     let first = matches.get_str("index").and(parse_address(word));
     Ok(Request {
-        command,
+        kind: kind_of(matches)?,
+        bias: said!(matches, "bias", parse_address).unwrap_or(0),
+        command: command_of(name, matches)?,
+        context: said!(matches, "context", parse_context).unwrap_or(CONTEXT),
+        units: match said!(matches, "UNIT", parse_offset) {
+            Some(offset) => UnitChoice::At(offset),
+            None => UnitChoice::All,
+        },
+        check: CheckChoice {
+            denied: kinds_of(matches, "deny")?,
+            allowed: kinds_of(matches, "allow")?,
+            is_all: matches.get_flag("all"),
+        },
         file: if first.is_some() { "" } else { word },
-        kind,
         line_str: matches.get_str("line-str"),
         strings: matches.get_str("str"),
         source: matches.get_str("source"),
-        addresses: addresses_of(alloc, first, matches)?,
-        bias,
         form: form_of(matches),
         paths: path_form_of(matches),
         has_function: matches.get_flag("functions"),
         has_source: matches.get_flag("pretty"),
         has_column: matches.get_flag("columns"),
         has_range: matches.get_flag("range"),
-        context,
-        units,
-        check,
+        addresses: addresses_of(alloc, first, matches)?,
     })
 }
 
 /// How the file is read: an address of a raw section is so wide where its unit doesn't say.
 fn kind_of<'w>(matches: &ArgMatches<'w>) -> Result<Kind, Mistake<'w>> {
-    let Some(word) = matches.get_str("raw") else {
-        return Ok(Kind::Elf);
-    };
-    let order = parse_order(word).ok_or(Mistake::Word(word, "an order of bytes, little or big"))?;
-    let word = matches.get_str("address-size").unwrap_or("8");
-    let address_size = parse_size(word).ok_or(Mistake::Word(
-        word,
-        "an address size: 1, 2, 4 or 8",
-    ))?;
-    Ok(Kind::Raw(Notation {
-        order,
-        address_size,
-        lowest: 0,
-    }))
+    let order = said!(matches, "raw", parse_order);
+    let size = said!(matches, "address-size", parse_size);
+    Ok(match order {
+        Some(order) => Kind::Raw(Notation {
+            order,
+            address_size: size.unwrap_or(AddressSize::Eight),
+            lowest: 0,
+        }),
+        None => Kind::Elf,
+    })
 }
 
 /// The command of a name.
@@ -129,19 +150,20 @@ fn command_of<'w>(name: &'w str, matches: &ArgMatches<'w>) -> Result<Command<'w>
         "where" => where_of(matches),
         "index" => Command::Index(matches.get_str("output")),
         "at" => {
-            let word = matches.get_str("PATH:LINE").unwrap_or("");
-            let wanted = Mistake::Word(word, "a path, a colon and a line");
-            let (path, line) = parse_target(word).ok_or(wanted)?;
+            let (path, line) = said!(matches, "PATH:LINE", parse_target).unwrap_or(("", 0));
             Command::At(path, line)
         }
-        "source" => Command::Source(source_place_of(matches)?),
+        "source" => {
+            let place = said!(matches, "PLACE", parse_source_place);
+            Command::Source(place.unwrap_or(SourcePlace::Function("")))
+        }
         "units" => Command::Units,
         "files" => Command::Files,
         "rows" => Command::Rows(form_of(matches)),
         "check" => Command::Check,
         "stat" => Command::Stat,
         "diff" => Command::Diff(matches.get_str("NEW").unwrap_or("")),
-        _ => return Err(Mistake::Word(name, "a command")),
+        _ => return Err(Mistake::Word(name, "")),
     })
 }
 
@@ -169,58 +191,35 @@ fn addresses_of<'w>(
         addresses.push(first).map_err(AllocError::from)?;
     }
     for word in matches.get_strs("ADDRESS").unwrap_or(&[]) {
-        let wanted = Mistake::Word(
-            word,
-            "an address, up to 16 hexadecimal digits with or without 0x, or SECTION+OFFSET",
-        );
-        let address = parse_code_address(word).ok_or(wanted)?;
+        let address = parse_code_address(word).ok_or(Mistake::Word(word, "ADDRESS"))?;
         addresses.push(address).map_err(AllocError::from)?;
     }
     Ok(addresses)
 }
 
 /// The kinds of findings that the words of an option name.
-fn kinds_of<'w>(matches: &ArgMatches<'w>, option: &str) -> Result<KindSet, Mistake<'w>> {
-    let mut kinds = KindSet::new();
+fn kinds_of<'w>(matches: &ArgMatches<'w>, option: &'static str) -> Result<[bool; 12], Mistake<'w>> {
+    let mut kinds = [false; 12];
     for word in matches.get_strs(option).unwrap_or(&[]) {
-        if !kinds.add(word) {
-            return Err(Mistake::Word(word, "a kind of findings, or fault, lost, odd or usual"));
+        if !add_kinds(&mut kinds, word) {
+            return Err(Mistake::Word(word, option));
         }
     }
     Ok(kinds)
 }
 
-/// The line of a path that is named, or else the function of a name.
-fn source_place_of<'w>(matches: &ArgMatches<'w>) -> Result<SourcePlace<'w>, Mistake<'w>> {
-    let word = matches.get_str("PLACE").unwrap_or("");
+/// The line of a path, or else the function of a name. None for no word.
+fn parse_source_place(word: &str) -> Option<SourcePlace<'_>> {
     match parse_target(word) {
-        Some((path, line)) => Ok(SourcePlace::Line { path, line }),
-        None if word.is_empty() => Err(Mistake::Word(
-            word,
-            "a path, a colon and a line, or the name of a function",
-        )),
-        None => Ok(SourcePlace::Function(word)),
+        Some((path, line)) => Some(SourcePlace::Line { path, line }),
+        None if word.is_empty() => None,
+        None => Some(SourcePlace::Function(word)),
     }
 }
 
 /// How many lines are printed before a place and after it.
-fn context_of<'w>(matches: &ArgMatches<'w>) -> Result<u64, Mistake<'w>> {
-    let Some(word) = matches.get_str("context") else {
-        return Ok(CONTEXT);
-    };
-    match parse_digits(word, 10) {
-        Some(context) if context <= MOST_CONTEXT => Ok(context),
-        _ => Err(Mistake::Word(word, "a number of lines up to 100000")),
-    }
-}
-
-/// The unit that is named, or all of them.
-fn units_of<'w>(matches: &ArgMatches<'w>) -> Result<UnitChoice, Mistake<'w>> {
-    let Some(word) = matches.get_str("UNIT") else {
-        return Ok(UnitChoice::All);
-    };
-    let wanted = Mistake::Word(word, "an offset, decimal or hexadecimal after 0x");
-    Ok(UnitChoice::At(parse_offset(word).ok_or(wanted)?))
+fn parse_context(word: &str) -> Option<u64> {
+    parse_digits(word, 10).filter(|lines| *lines <= MOST_CONTEXT)
 }
 
 /// How much of a path is printed.
@@ -230,15 +229,6 @@ fn path_form_of<'w>(matches: &ArgMatches<'w>) -> PathForm<'w> {
         None if matches.get_flag("basenames") => PathForm::LastPart,
         None => PathForm::Whole,
     }
-}
-
-/// What is subtracted from each address, 0 where nothing is named.
-fn bias_of<'w>(matches: &ArgMatches<'w>) -> Result<u64, Mistake<'w>> {
-    let Some(word) = matches.get_str("bias") else {
-        return Ok(0);
-    };
-    let wanted = "an address, up to 16 hexadecimal digits with or without 0x";
-    parse_address(word).ok_or(Mistake::Word(word, wanted))
 }
 
 /// How the output is written. Only the command `rows` has whole paths.

@@ -3,7 +3,7 @@
 ghost use Rattle.std.specs.Prelude.{◌≡◌, ◌≤◌, IsTrue, true};
 
 use crate::stop::Stop;
-use crate::words::{parse_number, parse_text, push_bytes};
+use crate::words::{parse_number, push_bytes, push_text};
 use gimli_bytes::Address;
 use gimli_core::{Encoding, Format, LineEncoding, RunTimeEndian};
 use line_text::{AddressSize, parse_order, parse_size};
@@ -17,12 +17,8 @@ const LONGEST_ARRAY: u64 = 0x10_0000;
 pub enum Target {
     /// A vector.
     Vector,
-    /// Pieces of one byte.
-    Bytes,
-    /// Pieces of four bytes.
-    Words,
-    /// Pieces of sixteen bytes.
-    Lines,
+    /// Pieces of so many bytes: 1, 4 or 16.
+    Pieces(u64),
     /// An array of this many bytes.
     Array(usize),
 }
@@ -67,11 +63,12 @@ impl<'a> Arguments<'a> {
         }
     }
 
-    /// Why the call isn't made; None where it is. Bad where a word is left.
-    pub fn end(&self) -> Option<Stop> {
-        match self.rest {
-            [] => self.stop,
-            _ => Some(Stop::Bad),
+    /// Refused where the call isn't made, and where a word is left.
+    pub fn end(&self) -> Result<(), Stop> {
+        match (self.rest, self.stop) {
+            ([], None) => Ok(()),
+            ([], Some(stop)) => Err(stop),
+            _ => Err(Stop::Bad),
         }
     }
 
@@ -82,7 +79,7 @@ impl<'a> Arguments<'a> {
         if !is_met {
             self.refuse(Stop::Condition);
         }
-        is_met && self.end().is_none()
+        is_met && self.end().is_ok()
     }
 
     /// Whether no text of the call is refused so far.
@@ -189,9 +186,7 @@ impl<'a> Arguments<'a> {
             "vec" => Some(Target::Vector),
             "array" => Some(Target::Array(self.number(LONGEST_ARRAY) as usize)),
             "pieces" => match self.number(16) {
-                1 => Some(Target::Bytes),
-                4 => Some(Target::Words),
-                16 => Some(Target::Lines),
+                size @ (1 | 4 | 16) => Some(Target::Pieces(size)),
                 _ => None,
             },
             _ => None,
@@ -247,13 +242,11 @@ impl<'a> Arguments<'a> {
             (Form::Usual, Some(("p:", word))) => (Form::Strings, word),
             _ => (form, all),
         };
-        match parse_text(self.alloc, word) {
-            Ok(text) => (form, text),
-            Err(stop) => {
-                self.refuse(stop);
-                (form, Vec::new(self.alloc))
-            }
+        let mut text = Vec::new(self.alloc);
+        if let Err(stop) = push_text(&mut text, word) {
+            self.refuse(stop);
         }
+        (form, text)
     }
 
     /// A text, or none for the word `-`; none without a word too, where none is asked for.

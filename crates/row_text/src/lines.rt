@@ -4,7 +4,7 @@ use gimli_core::Error;
 use gimli_line::LineRow;
 use line_text::{BytesLine, Digits, RowLine, Text, Words};
 use std::alloc::{AllocError, Global};
-use std::fmt::{Debug, Display};
+use std::fmt::Debug;
 use std::io::Write;
 
 /// A piece of a line.
@@ -48,13 +48,13 @@ impl Lines {
         }
     }
 
-    /// Prints a text, with a piece in the place of each `%`.
+    /// Prints a text, with a piece in the place of each `%`. Pieces that are left aren't printed.
     pub fn print(&mut self, text: &str, pieces: &[Piece<'_>]) {
         let mut words = text.split('%');
         self.write(words.next().unwrap_or("").as_bytes());
-        for piece in pieces {
+        for (piece, word) in pieces.iter().zip(words) {
             self.add(*piece);
-            self.write(words.next().unwrap_or("").as_bytes());
+            self.write(word.as_bytes());
         }
     }
 
@@ -70,33 +70,38 @@ impl Lines {
             Piece::Signed(number) => write!(out, "{number}"),
             Piece::Hex(number) => write!(out, "{number:x}"),
             Piece::Address(address) => write!(out, "{address:016x}"),
-            Piece::Flags(flags, none) => put(out, Words(flags, none)),
-            Piece::Digits(bytes) => put(out, Digits(bytes)),
-            Piece::Bytes(bytes) => put(out, BytesLine(bytes)),
-            Piece::Text(text) => put(out, Text(text)),
-            Piece::Row(row) => put(out, RowLine(row)),
+            Piece::Flags(flags, none) => write!(out, "{}", Words(flags, none)),
+            Piece::Digits(bytes) => write!(out, "{}", Digits(bytes)),
+            Piece::Bytes(bytes) => write!(out, "{}", BytesLine(bytes)),
+            Piece::Text(text) => write!(out, "{}", Text(text)),
+            Piece::Row(row) => write!(out, "{}", RowLine(row)),
         };
         self.is_refused = done.is_err();
     }
 
+    /// Prints a value, by its variant and what it holds.
+    pub fn put<D: Debug + Copy>(&mut self, value: D) {
+        if !self.is_refused {
+            self.is_refused = write!(self.bytes, "{value:?}").is_err();
+        }
+    }
+
     /// Prints the line of an error after a word: its variant.
     pub fn put_error<E: Debug + Copy>(&mut self, word: &str, error: E) {
-        if !self.is_refused {
-            self.is_refused = writeln!(self.bytes, "{word}{error:?}").is_err();
-        }
+        self.write(word.as_bytes());
+        self.put(error);
+        self.write(b"\n");
     }
 
     /// Prints the line of a refusal of reading: its variant, with what it holds where that is a
     /// version, a size or a form.
     pub fn put_refusal(&mut self, word: &str, error: Error) {
-        match error {
-            Error::UnexpectedEof(_) => self.print("%UnexpectedEof\n", &[Piece::Word(word)]),
-            Error::UnknownForm(form) => {
-                let form = Piece::Number(u64::from(form.0));
-                self.print("%UnknownForm(%)\n", &[Piece::Word(word), form]);
-            }
-            error => self.put_error(word, error),
-        }
+        let (text, form) = match error {
+            Error::UnexpectedEof(_) => ("%UnexpectedEof\n", 0),
+            Error::UnknownForm(form) => ("%UnknownForm(%)\n", form.0),
+            error => return self.put_error(word, error),
+        };
+        self.print(text, &[Piece::Word(word), Piece::Number(u64::from(form))]);
     }
 
     /// Prints bytes as they are.
@@ -129,9 +134,4 @@ impl Lines {
             Ok(self.bytes)
         }
     }
-}
-
-/// Prints a value.
-fn put<D: Display + Drop>(out: &mut Vec<u8>, value: D) -> std::io::Result<()> {
-    write!(out, "{value}")
 }

@@ -2,7 +2,6 @@
 
 use crate::stop::Stop;
 use line_text::parse_digits;
-use std::alloc::Global;
 use std::str;
 
 /// A number in decimal digits, or in hexadecimal ones after `0x`, where it fits.
@@ -13,16 +12,9 @@ pub fn parse_number(word: &str) -> Option<u64> {
     }
 }
 
-/// A text: `%` and two hexadecimal digits are a byte, and `%` alone is the empty text. No word that
-/// is empty, or has other letters after a `%`, is one.
-pub fn parse_text(alloc: Global, word: &str) -> Result<Vec<u8>, Stop> {
-    let mut text = Vec::new(alloc);
-    push_text(&mut text, word)?;
-    Ok(text)
-}
-
-/// Appends a text.
-fn push_text(text: &mut Vec<u8>, word: &str) -> Result<(), Stop> {
+/// Appends a text: `%` and two hexadecimal digits are a byte, and `%` alone is the empty text. No
+/// word that is empty, or has other letters after a `%`, is one.
+pub fn push_text(text: &mut Vec<u8>, word: &str) -> Result<(), Stop> {
     match word {
         "" => return Err(Stop::Bad),
         "%" => return Ok(()),
@@ -44,12 +36,9 @@ fn push_text(text: &mut Vec<u8>, word: &str) -> Result<(), Stop> {
 /// is N times a byte.
 pub fn push_bytes(bytes: &mut Vec<u8>, text: &str) -> Result<(), Stop> {
     for word in text.split_whitespace() {
-        let done = match word.split_once('*') {
-            Some((count, byte)) => push_times(bytes, count, byte.as_bytes()),
-            None => push_digits(bytes, word.as_bytes()),
-        };
-        if done.is_err() {
-            return done;
+        match word.split_once('*') {
+            Some((count, byte)) => push_times(bytes, count, byte.as_bytes())?,
+            None => push_digits(bytes, word.as_bytes())?,
         }
     }
     Ok(())
@@ -60,19 +49,14 @@ fn push_times(bytes: &mut Vec<u8>, count: &str, byte: &[u8]) -> Result<(), Stop>
     let (Some(count), Some(byte)) = (parse_number(count), parse_byte(byte)) else {
         return Err(Stop::Bad);
     };
-    match bytes.len().checked_add(count as usize) {
-        Some(length) => Ok(bytes.resize(length, byte)?),
-        None => Err(Stop::Bad),
-    }
+    let length = bytes.len().checked_add(count as usize);
+    Ok(bytes.resize(length.ok_or(Stop::Bad)?, byte)?)
 }
 
 /// Appends the bytes of a word of digits.
 fn push_digits(bytes: &mut Vec<u8>, word: &[u8]) -> Result<(), Stop> {
     for pair in word.chunks(2) {
-        match parse_byte(pair) {
-            Some(byte) => bytes.push(byte)?,
-            None => return Err(Stop::Bad),
-        }
+        bytes.push(parse_byte(pair).ok_or(Stop::Bad)?)?;
     }
     Ok(())
 }
@@ -80,10 +64,7 @@ fn push_digits(bytes: &mut Vec<u8>, word: &[u8]) -> Result<(), Stop> {
 /// The byte of two hexadecimal digits.
 fn parse_byte(digits: &[u8]) -> Option<u8> {
     match (digits, str::from_utf8(digits)) {
-        ([_, _], Ok(digits)) => match parse_digits(digits, 16) {
-            Some(byte) => u8::try_from(byte).ok(),
-            None => None,
-        },
+        ([_, _], Ok(digits)) => u8::try_from(parse_digits(digits, 16)?).ok(),
         _ => None,
     }
 }

@@ -9,23 +9,19 @@ use std::alloc::Global;
 
 /// A section whose bytes can be had.
 pub(crate) trait Section: Writer + Drop {
-    /// A copy of the bytes.
-    fn to_bytes(&self, alloc: Global) -> Result<Vec<u8>>;
+    /// The bytes.
+    fn into_bytes(self) -> Result<Vec<u8>>;
 }
 
 impl Section for EndianVec<RunTimeEndian> {
-    fn to_bytes(&self, alloc: Global) -> Result<Vec<u8>> {
-        Ok(Vec::from_slice(alloc, self.slice())?)
+    fn into_bytes(self) -> Result<Vec<u8>> {
+        Ok(self.into_vec())
     }
 }
 
 impl<const N: usize> Section for PieceVec<RunTimeEndian, N> {
-    fn to_bytes(&self, alloc: Global) -> Result<Vec<u8>> {
-        let mut bytes = Vec::new(alloc);
-        for piece in self.pieces() {
-            bytes.extend_from_slice(piece)?;
-        }
-        Ok(bytes)
+    fn into_bytes(self) -> Result<Vec<u8>> {
+        self.into_vec()
     }
 }
 
@@ -51,8 +47,10 @@ impl ArraySection {
 }
 
 impl Section for ArraySection {
-    fn to_bytes(&self, alloc: Global) -> Result<Vec<u8>> {
-        Ok(Vec::from_slice(alloc, &self.bytes[..self.len])?)
+    fn into_bytes(self) -> Result<Vec<u8>> {
+        let ArraySection { mut bytes, len, .. } = self;
+        bytes.truncate(len);
+        Ok(bytes)
     }
 }
 

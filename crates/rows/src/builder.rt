@@ -7,56 +7,16 @@ ghost use Rattle.gimli_write.specs.LineText.{line_text, HasNoZero, IsNotEmpty};
 use crate::script::Script;
 use gimli_core::Encoding;
 use gimli_write::{Address, DirectoryId, FileId, FileInfo, LineProgram, LineString};
-use row_text::{Arguments, Attempts, Form, Stop};
+use row_text::{Arguments, Form, Stop};
 use std::alloc::Global;
-use std::fmt;
-use std::fmt::Write;
 
 /// The greatest number of a file.
 const LAST_FILE: u64 = 999;
 
-/// A digest of what was written to it, by which what stands before a call and after it is compared
-/// without memory.
-#[derive(Drop)]
-struct Digest(u64);
-
-impl fmt::Write for Digest {
-    fn write_str(&mut self, text: &str) -> fmt::Result {
-        for byte in text.as_bytes() {
-            self.0 = (self.0 ^ u64::from(*byte)).wrapping_mul(0x100_0000_01b3);
-        }
-        Ok(())
-    }
-}
-
 impl Script {
-    /// A number that is the same for the same program and tables.
-    fn digest(&self) -> u64 {
-        let program = &self.program;
-        let strings = &self.tables.strings;
-        let line_strings = &self.tables.line_strings;
-        let mut digest = Digest(0xcbf2_9ce4_8422_2325);
-        // A digest takes every text.
-        let _ = write!(digest, "{program:?} {strings:?} {line_strings:?}");
-        digest.0
-    }
-
-    /// Keeps what stands before a call of the library.
-    fn keep_before(&mut self) {
-        if self.attempts == Attempts::Two {
-            self.before = self.digest();
-        }
-    }
-
-    /// Whether all stands as it was before the last call of the library.
-    pub fn stands(&self) -> bool {
-        self.digest() == self.before
-    }
-
     /// Makes a call. Returns why it isn't made.
-    pub fn perform(&mut self, name: &str, mut words: Arguments<'_>) -> Option<Stop> {
+    pub fn perform(&mut self, name: &str, mut words: Arguments<'_>) -> Result<(), Stop> {
         let encoding = self.program.encoding();
-        self.keep_before();
         match name {
             "line_str" => drop(self.text(Form::LineStrings, encoding, &mut words)),
             "str" => drop(self.text(Form::Strings, encoding, &mut words)),
@@ -79,25 +39,17 @@ impl Script {
             words.refuse(Stop::Condition);
             return LineString::String(bytes);
         }
-        let tables = &mut self.tables;
+        let (strings, lines) = (&mut self.tables.strings, &mut self.tables.line_strings);
         let made = match form {
-            Form::Strings => tables.strings.add(&bytes).map(LineString::StringRef),
-            Form::LineStrings => tables
-                .line_strings
-                .add(&bytes)
-                .map(LineString::LineStringRef),
-            _ => LineString::new(&bytes, encoding, &mut tables.line_strings),
+            Form::Strings => strings.add(&bytes).map(LineString::StringRef),
+            Form::LineStrings => lines.add(&bytes).map(LineString::LineStringRef),
+            _ => LineString::new(&bytes, encoding, lines),
         };
         match made {
-            Ok(text) => {
-                self.keep_before();
-                text
-            }
-            Err(error) => {
-                words.refuse(Stop::Refused(error));
-                LineString::String(bytes)
-            }
+            Ok(text) => return text,
+            Err(error) => words.refuse(Stop::Refused(error)),
         }
+        LineString::String(bytes)
     }
 
     /// What is known of a file: its time, and if they are there its size, digest and source.
@@ -120,7 +72,7 @@ impl Script {
         let lines = words.line_encoding();
         let directory = self.text(Form::Usual, encoding, words);
         let file = self.text(Form::Usual, encoding, words);
-        let file_directory = if words.takes("in") {
+        let source_dir = if words.takes("in") {
             Some(self.text(Form::Usual, encoding, words))
         } else {
             None
@@ -129,21 +81,13 @@ impl Script {
         if !LineProgram::accepts(encoding, lines)
             || !directory.has_no_zero()
             || !file.has_no_zero()
-            || !is_optional_name(&file_directory)
+            || !is_optional_name(&source_dir)
         {
             return words.refuse(Stop::Condition);
         }
         if words.is_fine() {
             let alloc = self.alloc;
-            match LineProgram::new(
-                alloc,
-                encoding,
-                lines,
-                directory,
-                file_directory,
-                file,
-                info,
-            ) {
+            match LineProgram::new(alloc, encoding, lines, directory, source_dir, file, info) {
                 Ok(program) => {
                     self.directories.clear();
                     self.program = program;
@@ -193,7 +137,6 @@ impl Script {
             }
             _ => words.refuse(Stop::Bad),
         }
-        self.keep_before();
         if words.may_call(!self.program.is_none()) {
             if let Err(stop) = build(&mut self.program, name, address, offset) {
                 words.refuse(stop);
@@ -312,9 +255,7 @@ fn set_row(alloc: Global, program: &mut LineProgram, words: &mut Arguments<'_>) 
     let row = program.row();
     row.address_offset = offset;
     row.op_index = op_index;
-    if let Some(file) = file {
-        row.file = file;
-    }
+    row.file = file.unwrap_or(row.file);
     row.line = words.number(u64::MAX);
     row.column = words.number(u64::MAX);
     row.discriminator = words.number(u64::MAX);

@@ -1,8 +1,41 @@
-//! Programs that are built, as text: rows, and what is read back.
+//! The tables of texts of a program that is built, and as text its rows and what is read back.
 
-use gimli_write::{ConvertError, LineRow, RoundTrip, RoundTripFile};
+use gimli_core::LittleEndian;
+use gimli_write::{
+    ConvertError, DebugLineStr, DebugStr, EndianVec, LineRow, LineStringId, LineStringTable,
+    Result, RoundTrip, RoundTripFile, StringId, StringTable,
+};
 use row_text::Lines;
 use row_text::Piece::{Digits, Flags, Number, Row, Text, Word};
+use std::alloc::Global;
+
+/// The tables of texts.
+#[derive(Drop)]
+pub(crate) struct Tables {
+    /// The texts of the section `.debug_str`.
+    pub strings: StringTable,
+    /// The texts of the section `.debug_line_str`.
+    pub line_strings: LineStringTable,
+}
+
+impl Tables {
+    /// Tables without a text.
+    pub fn new(alloc: Global) -> Tables {
+        Tables {
+            strings: StringTable::default(alloc),
+            line_strings: LineStringTable::default(alloc),
+        }
+    }
+
+    /// The bytes of both, those of `.debug_line_str` first.
+    pub fn bytes(&self, alloc: Global) -> Result<[Vec<u8>; 2]> {
+        let mut strings = DebugStr::from(EndianVec::new(alloc, LittleEndian));
+        let mut line_strings = DebugLineStr::from(EndianVec::new(alloc, LittleEndian));
+        self.strings.write(&mut strings)?;
+        self.line_strings.write(&mut line_strings)?;
+        Ok([line_strings.0.into_vec(), strings.0.into_vec()])
+    }
+}
 
 /// Prints a row as a script has it, with its file by its index in the program, from 0 on.
 pub(crate) fn print_row(row: LineRow, lines: &mut Lines) {
@@ -48,10 +81,7 @@ fn print_file(index: u64, file: &RoundTripFile, lines: &mut Lines) {
         Number(file.timestamp),
         Number(file.size),
         Digits(&file.md5),
-        match &file.source {
-            Some(source) => Text(source),
-            None => Word("-"),
-        },
+        file.source.as_deref().map_or(Word("-"), Text),
     ];
     lines.print("file % % dir % time % size % md5 % source %\n", &parts);
 }

@@ -3,14 +3,15 @@
 ghost use Rattle.std.specs.Prelude.{◌≡◌, IsErr};
 
 use crate::conversion::Target;
-use crate::header_text::print_header;
-use crate::instruction_text::print_instructions;
-use crate::lookup_text::{print_lookup, print_paths, print_units, watch_rows};
+use crate::lookup_text::{print_lookup, print_paths, print_units};
+use crate::unit_text::{print_header, print_instructions};
 use gimli_core::{DebugLineOffset, EndianSlice, Error, Reader, ReaderOffset, RunTimeEndian};
 use gimli_line::{DebugLine, IncompleteLineProgram};
+use gimli_lookup::StringSections;
 use line_text::{AddressSize, Slice};
 use row_text::{Arguments, Attempts, Lines, Stop};
 use std::alloc::Global;
+use std::fmt::Debug;
 
 /// A command over sections, by what it prints.
 #[derive(Clone, Copy)]
@@ -28,9 +29,6 @@ pub enum Command {
     /// What a conversion reads, item by item, and what is built of it; or sequence by sequence.
     Items,
     Sequences,
-    /// No command of a row: where something doesn't stand as it must after memory is refused to
-    /// the rows of a unit.
-    Watch,
 }
 
 impl Command {
@@ -57,8 +55,7 @@ impl Command {
             Command::Header => [true, true, false],
             Command::Paths => [true, false, true],
             Command::Addresses => [false, false, true],
-            Command::Items => [true; 3],
-            Command::Sequences => [true; 3],
+            Command::Items | Command::Sequences => [true; 3],
             _ => [false; 3],
         }
     }
@@ -75,19 +72,11 @@ pub struct Request<'w> {
     pub attempts: Attempts,
 }
 
-/// The sections that a command reads.
-#[derive(Clone, Copy)]
-pub struct Sections<'i> {
-    /// The section `.debug_line`.
-    pub lines: &'i [u8],
-    /// The section `.debug_str`.
-    pub strings: &'i [u8],
-    /// The section `.debug_line_str`.
-    pub line_strings: &'i [u8],
-}
+/// The sections `.debug_line`, `.debug_str` and `.debug_line_str`.
+pub type Sections<'i> = [&'i [u8]; 3];
 
 /// A reader that lends the bytes left.
-pub(crate) trait Lender: Reader {
+pub(crate) trait Lender: Reader<Offset = usize> + Debug {
     /// The bytes left.
     fn lent_bytes(&self) -> &[u8];
 }
@@ -103,10 +92,9 @@ impl Lender for Slice<'_> {
 pub(crate) struct Asked<'w, R: Reader> {
     pub alloc: Global,
     pub attempts: Attempts,
-    /// The sections `.debug_line`, `.debug_str` and `.debug_line_str`.
+    /// The section `.debug_line`, and those of its texts.
     pub section: DebugLine<R>,
-    pub strings: R,
-    pub line_strings: R,
+    pub texts: StringSections<R>,
     pub order: RunTimeEndian,
     pub address_size: AddressSize,
     /// Where the unit stands, or the lowest address of code.
@@ -153,6 +141,7 @@ pub fn print(
     ensures { IsErr result → lines.new ≡ lines.old }
 {
     let alloc = request.alloc;
+    let [section, strings, line_strings] = sections;
     let mut words = Arguments::new(alloc, request.words);
     let order = words.order();
     let address_size = words.address_size();
@@ -170,15 +159,15 @@ pub fn print(
     };
     let addresses = words.numbers(matches!(command, Command::Places));
     let target = Target::parse(alloc, has_name && has_last, &mut words);
-    if let Some(stop) = words.end() {
-        return Err(stop);
-    }
+    words.end()?;
     let asked = Asked {
         alloc,
         attempts: request.attempts,
-        section: DebugLine::new(sections.lines, order),
-        strings: EndianSlice::new(sections.strings, order),
-        line_strings: EndianSlice::new(sections.line_strings, order),
+        section: DebugLine::new(section, order),
+        texts: StringSections {
+            debug_line_str: EndianSlice::new(line_strings, order),
+            debug_str: EndianSlice::new(strings, order),
+        },
         order,
         address_size,
         offset,
@@ -196,27 +185,22 @@ pub fn print(
 
 /// A reader over a text that is handed in.
 fn reader(text: &Option<Vec<u8>>, order: RunTimeEndian) -> Option<Slice<'_>> {
-    match text {
-        Some(text) => Some(EndianSlice::new(text, order)),
-        None => None,
-    }
+    text.as_deref().map(|text| EndianSlice::new(text, order))
 }
 
 /// The same over any reader.
 fn perform<R: Lender>(command: Command, asked: &Asked<'_, R>, lines: &mut Lines) {
-    match command {
+    let program = match command {
         Command::Walk => return print_units(asked, lines),
         Command::Places => return print_lookup(asked, false, lines),
         Command::Addresses => return print_lookup(asked, true, lines),
-        _ => {}
-    }
-    match (command, asked.program()) {
+        _ => asked.program(),
+    };
+    match (command, program) {
         (_, Err(error)) => lines.put_refusal("error ", error),
         (Command::Header, Ok(program)) => print_header(program.header(), lines),
         (Command::Instructions, Ok(program)) => print_instructions(program.header(), lines),
         (Command::Paths, Ok(program)) => print_paths(asked, program.header(), lines),
-        (Command::Items, Ok(_program)) => asked.print_conversion(true, lines),
-        (Command::Sequences, Ok(_program)) => asked.print_conversion(false, lines),
-        (_, Ok(program)) => watch_rows(program.rows(), lines),
+        (_, Ok(_program)) => asked.print_conversion(matches!(command, Command::Items), lines),
     }
 }

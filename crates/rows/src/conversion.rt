@@ -3,10 +3,9 @@
 ghost use Rattle.std.specs.Prelude.{IsTrue};
 ghost use Rattle.rows.specs.Taken.{IsTaken};
 
-use crate::built::{print_row, put_refused};
+use crate::built::{Tables, print_row, put_refused};
 use crate::command::Asked;
 use crate::script::Script;
-use crate::tables::Tables;
 use gimli_core::{Encoding, LineEncoding, Reader};
 use gimli_write::{
     Address, ConvertError, ConvertLineHeader, ConvertLineProgram, ConvertLineRow,
@@ -18,7 +17,7 @@ use row_text::{Arguments, Attempts, Lines, Stop};
 use std::alloc::Global;
 
 /// The encodings of the program that is built; where none is handed in it is that of the source.
-#[derive(Clone, Copy)]
+#[derive(Clone, Copy, Default)]
 pub(crate) struct Target {
     pub encoding: Option<Encoding>,
     pub line_encoding: Option<LineEncoding>,
@@ -29,10 +28,7 @@ impl Target {
     /// the version, the format and the size of an address, and after them what lines are encoded
     /// by, if it isn't as in the source. All are numbers with commas between.
     pub fn parse(alloc: Global, is_asked: bool, words: &mut Arguments<'_>) -> Target {
-        let mut target = Target {
-            encoding: None,
-            line_encoding: None,
-        };
+        let mut target = Target::default();
         if !is_asked || words.takes("-") {
             return target;
         }
@@ -43,7 +39,7 @@ impl Target {
                 if !rest.is_empty() {
                     target.line_encoding = Some(rest.line_encoding());
                 }
-                if let Some(stop) = rest.end() {
+                if let Err(stop) = rest.end() {
                     words.refuse(stop);
                 }
             }
@@ -66,16 +62,8 @@ impl Target {
     }
 }
 
-/// How reading a conversion ends.
-#[derive(Clone, Copy)]
-enum Ending {
-    /// It isn't begun.
-    NotBegun,
-    /// By its end, or a refusal.
-    Ended,
-    /// Memory is refused; and whether what must stand then does.
-    OutOfMemory(bool),
-}
+/// Whether reading a conversion is begun, and why it is refused.
+type Ending = (bool, Option<ConvertError>);
 
 impl<R: Reader> Asked<'_, R> {
     /// Prints what a conversion reads, item by item and after a line `==` what is built of them, or
@@ -86,46 +74,37 @@ impl<R: Reader> Asked<'_, R> {
         }
         let start = lines.len();
         let mut ending = self.print_read(by_items, lines);
-        if let (Attempts::Two, Ending::OutOfMemory(stands)) = (self.attempts, ending) {
+        if let (Attempts::Two, (_, Some(ConvertError::OutOfMemory))) = (self.attempts, ending) {
             lines.truncate(start);
-            lines.print(if stands { "" } else { "state\n" }, &[]);
             ending = self.print_read(by_items, lines);
         }
-        if by_items && !matches!(ending, Ending::NotBegun) {
+        let (is_begun, refusal) = ending;
+        if let Some(error) = refusal {
+            put_refused(error, lines);
+        }
+        if by_items && is_begun {
             lines.print("==\n", &[]);
             self.print_second(lines);
         }
     }
 
-    /// Prints what one conversion reads, in tables that hold texts before.
+    /// Prints what one conversion reads, up to its end or to the first refusal.
     fn print_read(&self, by_items: bool, lines: &mut Lines) -> Ending
         requires { IsTaken self.now.target }
     {
-        let mut tables = Tables::new(self.alloc);
-        self.print_beside(by_items, &mut tables, lines)
+        self.print_beside(by_items, &mut Tables::new(self.alloc), lines)
     }
 
     /// The same, with these tables.
     fn print_beside(&self, by_items: bool, tables: &mut Tables, lines: &mut Lines) -> Ending
         requires { IsTaken self.now.target }
     {
-        if tables.add_old().is_err() {
-            lines.refuse();
-            return Ending::NotBegun;
-        }
-        let ending = match self.begin(&mut tables.line_strings) {
-            Ok(header) => print_after_header(by_items, header, tables, lines),
-            Err(error) => {
-                put_refused(error, lines);
-                match error {
-                    ConvertError::OutOfMemory => Ending::OutOfMemory(true),
-                    _ => Ending::NotBegun,
-                }
-            }
-        };
-        match ending {
-            Ending::OutOfMemory(stands) => Ending::OutOfMemory(stands && tables.begin_old()),
-            ending => ending,
+        match self.begin(&mut tables.line_strings) {
+            Ok(header) => (
+                true,
+                print_after_header(by_items, header, tables, lines).err(),
+            ),
+            Err(error) => (false, Some(error)),
         }
     }
 
@@ -182,8 +161,8 @@ impl<R: Reader> Asked<'_, R> {
         requires { IsTaken self.now.target }
     {
         ConvertLineHeader::new(
-            self.strings,
-            self.line_strings,
+            self.texts.debug_str,
+            self.texts.debug_line_str,
             self.program()?,
             self.unit_name,
             self.target.encoding,
@@ -193,30 +172,20 @@ impl<R: Reader> Asked<'_, R> {
     }
 }
 
-/// Prints what is read after a header, up to its end or to the first refusal. After a refusal for
-/// memory the next read must be refused for it too.
+/// Prints what is read after a header.
 fn print_after_header<R: Reader>(
     by_items: bool,
     header: ConvertLineHeader<R>,
     tables: &mut Tables,
     lines: &mut Lines,
-) -> Ending {
+) -> ConvertResult<()> {
     let mut converter = header.converter(&mut tables.line_strings, &mut tables.strings);
     for _turn in 0..u64::MAX {
-        match print_next(by_items, &mut converter, lines) {
-            Ok(true) => {}
-            Ok(false) => return Ending::Ended,
-            Err(error) => {
-                put_refused(error, lines);
-                let stands = matches!(converter.read_row(), Err(ConvertError::OutOfMemory));
-                return match error {
-                    ConvertError::OutOfMemory => Ending::OutOfMemory(stands),
-                    _ => Ending::Ended,
-                };
-            }
+        if !print_next(by_items, &mut converter, lines)? {
+            break;
         }
     }
-    Ending::Ended
+    Ok(())
 }
 
 /// Prints the next item or sequence; false where there is none.
@@ -225,18 +194,14 @@ fn print_next<R: Reader>(
     converter: &mut ConvertLineProgram<'_, '_, R>,
     lines: &mut Lines,
 ) -> ConvertResult<bool> {
-    if by_items {
-        match converter.read_row()? {
-            Some(item) => print_item(item, lines),
-            None => return Ok(false),
-        }
+    let printed = if by_items {
+        let item = converter.read_row()?;
+        item.map(|item| print_item(item, lines))
     } else {
-        match converter.read_sequence()? {
-            Some(sequence) => print_sequence(&sequence, lines),
-            None => return Ok(false),
-        }
-    }
-    Ok(true)
+        let sequence = converter.read_sequence()?;
+        sequence.map(|sequence| print_sequence(&sequence, lines))
+    };
+    Ok(printed.is_some())
 }
 
 /// Prints an item: an address, a row, or an end.

@@ -8,11 +8,9 @@ mod builder;
 mod built;
 mod command;
 mod conversion;
-mod header_text;
-mod instruction_text;
 mod lookup_text;
 mod script;
-mod tables;
+mod unit_text;
 
 pub use command::{Command, Request, Sections, print};
 pub use script::write;

@@ -1,9 +1,9 @@
-//! Units of a section, lookups over it, and the paths and the rows of a unit.
+//! Units of a section, lookups over it, and the paths of a unit.
 
 use crate::command::Asked;
 use gimli_core::{Error, Reader, ReaderOffset};
-use gimli_line::{LineProgram, LineProgramHeader, LineRows};
-use gimli_lookup::{PathError, Paths, SectionLookup, StringSections};
+use gimli_line::LineProgramHeader;
+use gimli_lookup::{PathError, Paths, SectionLookup};
 use row_text::Piece::{Address, Number, Row, Text};
 use row_text::{Lines, parse_number};
 
@@ -44,8 +44,7 @@ pub(crate) fn print_units<R: Reader>(asked: &Asked<'_, R>, lines: &mut Lines) {
 /// line that has any; or the units, and for each address the rows that cover it.
 pub(crate) fn print_lookup<R: Reader>(asked: &Asked<'_, R>, is_line: bool, lines: &mut Lines) {
     let size = asked.address_size.bytes();
-    let section = asked.section;
-    match SectionLookup::new(&section, asked.alloc, size, asked.offset) {
+    match SectionLookup::new(&asked.section, asked.alloc, size, asked.offset) {
         Ok(lookup) if is_line => print_addresses(asked, &lookup, lines),
         Ok(lookup) => print_places(&lookup, asked.addresses, lines),
         Err(_) => lines.refuse(),
@@ -67,12 +66,8 @@ fn print_places<R: Reader>(lookup: &SectionLookup<R>, words: &[&str], lines: &mu
 fn print_place<R: Reader>(lookup: &SectionLookup<R>, address: u64, lines: &mut Lines) {
     match lookup.find(address) {
         Some(found) => {
-            let unit = Number(found.unit as u64);
-            let rows = (Row(found.row), Row(found.next));
-            lines.print(
-                "% unit %\n%\n%\n",
-                &[Address(address), unit, rows.0, rows.1],
-            );
+            lines.print("% unit %\n", &[Address(address), Number(found.unit as u64)]);
+            lines.print("%\n%\n", &[Row(found.row), Row(found.next)]);
         }
         None => lines.print("% none\n", &[Address(address)]),
     }
@@ -80,7 +75,7 @@ fn print_place<R: Reader>(lookup: &SectionLookup<R>, address: u64, lines: &mut L
 
 /// Prints a line, and the addresses at which its code begins.
 fn print_addresses<R: Reader>(asked: &Asked<'_, R>, lookup: &SectionLookup<R>, lines: &mut Lines) {
-    match lookup.addresses_of(&texts_of(asked), asked.path, asked.line) {
+    match lookup.addresses_of(&asked.texts, asked.path, asked.line) {
         Ok(Some(found)) => {
             lines.print("line %\n", &[Number(found.line)]);
             for address in &found.addresses {
@@ -92,63 +87,23 @@ fn print_addresses<R: Reader>(asked: &Asked<'_, R>, lookup: &SectionLookup<R>, l
     }
 }
 
-/// The sections of texts.
-fn texts_of<R: Reader>(asked: &Asked<'_, R>) -> StringSections<R> {
-    StringSections {
-        debug_line_str: asked.line_strings,
-        debug_str: asked.strings,
-    }
-}
-
 /// Prints the paths of the files of a header, or why they aren't known.
 pub(crate) fn print_paths<R: Reader>(
     asked: &Asked<'_, R>,
     header: &LineProgramHeader<R>,
     lines: &mut Lines,
 ) {
-    let paths = Paths::new(header, texts_of(asked), Some(asked.path));
+    let paths = Paths::new(header, asked.texts, Some(asked.path));
     let last = header.file_names().len() as u64;
     for index in 0..=last {
-        let path = match header.file(index) {
-            Some(file) => paths.of_file(asked.alloc, file),
-            None => continue,
+        let Some(file) = header.file(index) else {
+            continue;
         };
         lines.print("file % ", &[Number(index)]);
-        match path {
+        match paths.of_file(asked.alloc, file) {
             Ok(path) => lines.print("%\n", &[Text(&path)]),
             Err(PathError::OutOfMemory) => lines.refuse(),
             Err(error) => lines.put_error("error ", error),
         }
     }
-}
-
-/// Prints the count of the call that memory was refused to, where something doesn't stand as it
-/// must after it.
-pub(crate) fn watch_rows<R: Reader, P: LineProgram<R> + Drop>(
-    mut rows: LineRows<R, P>,
-    lines: &mut Lines,
-) {
-    for call in 1..u64::MAX {
-        let files = rows.header().file_names().len();
-        match rows.next_row() {
-            Ok(Some(_)) => {}
-            Err(Error::OutOfMemory) => {
-                if !stands(rows, files) {
-                    lines.print("state %\n", &[Number(call)]);
-                }
-                return;
-            }
-            _ => return,
-        }
-    }
-}
-
-/// Whether there are so many files after a refused call, and no row.
-fn stands<R: Reader, P: LineProgram<R> + Drop>(mut rows: LineRows<R, P>, files: usize) -> bool {
-    for _ in 0..3 {
-        if rows.header().file_names().len() != files || !matches!(rows.next_row(), Ok(None)) {
-            return false;
-        }
-    }
-    true
 }

@@ -1,15 +1,15 @@
 //! Builder scripts: the calls of programs, and how each is written.
 
 use crate::array_section::{ArraySection, Section};
-use crate::built::{print_answer, put_refused};
+use crate::built::{Tables, print_answer, put_refused};
 use crate::command::Request;
-use crate::tables::Tables;
 use gimli_core::{Encoding, RunTimeEndian};
 use gimli_write::{
     ConvertError, ConvertResult, DebugLine, EndianVec, Error, LineProgram, LineString, PieceVec,
     RoundTrip, round_trip,
 };
-use row_text::{Arguments, Attempts, Lines, Piece, Stop, Target};
+use row_text::Piece::{Bytes, Number, Word};
+use row_text::{Arguments, Attempts, Lines, Stop, Target};
 use std::alloc::Global;
 
 /// Builds the programs of a text's scripts and writes them; prints what that gives, and returns the
@@ -37,8 +37,6 @@ pub(crate) struct Script {
     pub tables: Tables,
     /// The text of each call that added a directory.
     pub directories: Vec<LineString>,
-    /// The digest of the program and its tables before the last call of the library.
-    pub before: u64,
     /// The order of bytes.
     pub order: RunTimeEndian,
     /// Whether it is read back.
@@ -59,6 +57,9 @@ pub(crate) struct Script {
     status: u8,
 }
 
+/// The bytes of a section, and why not all of it was written.
+type Written = (Vec<u8>, Option<Stop>);
+
 impl Script {
     /// A script without a call.
     pub fn new(alloc: Global, attempts: Attempts) -> Script {
@@ -68,7 +69,6 @@ impl Script {
             program: LineProgram::none(alloc),
             tables: Tables::new(alloc),
             directories: Vec::new(alloc),
-            before: 0,
             order: RunTimeEndian::Little,
             reads_back: false,
             target: Target::Vector,
@@ -79,20 +79,6 @@ impl Script {
             number: 0,
             status: 0,
         }
-    }
-
-    /// Goes on with a script without a call.
-    fn begin_anew(&mut self) {
-        self.program = LineProgram::none(self.alloc);
-        self.tables = Tables::new(self.alloc);
-        self.directories.clear();
-        self.order = RunTimeEndian::Little;
-        self.reads_back = false;
-        self.target = Target::Vector;
-        self.prefix.clear();
-        self.unit = None;
-        self.has_program = false;
-        self.is_ended = false;
     }
 
     /// Runs scripts one after the other, with a line between, and returns the status.
@@ -117,7 +103,10 @@ impl Script {
             ["next"] => {
                 self.finish(lines)?;
                 lines.print("--\n", &[]);
-                self.begin_anew();
+                let (number, status) = (self.number, self.status);
+                *self = Script::new(self.alloc, self.attempts);
+                self.number = number;
+                self.status = status;
             }
             ["order", ..] => self.order = rest.order(),
             ["writer", ..] => self.target = rest.target(),
@@ -126,10 +115,7 @@ impl Script {
             ["back"] => self.reads_back = true,
             [name, ..] => return self.take_call(name, rest, lines),
         }
-        match rest.end() {
-            Some(stop) => Err(stop),
-            None => Ok(()),
-        }
+        rest.end()
     }
 
     /// Makes a call, and tells how it ends the script, if it does. The program is begun once, and
@@ -145,12 +131,9 @@ impl Script {
             return Err(Stop::Bad);
         }
         self.has_program = self.has_program || begins;
-        let mut end = self.perform(name, words);
+        let mut end = self.perform(name, words).err();
         if self.is_made_again(end) {
-            if !self.stands() {
-                self.print_state(lines);
-            }
-            end = self.perform(name, words);
+            end = self.perform(name, words).err();
         }
         match end {
             Some(Stop::Bad) => return Err(Stop::Bad),
@@ -170,18 +153,11 @@ impl Script {
         is_refused && self.attempts == Attempts::Two
     }
 
-    /// Says that something doesn't stand as it must.
-    fn print_state(&self, lines: &mut Lines) {
-        lines.print("state %\n", &[Piece::Number(self.number)]);
-    }
-
     /// Prints the line of an end that isn't as it should be, and where the conditions were met the
     /// tables.
     fn print_end(&self, end: Stop, lines: &mut Lines) {
         match end {
-            Stop::Condition => {
-                return lines.print("condition %\n", &[Piece::Number(self.number)]);
-            }
+            Stop::Condition => return lines.print("condition %\n", &[Number(self.number)]),
             Stop::Refused(error) => lines.put_error("error ", error),
             _ => lines.print("error OutOfMemory\n", &[]),
         }
@@ -228,7 +204,7 @@ impl Script {
         match end {
             None => {
                 for bytes in bytes.chunks(16) {
-                    lines.print("%\n", &[Piece::Bytes(bytes)]);
+                    lines.print("%\n", &[Bytes(bytes)]);
                 }
                 self.print_tables(lines);
             }
@@ -243,38 +219,27 @@ impl Script {
 
     /// The section of the program, and how writing into it ends; by a second call where memory is
     /// refused to the first and attempts are two.
-    fn written(&mut self, encoding: Encoding, lines: &mut Lines) -> (Vec<u8>, Option<Stop>) {
-        let before = self.table_bytes();
+    fn written(&mut self, encoding: Encoding, lines: &mut Lines) -> Written {
         let (bytes, end) = self.written_once(encoding);
         if !self.is_made_again(end) {
             return (bytes, end);
         }
-        // The old bytes are a beginning of the section, or where they weren't all written the
-        // section one of them.
-        let begins = bytes.starts_with(&self.prefix) || self.prefix.starts_with(&bytes);
-        let stand = match (&before, &self.table_bytes()) {
-            (Ok([lines, strings]), Ok([lines_now, strings_now])) => {
-                gains_empty(lines, lines_now) && gains_empty(strings, strings_now)
-            }
-            _ => true,
-        };
-        let takes_none = matches!(self.target, Target::Array(_));
-        let is_own = matches!(end, Some(Stop::Memory));
-        if !begins || !stand || takes_none && !is_own {
-            self.print_state(lines);
+        // What stands after a refusal is proved, but not that an array takes no memory.
+        if let (Target::Array(_), Some(Stop::Refused(_))) = (self.target, end) {
+            lines.print("state %\n", &[Number(self.number)]);
         }
         self.written_once(encoding)
     }
 
     /// The section of the program, and how writing into it ends.
-    fn written_once(&mut self, encoding: Encoding) -> (Vec<u8>, Option<Stop>) {
+    fn written_once(&mut self, encoding: Encoding) -> Written {
         let alloc = self.alloc;
         let order = self.order;
         match self.target {
             Target::Vector => self.written_into(encoding, EndianVec::new(alloc, order)),
-            Target::Bytes => self.written_into(encoding, PieceVec::<_, 1>::new(alloc, order)),
-            Target::Words => self.written_into(encoding, PieceVec::<_, 4>::new(alloc, order)),
-            Target::Lines => self.written_into(encoding, PieceVec::<_, 16>::new(alloc, order)),
+            Target::Pieces(1) => self.written_into(encoding, PieceVec::<_, 1>::new(alloc, order)),
+            Target::Pieces(4) => self.written_into(encoding, PieceVec::<_, 4>::new(alloc, order)),
+            Target::Pieces(_) => self.written_into(encoding, PieceVec::<_, 16>::new(alloc, order)),
             Target::Array(count) => match ArraySection::new(alloc, count, order) {
                 Ok(section) => self.written_into(encoding, section),
                 Err(_) => (Vec::new(alloc), Some(Stop::Memory)),
@@ -283,25 +248,19 @@ impl Script {
     }
 
     /// A section with the program after the bytes that it holds before, and how writing ends.
-    fn written_into<W: Section>(
-        &mut self,
-        encoding: Encoding,
-        section: W,
-    ) -> (Vec<u8>, Option<Stop>) {
+    fn written_into<W: Section>(&mut self, encoding: Encoding, section: W) -> Written {
         let mut section = DebugLine::from(section);
-        let line_strings = &mut self.tables.line_strings;
-        let strings = &mut self.tables.strings;
+        let program = &self.program;
+        let (lines, strings) = (&mut self.tables.line_strings, &mut self.tables.strings);
         let end = match section.0.write(self.prefix.as_slice()) {
-            Ok(()) if self.program.can_write(line_strings, strings) => {
-                let written = self
-                    .program
-                    .write(&mut section, encoding, line_strings, strings);
+            Ok(()) if program.can_write(lines, strings) => {
+                let written = program.write(&mut section, encoding, lines, strings);
                 written.err().map(Stop::Refused)
             }
             Ok(()) => Some(Stop::Condition),
             Err(error) => Some(Stop::Refused(error)),
         };
-        match section.0.to_bytes(self.alloc) {
+        match section.0.into_bytes() {
             Ok(bytes) => (bytes, end),
             Err(_) => (Vec::new(self.alloc), Some(Stop::Memory)),
         }
@@ -337,11 +296,6 @@ impl Script {
 /// Prints the bytes of a table after a word, if there are any.
 fn print_table(word: &str, bytes: &[u8], lines: &mut Lines) {
     if !bytes.is_empty() {
-        lines.print("% %\n", &[Piece::Word(word), Piece::Bytes(bytes)]);
+        lines.print("% %\n", &[Word(word), Bytes(bytes)]);
     }
-}
-
-/// Whether a table is as it was when these were its bytes, or has gained the empty text alone.
-fn gains_empty(before: &[u8], now: &[u8]) -> bool {
-    matches!(now.strip_prefix(before), Some([] | [0]))
 }

@@ -1,7 +1,7 @@
 //! The program `linetool`, as a command of a row.
 
 use row_text::{Attempts, Lines, Stop, parse_number};
-use rows::{Command, Request, Sections, print};
+use rows::{Request, Sections};
 use std::io;
 use std::io::{ErrorKind, Read, Write};
 
@@ -55,7 +55,7 @@ pub fn run_linetool(
     sections: Sections<'_>,
     lines: &mut Lines,
 ) -> Result<u8, Stop> {
-    let section = sections.lines;
+    let [section, _, _] = sections;
     let mut left = usize::MAX;
     let (words, file) = match words {
         ["room", room, words @ ..] => {
@@ -81,16 +81,7 @@ pub fn run_linetool(
             own.push("FILE")?;
         }
     }
-    let status = run_words(request, &own, file, left, lines)?;
-    if request.attempts == Attempts::Two && words.first() == Some(&"rows") {
-        let request = Request {
-            words: words.get(1..).unwrap_or(&[]),
-            ..request
-        };
-        // Words that are no location have no rows.
-        let _ = print(Command::Watch, request, sections, lines);
-    }
-    Ok(status)
+    run_words(request, &own, file, left, lines)
 }
 
 /// Runs the words of `linetool` over a file, and prints what stands on its outputs.

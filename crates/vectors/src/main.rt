@@ -4,7 +4,7 @@
 //! - `check FILE..` runs the rows of these files; prints each row whose output isn't the expected
 //!   one, and for each file how many are as stated. Status 0 where all are, else 1.
 //! - `again FILE..` does the same, with each call that returns `OutOfMemory` made once more; it
-//!   prints `state LINE` where something doesn't stand as it must. Status 0, or 3 where the
+//!   prints `state LINE` where writing into an array took memory. Status 0, or 3 where the
 //!   program's own memory is refused.
 //! - `write` reads builder scripts from standard input, and prints what each gives.
 //! - `header FILE little|big SIZE OFFSET DIR NAME` prints a header.

@@ -47,24 +47,20 @@ pub fn run(
             if words.iter().skip(count).any(|word| !word.starts_with('@')) {
                 return Err(Stop::Bad);
             }
-            run_over(request, words, sections_of(section, named)?, lines)
+            let (strings, line_strings) = texts_of(named)?;
+            run_over(request, words, [section, strings, line_strings], lines)
         }
     }
 }
 
-/// The sections of a row: that of lines, and after it those of texts, as far as they are named.
-fn sections_of<'r>(lines: &'r [u8], named: &'r [Vec<u8>]) -> Result<Sections<'r>, Stop> {
-    let (strings, line_strings) = match named {
-        [] => ([].as_slice(), [].as_slice()),
-        [strings] => (strings.as_slice(), [].as_slice()),
-        [strings, line_strings] => (strings.as_slice(), line_strings.as_slice()),
-        _ => return Err(Stop::Bad),
-    };
-    Ok(Sections {
-        lines,
-        strings,
-        line_strings,
-    })
+/// The sections of texts of a row, as far as they are named.
+fn texts_of(named: &[Vec<u8>]) -> Result<(&[u8], &[u8]), Stop> {
+    match named {
+        [] => Ok(([].as_slice(), [].as_slice())),
+        [strings] => Ok((strings.as_slice(), [].as_slice())),
+        [strings, line_strings] => Ok((strings.as_slice(), line_strings.as_slice())),
+        _ => Err(Stop::Bad),
+    }
 }
 
 /// Runs a command over sections, and returns its status.

@@ -1,0 +1,13 @@
+use Rattle.std.proofs.Common.{sym}
+use Rattle.elf_sections.specs.Elf.{file_of}
+use Rattle.lines_inputs.proofs.input.Program.new.Goals as goal
+
+pub returns-in_ok-program-in-Elf : goal.returns-in_ok-program-in-Elf
+returns-in_ok-program-in-Elf c = record {
+  elf = λ k. record {
+    file = file_of c.in_ok-elf-in-Elf.elf;
+    is_file = sym c.in_ok-elf-in-Elf.ensures;
+    section = c.in_ok-program-in-Elf.ensures.0;
+    is_section = c.in_ok-program-in-Elf.ensures.1;
+  };
+}

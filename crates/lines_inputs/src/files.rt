@@ -1,0 +1,56 @@
+//! Files by their names: what names a program, and a file that is written whole.
+
+use debug_files::{Outline, Refusal};
+use elf_sections::ElfError;
+use std::fs::File;
+use std::io::ErrorKind;
+use std::rt::Files;
+use std::{fs, io};
+
+/// The build id of a file that is an ELF file; None where it has none, and where it can't be read,
+/// which its reader reports. Fails where memory is missing.
+pub fn build_id_in<R: Files + AllocGlobal>(rt: &R, name: &str) -> io::Result<Option<Vec<u8>>> {
+    match read_build_id(rt, name) {
+        Ok(id) => Ok(id),
+        Err(Refusal::Elf(ElfError::OutOfMemory)) => Err(io::Error::from(ErrorKind::OutOfMemory)),
+        Err(Refusal::Io(error)) if error.kind() == ErrorKind::OutOfMemory => Err(error),
+        Err(_) => Ok(None),
+    }
+}
+
+/// The build id of a file.
+fn read_build_id<R: Files + AllocGlobal>(rt: &R, name: &str) -> Result<Option<Vec<u8>>, Refusal> {
+    // Asked before it is opened: to open a pipe may take for ever.
+    if !fs::metadata(rt, name)?.is_file() {
+        return Ok(None);
+    }
+    let alloc = rt.alloc();
+    let mut file = File::open(rt, name)?;
+    let outline = Outline::read(alloc, &mut file)?;
+    let Some(section) = outline.section(alloc, &mut file, b".note.gnu.build-id")? else {
+        return Ok(None);
+    };
+    match outline.sections()?.build_id(&section) {
+        Some(id) => Ok(Some(Vec::from_slice(alloc, id)?)),
+        None => Ok(None),
+    }
+}
+
+/// Writes a file whole: it takes its name when all its bytes are written. What isn't a regular
+/// file, as a pipe, is written where it stands.
+pub fn write_file<R: Files + AllocGlobal>(rt: &R, path: &str, bytes: &[u8]) -> io::Result<()> {
+    match fs::metadata(rt, path) {
+        Ok(found) if !found.is_file() => return fs::write(rt, path, bytes),
+        _ => {}
+    }
+    let part = format!(in rt.alloc(); "{path}.part")?;
+    let written = match fs::write(rt, &part, bytes) {
+        Ok(()) => fs::rename(rt, &part, path),
+        Err(error) => Err(error),
+    };
+    if written.is_err() {
+        // Where it can't be removed, what was written stays under the other name.
+        let _ = fs::remove_file(rt, &part);
+    }
+    written
+}

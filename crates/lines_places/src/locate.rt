@@ -1,0 +1,161 @@
+//! The command `where`: the place in the source of each address.
+
+use crate::place_printer::{Asked, FoundPlace, PlacePrinter};
+use gimli_core::{Reader, ReaderOffset};
+use gimli_lookup::{CoveringRows, PathError};
+use lines_inputs::{
+    Covering, Functions, Input, PathSources, column_of, flags_of, line_of, look_up_any,
+    look_up_each,
+};
+use lines_pieces::{Piece, Result, path_or_fault, tell_of_unit};
+use lines_words::{CodeAddress, Json, Output, Request};
+use std::alloc::Global;
+
+/// What came of a question.
+#[derive(Drop)]
+pub enum Answered {
+    /// It is answered.
+    Whole,
+    /// It is, and a line of source is to be printed below.
+    Above(SourceLine),
+    /// It is asked of another section.
+    Elsewhere,
+}
+
+/// A line and a column of a source file.
+#[derive(Drop)]
+pub struct SourceLine {
+    /// The whole path.
+    pub path: Vec<u8>,
+    /// The line.
+    pub line: u64,
+    /// The column.
+    pub column: u64,
+}
+
+/// The rows of all units of a section, or those at a few addresses, and how their places are
+/// printed.
+#[derive(Drop)]
+pub struct Places<'r, 'n, R: Reader> {
+    alloc: Global,
+    lookup: Covering<R>,
+    sources: PathSources<R>,
+    functions: Functions<'n>,
+    printer: PlacePrinter<'r>,
+    /// The name of the section, in an object file.
+    section: Option<&'r [u8]>,
+}
+
+impl<'r, 'n, R: Reader> Places<'r, 'n, R> {
+    /// Reads the rows for the addresses of a linked program that are named, or where none is, for
+    /// any; in an object file those of one section.
+    pub fn new(
+        alloc: Global,
+        input: &Input<R>,
+        functions: Functions<'n>,
+        request: &'r Request<'r>,
+        section: Option<&'r [u8]>,
+        output: &mut Output<'_>,
+    ) -> Result<Places<'r, 'n, R>> {
+        let printer = PlacePrinter::new(alloc, request)?;
+        let sources = PathSources::new(alloc, input)?;
+        let lookup = rows_for(alloc, input, request, section.is_some(), output)?;
+        Ok(Places {
+            alloc,
+            lookup,
+            sources,
+            functions,
+            printer,
+            section,
+        })
+    }
+
+    /// Prints the place of what is asked. A word that is no address is reported, and printed as an
+    /// address without a place is.
+    pub fn answer(&self, asked: Asked<'_>, output: &mut Output<'_>) -> Result<Answered> {
+        match (asked, self.section) {
+            (Asked::Address(CodeAddress::Linked(address)), None) => {
+                self.print_place(address, output)
+            }
+            (Asked::Address(CodeAddress::InSection { section, offset }), Some(own))
+                if section.as_bytes() == own => self.print_place(offset, output),
+            (_, Some(_)) => Ok(Answered::Elsewhere),
+            (asked, None) => {
+                self.printer.print_other(asked, output);
+                Ok(Answered::Whole)
+            }
+        }
+    }
+
+    /// Prints the place of an address. In JSON its rows say more: their range is moved by the bias,
+    /// as the address is. Why its path isn't known is reported.
+    fn print_place(&self, address: u64, output: &mut Output<'_>) -> Result<Answered> {
+        let request = self.printer.request;
+        let own = address.checked_sub(request.bias);
+        let function = own.and_then(|own| self.functions.name_at(own));
+        let Some(found) = own.and_then(|own| self.lookup.find(own)) else {
+            self.printer.print(Some(address), function, None, output);
+            return Ok(Answered::Whole);
+        };
+        let (path, fault) = path_or_fault(&self.sources, self.path_of(&found))?;
+        let (line, column) = (line_of(&found.row), column_of(&found.row));
+        let start = found.row.address().saturating_add(request.bias);
+        let end = found.next.address().saturating_add(request.bias);
+        let flags = flags_of(&found.row);
+        let place = FoundPlace {
+            path: path.as_deref(),
+            line,
+            column,
+            more: &[
+                ("range", Json::Range(start, end)),
+                ("discriminator", Json::Number(found.row.discriminator())),
+                ("flags", Json::Flags(&flags)),
+            ],
+        };
+        self.printer
+            .print(Some(address), function, Some(place), output);
+        if let (Some(fault), Some(unit)) = (fault, self.lookup.units().get(found.unit)) {
+            let pieces = [Piece::Address(address), Piece::Fault(fault)];
+            let offset = unit.offset().0.into_u64();
+            tell_of_unit(offset, "at address %: %", &pieces, output);
+        }
+        Ok(match path {
+            Some(path) if request.has_source => {
+                Answered::Above(SourceLine { path, line, column })
+            }
+            _ => Answered::Whole,
+        })
+    }
+
+    /// The whole path of the file of a row. Refused as `PathError` says.
+    fn path_of(&self, found: &CoveringRows) -> Result<Vec<u8>, PathError> {
+        let unit = self.lookup.units().get(found.unit);
+        match unit.and_then(|unit| unit.header()) {
+            Some(header) => self.sources.of_row(self.alloc, header, &found.row),
+            None => Err(PathError::InvalidFileIndex(found.row.file_index())),
+        }
+    }
+}
+
+/// The rows for the addresses of a request, which are looked for as they were before the program
+/// was moved by a bias; or those for any address.
+fn rows_for<R: Reader>(
+    alloc: Global,
+    input: &Input<R>,
+    request: &Request<'_>,
+    is_any: bool,
+    output: &mut Output<'_>,
+) -> Result<Covering<R>> {
+    if is_any || request.addresses.is_empty() {
+        return look_up_any(alloc, input, output);
+    }
+    let mut unmoved = Vec::new(alloc);
+    for address in &request.addresses {
+        if let CodeAddress::Linked(address) = *address {
+            if let Some(own) = address.checked_sub(request.bias) {
+                unmoved.push(own)?;
+            }
+        }
+    }
+    look_up_each(alloc, input, unmoved, output)
+}
