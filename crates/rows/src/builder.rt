@@ -7,16 +7,56 @@ ghost use Rattle.gimli_write.specs.LineText.{line_text, HasNoZero, IsNotEmpty};
 use crate::script::Script;
 use gimli_core::Encoding;
 use gimli_write::{Address, DirectoryId, FileId, FileInfo, LineProgram, LineString};
-use row_text::{Arguments, Form, Stop};
+use row_text::{Arguments, Attempts, Form, Stop};
 use std::alloc::Global;
+use std::fmt;
+use std::fmt::Write;
 
 /// The greatest number of a file.
 const LAST_FILE: u64 = 999;
 
+/// A digest of what was written to it, by which what stands before a call and after it is compared
+/// without memory.
+#[derive(Drop)]
+struct Digest(u64);
+
+impl fmt::Write for Digest {
+    fn write_str(&mut self, text: &str) -> fmt::Result {
+        for byte in text.as_bytes() {
+            self.0 = (self.0 ^ u64::from(*byte)).wrapping_mul(0x100_0000_01b3);
+        }
+        Ok(())
+    }
+}
+
 impl Script {
+    /// A number that is the same for the same program and tables.
+    fn digest(&self) -> u64 {
+        let program = &self.program;
+        let strings = &self.tables.strings;
+        let line_strings = &self.tables.line_strings;
+        let mut digest = Digest(0xcbf2_9ce4_8422_2325);
+        // A digest takes every text.
+        let _ = write!(digest, "{program:?} {strings:?} {line_strings:?}");
+        digest.0
+    }
+
+    /// Keeps what stands before a call of the library.
+    fn keep_before(&mut self) {
+        if self.attempts == Attempts::Two {
+            self.before = self.digest();
+        }
+    }
+
+    /// Whether all stands as it was before the last call of the library.
+    pub fn stands(&self) -> bool {
+        self.digest() == self.before
+    }
+
     /// Makes a call. Returns why it isn't made.
     pub fn perform(&mut self, name: &str, mut words: Arguments<'_>) -> Result<(), Stop> {
         let encoding = self.program.encoding();
+        self.keep_before();
         match name {
             "line_str" => drop(self.text(Form::LineStrings, encoding, &mut words)),
             "str" => drop(self.text(Form::Strings, encoding, &mut words)),
@@ -46,7 +86,10 @@ impl Script {
             _ => LineString::new(&bytes, encoding, lines),
         };
         match made {
-            Ok(text) => return text,
+            Ok(text) => {
+                self.keep_before();
+                return text;
+            }
             Err(error) => words.refuse(Stop::Refused(error)),
         }
         LineString::String(bytes)
@@ -137,6 +180,7 @@ impl Script {
             }
             _ => words.refuse(Stop::Bad),
         }
+        self.keep_before();
         if words.may_call(!self.program.is_none()) {
             if let Err(stop) = build(&mut self.program, name, address, offset) {
                 words.refuse(stop);

@@ -27,6 +27,23 @@ impl Tables {
         }
     }
 
+    /// Adds the text `old` to both.
+    pub fn add_old(&mut self) -> Result<()> {
+        self.strings.add(b"old")?;
+        self.line_strings.add(b"old")?;
+        Ok(())
+    }
+
+    /// Whether the first text of both is `old`.
+    pub fn begin_old(&self) -> bool {
+        let strings = &self.strings;
+        let line_strings = &self.line_strings;
+        strings.count() != 0
+            && line_strings.count() != 0
+            && strings.get(StringId(0)) == b"old".as_slice()
+            && line_strings.get(LineStringId(0)) == b"old".as_slice()
+    }
+
     /// The bytes of both, those of `.debug_line_str` first.
     pub fn bytes(&self, alloc: Global) -> Result<[Vec<u8>; 2]> {
         let mut strings = DebugStr::from(EndianVec::new(alloc, LittleEndian));

@@ -3,7 +3,7 @@
 ghost use Rattle.std.specs.Prelude.{◌≡◌, IsErr};
 
 use crate::conversion::Target;
-use crate::lookup_text::{print_lookup, print_paths, print_units};
+use crate::lookup_text::{print_lookup, print_paths, print_units, watch_rows};
 use crate::unit_text::{print_header, print_instructions};
 use gimli_core::{DebugLineOffset, EndianSlice, Error, Reader, ReaderOffset, RunTimeEndian};
 use gimli_line::{DebugLine, IncompleteLineProgram};
@@ -29,6 +29,9 @@ pub enum Command {
     /// What a conversion reads, item by item, and what is built of it; or sequence by sequence.
     Items,
     Sequences,
+    /// No command of a row: where something doesn't stand as it must after memory is refused to
+    /// the rows of a unit.
+    Watch,
 }
 
 impl Command {
@@ -201,6 +204,7 @@ fn perform<R: Lender>(command: Command, asked: &Asked<'_, R>, lines: &mut Lines)
         (Command::Header, Ok(program)) => print_header(program.header(), lines),
         (Command::Instructions, Ok(program)) => print_instructions(program.header(), lines),
         (Command::Paths, Ok(program)) => print_paths(asked, program.header(), lines),
+        (Command::Watch, Ok(program)) => watch_rows(program.rows(), lines),
         (_, Ok(_program)) => asked.print_conversion(matches!(command, Command::Items), lines),
     }
 }

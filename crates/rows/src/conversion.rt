@@ -62,8 +62,16 @@ impl Target {
     }
 }
 
-/// Whether reading a conversion is begun, and why it is refused.
-type Ending = (bool, Option<ConvertError>);
+/// How reading a conversion ends.
+#[derive(Clone, Copy)]
+struct Ending {
+    /// Whether it is begun.
+    is_begun: bool,
+    /// Why it is refused.
+    refusal: Option<ConvertError>,
+    /// Whether after a refusal for memory what must stand does.
+    stands: bool,
+}
 
 impl<R: Reader> Asked<'_, R> {
     /// Prints what a conversion reads, item by item and after a line `==` what is built of them, or
@@ -74,21 +82,23 @@ impl<R: Reader> Asked<'_, R> {
         }
         let start = lines.len();
         let mut ending = self.print_read(by_items, lines);
-        if let (Attempts::Two, (_, Some(ConvertError::OutOfMemory))) = (self.attempts, ending) {
+        let is_refused = matches!(ending.refusal, Some(ConvertError::OutOfMemory));
+        if is_refused && self.attempts == Attempts::Two {
             lines.truncate(start);
+            lines.print(if ending.stands { "" } else { "state\n" }, &[]);
             ending = self.print_read(by_items, lines);
         }
-        let (is_begun, refusal) = ending;
-        if let Some(error) = refusal {
+        if let Some(error) = ending.refusal {
             put_refused(error, lines);
         }
-        if by_items && is_begun {
+        if by_items && ending.is_begun {
             lines.print("==\n", &[]);
             self.print_second(lines);
         }
     }
 
-    /// Prints what one conversion reads, up to its end or to the first refusal.
+    /// Prints what one conversion reads, up to its end or to the first refusal, in tables that hold
+    /// texts before.
     fn print_read(&self, by_items: bool, lines: &mut Lines) -> Ending
         requires { IsTaken self.now.target }
     {
@@ -99,13 +109,21 @@ impl<R: Reader> Asked<'_, R> {
     fn print_beside(&self, by_items: bool, tables: &mut Tables, lines: &mut Lines) -> Ending
         requires { IsTaken self.now.target }
     {
-        match self.begin(&mut tables.line_strings) {
-            Ok(header) => (
-                true,
-                print_after_header(by_items, header, tables, lines).err(),
-            ),
-            Err(error) => (false, Some(error)),
+        let mut ending = Ending {
+            is_begun: false,
+            refusal: None,
+            stands: true,
+        };
+        if tables.add_old().is_err() {
+            lines.refuse();
+            return ending;
         }
+        match self.begin(&mut tables.line_strings) {
+            Ok(header) => ending = print_after_header(by_items, header, tables, lines),
+            Err(error) => ending.refusal = Some(error),
+        }
+        ending.stands = ending.stands && tables.begin_old();
+        ending
     }
 
     /// Prints what a second conversion builds, in tables without a text.
@@ -172,16 +190,35 @@ impl<R: Reader> Asked<'_, R> {
     }
 }
 
-/// Prints what is read after a header.
+/// Prints what is read after a header. After a refusal for memory the next read must be refused for
+/// it too.
 fn print_after_header<R: Reader>(
     by_items: bool,
     header: ConvertLineHeader<R>,
     tables: &mut Tables,
     lines: &mut Lines,
-) -> ConvertResult<()> {
+) -> Ending {
     let mut converter = header.converter(&mut tables.line_strings, &mut tables.strings);
+    let refusal = print_each(by_items, &mut converter, lines).err();
+    let stands = match refusal {
+        Some(_) => matches!(converter.read_row(), Err(ConvertError::OutOfMemory)),
+        None => true,
+    };
+    Ending {
+        is_begun: true,
+        refusal,
+        stands,
+    }
+}
+
+/// Prints each item or sequence, up to the first refusal.
+fn print_each<R: Reader>(
+    by_items: bool,
+    converter: &mut ConvertLineProgram<'_, '_, R>,
+    lines: &mut Lines,
+) -> ConvertResult<()> {
     for _turn in 0..u64::MAX {
-        if !print_next(by_items, &mut converter, lines)? {
+        if !print_next(by_items, converter, lines)? {
             break;
         }
     }

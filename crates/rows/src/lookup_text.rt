@@ -1,8 +1,8 @@
-//! Units of a section, lookups over it, and the paths of a unit.
+//! Units of a section, lookups over it, and the paths and the rows of a unit.
 
 use crate::command::Asked;
 use gimli_core::{Error, Reader, ReaderOffset};
-use gimli_line::LineProgramHeader;
+use gimli_line::{LineProgram, LineProgramHeader, LineRows};
 use gimli_lookup::{PathError, Paths, SectionLookup};
 use row_text::Piece::{Address, Number, Row, Text};
 use row_text::{Lines, parse_number};
@@ -106,4 +106,35 @@ pub(crate) fn print_paths<R: Reader>(
             Err(error) => lines.put_error("error ", error),
         }
     }
+}
+
+/// Prints the count of the call that memory was refused to, where something doesn't stand as it
+/// must after it.
+pub(crate) fn watch_rows<R: Reader, P: LineProgram<R> + Drop>(
+    mut rows: LineRows<R, P>,
+    lines: &mut Lines,
+) {
+    for call in 1..u64::MAX {
+        let files = rows.header().file_names().len();
+        match rows.next_row() {
+            Ok(Some(_)) => {}
+            Err(Error::OutOfMemory) => {
+                if !stands(rows, files) {
+                    lines.print("state %\n", &[Number(call)]);
+                }
+                return;
+            }
+            _ => return,
+        }
+    }
+}
+
+/// Whether there are so many files after a refused call, and no row.
+fn stands<R: Reader, P: LineProgram<R> + Drop>(mut rows: LineRows<R, P>, files: usize) -> bool {
+    for _ in 0..3 {
+        if rows.header().file_names().len() != files || !matches!(rows.next_row(), Ok(None)) {
+            return false;
+        }
+    }
+    true
 }

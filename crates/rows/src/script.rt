@@ -37,6 +37,8 @@ pub(crate) struct Script {
     pub tables: Tables,
     /// The text of each call that added a directory.
     pub directories: Vec<LineString>,
+    /// The digest of the program and its tables before the last call of the library.
+    pub before: u64,
     /// The order of bytes.
     pub order: RunTimeEndian,
     /// Whether it is read back.
@@ -69,6 +71,7 @@ impl Script {
             program: LineProgram::none(alloc),
             tables: Tables::new(alloc),
             directories: Vec::new(alloc),
+            before: 0,
             order: RunTimeEndian::Little,
             reads_back: false,
             target: Target::Vector,
@@ -133,6 +136,9 @@ impl Script {
         self.has_program = self.has_program || begins;
         let mut end = self.perform(name, words).err();
         if self.is_made_again(end) {
+            if !self.stands() {
+                self.print_state(lines);
+            }
             end = self.perform(name, words).err();
         }
         match end {
@@ -151,6 +157,11 @@ impl Script {
     fn is_made_again(&self, end: Option<Stop>) -> bool {
         let is_refused = matches!(end, Some(Stop::Memory | Stop::Refused(Error::OutOfMemory)));
         is_refused && self.attempts == Attempts::Two
+    }
+
+    /// Says that something doesn't stand as it must.
+    fn print_state(&self, lines: &mut Lines) {
+        lines.print("state %\n", &[Number(self.number)]);
     }
 
     /// Prints the line of an end that isn't as it should be, and where the conditions were met the
@@ -220,13 +231,24 @@ impl Script {
     /// The section of the program, and how writing into it ends; by a second call where memory is
     /// refused to the first and attempts are two.
     fn written(&mut self, encoding: Encoding, lines: &mut Lines) -> Written {
+        let before = self.table_bytes();
         let (bytes, end) = self.written_once(encoding);
         if !self.is_made_again(end) {
             return (bytes, end);
         }
-        // What stands after a refusal is proved, but not that an array takes no memory.
-        if let (Target::Array(_), Some(Stop::Refused(_))) = (self.target, end) {
-            lines.print("state %\n", &[Number(self.number)]);
+        // The old bytes are a beginning of the section, or where they weren't all written the
+        // section one of them. An array takes no memory.
+        let begins = bytes.starts_with(&self.prefix) || self.prefix.starts_with(&bytes);
+        let stand = match (&before, &self.table_bytes()) {
+            (Ok([lines, strings]), Ok([lines_now, strings_now])) => {
+                gains_empty(lines, lines_now) && gains_empty(strings, strings_now)
+            }
+            _ => true,
+        };
+        let takes_none = matches!(self.target, Target::Array(_));
+        let is_own = matches!(end, Some(Stop::Memory));
+        if !begins || !stand || takes_none && !is_own {
+            self.print_state(lines);
         }
         self.written_once(encoding)
     }
@@ -291,6 +313,11 @@ impl Script {
         let mut section = DebugLine::from(EndianVec::new(self.alloc, self.order));
         Some(round_trip(&self.program, &mut section, encoding, line_strings, strings))
     }
+}
+
+/// Whether a table is as it was when these were its bytes, or has gained the empty text alone.
+fn gains_empty(before: &[u8], now: &[u8]) -> bool {
+    matches!(now.strip_prefix(before), Some([] | [0]))
 }
 
 /// Prints the bytes of a table after a word, if there are any.

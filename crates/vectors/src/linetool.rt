@@ -1,7 +1,7 @@
 //! The program `linetool`, as a command of a row.
 
 use row_text::{Attempts, Lines, Stop, parse_number};
-use rows::{Request, Sections};
+use rows::{Command, Request, Sections, print};
 use std::io;
 use std::io::{ErrorKind, Read, Write};
 
@@ -81,7 +81,16 @@ pub fn run_linetool(
             own.push("FILE")?;
         }
     }
-    run_words(request, &own, file, left, lines)
+    let status = run_words(request, &own, file, left, lines)?;
+    if request.attempts == Attempts::Two && words.first() == Some(&"rows") {
+        let request = Request {
+            words: words.get(1..).unwrap_or(&[]),
+            ..request
+        };
+        // Words that are no location have no rows.
+        let _ = print(Command::Watch, request, sections, lines);
+    }
+    Ok(status)
 }
 
 /// Runs the words of `linetool` over a file, and prints what stands on its outputs.
