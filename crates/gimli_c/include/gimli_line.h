@@ -237,7 +237,7 @@ uint32_t gimli_line_unit(const uint8_t *section, size_t length, bool big, uint8_
  * there is room; *count is how many rows it has in all. A unit has at most as many rows as bytes, so an array of unit->length rows
  * has room for all of them (and one of length - offset rows for those of any unit at the offset). The first fault ends the run: its
  * number is answered, and the rows before it are there. Where no unit can be read *count is 0. Where memory is missing, *count is 0,
- * and the first rows may have been written. */
+ * and the first rows may have been written. The program is run from its start for each call, so take all rows at once if you can. */
 uint32_t gimli_line_rows(const uint8_t *section, size_t length, bool big, uint8_t address_size, size_t offset,
                          uint64_t skip, gimli_row *rows, size_t room, uint64_t *count) GIMLI_CALL GIMLI_READS(1, 2)
     GIMLI_WRITES(7, 8);
