@@ -22,7 +22,7 @@ pub mod Merging
 pub mod StepsInTurn
 pub mod CoveringPairs
 pub mod Unordered
-pub mod Indexed
+pub mod StepTables
 pub mod Files
 pub mod SequenceCuts
 pub mod CoveringSearches

@@ -5,10 +5,9 @@ use Rattle.std.proofs.Common.{ap, subst, ◌∙◌, append_assoc}
 use Rattle.std.specs.Prelude.{flat_map}
 use Rattle.std.proofs.Math.Path.{fun_ext}
 use Rattle.std.specs.List.{onto_first}
-use Rattle.std.proofs.lemmas.Bool.{false≢true, eq-eqb}
+use Rattle.std.proofs.lemmas.Bool.{false≢true}
 use Rattle.std.proofs.lemmas.List.Splits.{slice_split-cons_yes, slice_split-cons_no}
 use Rattle.gimli_line.specs.declared.run.row.LineRow.{LineRow}
-use Rattle.gimli_lookup.specs.RowFiles.{has_file, have_file}
 use Rattle.gimli_lookup.specs.Statements.{is_of_line, runs, first_statement, addresses_in, addresses_of, IsFirstLine, AreAddressesFrom}
 use Rattle.gimli_lookup.specs.inside.Statements.{is_among}
 use Rattle.gimli_lookup.specs.inside.StatementLines.{has_statement, have_statement, IsFirstWith}
@@ -181,28 +180,3 @@ pub no_files : (files : List ℕ) (sequences : List (List LineRow)) (asked : ℕ
 no_files files sequences asked none =
     subst (λ (fs : List ℕ). AreAddressesFrom (addresses_of (is_among fs) sequences) asked None) (sym none)
     (λ l from. none_in (λ n. false) l sequences (no_statements l sequences))
-
--- ---- files without rows
-
-or_true : (b : Bool) → (b || true) ≡ true
-or_true true = refl
-or_true false = refl
-
--- two tests that agree on the files of rows give the same runs
-same_runs : (f g : ℕ → Bool) (line : ℕ) (rows : List LineRow) → ((n : ℕ) → has_file rows n ≡ true → f n ≡ g n) → runs f line rows ≡ runs g line rows
-same_runs f g line [] same = refl
-same_runs f g line (r ∷ rows) same =
-    ap (λ b. cond (not (not r.end_sequence && nat_lt 0 r.line && nat_eq r.line line && b)) ([] ∷ runs f line rows) (onto_first r (runs f line rows)))
-    (same r.file (ap (λ b. b || has_file rows r.file) (eq-eqb r.file r.file refl)))
-    ∙ ap (λ parts. cond (not (is_of_line g line r)) ([] ∷ parts) (onto_first r parts))
-    (same_runs f g line rows (λ n there. same n (ap (λ b. nat_eq r.file n || b) there ∙ or_true (nat_eq r.file n))))
-
--- two tests that agree on the files that rows have give the same addresses
-pub same_addresses : (f g : ℕ → Bool) (sequences : List (List LineRow)) (line : ℕ) → ((n : ℕ) → have_file sequences n ≡ true → f n ≡ g n)
-    → addresses_of f sequences line ≡ addresses_of g sequences line
-same_addresses f g [] line same = refl
-same_addresses f g (rows ∷ sequences) line same =
-    ap (λ parts. flat_map first_statement parts ++ addresses_of f sequences line)
-    (same_runs f g line rows (λ n there. same n (ap (λ b. b || have_file sequences n) there)))
-    ∙ ap (λ xs. addresses_in g line rows ++ xs)
-    (same_addresses f g sequences line (λ n there. same n (ap (λ b. has_file rows n || b) there ∙ or_true (has_file rows n))))

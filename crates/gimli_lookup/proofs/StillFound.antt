@@ -6,13 +6,13 @@ use Rattle.std.proofs.lemmas.Bool.{cases_lt, cases_Bool, le-leb, lt-leb, true≢
 use Rattle.std.proofs.lemmas.List.{get_or-take, length-take-le, take_all}
 use Rattle.std.proofs.lemmas.Option.{get_or_from_slice_get, slice_get_within}
 use Rattle.gimli_line.specs.declared.run.row.LineRow.{LineRow}
-use Rattle.gimli_lookup.specs.declared.index.Index.{Index}
-use Rattle.gimli_lookup.specs.declared.index.Found.{Found}
+use Rattle.gimli_lookup.specs.declared.step_table.StepTable.{StepTable}
+use Rattle.gimli_lookup.specs.declared.step_table.Found.{Found}
 use Rattle.gimli_lookup.specs.declared.steps.Step.{Step}
 use Rattle.gimli_lookup.specs.FirstPair.{IsPairAt, HasNoPair, IsFirstPairOf}
 use Rattle.gimli_lookup.specs.Covering.{covers, covering_index}
 use Rattle.gimli_lookup.specs.Probes.{never_go_down}
-use Rattle.gimli_lookup.specs.Steps.{IsIndexOf}
+use Rattle.gimli_lookup.specs.Steps.{IsStepTableOf}
 use Rattle.gimli_lookup.specs.inside.Ends.{IsFoundIn}
 use Rattle.gimli_lookup.proofs.CoveringPairs.{IsFirstCovering, cases_covering, covering_has_pair, uncovered_has_none}
 use Rattle.gimli_lookup.proofs.Pairs.{rises}
@@ -127,7 +127,7 @@ module _ (a b : ℕ) (sequences : List (List LineRow)) (le : a ≤ b) (same : co
       }
 
 -- what is found at a is found at b, where nothing is between
-pub still_found : (index : Index) (sequences : List (List LineRow)) (a b : ℕ) (found : Option Found) → IsIndexOf index sequences → a ≤ b
+pub still_found : (index : StepTable) (sequences : List (List LineRow)) (a b : ℕ) (found : Option Found) → IsStepTableOf index sequences → a ≤ b
     → ((k : ℕ) (d : Step) → k < length index.steps.items → IsApart a b (slice_index_or index.steps.items k d).from)
     → ((i : ℕ) (d : List LineRow) → i < length sequences → IsUnorderedApart a b (slice_index_or sequences i d))
     → IfSome found (λ f. b < f.next.address) → IsFoundIn a sequences found → IsFoundIn b sequences found

@@ -1,6 +1,6 @@
 -- The components of a path, and which paths end with those of another.
-use Rattle.std.specs.Prelude.{◌≡◌, ℕ, Bool, List, [], ◌∷◌, ◌++◌, if◌then◌else◌, codes}
-use Rattle.std.specs.List.{slice_split, starts_with}
+use Rattle.std.specs.Prelude.{◌≡◌, ℕ, List, [], ◌∷◌, ◌++◌, if◌then◌else◌, codes}
+use Rattle.std.specs.List.{slice_split}
 use Rattle.std.specs.Str.{bytes_eq}
 use Rattle.gimli_lookup.specs.Paths.{is_separator, begins_with_separator}
 
@@ -35,7 +35,3 @@ components path = resolved (start_of path) (slice_split is_separator path)
 -- the last components of a path are all those of another
 abbrev pub EndsWith : List ℕ → List ℕ → Type 0
 EndsWith path end = (before : List (List ℕ)) × (components path ≡ components end ++ before)
-
--- the same as a test
-abbrev pub ends_with : List ℕ → List ℕ → Bool
-ends_with path end = starts_with bytes_eq (components path) (components end)

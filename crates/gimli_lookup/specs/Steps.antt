@@ -4,7 +4,7 @@ use Rattle.std.specs.Prelude.{◌≡◌, ◌<◌, ◌≤◌, ◌+◌, ◌*◌, �
 use Rattle.std.specs.Prelude.{length, fold, sum_by, slice_index_or, Option, None}
 use Rattle.gimli_line.specs.declared.run.row.LineRow.{LineRow}
 use Rattle.gimli_lookup.specs.declared.steps.Step.{Step}
-use Rattle.gimli_lookup.specs.declared.index.Index.{Index}
+use Rattle.gimli_lookup.specs.declared.step_table.StepTable.{StepTable}
 use Rattle.gimli_lookup.specs.Covering.{covering_index}
 use Rattle.gimli_lookup.specs.Probes.{never_go_down}
 
@@ -39,7 +39,7 @@ indexes_out_of_order first (rows ∷ later) =
     else first ∷ indexes_out_of_order (first + 1) later
 
 -- an index of these sequences. All probes that a search of them takes can be counted
-pub record IsIndexOf (index : Index) (sequences : List (List LineRow)) : Type 0 where
+pub record IsStepTableOf (index : StepTable) (sequences : List (List LineRow)) : Type 0 where
   pub steps : AreStepsOf 0 sequences index.steps.items
   pub unordered : index.unordered.items ≡ indexes_out_of_order 0 sequences
   pub countable : 2 ^ 8 + sum_by length sequences < 2 ^ 64

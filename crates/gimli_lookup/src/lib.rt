@@ -9,7 +9,7 @@
 
 mod covering_pairs;
 mod ends;
-mod index;
+mod step_table;
 mod kept_rows;
 pub mod laws;
 mod lookup;

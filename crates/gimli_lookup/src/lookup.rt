@@ -13,7 +13,7 @@ ghost use Rattle.gimli_lookup.specs.Covering.{covering_probes, scan_probes, IsLo
 ghost use Rattle.gimli_lookup.specs.Probes.{binary_digits, most_probes};
 ghost use Rattle.gimli_lookup.specs.Statements.{addresses_of, AreAddressesFrom};
 
-use crate::index::Index;
+use crate::step_table::StepTable;
 use crate::kept_rows::KeptRows;
 use crate::search;
 use crate::statements::{self, Addresses};
@@ -48,7 +48,7 @@ pub struct Lookup<R: Reader> {
     program: CompleteLineProgram<R>,
     sequences: Vec<LineSequence<R>>,
     rows: Vec<KeptRows>,
-    index: Index,
+    table: StepTable,
 }
 
 impl<R: Reader> Model for Lookup<R> {
@@ -56,7 +56,7 @@ impl<R: Reader> Model for Lookup<R> {
     ghost use Rattle.gimli_line.specs.header.Orders.{header_orders};
     ghost use Rattle.gimli_line.specs.run.Sequences.{part_of};
     ghost use Rattle.gimli_lookup.specs.Kept.{Kept};
-    ghost use Rattle.gimli_lookup.specs.Steps.{IsIndexOf};
+    ghost use Rattle.gimli_lookup.specs.Steps.{IsStepTableOf};
 
     ghost Value = { Kept };
 
@@ -69,7 +69,7 @@ impl<R: Reader> Model for Lookup<R> {
       rows = a.rows.items;
     } };
 
-    ghost invariant = { λ a. IsIndexOf a.index a.rows.items };
+    ghost invariant = { λ a. IsStepTableOf a.table a.rows.items };
 }
 
 impl<R: Reader> Lookup<R> {
@@ -95,12 +95,12 @@ impl<R: Reader> Lookup<R> {
     {
         let (program, sequences, rows) = program.sequences_with_rows()?;
         let rows = keep_each(*sequences.allocator(), rows)?;
-        let index = Index::new(*sequences.allocator(), rows.as_slice())?;
+        let table = StepTable::new(*sequences.allocator(), rows.as_slice())?;
         Ok(Lookup {
             program,
             sequences,
             rows,
-            index,
+            table,
         })
     }
 
@@ -143,7 +143,7 @@ impl<R: Reader> Lookup<R> {
         ensures at_most { result.1 ≤ binary_digits (2 * length self.now.rows)
             + covering_probes a self.now.rows + sum_by scan_probes self.now.rows }
     {
-        let (found, count) = self.index.find(self.rows.as_slice(), a);
+        let (found, count) = self.table.find(self.rows.as_slice(), a);
         match found {
             Some(found) => (Some((found.row, found.next)), count),
             None => (None, count),

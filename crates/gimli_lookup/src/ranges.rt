@@ -3,7 +3,7 @@
 ghost use Rattle.std.specs.Prelude.{◌≡◌, ◌<◌, Some, None, IfSome, MatchOption};
 ghost use Rattle.gimli_lookup.specs.Ranges.{AreFoundIn};
 
-use crate::index::Aside;
+use crate::step_table::Aside;
 use crate::section_lookup::{CoveringRows, SectionLookup};
 use crate::walk::Stand;
 use gimli_core::{Reader, ReaderOffset};

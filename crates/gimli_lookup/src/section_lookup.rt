@@ -17,7 +17,7 @@ ghost use Rattle.gimli_lookup.specs.Section.{AreAdjacent, IsFirstPairOfUnit, Kep
 ghost use Rattle.gimli_lookup.specs.SectionUnits.{IsUnitOf};
 ghost use Rattle.gimli_lookup.specs.inside.Ends.{IsAside};
 
-use crate::index::{Aside, Index};
+use crate::step_table::{Aside, StepTable};
 use crate::kept_rows::KeptRows;
 use crate::ranges::CoveredRange;
 use crate::section_unit::UnitLookup;
@@ -135,20 +135,20 @@ pub struct SectionLookup<R: Reader> {
     units: Vec<UnitLookup<R>>,
     /// The parts of the sequences of all units, one unit after the other.
     sequences: Vec<KeptRows>,
-    index: Index,
+    table: StepTable,
 }
 
 impl<R: Reader> Model for SectionLookup<R> {
     ghost use Rattle.std.specs.Prelude.{List, length, map};
     ghost use Rattle.gimli_lookup.specs.Section.{KeptUnit, with_sequences, AreAdjacent};
-    ghost use Rattle.gimli_lookup.specs.Steps.{IsIndexOf};
+    ghost use Rattle.gimli_lookup.specs.Steps.{IsStepTableOf};
 
     ghost Value = { List KeptUnit };
 
     ghost view = { λ a. map (with_sequences a.sequences.items) a.units.items };
 
     ghost invariant = { λ a. AreAdjacent 0 a.units.items (length a.sequences.items)
-        × IsIndexOf a.index a.sequences.items };
+        × IsStepTableOf a.table a.sequences.items };
 }
 
 impl<R: Reader> SectionLookup<R> {
@@ -186,11 +186,11 @@ impl<R: Reader> SectionLookup<R> {
             let unit = UnitLookup::new(alloc, next.offset, next.program, lowest, &mut sequences)?;
             push(&mut units, unit)?;
         }
-        let index = Index::new(alloc, sequences.as_slice())?;
+        let table = StepTable::new(alloc, sequences.as_slice())?;
         Ok(SectionLookup {
             units,
             sequences,
-            index,
+            table,
         })
     }
 
@@ -229,7 +229,7 @@ impl<R: Reader> SectionLookup<R> {
             ≤ binary_digits (2 * length sequences) + covering_probes a sequences
             + sum_by scan_probes sequences }
     {
-        let (found, probes) = self.index.find(self.sequences.as_slice(), a);
+        let (found, probes) = self.table.find(self.sequences.as_slice(), a);
         match found {
             None => (None, probes),
             Some(found) => {
@@ -255,7 +255,7 @@ impl<R: Reader> SectionLookup<R> {
         ensures found { AreFoundIn self.now result }
     {
         let (found, end) = self
-            .index
+            .table
             .find_with_end(self.sequences.as_slice(), a, stand, aside);
         let rows = match found {
             None => None,
@@ -302,12 +302,12 @@ impl<'i, E: Endianity> SectionLookup<EndianSlice<'i, E>> {
         let SectionLookup {
             units,
             sequences,
-            index,
+            table,
         } = self;
         Ok(SectionLookup {
             units: without_headers(alloc, units.as_slice())?,
             sequences,
-            index,
+            table,
         })
     }
 }

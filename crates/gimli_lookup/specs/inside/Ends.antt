@@ -3,8 +3,8 @@ use Rattle.std.specs.Prelude.{◌≡◌, ◌⊎◌, ◌≤◌, ◌<◌, ℕ, fal
 use Rattle.std.specs.Prelude.{length, take, MatchOption}
 use Rattle.gimli_line.specs.declared.run.row.LineRow.{LineRow}
 use Rattle.gimli_lookup.specs.Probes.{never_go_down}
-use Rattle.gimli_lookup.specs.declared.index.Aside.{Aside}
-use Rattle.gimli_lookup.specs.declared.index.Found.{Found}
+use Rattle.gimli_lookup.specs.declared.step_table.Aside.{Aside}
+use Rattle.gimli_lookup.specs.declared.step_table.Found.{Found}
 use Rattle.gimli_lookup.specs.FirstPair.{HasNoPair}
 use Rattle.gimli_lookup.specs.Ranges.{IsBefore}
 use Rattle.gimli_lookup.specs.inside.FirstPair.{IsFirstPairIn}

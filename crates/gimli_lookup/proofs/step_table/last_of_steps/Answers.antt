@@ -1,18 +1,17 @@
 use Rattle.std.proofs.Common.{◌-◌, ◌<◌, length, sym, get_or, None, arith}
 use Rattle.std.proofs.lemmas.List.{get_or_default}
 use Rattle.gimli_lookup.proofs.StepLists.{none_before, last_before}
-use Rattle.gimli_lookup.proofs.index.sequence_at.Goals as goal
+use Rattle.gimli_lookup.proofs.step_table.last_of_steps.Goals as goal
 
-pub returns-then-count-eq0-clause-value : goal.returns-then-count-eq0-clause-value
-returns-then-count-eq0-clause-value c =
-    sym (none_before c.args.a c.args.steps.now (λ k d le lt. c.steps_up_to-count.ensures.after k d (omega (arith, c.if-count-eq0.true)) lt))
+pub returns-then-count-eq0 : goal.returns-then-count-eq0
+returns-then-count-eq0 c = sym (none_before c.args.a c.args.steps.now (λ k d le lt. c.requires.after k d (omega (arith, c.if-count-eq0.true)) lt))
 
-pub returns-clause-value : goal.returns-clause-value
-returns-clause-value c =
+pub returns : goal.returns
+returns c =
     let steps = c.args.steps.now in
-    let count = c.steps_up_to-count.result in
+    let count = c.args.count in
     let index = count - 1 in
-    let there = c.steps_up_to-count.ensures in
+    let there = c.requires in
     let some : 0 < count = omega arith in
     let within : index < length steps = omega (arith, there.index) in
     let s = get_or steps index (record { from = 0; sequence = None }) in

@@ -1,4 +1,4 @@
-//! An index of sequences: few stored addresses are looked at to find the first sequence that covers
+//! A table of steps over sequences: few stored addresses are looked at to find the first sequence that covers
 //! an address.
 
 ghost use Rattle.std.specs.Prelude.{◌≡◌, ◌≤◌, ◌<◌, ◌+◌, ◌*◌, ◌^◌, ℕ, true, false, length};
@@ -13,7 +13,7 @@ ghost use Rattle.gimli_lookup.specs.inside.Ends.{IsUnorderedClear};
 ghost use Rattle.gimli_lookup.specs.inside.FirstPair.{IsFirstPairIn};
 ghost use Rattle.gimli_lookup.specs.Covering.{covering_probes, scan_probes, IsLookedInto};
 ghost use Rattle.gimli_lookup.specs.Probes.{binary_digits};
-ghost use Rattle.gimli_lookup.specs.Steps.{step_at, indexes_out_of_order, AreInOrder, IsIndexOf};
+ghost use Rattle.gimli_lookup.specs.Steps.{step_at, indexes_out_of_order, AreInOrder, IsStepTableOf};
 ghost use Rattle.gimli_lookup.specs.inside.Steps.{HaveNoUnorderedPair, IsFirstUnorderedPair};
 
 use crate::ends::{nearer, next_step, next_unordered};
@@ -44,7 +44,7 @@ pub(crate) struct Aside {
 /// Which of some sequences is the first that covers an address. Sequences whose addresses go down
 /// stand beside, and are searched row by row.
 #[derive(Debug, Drop)]
-pub(crate) struct Index {
+pub(crate) struct StepTable {
     steps: Vec<Step>,
     unordered: Vec<usize>,
 }
@@ -217,10 +217,10 @@ fn found_before(sequences: &[KeptRows], a: u64, found: Option<Found>, end: usize
     }
 }
 
-impl Index {
+impl StepTable {
     /// An index of these sequences. Fails only with `OutOfMemory`.
-    pub(crate) fn new(alloc: Global, sequences: &[KeptRows]) -> Result<Index>
-        ensures ok { IfOk result (λ index. IsIndexOf index sequences.now) }
+    pub(crate) fn new(alloc: Global, sequences: &[KeptRows]) -> Result<StepTable>
+        ensures ok { IfOk result (λ index. IsStepTableOf index sequences.now) }
         ensures err { IfErr result (λ e. e ≡ Error.OutOfMemory) }
     {
         if !are_countable(sequences) {
@@ -228,7 +228,7 @@ impl Index {
         }
         let steps = steps_of(alloc, sequences, 0)?;
         let unordered = unordered_indexes(alloc, sequences)?;
-        Ok(Index { steps, unordered })
+        Ok(StepTable { steps, unordered })
     }
 
     /// The first rows that cover `a` of the first of these sequences that has some, with its index;
@@ -236,7 +236,7 @@ impl Index {
     /// looked at, of steps and of rows. Requires the sequences that the index was made of.
     #[inline(always)]
     pub(crate) fn find(&self, sequences: &[KeptRows], a: u64) -> (Option<Found>, u64)
-        requires { IsIndexOf self.now sequences.now }
+        requires { IsStepTableOf self.now sequences.now }
         ensures found { MatchOption result.0 (All (HasNoPair a) sequences.now)
             (λ found. IsFirstPairIn a sequences.now found.sequence found.row found.next) }
         ensures at_least { Any IsLookedInto sequences.now → 1 ≤ result.1 }
@@ -266,7 +266,7 @@ impl Index {
     /// What is found at `a` among the sequences whose addresses go down: what was found before,
     /// where nothing changes up to `a`.
     fn aside_from(&self, sequences: &[KeptRows], a: u64, aside: Aside) -> Aside
-        requires index { IsIndexOf self.now sequences.now }
+        requires index { IsStepTableOf self.now sequences.now }
         requires aside { IsAside a sequences.now aside }
         ensures is { IsAside a sequences.now result }
         ensures above { IfSome result.end (λ end. a < end) }
@@ -293,7 +293,7 @@ impl Index {
         aside: Option<Found>,
         stand: &mut Stand,
     ) -> Option<Found>
-        requires index { IsIndexOf self.now sequences.now }
+        requires index { IsStepTableOf self.now sequences.now }
         requires sequence { sequence ≡ step_at a self.now.steps.items }
         requires aside { IsUnorderedAt a (length sequences.now) sequences.now aside }
         ensures { IsFoundIn a sequences.now result }
@@ -324,7 +324,7 @@ impl Index {
         stand: &mut Stand,
         aside: &mut Aside,
     ) -> (Option<Found>, Option<u64>)
-        requires index { IsIndexOf self.now sequences.now }
+        requires index { IsStepTableOf self.now sequences.now }
         requires aside { IsAside a sequences.now aside.old }
         ensures above { IfSome result.1 (λ end. a < end) }
         ensures found { (b : ℕ) → a ≤ b → IsBefore b result.1 → IsFoundIn b sequences.now result.0 }
@@ -352,7 +352,7 @@ impl Index {
         unordered: Option<u64>,
         found: &Option<Found>,
     ) -> Option<u64>
-        requires index { IsIndexOf self.now sequences.now }
+        requires index { IsStepTableOf self.now sequences.now }
         requires before { (k : ℕ) (d : Step) → k < count
             → (slice_index_or self.now.steps.items k d).from ≤ a }
         requires after { (k : ℕ) (d : Step) → count ≤ k → k < length self.now.steps.items

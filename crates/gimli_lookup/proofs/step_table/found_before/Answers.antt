@@ -1,10 +1,10 @@
 use Rattle.std.proofs.Common.{◌≤◌, length, arith}
 use Rattle.std.proofs.lemmas.Option.{MatchOption-at_some, MatchOption-at_none, slice_get_within}
-use Rattle.gimli_lookup.specs.declared.index.Found.{Found}
+use Rattle.gimli_lookup.specs.declared.step_table.Found.{Found}
 use Rattle.gimli_lookup.specs.inside.Steps.{HaveNoUnorderedPair, IsFirstUnorderedPair}
 use Rattle.std.specs.Prelude.{take}
 use Rattle.gimli_lookup.proofs.Asides.{fewer}
-use Rattle.gimli_lookup.proofs.index.found_before.Goals as goal
+use Rattle.gimli_lookup.proofs.step_table.found_before.Goals as goal
 
 pub returns-else-pair-end : goal.returns-else-pair-end
 returns-else-pair-end c =

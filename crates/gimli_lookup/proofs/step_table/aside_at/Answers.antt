@@ -2,7 +2,7 @@ use Rattle.std.proofs.Common.{None, Some, arith}
 use Rattle.std.specs.Prelude.{slice_index_or}
 use Rattle.gimli_lookup.proofs.Asides.{aside_found}
 use Rattle.gimli_lookup.proofs.NearerEnds.{rows_nearer}
-use Rattle.gimli_lookup.proofs.index.aside_at.Goals as goal
+use Rattle.gimli_lookup.proofs.step_table.aside_at.Goals as goal
 
 pub returns-in-Some-clause-is : goal.returns-in-Some-clause-is
 returns-in-Some-clause-is c =

@@ -2,7 +2,7 @@ use Rattle.std.proofs.Common.{◌≤◌, ◌<◌, ◌+◌, ◌-◌, ℕ, length}
 use Rattle.std.specs.Prelude.{slice_index_or}
 use Rattle.gimli_lookup.specs.declared.steps.Step.{Step}
 use Rattle.gimli_lookup.specs.Probes.{binary_digits}
-use Rattle.gimli_lookup.proofs.index.steps_up_to.Given as goal
+use Rattle.gimli_lookup.proofs.step_table.steps_up_to.Given as goal
 
 abbrev pub invariant-loop-low : goal.invariant-loop-low
 invariant-loop-low l = record {

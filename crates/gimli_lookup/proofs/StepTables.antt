@@ -3,19 +3,19 @@ use Rattle.std.proofs.Common.{◌≡◌, ◌⊎◌, ℕ, ◌-◌, ◌*◌, ◌<�
 use Rattle.std.specs.Prelude.{All, Any, sum_by, slice_index_or}
 use Rattle.std.proofs.lemmas.List.{take_all}
 use Rattle.gimli_line.specs.declared.run.row.LineRow.{LineRow}
-use Rattle.gimli_lookup.specs.declared.index.Index.{Index}
-use Rattle.gimli_lookup.specs.declared.index.Found.{Found}
+use Rattle.gimli_lookup.specs.declared.step_table.StepTable.{StepTable}
+use Rattle.gimli_lookup.specs.declared.step_table.Found.{Found}
 use Rattle.gimli_lookup.specs.FirstPair.{HasNoPair}
 use Rattle.gimli_lookup.specs.inside.FirstPair.{IsFirstPairIn}
 use Rattle.gimli_lookup.specs.Covering.{covers, covering_probes, scan_probes, IsLookedInto}
 use Rattle.gimli_lookup.specs.Probes.{binary_digits}
-use Rattle.gimli_lookup.specs.Steps.{step_at, IsIndexOf}
+use Rattle.gimli_lookup.specs.Steps.{step_at, IsStepTableOf}
 use Rattle.gimli_lookup.specs.inside.Steps.{HaveNoUnorderedPair, IsFirstUnorderedPair}
 use Rattle.gimli_lookup.proofs.CoveringPairs.{IsFirstCovering, cases_covering}
 use Rattle.gimli_lookup.proofs.Digits.{digits_grow}
 use Rattle.gimli_lookup.proofs.Unordered.{NoneCovers, none_before_covering, first_of_unordered, looked_into}
 
-module _ (index : Index) (sequences : List (List LineRow)) (is : IsIndexOf index sequences) (a : ℕ) where
+module _ (index : StepTable) (sequences : List (List LineRow)) (is : IsStepTableOf index sequences) (a : ℕ) where
   said : (o : Option ℕ) → o ≡ step_at a index.steps.items
       → MatchOption o (All (λ (rows : List LineRow). covers a rows ≡ false) sequences) (IsFirstCovering a 0 sequences)
   said o e =

@@ -2,9 +2,9 @@ use Rattle.std.proofs.Common.{◌≡◌, ◌∙◌, ◌<◌, true, length, ap, s
 use Rattle.std.proofs.lemmas.Grind.{common_steps}
 use Rattle.gimli_lookup.specs.Covering.{covers}
 use Rattle.gimli_lookup.proofs.CoveringPairs.{covering_has_pair, covering_is_ordered}
-use Rattle.gimli_lookup.proofs.Indexed.{covering_within, covering_is, none_covers_before, found_uncovered}
+use Rattle.gimli_lookup.proofs.StepTables.{covering_within, covering_is, none_covers_before, found_uncovered}
 use Rattle.gimli_lookup.proofs.Unordered.{first_of_unordered, first_of_covering, scan_and_rows}
-use Rattle.gimli_lookup.proofs.index.Index.find_from.Goals as goal
+use Rattle.gimli_lookup.proofs.step_table.StepTable.find_from.Goals as goal
 
 pub returns-in_default : goal.returns-in_default
 returns-in_default c =

@@ -1,11 +1,11 @@
 use Rattle.std.proofs.Common.{◌<◌, ℕ, List, Option, length, subst, sym, arith}
 use Rattle.std.specs.Prelude.{slice_index_or, IfSome}
-use Rattle.gimli_lookup.specs.declared.index.Found.{Found}
+use Rattle.gimli_lookup.specs.declared.step_table.Found.{Found}
 use Rattle.gimli_lookup.specs.declared.steps.Step.{Step}
 use Rattle.gimli_lookup.specs.Ranges.{IsBefore}
 use Rattle.gimli_lookup.proofs.NearerEnds.{apart_of}
 use Rattle.gimli_lookup.proofs.StillFound.{IsApart, still_found}
-use Rattle.gimli_lookup.proofs.index.Index.end_after.Goals as goal
+use Rattle.gimli_lookup.proofs.step_table.StepTable.end_after.Goals as goal
 
 pub returns-in-Some-clause-found : goal.returns-in-Some-clause-found
 returns-in-Some-clause-found c = λ b le before.

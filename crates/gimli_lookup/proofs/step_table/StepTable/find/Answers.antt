@@ -7,9 +7,9 @@ use Rattle.gimli_lookup.specs.Probes.{binary_digits}
 use Rattle.gimli_lookup.specs.Steps.{step_at}
 use Rattle.gimli_lookup.proofs.CoveringPairs.{covering_has_pair, covering_is_ordered}
 use Rattle.gimli_lookup.proofs.Digits.{digits_below}
-use Rattle.gimli_lookup.proofs.Indexed.{covering_within, covering_is, none_covers_before, probes_of_covering, step_probes, some_probes, found_uncovered}
+use Rattle.gimli_lookup.proofs.StepTables.{covering_within, covering_is, none_covers_before, probes_of_covering, step_probes, some_probes, found_uncovered}
 use Rattle.gimli_lookup.proofs.Unordered.{first_of_unordered, first_of_covering, scan_and_rows}
-use Rattle.gimli_lookup.proofs.index.Index.find.Goals as goal
+use Rattle.gimli_lookup.proofs.step_table.StepTable.find.Goals as goal
 
 pub find_unordered-found-requires-clause-count : goal.find_unordered-found-requires-clause-count
 find_unordered-found-requires-clause-count c =

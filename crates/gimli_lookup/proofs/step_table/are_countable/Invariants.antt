@@ -1,6 +1,6 @@
 use Rattle.std.proofs.Common.{◌≡◌, ◌+◌, ◌<◌, ◌^◌, length, take}
 use Rattle.std.specs.Prelude.{sum_by}
-use Rattle.gimli_lookup.proofs.index.are_countable.Given as goal
+use Rattle.gimli_lookup.proofs.step_table.are_countable.Given as goal
 
 abbrev pub invariant-loop-rows : goal.invariant-loop-rows
 invariant-loop-rows l = record {

@@ -1,6 +1,6 @@
 use Rattle.std.proofs.Common.{◌<◌, ◌+◌, ◌-◌, ◌/◌, length, arith}
 use Rattle.gimli_lookup.proofs.Digits.{halved}
-use Rattle.gimli_lookup.proofs.index.steps_up_to.Goals as goal
+use Rattle.gimli_lookup.proofs.step_table.steps_up_to.Goals as goal
 
 pub loop-low-preserved-then-address_of_step-a : goal.loop-low-preserved-then-address_of_step-a
 loop-low-preserved-then-address_of_step-a c =

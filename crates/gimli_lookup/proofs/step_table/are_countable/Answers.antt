@@ -2,7 +2,7 @@ use Rattle.std.proofs.Common.{List, length, ap, arith}
 use Rattle.std.specs.Prelude.{sum_by}
 use Rattle.std.proofs.lemmas.List.{take_all}
 use Rattle.gimli_line.specs.declared.run.row.LineRow.{LineRow}
-use Rattle.gimli_lookup.proofs.index.are_countable.Goals as goal
+use Rattle.gimli_lookup.proofs.step_table.are_countable.Goals as goal
 
 pub returns : goal.returns
 returns c = λ t.

@@ -3,7 +3,7 @@ use Rattle.std.specs.Prelude.{slice_index_or}
 use Rattle.std.proofs.lemmas.List.{drop_more, drop_all}
 use Rattle.gimli_lookup.proofs.Unordered.{Scanned, next_within, next_fits, none_before_end, first_unordered, more_at_most, scan_more, none_scanned}
 use Rattle.gimli_lookup.proofs.Unordered.{end_at_least}
-use Rattle.gimli_lookup.proofs.index.find_unordered.Goals as goal
+use Rattle.gimli_lookup.proofs.step_table.find_unordered.Goals as goal
 
 pub returns-then-end-index-clause-found : goal.returns-then-end-index-clause-found
 returns-then-end-index-clause-found c =
