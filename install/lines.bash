@@ -13,11 +13,11 @@ _lines() {
         --address-size) COMPREPLY=($(compgen -W "1 2 4 8" -- "$word")); return ;;
         --deny | --allow) COMPREPLY=($(compgen -W "$kinds" -- "$word")); return ;;
         --index | --output | -o) COMPREPLY=($(compgen -f -- "$word")); return ;;
-        --relative-to | --maps) COMPREPLY=($(compgen -d -- "$word")); return ;;
+        --relative-to | --indexes) COMPREPLY=($(compgen -d -- "$word")); return ;;
         --bias | --context | -C) return ;;
     esac
     case $command in
-        where) options="$of_file --basenames --relative-to --bias --functions --pretty --source --index --maps --files --json" ;;
+        where) options="$of_file --basenames --relative-to --bias --functions --pretty --source --index --indexes --files --json" ;;
         index) options="$of_file --output" ;;
         at) options="$of_file --columns --range --json" ;;
         source) options="$of_file --context --source --json" ;;

@@ -45,11 +45,11 @@ for version in 2 3 4 5; do
         cat "$work/info" "$work/strings"
     } >"$work/seeds/info$version"
 done
-# A map, and an object file.
+# An index, and an object file.
 # shellcheck disable=SC2086
-cc -std=c11 -O1 -I "$crate/include" "$here/c/maps.c" $library -lpthread -o "$work/maps"
-"$work/maps" "$work/small.map"
-{ printf '\020\000'; cat "$work/small.map"; } >"$work/seeds/map"
+cc -std=c11 -O1 -I "$crate/include" "$here/c/indexes.c" $library -lpthread -o "$work/indexes"
+"$work/indexes" "$work/small.index"
+{ printf '\020\000'; cat "$work/small.index"; } >"$work/seeds/index"
 echo 'int f(void) { return 1; }' | cc -g -c -x c - -o "$work/f.o"
 { printf '\020\000'; cat "$work/f.o"; } >"$work/seeds/object"
 "$work/fuzz" "-dict=$here/line.dict" -max_len=4096 "-max_total_time=$seconds" -print_final_stats=1 "$found" "$work/seeds" 2>&1 |

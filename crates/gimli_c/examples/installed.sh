@@ -24,7 +24,7 @@ declared | cmp - "$work/shared"
 declared | cmp - "$work/static"
 
 # The header, alone, without a warning.
-printf '#include <gimli_line.h>\nconst char *name(void);\nconst char *name(void) { return gimli_status_name(GIMLI_OK); }\n' >"$work/header.c"
+printf '#include <gimli_line.h>\nconst char *name(void);\nconst char *name(void) { return gimli_line_status_name(GIMLI_LINE_OK); }\n' >"$work/header.c"
 cp "$work/header.c" "$work/header.cc"
 read_header() {
     local compiler=$1 file=$2

@@ -169,7 +169,7 @@ fn command_of<'w>(name: &'w str, matches: &ArgMatches<'w>) -> Result<Command<'w>
 
 /// The command `where`, by what it asks.
 fn where_of<'w>(matches: &ArgMatches<'w>) -> Command<'w> {
-    match (matches.get_str("index"), matches.get_str("maps")) {
+    match (matches.get_str("index"), matches.get_str("indexes")) {
         (Some(index), _) => Command::Ask(index),
         (None, Some(folder)) => Command::AskLines(LineNames::BuildIds(folder)),
         _ if matches.get_flag("files") => Command::AskLines(LineNames::Files),

@@ -8,10 +8,10 @@
 #include "file.h"
 #include "gimli_line.h"
 
-static void print_row(const gimli_row *row) {
+static void print_row(const gimli_line_row *row) {
     printf("%016llx %llu %llu %llu %llu %llu %llu ", (unsigned long long)row->address, (unsigned long long)row->op_index,
-           (unsigned long long)row->file, (unsigned long long)row->line, (unsigned long long)row->column,
-           (unsigned long long)row->isa, (unsigned long long)row->discriminator);
+           (unsigned long long)row->file, (unsigned long long)row->line, (unsigned long long)row->column, (unsigned long long)row->isa,
+           (unsigned long long)row->discriminator);
     if (row->flags == 0) printf("-");
     for (int flag = 0; flag < 5; flag++)
         if (row->flags >> flag & 1) putchar("sbepq"[flag]);
@@ -20,9 +20,9 @@ static void print_row(const gimli_row *row) {
 
 /* All rows of the unit at an offset. The status is that of its program's first fault, which comes after the rows before it. */
 static uint32_t print_rows(bytes section, size_t offset, uint64_t count) {
-    gimli_row *rows = malloc((count + 1) * sizeof *rows);
-    if (rows == NULL) return GIMLI_OUT_OF_MEMORY;
-    uint32_t status = gimli_line_rows(section.at, section.length, false, 8, offset, 0, rows, count, &count);
+    gimli_line_row *rows = malloc((count + 1) * sizeof *rows);
+    if (rows == NULL) return GIMLI_LINE_OUT_OF_MEMORY;
+    uint32_t status = gimli_line_read_rows(section.at, section.length, false, 8, offset, 0, rows, count, &count);
     for (uint64_t i = 0; i < count; i++) print_row(&rows[i]);
     free(rows);
     return status;
@@ -30,11 +30,11 @@ static uint32_t print_rows(bytes section, size_t offset, uint64_t count) {
 
 /* The two rows of an address: those of the first unit that has it. */
 static void print_pair(bytes section, uint64_t address) {
-    gimli_row first, second;
-    gimli_unit unit;
+    gimli_line_row first, second;
+    gimli_line_unit unit;
     for (size_t offset = 0; offset < section.length; offset = unit.next) {
-        if (gimli_line_unit(section.at, section.length, false, 8, offset, &unit) != GIMLI_OK) continue;
-        if (gimli_line_find(section.at, section.length, false, 8, offset, address, &first, &second) != GIMLI_OK) continue;
+        if (gimli_line_read_unit(section.at, section.length, false, 8, offset, &unit) != GIMLI_LINE_OK) continue;
+        if (gimli_line_find_row(section.at, section.length, false, 8, offset, address, &first, &second) != GIMLI_LINE_OK) continue;
         print_row(&first);
         print_row(&second);
         return;
@@ -49,12 +49,12 @@ int main(int argc, char **argv) {
     }
     bytes section = read_file(argv[1]);
     int faults = 0;
-    gimli_unit unit;
+    gimli_line_unit unit;
     for (size_t offset = 0; argc == 2 && offset < section.length; offset = unit.next) {
-        uint32_t status = gimli_line_unit(section.at, section.length, false, 8, offset, &unit);
-        if (status == GIMLI_OK) status = print_rows(section, offset, unit.rows);
-        if (status == GIMLI_OK) continue;
-        fprintf(stderr, "unit at %zu: %s\n", offset, gimli_status_sentence(status));
+        uint32_t status = gimli_line_read_unit(section.at, section.length, false, 8, offset, &unit);
+        if (status == GIMLI_LINE_OK) status = print_rows(section, offset, unit.rows);
+        if (status == GIMLI_LINE_OK) continue;
+        fprintf(stderr, "unit at %zu: %s\n", offset, gimli_line_status_sentence(status));
         faults++;
     }
     for (int i = 2; i < argc; i++) print_pair(section, strtoull(argv[i], NULL, 16));

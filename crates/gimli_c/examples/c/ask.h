@@ -1,6 +1,6 @@
-/* What the tests ask of any bytes, as sections, as a map and as an ELF file: two calls say the same of one thing, each number is one of the
- * header, and nothing is written but what is answered. What a call writes to ends where a page begins that can't be read or written: a byte
- * too much ends the program by a signal. A program that includes this defines _GNU_SOURCE before. */
+/* What the tests ask of any bytes, as sections, as an index and as an ELF file: two calls say the same of one thing, each number is one of
+ * the header, and nothing is written but what is answered. What a call writes to ends where a page begins that can't be read or written: a
+ * byte too much ends the program by a signal. A program that includes this defines _GNU_SOURCE before. */
 #ifndef ASK_H
 #define ASK_H
 
@@ -31,8 +31,8 @@ static inline void is(bool holds, const char *what) {
 #endif
 
 /* What is asked. */
-static _Thread_local gimli_sections in;
-static _Thread_local gimli_map_options by;
+static _Thread_local gimli_line_sections in;
+static _Thread_local gimli_line_index_options by;
 
 /* The last bytes of an area: so many, which all have the same value. */
 static inline void *room_in(int area, size_t size) {
@@ -64,28 +64,32 @@ typedef struct told {
 } told;
 
 static inline uint32_t rows_in(size_t offset, uint64_t skip, void *rows, size_t room, void *count) {
-    return gimli_line_rows(in.line, in.line_size, by.big, by.address_size, offset, skip, (gimli_row *)rows, room, (uint64_t *)count);
+    return gimli_line_read_rows(in.line, in.line_size, by.big, by.address_size, offset, skip, (gimli_line_row *)rows, room,
+                                (uint64_t *)count);
 }
 
 static inline uint32_t file_path_in(size_t offset, uint64_t number, void *path, size_t room, void *file) {
     uint8_t none;
-    return gimli_line_file(in.line, in.line_size, by.big, by.address_size, offset, number, (gimli_file *)file, (uint8_t *)path, room, &none, 0);
+    return gimli_line_read_file(in.line, in.line_size, by.big, by.address_size, offset, number, (gimli_line_file *)file, (uint8_t *)path,
+                                room, &none, 0);
 }
 
 static inline uint32_t file_directory_in(size_t offset, uint64_t number, void *directory, size_t room, void *file) {
     uint8_t none;
-    return gimli_line_file(in.line, in.line_size, by.big, by.address_size, offset, number, (gimli_file *)file, &none, 0, (uint8_t *)directory, room);
+    return gimli_line_read_file(in.line, in.line_size, by.big, by.address_size, offset, number, (gimli_line_file *)file, &none, 0,
+                                (uint8_t *)directory, room);
 }
 
 static inline uint32_t directory_in(size_t offset, uint64_t number, void *directory, size_t room, void *text) {
-    return gimli_line_directory(in.line, in.line_size, by.big, by.address_size, offset, number, (gimli_text *)text, (uint8_t *)directory, room);
+    return gimli_line_read_directory(in.line, in.line_size, by.big, by.address_size, offset, number, (gimli_line_text *)text,
+                                     (uint8_t *)directory, room);
 }
 
 static inline uint32_t comp_dir_in(size_t offset, uint64_t number, void *directory, size_t room, void *size) {
     (void)number;
-    return gimli_line_comp_dir(in.info, in.info_size, in.abbreviations, in.abbreviations_size, in.line_strings, in.line_strings_size, in.strings,
-                               in.strings_size, in.string_offsets, in.string_offsets_size, by.big, offset, (uint8_t *)directory, room,
-                               (size_t *)size);
+    return gimli_line_comp_dir(in.info, in.info_size, in.abbreviations, in.abbreviations_size, in.line_strings, in.line_strings_size,
+                               in.strings, in.strings_size, in.string_offsets, in.string_offsets_size, by.big, offset, (uint8_t *)directory,
+                               room, (size_t *)size);
 }
 
 static _Thread_local const char *comp_dir; /* from which a path goes on */
@@ -93,20 +97,21 @@ static _Thread_local size_t comp_dir_size;
 
 static inline uint32_t path_in(size_t offset, uint64_t number, void *path, size_t room, void *size) {
     const uint8_t *from = (const uint8_t *)memcpy(room_in(INPUT, comp_dir_size), comp_dir, comp_dir_size);
-    return gimli_line_path(in.line, in.line_size, in.line_strings, in.line_strings_size, in.strings, in.strings_size, by.big, by.address_size,
-                           offset, number, from, comp_dir_size, (uint8_t *)path, room, (size_t *)size);
+    return gimli_line_read_path(in.line, in.line_size, in.line_strings, in.line_strings_size, in.strings, in.strings_size, by.big,
+                                by.address_size, offset, number, from, comp_dir_size, (uint8_t *)path, room, (size_t *)size);
 }
 
 /* Makes a call with each room, from none to more than enough, or with two alone where that takes too long. It always answers the same, and
  * writes nothing else: nothing at all where it refuses, but for rows, which come before a fault. */
 static bool is_quick;
 
-static inline uint32_t try_rooms(call *made, size_t offset, uint64_t number, size_t element, size_t beside_size, size_t count_at, told *told) {
+static inline uint32_t try_rooms(call *made, size_t offset, uint64_t number, size_t element, size_t beside_size, size_t count_at,
+                                 told *told) {
     uint8_t *beside = (uint8_t *)room_in(BESIDE, beside_size);
     told->status = made(offset, number, room_in(ARRAY, 0), 0, beside);
     told->count = 0;
-    if (told->status == GIMLI_OK || made == rows_in) memcpy(&told->count, beside + count_at, sizeof told->count);
-    is(told->status == GIMLI_OK || made == rows_in || is_untouched(beside, beside_size), "nothing is written at a refusal");
+    if (told->status == GIMLI_LINE_OK || made == rows_in) memcpy(&told->count, beside + count_at, sizeof told->count);
+    is(told->status == GIMLI_LINE_OK || made == rows_in || is_untouched(beside, beside_size), "nothing is written at a refusal");
     memcpy(told->beside, beside, beside_size);
     is(told->count * element <= LARGEST, "an array isn't too large");
     size_t most = told->count + 3;
@@ -114,7 +119,8 @@ static inline uint32_t try_rooms(call *made, size_t offset, uint64_t number, siz
         size_t room = most - step, written = (room < told->count ? room : told->count) * element;
         uint8_t *array = (uint8_t *)room_in(ARRAY, room * element);
         beside = (uint8_t *)room_in(BESIDE, beside_size);
-        is(made(offset, number, array, room, beside) == told->status && memcmp(beside, told->beside, beside_size) == 0, "an answer by another room");
+        is(made(offset, number, array, room, beside) == told->status && memcmp(beside, told->beside, beside_size) == 0,
+           "an answer by another room");
         if (step == 0) memcpy(told->array, array, written);
         is(memcmp(array, told->array, written) == 0 && is_untouched(array + written, room * element - written), "an array by another room");
     }
@@ -122,20 +128,22 @@ static inline uint32_t try_rooms(call *made, size_t offset, uint64_t number, siz
 }
 
 /* The rows of a unit at once and from each row on, and the pairs of rows of their addresses. */
-static inline void ask_rows(size_t offset, const gimli_unit *unit) {
+static inline void ask_rows(size_t offset, const gimli_line_unit *unit) {
     static _Thread_local told rows;
-    is(try_rooms(rows_in, offset, 0, sizeof(gimli_row), 8, 0, &rows) == unit->fault, "the fault of a unit");
+    is(try_rooms(rows_in, offset, 0, sizeof(gimli_line_row), 8, 0, &rows) == unit->fault, "the fault of a unit");
     is(rows.count == unit->rows && rows.count <= unit->length, "how many rows a unit has");
     for (uint64_t i = 0; i < rows.count && (i < 64 || !is_quick); i++) {
-        gimli_row row, *some = (gimli_row *)room_in(ARRAY, 2 * sizeof row), first, second;
+        gimli_line_row row, *some = (gimli_line_row *)room_in(ARRAY, 2 * sizeof row), first, second;
         size_t left = rows.count - i < 2 ? 1 : 2;
         memcpy(&row, rows.array + i * sizeof row, sizeof row);
-        is(rows_in(offset, i, some, 2, room_in(BESIDE, 8)) == unit->fault && memcmp(some, rows.array + i * sizeof row, left * sizeof row) == 0 &&
-                   is_untouched(some + left, (2 - left) * sizeof row), "rows from one on");
+        is(rows_in(offset, i, some, 2, room_in(BESIDE, 8)) == unit->fault &&
+               memcmp(some, rows.array + i * sizeof row, left * sizeof row) == 0 && is_untouched(some + left, (2 - left) * sizeof row),
+           "rows from one on");
         uint64_t address = row.address + i % 3;
-        uint32_t found = gimli_line_find(in.line, in.line_size, by.big, by.address_size, offset, address, &first, &second);
-        is(unit->fault != GIMLI_OK ? found == unit->fault : found == GIMLI_OK || found == GIMLI_NO_ROW, "the status of a lookup");
-        is(found != GIMLI_OK || (first.address <= address && address < second.address), "the rows of an address");
+        uint32_t found = gimli_line_find_row(in.line, in.line_size, by.big, by.address_size, offset, address, &first, &second);
+        is(unit->fault != GIMLI_LINE_OK ? found == unit->fault : found == GIMLI_LINE_OK || found == GIMLI_LINE_NO_ROW,
+           "the status of a lookup");
+        is(found != GIMLI_LINE_OK || (first.address <= address && address < second.address), "the rows of an address");
         SEEN(1, row.flags);
         SEEN(2, row.line);
         SEEN(3, row.op_index);
@@ -145,42 +153,45 @@ static inline void ask_rows(size_t offset, const gimli_unit *unit) {
 /* A file of a unit: its texts, and its whole path. */
 static inline void ask_file(size_t offset, uint64_t number) {
     static _Thread_local told path, directory, text, whole, home;
-    gimli_file file;
-    uint32_t status = try_rooms(file_path_in, offset, number, 1, sizeof file, offsetof(gimli_file, path.size), &path);
-    is(try_rooms(file_directory_in, offset, number, 1, sizeof file, offsetof(gimli_file, directory.size), &directory) == status &&
-               memcmp(path.beside, directory.beside, sizeof file) == 0, "a file");
-    is(try_rooms(comp_dir_in, offset, 0, 1, sizeof(size_t), 0, &home) == GIMLI_OK || home.status == GIMLI_NO_COMP_DIR, "a directory of a compilation");
+    gimli_line_file file;
+    uint32_t status = try_rooms(file_path_in, offset, number, 1, sizeof file, offsetof(gimli_line_file, path.size), &path);
+    is(try_rooms(file_directory_in, offset, number, 1, sizeof file, offsetof(gimli_line_file, directory.size), &directory) == status &&
+           memcmp(path.beside, directory.beside, sizeof file) == 0,
+       "a file");
+    is(try_rooms(comp_dir_in, offset, 0, 1, sizeof(size_t), 0, &home) == GIMLI_LINE_OK || home.status == GIMLI_LINE_NO_COMP_DIR,
+       "a directory of a compilation");
     comp_dir = (const char *)home.array;
     comp_dir_size = home.count;
     uint32_t whole_status = try_rooms(path_in, offset, number, 1, sizeof(size_t), 0, &whole);
-    is(whole_status == status || (status == GIMLI_OK && whole_status == GIMLI_UNKNOWN_PATH), "the status of a whole path");
+    is(whole_status == status || (status == GIMLI_LINE_OK && whole_status == GIMLI_LINE_UNKNOWN_PATH), "the status of a whole path");
     SEEN(4, status);
     SEEN(5, whole_status);
     SEEN(6, home.status);
-    if (status != GIMLI_OK) return;
+    if (status != GIMLI_LINE_OK) return;
     memcpy(&file, path.beside, sizeof file);
     SEEN(7, file.path.kind);
     SEEN(8, file.details);
-    if (whole_status == GIMLI_OK)
+    if (whole_status == GIMLI_LINE_OK)
         is(whole.count >= path.count && memcmp(whole.array + whole.count - path.count, path.array, path.count) == 0, "the end of a path");
-    if (try_rooms(directory_in, offset, file.directory_number, 1, sizeof file.directory, offsetof(gimli_text, size), &text) == GIMLI_OK)
-        is(memcmp(text.beside, &file.directory, sizeof file.directory) == 0 && memcmp(text.array, directory.array, text.count) == 0, "a directory");
-    else
-        is(text.status == GIMLI_NO_SUCH_DIRECTORY && file.directory.kind == GIMLI_TEXT_NONE, "no directory");
+    if (try_rooms(directory_in, offset, file.directory_number, 1, sizeof file.directory, offsetof(gimli_line_text, size), &text) ==
+        GIMLI_LINE_OK)
+        is(memcmp(text.beside, &file.directory, sizeof file.directory) == 0 && memcmp(text.array, directory.array, text.count) == 0,
+           "a directory");
+    else is(text.status == GIMLI_LINE_NO_SUCH_DIRECTORY && file.directory.kind == GIMLI_LINE_TEXT_NONE, "no directory");
 }
 
 /* All units, whatever they are. */
 static inline void ask_units(void) {
-    gimli_unit unit;
+    gimli_line_unit unit;
     for (size_t offset = 0; offset < in.line_size; offset = unit.next) {
-        gimli_unit *told = (gimli_unit *)room_in(ANOTHER, sizeof *told);
-        uint32_t status = gimli_line_unit(in.line, in.line_size, by.big, by.address_size, offset, told);
+        gimli_line_unit *told = (gimli_line_unit *)room_in(ANOTHER, sizeof *told);
+        uint32_t status = gimli_line_read_unit(in.line, in.line_size, by.big, by.address_size, offset, told);
         unit = *told;
         told->next = UINT64_C(0xaaaaaaaaaaaaaaaa);
         is(unit.next > offset && unit.next <= in.line_size, "the next unit");
-        is(status == GIMLI_OK || is_untouched(told, sizeof *told), "a unit that is refused");
+        is(status == GIMLI_LINE_OK || is_untouched(told, sizeof *told), "a unit that is refused");
         SEEN(9, status);
-        if (status != GIMLI_OK) continue;
+        if (status != GIMLI_LINE_OK) continue;
         SEEN(10, unit.fault);
         SEEN(11, unit.version);
         SEEN(12, unit.files);
@@ -189,27 +200,31 @@ static inline void ask_units(void) {
     }
 }
 
-/* Bytes as a map, which may be none: whether it is sound. */
-static inline uint32_t ask_map(const uint8_t *map, size_t length, uint64_t address, uint64_t step) {
-    gimli_map about;
-    gimli_map_place place, places[4];
+/* Bytes as an index, which may be none: whether it is sound. */
+static inline uint32_t ask_index(const uint8_t *index, size_t length, uint64_t address, uint64_t step) {
+    gimli_line_index about;
+    gimli_line_place place, places[4];
     uint64_t line, addresses[4];
     size_t count = 0;
-    uint32_t opened = gimli_line_map_open(map, length, &about), checked = gimli_line_map_check(map, length);
-    is(opened == GIMLI_OK ? about.identity + about.identity_size <= length : checked == opened, "a map that is opened");
-    is(checked == GIMLI_OK || (checked >= GIMLI_NO_MAP && checked <= GIMLI_MAP_PATH_OUTSIDE), "a map that is checked");
+    uint32_t opened = gimli_line_index_open(index, length, &about), checked = gimli_line_index_check(index, length);
+    is(opened == GIMLI_LINE_OK ? about.identity + about.identity_size <= length : checked == opened, "an index that is opened");
+    is(checked == GIMLI_LINE_OK || (checked >= GIMLI_LINE_NO_INDEX && checked <= GIMLI_LINE_INDEX_PATH_OUTSIDE),
+       "an index that is checked");
     for (uint64_t i = 0; i < 4; i++) places[i].address = address + i * step;
-    is(gimli_line_map_find_all(map, length, places, 4) == opened, "places");
+    is(gimli_line_index_find_all(index, length, places, 4) == opened, "places");
     for (uint64_t i = 0; i < 4; i++) {
-        uint32_t status = gimli_line_map_find(map, length, address + i * step, &place);
-        is(opened == GIMLI_OK ? status == (places[i].known ? GIMLI_OK : GIMLI_NO_ROW) : status == opened, "the status of a place");
-        if (status != GIMLI_OK) continue;
+        uint32_t status = gimli_line_index_find(index, length, address + i * step, &place);
+        is(opened == GIMLI_LINE_OK ? status == (places[i].known ? GIMLI_LINE_OK : GIMLI_LINE_NO_ROW) : status == opened,
+           "the status of a place");
+        if (status != GIMLI_LINE_OK) continue;
         is(memcmp(&place, &places[i], sizeof place) == 0, "a place");
         is(place.path == 0 || (place.path <= length && place.path_size <= length - place.path && place.no_path == 0), "a path");
-        is(checked != GIMLI_OK || place.no_path != GIMLI_NO_PATH_OUTSIDE, "a path of a map that was checked");
+        is(checked != GIMLI_LINE_OK || place.no_path != GIMLI_LINE_NO_PATH_OUTSIDE, "a path of an index that was checked");
     }
-    uint32_t told = gimli_line_map_addresses_of(map, length, (const uint8_t *)"0.c", 3, 1, &line, addresses, 4, &count);
-    is(opened == GIMLI_OK ? told == GIMLI_NO_CODE || (told == GIMLI_OK && count != 0 && count <= about.ranges) : told == opened, "a line");
+    uint32_t told = gimli_line_index_addresses_of(index, length, (const uint8_t *)"0.c", 3, 1, &line, addresses, 4, &count);
+    is(opened == GIMLI_LINE_OK ? told == GIMLI_LINE_NO_CODE || (told == GIMLI_LINE_OK && count != 0 && count <= about.ranges)
+                               : told == opened,
+       "a line");
     SEEN(13, checked);
     SEEN(14, told);
     return checked;

@@ -1,4 +1,4 @@
-/* A target for libFuzzer: any bytes are sections, a map and an ELF file, which are asked all that ask.h asks. See fuzz.sh.
+/* A target for libFuzzer: any bytes are sections, an index and an ELF file, which are asked all that ask.h asks. See fuzz.sh.
  *
  * The library is no part of what the fuzzer counts, since it is built by another compiler. So the target counts for it: the numbers
  * that are answered, and how many rows, files and units there are. */
@@ -25,21 +25,22 @@ int LLVMFuzzerTestOneInput(const uint8_t *data, size_t size) {
     is_quick = true;
     size_t rest = data[1] < size - 2 ? data[1] : size - 2, length = size - 2 - rest;
     const uint8_t *first = data + 2, *last = first + length;
-    in = (gimli_sections){first, last, last, first, last, last, length, rest, rest, length, rest, rest};
-    by = (gimli_map_options){sizeof by, 0, data[0] >> 1 & 15, data[0] & 1};
+    in = (gimli_line_sections){first, last, last, first, last, last, length, rest, rest, length, rest, rest};
+    by = (gimli_line_index_options){sizeof by, 0, data[0] >> 1 & 15, data[0] & 1};
     ask_units();
-    ask_map(first, length, 0, 1 << 22);
+    ask_index(first, length, 0, 1 << 22);
 
-    uint8_t *map, bytes[64];
-    uint32_t made = gimli_line_map_of_sections(&in, &by, "id", 2, &map, &length);
+    uint8_t *index, bytes[64];
+    uint32_t made = gimli_line_index_of_sections(&in, &by, "id", 2, &index, &length);
     seen(15, made);
-    is(made == GIMLI_OK ? ask_map(map, length, 0, 1 << 12) == GIMLI_OK : map == NULL && length == 0, "the map of any sections");
-    free(map);
+    is(made == GIMLI_LINE_OK ? ask_index(index, length, 0, 1 << 12) == GIMLI_LINE_OK : index == NULL && length == 0,
+       "the index of any sections");
+    free(index);
 
-    gimli_elf elf;
-    uint32_t is_elf = gimli_elf_open(in.line, in.line_size, &elf);
-    uint32_t status = gimli_elf_section(in.line, in.line_size, (const uint8_t *)".debug_line", 11, bytes, sizeof bytes, &length);
-    is(is_elf == GIMLI_OK ? status != GIMLI_NO_ELF : status == GIMLI_NO_ELF, "an ELF file");
+    gimli_line_elf elf;
+    uint32_t is_elf = gimli_line_elf_open(in.line, in.line_size, &elf);
+    uint32_t status = gimli_line_elf_section(in.line, in.line_size, (const uint8_t *)".debug_line", 11, bytes, sizeof bytes, &length);
+    is(is_elf == GIMLI_LINE_OK ? status != GIMLI_LINE_NO_ELF : status == GIMLI_LINE_NO_ELF, "an ELF file");
     seen(16, is_elf);
     seen(17, status);
     return 0;

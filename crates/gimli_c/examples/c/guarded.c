@@ -1,4 +1,4 @@
-/* Asks the sections of a program all that ask.h asks, by each room, and what its map says of each address near a row; writes its units,
+/* Asks the sections of a program all that ask.h asks, by each room, and what its index says of each address near a row; writes its units,
  * which are read back. Prints how many answers were as they had to be.
  *
  *   guarded line.bin line_str.bin info.bin abbrev.bin str.bin
@@ -28,7 +28,7 @@ static void cut_info(void) {
         in.info = memcpy(room_in(CUT, length), info, length);
         in.info_size = length;
         uint32_t status = try_rooms(comp_dir_in, 0, 0, 1, sizeof(size_t), 0, &home);
-        is(status == (length < first ? GIMLI_NO_COMP_DIR : GIMLI_OK), "the status where .debug_info is cut");
+        is(status == (length < first ? GIMLI_LINE_NO_COMP_DIR : GIMLI_LINE_OK), "the status where .debug_info is cut");
     }
     in.info = info;
     in.info_size = whole;
@@ -41,144 +41,175 @@ typedef uint32_t writer(const void *of, uint8_t *made, size_t room, size_t *size
 static uint8_t *made_by(writer *call, const void *of, size_t *whole) {
     size_t *size = room_in(BESIDE, sizeof *size);
     uint8_t *made = room_in(MADE, 0);
-    is(call(of, made, 0, size) == GIMLI_NO_ROOM, "how long it is");
+    is(call(of, made, 0, size) == GIMLI_LINE_NO_ROOM, "how long it is");
     *whole = *size;
     const size_t rooms[] = {1, *whole - 1, *whole + 9, *whole};
     for (size_t i = 0; i < 4; i++) {
         size_t written = rooms[i] < *whole ? 0 : *whole;
         made = room_in(MADE, rooms[i]);
-        is(call(of, made, rooms[i], size) == (written == 0 ? GIMLI_NO_ROOM : GIMLI_OK) && *size == *whole, "its status");
+        is(call(of, made, rooms[i], size) == (written == 0 ? GIMLI_LINE_NO_ROOM : GIMLI_LINE_OK) && *size == *whole, "its status");
         is(is_untouched(made + written, rooms[i] - written), "what is written beside it");
     }
     return made;
 }
 
-static uint32_t map_of(const void *options, uint8_t *map, size_t room, size_t *size) {
-    return gimli_line_map_write(in.line, in.line_size, in.line_strings, in.line_strings_size, in.strings, in.strings_size, in.info, in.info_size,
-                                in.abbreviations, in.abbreviations_size, in.string_offsets, in.string_offsets_size, options,
-                                (const uint8_t *)"name", 4, map, room, size);
+static uint32_t index_of(const void *options, uint8_t *index, size_t room, size_t *size) {
+    return gimli_line_index_write(in.line, in.line_size, in.line_strings, in.line_strings_size, in.strings, in.strings_size, in.info,
+                                  in.info_size, in.abbreviations, in.abbreviations_size, in.string_offsets, in.string_offsets_size, options,
+                                  (const uint8_t *)"name", 4, index, room, size);
 }
 
 static uint32_t unit_of(const void *contents, uint8_t *unit, size_t room, size_t *size) {
     return gimli_line_write_contents(contents, unit, room, size);
 }
 
-/* What the map says of an address is what the first unit says that has a row of it. */
-static void ask_address(const uint8_t *map, size_t length, uint64_t address) {
+/* What the index says of an address is what the first unit says that has a row of it. */
+static void ask_address(const uint8_t *index, size_t length, uint64_t address) {
     static told path, home;
-    gimli_row *first = room_in(ARRAY, sizeof *first), *second = room_in(BESIDE, sizeof *second), row;
-    gimli_unit unit;
+    gimli_line_row *first = room_in(ARRAY, sizeof *first), *second = room_in(BESIDE, sizeof *second), row;
+    gimli_line_unit unit;
     size_t offset = 0;
-    uint32_t found = GIMLI_NO_ROW;
+    uint32_t found = GIMLI_LINE_NO_ROW;
     for (; offset < in.line_size; offset = unit.next) {
-        is(gimli_line_unit(in.line, in.line_size, false, 8, offset, &unit) == GIMLI_OK, "a unit");
-        found = gimli_line_find(in.line, in.line_size, false, 8, offset, address, first, second);
-        if (found == GIMLI_OK) break;
+        is(gimli_line_read_unit(in.line, in.line_size, false, 8, offset, &unit) == GIMLI_LINE_OK, "a unit");
+        found = gimli_line_find_row(in.line, in.line_size, false, 8, offset, address, first, second);
+        if (found == GIMLI_LINE_OK) break;
         is(is_untouched(first, sizeof *first) && is_untouched(second, sizeof *second), "rows that aren't found");
     }
-    gimli_map_place *there = room_in(ANOTHER, sizeof *there);
-    is(gimli_line_map_find(map, length, address, there) == found, "the status of a place");
-    is(found == GIMLI_OK || is_untouched(there, sizeof *there), "a place that isn't found");
-    if (found != GIMLI_OK) return;
+    gimli_line_place *there = room_in(ANOTHER, sizeof *there);
+    is(gimli_line_index_find(index, length, address, there) == found, "the status of a place");
+    is(found == GIMLI_LINE_OK || is_untouched(there, sizeof *there), "a place that isn't found");
+    if (found != GIMLI_LINE_OK) return;
     row = *first;
-    is(try_rooms(comp_dir_in, offset, 0, 1, sizeof(size_t), 0, &home) == GIMLI_OK, "the directory of a compilation");
+    is(try_rooms(comp_dir_in, offset, 0, 1, sizeof(size_t), 0, &home) == GIMLI_LINE_OK, "the directory of a compilation");
     comp_dir = (const char *)home.array;
     comp_dir_size = home.count;
-    is(try_rooms(path_in, offset, row.file, 1, sizeof(size_t), 0, &path) == GIMLI_OK, "the path of a row");
+    is(try_rooms(path_in, offset, row.file, 1, sizeof(size_t), 0, &path) == GIMLI_LINE_OK, "the path of a row");
     is(there->known && there->address == address && there->unit == offset && there->line == row.line && there->column == row.column &&
-           there->is_stmt == (row.flags & GIMLI_IS_STMT), "a place");
-    is(there->no_path == 0 && there->path_size == path.count && memcmp(gimli_map_path(map, there), path.array, path.count) == 0, "its path");
+           there->is_stmt == (row.flags & GIMLI_LINE_IS_STMT),
+       "a place");
+    is(there->no_path == 0 && there->path_size == path.count && memcmp(gimli_line_place_path(index, there), path.array, path.count) == 0,
+       "its path");
     uint64_t *addresses = room_in(ARRAY, 2 * sizeof *addresses), *line = room_in(BESIDE, sizeof *line);
     size_t count;
-    found = gimli_line_map_addresses_of(map, length, map + there->path, there->path_size, row.line, line, addresses, 2, &count);
-    is(found == GIMLI_OK ? *line >= row.line && (!there->is_stmt || *line == row.line) : found == GIMLI_NO_CODE && !there->is_stmt, "a line");
-    is(is_untouched(addresses + (found == GIMLI_OK ? count : 0), found != GIMLI_OK ? 16 : count < 2 ? 8 : 0), "the addresses of a line");
+    found = gimli_line_index_addresses_of(index, length, index + there->path, there->path_size, row.line, line, addresses, 2, &count);
+    is(found == GIMLI_LINE_OK ? *line >= row.line && (!there->is_stmt || *line == row.line)
+                              : found == GIMLI_LINE_NO_CODE && !there->is_stmt,
+       "a line");
+    is(is_untouched(addresses + (found == GIMLI_LINE_OK ? count : 0), found != GIMLI_LINE_OK ? 16
+                                                                      : count < 2            ? 8
+                                                                                             : 0),
+       "the addresses of a line");
 }
 
-/* The map of the program, and what it says of each address near a row. */
-static void make_map(void) {
+/* The index of the program, and what it says of each address near a row. */
+static void make_index(void) {
     size_t whole;
-    uint8_t *map = made_by(map_of, &by, &whole);
-    gimli_map *found = room_in(ANOTHER, sizeof *found);
-    is(gimli_line_map_open(map, whole, found) == GIMLI_OK && found->identity_size == 4 && found->address_size == 8 &&
-           memcmp(map + found->identity, "name", 4) == 0, "what a map says of itself");
-    gimli_unit unit;
+    uint8_t *index = made_by(index_of, &by, &whole);
+    gimli_line_index *found = room_in(ANOTHER, sizeof *found);
+    is(gimli_line_index_open(index, whole, found) == GIMLI_LINE_OK && found->identity_size == 4 && found->address_size == 8 &&
+           memcmp(index + found->identity, "name", 4) == 0,
+       "what an index says of itself");
+    gimli_line_unit unit;
     for (size_t offset = 0; offset < in.line_size; offset = unit.next) {
-        is(gimli_line_unit(in.line, in.line_size, false, 8, offset, &unit) == GIMLI_OK, "a unit");
+        is(gimli_line_read_unit(in.line, in.line_size, false, 8, offset, &unit) == GIMLI_LINE_OK, "a unit");
         for (uint64_t i = 0, count; i < unit.rows; i++) {
-            gimli_row row;
-            is(rows_in(offset, i, &row, 1, &count) == GIMLI_OK && ask_map(map, whole, row.address - 1, 1) == GIMLI_OK, "a map is sound");
-            for (uint64_t address = row.address - 1; address != row.address + 2; address++) ask_address(map, whole, address);
+            gimli_line_row row;
+            is(rows_in(offset, i, &row, 1, &count) == GIMLI_LINE_OK && ask_index(index, whole, row.address - 1, 1) == GIMLI_LINE_OK,
+               "an index is sound");
+            for (uint64_t address = row.address - 1; address != row.address + 2; address++) ask_address(index, whole, address);
         }
     }
     by.address_size = 3;
-    is(map_of(&by, map, whole, &whole) == GIMLI_UNSUPPORTED_ADDRESS_SIZE && whole == 0, "the size of addresses");
+    is(index_of(&by, index, whole, &whole) == GIMLI_LINE_UNSUPPORTED_ADDRESS_SIZE && whole == 0, "the size of addresses");
     by.size--;
-    is(map_of(&by, map, 1, &whole) == GIMLI_UNKNOWN_OPTIONS && whole == 0, "the size of options");
+    is(index_of(&by, index, 1, &whole) == GIMLI_LINE_UNKNOWN_OPTIONS && whole == 0, "the size of options");
 }
 
 /* The rows of a unit, and what is known of its files, are written as a unit of their own, into each room, and read back. Each file has its
  * number as its name: so none comes twice, and all keep their numbers. */
-static void write_unit(size_t offset, const gimli_unit *unit) {
-    static gimli_row rows[4096], again[4096];
-    static gimli_file_name files[64];
+static void write_unit(size_t offset, const gimli_line_unit *unit) {
+    static gimli_line_row rows[4096], again[4096];
+    static gimli_line_file_name files[64];
     static uint8_t texts[64 * 3 + 1];
-    static const gimli_name directory = {0, 1};
-    uint64_t first = gimli_first_number(unit), count;
-    is(rows_in(offset, 0, rows, 4096, &count) == GIMLI_OK && count <= 4096 && unit->files <= 64, "the rows of a unit");
-    gimli_contents contents = {.encoding = GIMLI_ENCODING(unit->version), .texts = texts, .text_length = sizeof texts, .directories = &directory,
-                               .directory_count = 1, .files = files, .file_count = unit->files, .rows = rows, .row_count = count};
+    static const gimli_line_name directory = {0, 1};
+    uint64_t first = gimli_line_first_number(unit), count;
+    is(rows_in(offset, 0, rows, 4096, &count) == GIMLI_LINE_OK && count <= 4096 && unit->files <= 64, "the rows of a unit");
+    gimli_line_contents contents = {.encoding = GIMLI_LINE_ENCODING(unit->version),
+                                    .texts = texts,
+                                    .text_length = sizeof texts,
+                                    .directories = &directory,
+                                    .directory_count = 1,
+                                    .files = files,
+                                    .file_count = unit->files,
+                                    .rows = rows,
+                                    .row_count = count};
     contents.encoding.offset_size = (uint8_t)unit->offset_size;
     texts[0] = 'd';
     for (uint64_t i = 0; i < unit->files; i++) {
-        gimli_file file;
-        is(file_path_in(offset, i + first, texts, 0, &file) == GIMLI_OK, "a file");
+        gimli_line_file file;
+        is(file_path_in(offset, i + first, texts, 0, &file) == GIMLI_LINE_OK, "a file");
         snprintf((char *)texts + 1 + 3 * i, 3, "%02d", (int)i);
-        files[i] = (gimli_file_name){{1 + 3 * i, 2}, first, file.timestamp, file.size, {0}};
+        files[i] = (gimli_line_file_name){{1 + 3 * i, 2}, first, file.timestamp, file.size, {0}};
         memcpy(files[i].md5, file.md5, sizeof file.md5);
         contents.details = file.details;
     }
-    gimli_sections before = in;
+    gimli_line_sections before = in;
     size_t whole;
     in.line = made_by(unit_of, &contents, &whole);
     in.line_size = whole;
-    is(rows_in(0, 0, again, 4096, &count) == GIMLI_OK && count == unit->rows, "the rows of a unit that was written");
+    is(rows_in(0, 0, again, 4096, &count) == GIMLI_LINE_OK && count == unit->rows, "the rows of a unit that was written");
     for (uint64_t i = 0; i < count; i++)
-        is(rows[i].flags & again[i].flags & GIMLI_END_SEQUENCE ? rows[i].address == again[i].address && rows[i].op_index == again[i].op_index
-                                                               : memcmp(&rows[i], &again[i], sizeof rows[i]) == 0, "a row that was written");
+        is(rows[i].flags & again[i].flags & GIMLI_LINE_END_SEQUENCE
+               ? rows[i].address == again[i].address && rows[i].op_index == again[i].op_index
+               : memcmp(&rows[i], &again[i], sizeof rows[i]) == 0,
+           "a row that was written");
     for (uint64_t i = 0; i < unit->files; i++) {
-        gimli_file file;
+        gimli_line_file file;
         uint8_t name[2];
-        is(file_path_in(0, i + first, name, 2, &file) == GIMLI_OK && memcmp(name, texts + files[i].path.first, 2) == 0 &&
+        is(file_path_in(0, i + first, name, 2, &file) == GIMLI_LINE_OK && memcmp(name, texts + files[i].path.first, 2) == 0 &&
                file.timestamp == files[i].timestamp && file.size == files[i].size && memcmp(file.md5, files[i].md5, sizeof file.md5) == 0 &&
-               file.directory_number == first && file.directory.size == 1, "a file that was written");
+               file.directory_number == first && file.directory.size == 1,
+           "a file that was written");
     }
     in = before;
 }
 
 /* A unit at two symbols, into each room: the places are those of its addresses, and nothing else differs from the unit at 0. */
 static void write_symbols(bool in_place) {
-    static const gimli_row rows[] = {{0, 0, 1, 3, 0, 0, 0, GIMLI_IS_STMT}, {6, 0, 0, 0, 0, 0, 0, GIMLI_END_SEQUENCE},
-                                     {0, 0, 1, 8, 0, 0, 0, GIMLI_IS_STMT}, {6, 0, 0, 0, 0, 0, 0, GIMLI_END_SEQUENCE}};
-    static const gimli_symbol symbols[] = {{5, 0x1122334455667788}, {9, -1}};
-    static const gimli_file_name file = {{0, 1}, 0, 0, 0, {0}};
-    gimli_contents contents = {.encoding = GIMLI_ENCODING(4), .texts = (const uint8_t *)"f", .text_length = 1, .files = &file, .file_count = 1,
-                               .rows = rows, .row_count = 4, .symbols = symbols, .symbol_count = 2, .in_place = in_place};
+    static const gimli_line_row rows[] = {{0, 0, 1, 3, 0, 0, 0, GIMLI_LINE_IS_STMT},
+                                          {6, 0, 0, 0, 0, 0, 0, GIMLI_LINE_END_SEQUENCE},
+                                          {0, 0, 1, 8, 0, 0, 0, GIMLI_LINE_IS_STMT},
+                                          {6, 0, 0, 0, 0, 0, 0, GIMLI_LINE_END_SEQUENCE}};
+    static const gimli_line_symbol symbols[] = {{5, 0x1122334455667788}, {9, -1}};
+    static const gimli_line_file_name file = {{0, 1}, 0, 0, 0, {0}};
+    gimli_line_contents contents = {.encoding = GIMLI_LINE_ENCODING(4),
+                                    .texts = (const uint8_t *)"f",
+                                    .text_length = 1,
+                                    .files = &file,
+                                    .file_count = 1,
+                                    .rows = rows,
+                                    .row_count = 4,
+                                    .symbols = symbols,
+                                    .symbol_count = 2,
+                                    .in_place = in_place};
     uint8_t plain[256];
     size_t *size = room_in(BESIDE, sizeof *size), *count = room_in(ANOTHER, sizeof *count), whole;
-    is(gimli_line_write_contents(&contents, plain, sizeof plain, &whole) == GIMLI_OK, "gimli_line_write");
+    is(gimli_line_write_contents(&contents, plain, sizeof plain, &whole) == GIMLI_LINE_OK, "gimli_line_write");
     for (size_t room = 0; room <= whole + 1; room++)
         for (size_t slots = 0; slots <= 3; slots++) {
             uint8_t *unit = room_in(ARRAY, room);
-            gimli_relocation *places = room_in(INPUT, slots * sizeof *places);
+            gimli_line_relocation *places = room_in(INPUT, slots * sizeof *places);
             uint32_t status = gimli_line_write_relocatable_contents(&contents, unit, room, size, places, slots, count);
             bool fits = room >= whole && slots >= 2;
             size_t written = fits ? whole : 0, filled = fits ? 2 : 0;
-            is(status == (fits ? GIMLI_OK : GIMLI_NO_ROOM) && *size == whole && *count == 2, "gimli_line_write_relocatable");
-            is(is_untouched(unit + written, room - written) && is_untouched(places + filled, (slots - filled) * sizeof *places), "beside the unit");
+            is(status == (fits ? GIMLI_LINE_OK : GIMLI_LINE_NO_ROOM) && *size == whole && *count == 2, "gimli_line_write_relocatable");
+            is(is_untouched(unit + written, room - written) && is_untouched(places + filled, (slots - filled) * sizeof *places),
+               "beside the unit");
             for (size_t i = 0; i < filled; i++) {
                 is(places[i].symbol == symbols[i].symbol && places[i].size == 8 && places[i].section == 0 &&
-                       places[i].addend == (in_place ? 0 : symbols[i].addend), "a relocation");
+                       places[i].addend == (in_place ? 0 : symbols[i].addend),
+                   "a relocation");
                 uint64_t there = in_place ? (uint64_t)symbols[i].addend : 0;
                 is(memcmp(unit + places[i].offset, &there, 8) == 0, "the place of a relocation");
                 memset(unit + places[i].offset, 0, 8);
@@ -186,7 +217,8 @@ static void write_symbols(bool in_place) {
             is(memcmp(unit, plain, written) == 0, "the other bytes of the unit");
         }
     contents.encoding.version = 6;
-    is(gimli_line_write_relocatable_contents(&contents, NULL, 0, size, NULL, 0, count) == GIMLI_UNKNOWN_VERSION && *size == 0 && *count == 0,
+    is(gimli_line_write_relocatable_contents(&contents, NULL, 0, size, NULL, 0, count) == GIMLI_LINE_UNKNOWN_VERSION && *size == 0 &&
+           *count == 0,
        "a refused version");
 }
 
@@ -201,15 +233,15 @@ int main(int argc, char **argv) {
     in.abbreviations = guarded(ABBREV, argv[4], &in.abbreviations_size);
     in.strings = guarded(STR, argv[5], &in.strings_size);
     in.string_offsets = in.line;
-    by = (gimli_map_options){sizeof by, 0, 8, false};
+    by = (gimli_line_index_options){sizeof by, 0, 8, false};
     ask_units();
-    gimli_unit unit;
+    gimli_line_unit unit;
     for (size_t offset = 0; offset < in.line_size; offset = unit.next) {
-        is(gimli_line_unit(in.line, in.line_size, false, 8, offset, &unit) == GIMLI_OK, "a unit");
+        is(gimli_line_read_unit(in.line, in.line_size, false, 8, offset, &unit) == GIMLI_LINE_OK, "a unit");
         write_unit(offset, &unit);
     }
     cut_info();
-    make_map();
+    make_index();
     write_symbols(false);
     write_symbols(true);
     printf("%lu\n", atomic_load(&answers));
