@@ -77,7 +77,6 @@ done
     ! command -v rt
     make -s install DESTDIR="$work/other" PREFIX=/opt/gimli
     for file in examples/c/*.c; do
-        case $file in */fuzz.c) continue ;; esac
         cc -std=c11 -O1 -Wall -Wextra -Werror -I "$work/other/opt/gimli/include" "$file" "$work/other/opt/gimli/lib/libgimli_line.a" -lpthread \
             -o "$work/other_$(sed 's,.*/,,; s,\.c$,,' <<<"$file")"
     done

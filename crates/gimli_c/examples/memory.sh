@@ -20,7 +20,7 @@ build() {
     local name=$1 source=$2
     shift 2
     # shellcheck disable=SC2086
-    cc -std=c11 -g -O1 -Wall -Wextra -Werror -I "$crate/include" "$@" "$here/c/$source.c" $library -lpthread -o "$work/$name"
+    cc -std=c11 -g -O1 -Wall -Wextra -Werror -I "$crate/include" -I "$here/c" "$@" "$here"/*/"$source.c" $library -lpthread -o "$work/$name"
 }
 
 for version in 2 3 4 5; do

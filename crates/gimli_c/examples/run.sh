@@ -15,7 +15,8 @@ crate=$(dirname "$here")
 top=$(cd "$crate/../.." && pwd)
 # Each number of the header is that of the constant of the same name: a law ties those of status.rt, the others stand in row.rt
 # and in file.rt.
-diff <(sed -nE 's/^ +(GIMLI_|X\()([A-Z0-9_]+)( =|,) ([0-9]+).*/\2 \4/p' "$crate/include/gimli_line.h") \
+diff <(grep -oE '^ +X\([A-Z0-9_]+, [0-9]+|GIMLI_LINE_[A-Z0-9_]+ = [0-9]+' "$crate/include/gimli_line.h" |
+    sed -E 's/^ *(GIMLI_LINE_|X\()([A-Z0-9_]+)( =|,) ([0-9]+)/\2 \4/') \
     <(cd "$crate/src" && sed -nE 's/^pub const ([A-Z0-9_]+): u[0-9]+ = ([0-9]+);/\1 \2/p' status.rt row.rt file.rt)
 # So is its version.
 [ "$(sed -nE 's/^#define GIMLI_LINE_VERSION_[A-Z]+ ([0-9]+)$/\1/p' "$crate/include/gimli_line.h" | awk '{v = v * 100 + $1} END {print v}')" = \
@@ -32,12 +33,12 @@ kit=$(dirname "$(rt doc)")/c
 work=$(mktemp -d)
 trap 'rm -rf "$work"' EXIT
 
-for example in addr2line where_is directories make_index index indexes compiler; do
-    cc -std=c11 -Wall -Wextra -Werror -O2 -I "$crate/include" "$here/c/$example.c" "$library" "$kit/liblibc_c.a" -lpthread -o "$work/$example"
+for example in addr2line where_is directories make_index ask_index indexes compiler; do
+    cc -std=c11 -Wall -Wextra -Werror -O2 -I "$crate/include" -I "$here/c" "$here"/*/"$example.c" "$library" "$kit/liblibc_c.a" -lpthread -o "$work/$example"
 done
 in_each=where_is
 if command -v c++ >/dev/null; then
-    c++ -std=c++11 -Wall -Wextra -Werror -O2 -I "$crate/include" "$here/cpp/where_is.cc" "$library" "$kit/liblibc_c.a" -o "$work/where_is_cpp"
+    c++ -std=c++11 -Wall -Wextra -Werror -O2 -I "$crate/include" -I "$here/c" "$here/cpp/where_is.cc" "$library" "$kit/liblibc_c.a" -o "$work/where_is_cpp"
     in_each="where_is where_is_cpp"
 else
     echo "gimli_c: the C++ example isn't tried, since c++ is missing"

@@ -4,7 +4,7 @@
 # between runs. What a machine lacks is said, and passed over. It is run by hand; the gate doesn't.
 set -eu
 here=$(cd "$(dirname "$0")" && pwd)
-crate=$(dirname "$here")
+crate=$(cd "$here/../.." && pwd)
 top=$(cd "$crate/../.." && pwd)
 seconds=${1:-60}
 have() { command -v "$1" >/dev/null || { echo "gimli_c: $1 is missing: the fuzzer isn't tried"; exit 0; }; }
@@ -19,7 +19,7 @@ found=${2:-$work/found}
 mkdir -p "$found" "$work/seeds"
 
 # shellcheck disable=SC2086
-clang -g -O1 -Wall -Wextra -fsanitize=fuzzer,address -I "$crate/include" "$here/c/fuzz.c" $library -o "$work/fuzz" 2>"$work/errors" || {
+clang -g -O1 -Wall -Wextra -fsanitize=fuzzer,address -I "$crate/include" -I "$crate/examples/c" "$here/fuzz.c" $library -o "$work/fuzz" 2>"$work/errors" || {
     cat "$work/errors"
     echo "gimli_c: clang has no libFuzzer: it isn't tried"
     exit 0
@@ -47,7 +47,7 @@ for version in 2 3 4 5; do
 done
 # An index, and an object file.
 # shellcheck disable=SC2086
-cc -std=c11 -O1 -I "$crate/include" "$here/c/indexes.c" $library -lpthread -o "$work/indexes"
+cc -std=c11 -O1 -I "$crate/include" -I "$crate/examples/c" "$here/indexes.c" $library -lpthread -o "$work/indexes"
 "$work/indexes" "$work/small.index"
 { printf '\020\000'; cat "$work/small.index"; } >"$work/seeds/index"
 echo 'int f(void) { return 1; }' | cc -g -c -x c - -o "$work/f.o"
