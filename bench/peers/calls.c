@@ -10,13 +10,10 @@ int main(int argc, char **argv) {
     if (argc != 6) return 2;
     bytes file = read_file(argv[1]);
     uint8_t *index;
-    size_t index_length, length, strings_length;
-    uint32_t status;
+    size_t index_length;
+    gimli_line_sections sections;
     stop_if(gimli_line_index_of_elf(file.at, file.length, &index, &index_length));
-    const uint8_t *lines = gimli_line_elf_copy(file.at, file.length, ".debug_line", &length, &status);
-    stop_if(status);
-    const uint8_t *strings = gimli_line_bytes(gimli_line_elf_copy(file.at, file.length, ".debug_line_str", &strings_length, &status));
-    stop_if(status);
+    stop_if(gimli_line_sections_of_elf(file.at, file.length, &sections));
     uint64_t lowest = strtoull(argv[4], NULL, 16), highest = strtoull(argv[5], NULL, 16);
     static gimli_line_place places[PLACES];
     static gimli_line_row rows[PLACES];
@@ -25,7 +22,7 @@ int main(int argc, char **argv) {
         while (gimli_line_index_find(index, index_length, next_address(lowest, highest), &places[i]) != GIMLI_LINE_OK ||
                places[i].path == 0)
             continue;
-        stop_if(gimli_line_find_row(lines, length, false, 8, places[i].unit, places[i].address, &rows[i], &second));
+        stop_if(gimli_line_find_row(&sections, places[i].unit, places[i].address, &rows[i], &second));
     }
     static const char *const names[] = {"index_find", "index_addresses_of", "find", "path", "file"};
     int call = 0;
@@ -35,22 +32,20 @@ int main(int argc, char **argv) {
         gimli_line_place found;
         gimli_line_row first;
         gimli_line_file read;
-        uint8_t path[256], directory[256];
+        char path[256], directory[256];
         uint64_t line, addresses[16];
         size_t size = 0;
         if (call == 0) stop_if(gimli_line_index_find(index, index_length, place->address, &found));
         if (call == 1) {
-            status = gimli_line_index_addresses_of(index, index_length, index + place->path, place->path_size, place->line, &line,
-                                                   addresses, 16, &size);
+            gimli_line_status status = gimli_line_index_addresses_of(index, index_length, gimli_line_place_path(index, place),
+                                                                     place->path_size, place->line, &line, addresses, 16, &size);
             if (status != GIMLI_LINE_NO_CODE) stop_if(status);
         }
-        if (call == 2) stop_if(gimli_line_find_row(lines, length, false, 8, place->unit, place->address, &first, &second));
-        if (call == 3)
-            stop_if(gimli_line_read_path(lines, length, strings, strings_length, strings, 0, false, 8, place->unit, rows[i % PLACES].file,
-                                         strings, 0, path, sizeof path, &size));
+        if (call == 2) stop_if(gimli_line_find_row(&sections, place->unit, place->address, &first, &second));
+        if (call == 3) stop_if(gimli_line_read_path(&sections, place->unit, rows[i % PLACES].file, NULL, 0, path, sizeof path, &size));
         if (call == 4)
-            stop_if(gimli_line_read_file(lines, length, false, 8, place->unit, rows[i % PLACES].file, &read, path, sizeof path, directory,
-                                         sizeof directory));
+            stop_if(
+                gimli_line_read_file(&sections, place->unit, rows[i % PLACES].file, &read, path, sizeof path, directory, sizeof directory));
         told(place->line, size);
     }
     return print_sums();

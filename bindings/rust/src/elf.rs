@@ -19,7 +19,7 @@ impl<'a> Elf<'a> {
     pub fn open(bytes: &'a [u8]) -> Result<Elf<'a>, Error> {
         let mut found = calls::Elf::default();
         // The pointers are those of a slice and of a local.
-        Error::of(unsafe { call!(gimli_line_elf_open([bytes], &mut found)) })?;
+        Error::of(unsafe { call!(gimli_line_proved_elf_open([bytes], &mut found)) })?;
         Ok(Elf { bytes, found })
     }
 
@@ -48,7 +48,7 @@ impl<'a> Elf<'a> {
     pub fn section(&self, name: &str) -> Result<Option<Vec<u8>>, Error> {
         let bytes = whole(0, |room, size| {
             // The pointers are those of slices and of a local.
-            Error::of(unsafe { call!(gimli_line_elf_section([self.bytes], [name.as_bytes()], [mut room], size)) })
+            Error::of(unsafe { call!(gimli_line_proved_elf_section([self.bytes], [name.as_bytes()], [mut room], size)) })
         });
         unless(Error::NO_SECTION, bytes)
     }
@@ -61,7 +61,7 @@ impl<'a> Elf<'a> {
     pub fn build_id(&self) -> Result<Option<Vec<u8>>, Error> {
         let id = whole(20, |room, size| {
             // The pointers are those of slices and of a local.
-            Error::of(unsafe { call!(gimli_line_elf_build_id([self.bytes], [mut room], size)) })
+            Error::of(unsafe { call!(gimli_line_proved_elf_build_id([self.bytes], [mut room], size)) })
         });
         unless(Error::NO_SECTION, id)
     }

@@ -78,7 +78,7 @@ impl<'a> Index<'a> {
         let mut index = whole(1024 + 16 * sections.debug_line.len(), |room, size| {
             // The pointers are those of slices and of locals.
             Error::of(unsafe {
-                call!(gimli_line_index_write(
+                call!(gimli_line_proved_index_write(
                     [sections.debug_line], [sections.debug_line_str], [sections.debug_str], [compilations.debug_info],
                     [compilations.debug_abbrev], [compilations.debug_str_offsets], &options, [identity], [mut room], size
                 ))
@@ -179,7 +179,7 @@ impl<'a> Index<'a> {
         let asked = |address: &u64| calls::Place { address: *address, ..Default::default() };
         let mut places: Vec<_> = addresses.iter().map(asked).collect();
         // The pointers are those of a slice and of a vector.
-        let _ok = unsafe { call!(gimli_line_index_find_all([self.bytes], [mut places])) };
+        let _ok = unsafe { call!(gimli_line_proved_index_find_all([self.bytes], [mut places])) };
         places.iter().map(|place| place.known.then(|| self.place(place))).collect()
     }
 
@@ -192,7 +192,7 @@ impl<'a> Index<'a> {
         let addresses = whole(16, |room, count| {
             // The pointers are those of slices and of locals.
             Error::of(unsafe {
-                call!(gimli_line_index_addresses_of([self.bytes], [path], line, &mut found_line, [mut room], count))
+                call!(gimli_line_proved_index_addresses_of([self.bytes], [path], line, &mut found_line, [mut room], count))
             })
         });
         // The bytes are an index, and no memory is taken: so nothing else is refused.

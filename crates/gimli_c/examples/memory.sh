@@ -3,15 +3,14 @@
 # that end at a page that can't be read (guarded.c); many threads over the same sections (directories.c), also under helgrind of valgrind;
 # and indexes (indexes.c): many threads and a signal handler over one, with a malloc that ends the program where a question asks for memory, and
 # indexes with bytes that were changed or cut. Over compiled programs of versions 2 to 5. What a machine lacks is said, and passed over. The
-# library is that of `make`, or of .ci/library.
+# archive is that of .ci/library, and make/calls.c is built with each.
 set -eu
 here=$(cd "$(dirname "$0")" && pwd)
 crate=$(dirname "$here")
 top=$(cd "$crate/../.." && pwd)
 have() { command -v "$1" >/dev/null || { echo "gimli_c: $1 is missing: $2 isn't tried"; false; }; }
 have cc "memory" && have objcopy "memory" || exit 0
-library=$crate/build/libgimli_line.a
-[ -f "$library" ] || library="$crate/out/libgimli_c.a $(dirname "$(rt doc)")/c/liblibc_c.a"
+library="$crate/make/calls.c $crate/out/libgimli_c.a $(dirname "$(rt doc)")/c/liblibc_c.a"
 work=$(mktemp -d)
 trap 'rm -rf "$work"' EXIT
 

@@ -33,12 +33,15 @@ kit=$(dirname "$(rt doc)")/c
 work=$(mktemp -d)
 trap 'rm -rf "$work"' EXIT
 
+cc -std=c11 -Wall -Wextra -Werror -O2 -I "$crate/include" -c "$crate/make/calls.c" -o "$work/calls.o"
 for example in addr2line where_is directories make_index ask_index indexes compiler; do
-    cc -std=c11 -Wall -Wextra -Werror -O2 -I "$crate/include" -I "$here/c" "$here"/*/"$example.c" "$library" "$kit/liblibc_c.a" -lpthread -o "$work/$example"
+    cc -std=c11 -Wall -Wextra -Werror -O2 -I "$crate/include" -I "$here/c" "$here"/*/"$example.c" "$work/calls.o" \
+        "$library" "$kit/liblibc_c.a" -lpthread -o "$work/$example"
 done
 in_each=where_is
 if command -v c++ >/dev/null; then
-    c++ -std=c++11 -Wall -Wextra -Werror -O2 -I "$crate/include" -I "$here/c" "$here/cpp/where_is.cc" "$library" "$kit/liblibc_c.a" -o "$work/where_is_cpp"
+    c++ -std=c++11 -Wall -Wextra -Werror -O2 -I "$crate/include" "$here/cpp/where_is.cc" "$work/calls.o" "$library" "$kit/liblibc_c.a" \
+        -o "$work/where_is_cpp"
     in_each="where_is where_is_cpp"
 else
     echo "gimli_c: the C++ example isn't tried, since c++ is missing"
@@ -113,9 +116,9 @@ none" ]
         done
         [ "$last" -gt 10 ]
     done
-    "$work/addr2line" "$work/line.bin" | cmp "$work/rows" -
+    "$work/addr2line" "$work/built" | cmp "$work/rows" -
     # shellcheck disable=SC2086
-    "$work/addr2line" "$work/line.bin" $addresses 0 ffffffffffffffff | cmp "$work/pairs" -
+    "$work/addr2line" "$work/built" $addresses 0 ffffffffffffffff | cmp "$work/pairs" -
     compared=$((compared + $(cat "$work/rows" "$work/pairs" | wc -l)))
 done
 # An index that is written by the page of its format alone: the ranges from 400000 on have 16 bytes each, and each third is a gap.
@@ -160,7 +163,8 @@ objcopy --strip-debug "$work/built" "$work/stripped"
 [ "$("$work/where_is" "$work/stripped" 0 2>&1 || true)" = "the ELF file has no section of this name" ]
 # After a unit that is refused the rows of the next ones are still printed.
 printf '\4\0\0\0\11\0\0\0' | cat - "$work/line.bin" >"$work/refused.bin"
-! "$work/addr2line" "$work/refused.bin" >"$work/answer" 2>"$work/said"
+objcopy --update-section ".debug_line=$work/refused.bin" "$work/built" "$work/refused"
+! "$work/addr2line" "$work/refused" >"$work/answer" 2>"$work/said"
 cmp "$work/rows" "$work/answer"
 [ "$(cat "$work/said")" = "unit at 0: the version of a unit is none of 2 to 5" ]
 directories=$("$work/directories")

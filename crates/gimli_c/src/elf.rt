@@ -50,7 +50,7 @@ fn lowest_in(elf: &Elf<'_>) -> u64
 /// Tells what an ELF file says of itself. `NO_ELF` where the bytes are none that can be read; then
 /// nothing is written. Takes no memory.
 #[unsafe(no_mangle)]
-pub extern "C" fn gimli_line_elf_open(file: &[u8], found: &mut GimliElf) -> u32
+pub extern "C" fn gimli_line_proved_elf_open(file: &[u8], found: &mut GimliElf) -> u32
     ensures found { result ≡ OK → SeesElf file.now found.new }
     ensures refused { result ≢ OK → (result ≡ NO_ELF) × IsNoElf file.now }
     ensures kept { result ≢ OK → found.new ≡ found.old }
@@ -86,7 +86,7 @@ fn section_status(error: ElfError) -> u32
 /// `BAD_SECTION` where it can't be read, and `NO_ELF` where the file is none. Where another number
 /// than 0 is returned, nothing is written.
 #[unsafe(no_mangle)]
-pub extern "C" fn gimli_line_elf_section(
+pub extern "C" fn gimli_line_proved_elf_section(
     alloc: Global,
     file: &[u8],
     name: &[u8],

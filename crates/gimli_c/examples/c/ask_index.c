@@ -15,8 +15,8 @@
 static void print_line(const uint8_t *index, size_t length, const char *path, const char *colon) {
     uint64_t addresses[64], line;
     size_t count;
-    uint32_t status = gimli_line_index_addresses_of(index, length, (const uint8_t *)path, (size_t)(colon - path),
-                                                    strtoull(colon + 1, NULL, 10), &line, addresses, 64, &count);
+    gimli_line_status status = gimli_line_index_addresses_of(index, length, path, (size_t)(colon - path), strtoull(colon + 1, NULL, 10),
+                                                             &line, addresses, 64, &count);
     if (status == GIMLI_LINE_NO_CODE) {
         puts("none");
         return;
@@ -42,8 +42,9 @@ int main(int argc, char **argv) {
             print_line(index, length, argv[i], colon);
             continue;
         }
+        uint64_t address = strtoull(argv[i], NULL, 16);
         gimli_line_place place;
-        uint32_t status = gimli_line_index_find(index, length, strtoull(argv[i], NULL, 16), &place);
+        gimli_line_status status = gimli_line_index_find(index, length, address, &place);
         if (status == GIMLI_LINE_NO_ROW) {
             puts("none");
             continue;

@@ -49,8 +49,9 @@ int main(int argc, char **argv) {
     };
     /* The second function begins six bytes after the first: its symbol is the first one's, with an addend, where the version is even. */
     gimli_line_symbol starts[] = {{0, 0}, {version % 2 != 0, version % 2 != 0 ? 0 : 6}};
-    gimli_line_contents contents = {.encoding = GIMLI_LINE_ENCODING(version),
-                                    .texts = (const uint8_t *)texts,
+    gimli_line_contents contents = {.struct_size = sizeof contents,
+                                    .encoding = GIMLI_LINE_ENCODING(version),
+                                    .texts = texts,
                                     .text_length = sizeof texts - 1,
                                     .directories = &directory,
                                     .directory_count = from_0,
@@ -64,12 +65,12 @@ int main(int argc, char **argv) {
 
     /* How much room it takes is asked first. */
     size_t size, count;
-    uint32_t status = gimli_line_write_relocatable_contents(&contents, NULL, 0, &size, NULL, 0, &count);
+    gimli_line_status status = gimli_line_write_relocatable(&contents, NULL, 0, &size, NULL, 0, &count);
     if (status != GIMLI_LINE_NO_ROOM) stop_if(status);
     uint8_t *unit = malloc(size);
     gimli_line_relocation *relocations = malloc(count * sizeof *relocations);
     if (unit == NULL || relocations == NULL) return 2;
-    stop_if(gimli_line_write_relocatable_contents(&contents, unit, size, &size, relocations, count, &count));
+    stop_if(gimli_line_write_relocatable(&contents, unit, size, &size, relocations, count, &count));
 
     fputs(code, stdout);
     for (size_t at = 0, next = 0; at < size;) {

@@ -17,7 +17,7 @@ int main(int argc, char **argv) {
 
     for (int i = 2; i < argc; i++) {
         gimli_line_place place;
-        uint32_t status = gimli_line_index_find(index, size, strtoull(argv[i], NULL, 16), &place);
+        gimli_line_status status = gimli_line_index_find(index, size, strtoull(argv[i], NULL, 16), &place);
         if (status == GIMLI_LINE_NO_ROW) { /* no line is known of this address */
             puts("none");
             continue;

@@ -23,7 +23,7 @@ class Index {
   public:
     explicit Index(const std::vector<char> &file) {
         std::uint8_t *made = nullptr;
-        require(gimli_line_index_of_elf(gimli_line_bytes(file.data()), file.size(), &made, &size));
+        require(gimli_line_index_of_elf(file.data(), file.size(), &made, &size));
         bytes.reset(made);
     }
 
@@ -31,7 +31,7 @@ class Index {
     std::vector<gimli_line_place> find(const std::vector<std::uint64_t> &addresses) const {
         std::vector<gimli_line_place> places(addresses.size());
         for (std::size_t i = 0; i < places.size(); i++) places[i].address = addresses[i];
-        if (!places.empty()) require(gimli_line_index_find_all(bytes.get(), size, places.data(), places.size()));
+        require(gimli_line_index_find_all(bytes.get(), size, places.data(), places.size()));
         return places;
     }
 
@@ -46,7 +46,7 @@ class Index {
         void operator()(std::uint8_t *made) const { std::free(made); }
     };
 
-    static void require(std::uint32_t status) {
+    static void require(gimli_line_status status) {
         if (status != GIMLI_LINE_OK) throw std::runtime_error(gimli_line_status_sentence(status));
     }
 

@@ -32,7 +32,6 @@ static inline void is(bool holds, const char *what) {
 
 /* What is asked. */
 static _Thread_local gimli_line_sections in;
-static _Thread_local gimli_line_index_options by;
 
 /* The last bytes of an area: so many, which all have the same value. */
 static inline void *room_in(int area, size_t size) {
@@ -64,41 +63,32 @@ typedef struct told {
 } told;
 
 static inline uint32_t rows_in(size_t offset, uint64_t skip, void *rows, size_t room, void *count) {
-    return gimli_line_read_rows(in.line, in.line_size, by.big, by.address_size, offset, skip, (gimli_line_row *)rows, room,
-                                (uint64_t *)count);
+    return gimli_line_read_rows(&in, offset, skip, (gimli_line_row *)rows, room, (uint64_t *)count);
 }
 
 static inline uint32_t file_path_in(size_t offset, uint64_t number, void *path, size_t room, void *file) {
-    uint8_t none;
-    return gimli_line_read_file(in.line, in.line_size, by.big, by.address_size, offset, number, (gimli_line_file *)file, (uint8_t *)path,
-                                room, &none, 0);
+    return gimli_line_read_file(&in, offset, number, (gimli_line_file *)file, (char *)path, room, NULL, 0);
 }
 
 static inline uint32_t file_directory_in(size_t offset, uint64_t number, void *directory, size_t room, void *file) {
-    uint8_t none;
-    return gimli_line_read_file(in.line, in.line_size, by.big, by.address_size, offset, number, (gimli_line_file *)file, &none, 0,
-                                (uint8_t *)directory, room);
+    return gimli_line_read_file(&in, offset, number, (gimli_line_file *)file, NULL, 0, (char *)directory, room);
 }
 
 static inline uint32_t directory_in(size_t offset, uint64_t number, void *directory, size_t room, void *text) {
-    return gimli_line_read_directory(in.line, in.line_size, by.big, by.address_size, offset, number, (gimli_line_text *)text,
-                                     (uint8_t *)directory, room);
+    return gimli_line_read_directory(&in, offset, number, (gimli_line_text *)text, (char *)directory, room);
 }
 
 static inline uint32_t comp_dir_in(size_t offset, uint64_t number, void *directory, size_t room, void *size) {
     (void)number;
-    return gimli_line_comp_dir(in.info, in.info_size, in.abbreviations, in.abbreviations_size, in.line_strings, in.line_strings_size,
-                               in.strings, in.strings_size, in.string_offsets, in.string_offsets_size, by.big, offset, (uint8_t *)directory,
-                               room, (size_t *)size);
+    return gimli_line_comp_dir(&in, offset, (char *)directory, room, (size_t *)size);
 }
 
 static _Thread_local const char *comp_dir; /* from which a path goes on */
 static _Thread_local size_t comp_dir_size;
 
 static inline uint32_t path_in(size_t offset, uint64_t number, void *path, size_t room, void *size) {
-    const uint8_t *from = (const uint8_t *)memcpy(room_in(INPUT, comp_dir_size), comp_dir, comp_dir_size);
-    return gimli_line_read_path(in.line, in.line_size, in.line_strings, in.line_strings_size, in.strings, in.strings_size, by.big,
-                                by.address_size, offset, number, from, comp_dir_size, (uint8_t *)path, room, (size_t *)size);
+    const char *from = (const char *)memcpy(room_in(INPUT, comp_dir_size), comp_dir, comp_dir_size);
+    return gimli_line_read_path(&in, offset, number, from, comp_dir_size, (char *)path, room, (size_t *)size);
 }
 
 /* Makes a call with each room, from none to more than enough, or with two alone where that takes too long. It always answers the same, and
@@ -140,7 +130,7 @@ static inline void ask_rows(size_t offset, const gimli_line_unit *unit) {
                memcmp(some, rows.array + i * sizeof row, left * sizeof row) == 0 && is_untouched(some + left, (2 - left) * sizeof row),
            "rows from one on");
         uint64_t address = row.address + i % 3;
-        uint32_t found = gimli_line_find_row(in.line, in.line_size, by.big, by.address_size, offset, address, &first, &second);
+        uint32_t found = gimli_line_find_row(&in, offset, address, &first, &second);
         is(unit->fault != GIMLI_LINE_OK ? found == unit->fault : found == GIMLI_LINE_OK || found == GIMLI_LINE_NO_ROW,
            "the status of a lookup");
         is(found != GIMLI_LINE_OK || (first.address <= address && address < second.address), "the rows of an address");
@@ -185,7 +175,7 @@ static inline void ask_units(void) {
     gimli_line_unit unit;
     for (size_t offset = 0; offset < in.line_size; offset = unit.next) {
         gimli_line_unit *told = (gimli_line_unit *)room_in(ANOTHER, sizeof *told);
-        uint32_t status = gimli_line_read_unit(in.line, in.line_size, by.big, by.address_size, offset, told);
+        uint32_t status = gimli_line_read_unit(&in, offset, told);
         unit = *told;
         told->next = UINT64_C(0xaaaaaaaaaaaaaaaa);
         is(unit.next > offset && unit.next <= in.line_size, "the next unit");
@@ -221,7 +211,7 @@ static inline uint32_t ask_index(const uint8_t *index, size_t length, uint64_t a
         is(place.path == 0 || (place.path <= length && place.path_size <= length - place.path && place.no_path == 0), "a path");
         is(checked != GIMLI_LINE_OK || place.no_path != GIMLI_LINE_NO_PATH_OUTSIDE, "a path of an index that was checked");
     }
-    uint32_t told = gimli_line_index_addresses_of(index, length, (const uint8_t *)"0.c", 3, 1, &line, addresses, 4, &count);
+    uint32_t told = gimli_line_index_addresses_of(index, length, "0.c", 3, 1, &line, addresses, 4, &count);
     is(opened == GIMLI_LINE_OK ? told == GIMLI_LINE_NO_CODE || (told == GIMLI_LINE_OK && count != 0 && count <= about.ranges)
                                : told == opened,
        "a line");

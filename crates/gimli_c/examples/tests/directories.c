@@ -40,16 +40,13 @@ static const uint8_t names[] = "/source\0made.c";
 
 /* Takes these sections, copies of them just so long. */
 static void take(const void *lines, size_t lines_size, const void *info, size_t info_size) {
-    in = (gimli_line_sections){.line = memcpy(room_in(OWN, lines_size), lines, lines_size),
-                               .line_size = lines_size,
-                               .info = memcpy(room_in(OWN + 1, info_size), info, info_size),
-                               .info_size = info_size,
-                               .line_strings = declaration,
-                               .strings = declaration,
-                               .abbreviations = declaration,
-                               .abbreviations_size = sizeof declaration,
-                               .string_offsets = declaration};
-    by = (gimli_line_index_options)GIMLI_LINE_INDEX_OPTIONS;
+    in = (gimli_line_sections)GIMLI_LINE_SECTIONS;
+    in.line = memcpy(room_in(OWN, lines_size), lines, lines_size);
+    in.line_size = lines_size;
+    in.info = memcpy(room_in(OWN + 1, info_size), info, info_size);
+    in.info_size = info_size;
+    in.abbreviations = declaration;
+    in.abbreviations_size = sizeof declaration;
 }
 
 static void take_version(int version) {
@@ -109,7 +106,7 @@ static void strings_of_paths(void) {
     memcpy(lines, lines_strp, sizeof lines);
     for (int form = 0; form < 2; form++) {
         for (size_t length = 0; length <= sizeof names; length++) {
-            const uint8_t *cut = memcpy(room_in(OWN + 2, length), names, length);
+            const void *cut = memcpy(room_in(OWN + 2, length), names, length);
             uint32_t status = length < sizeof names ? GIMLI_LINE_UNKNOWN_PATH : GIMLI_LINE_OK;
             take(lines, sizeof lines, info_5, sizeof info_5);
             *(form == 0 ? &in.strings : &in.line_strings) = cut;
@@ -128,7 +125,7 @@ static void strings_of_paths(void) {
 /* Reads a unit that is refused: but for where the next one begins, what was there stays. */
 static void refused(size_t next, uint32_t status, const char *what) {
     gimli_line_unit *unit = room_in(ANOTHER, sizeof *unit);
-    is(gimli_line_read_unit(in.line, in.line_size, false, 8, 0, unit) == status && unit->next == next, what);
+    is(gimli_line_read_unit(&in, 0, unit) == status && unit->next == next, what);
     memset(&unit->next, 0xaa, sizeof unit->next);
     is(is_untouched(unit, sizeof *unit), what);
     path_is("", 1, status, what);
@@ -147,8 +144,10 @@ static void units(const uint8_t *lines, size_t size, gimli_line_unit wanted) {
     two[4] = 6;
     take(two, 2 * size, info_4, sizeof info_4);
     refused(size, GIMLI_LINE_UNKNOWN_VERSION, "version 6");
-    is(gimli_line_read_unit(in.line, in.line_size, false, 3, size, &unit) == GIMLI_LINE_UNSUPPORTED_ADDRESS_SIZE, "addresses of 3 bytes");
-    is(gimli_line_read_unit(in.line, in.line_size, false, 8, size, &unit) == GIMLI_LINE_OK && unit.next == 2 * size, "the unit after it");
+    in.address_size = 3;
+    is(gimli_line_read_unit(&in, size, &unit) == GIMLI_LINE_UNSUPPORTED_ADDRESS_SIZE, "addresses of 3 bytes");
+    in.address_size = 8;
+    is(gimli_line_read_unit(&in, size, &unit) == GIMLI_LINE_OK && unit.next == 2 * size, "the unit after it");
     wanted.next = unit.next;
     is(memcmp(&unit, &wanted, sizeof unit) == 0 && gimli_line_first_number(&unit) == (unit.version < 5), "what a unit says of itself");
     ask_units();
@@ -173,9 +172,9 @@ static void lines_of_paths(void) {
         size_t size, count = 77, all = (wanted[i].addresses[0] != 0) + (wanted[i].addresses[1] != 0);
         uint8_t *index;
         take(lines_4, sizeof lines_4, info_4, wanted[i].has_info ? sizeof info_4 : 0);
-        is(gimli_line_index_of_sections(&in, &by, NULL, 0, &index, &size) == GIMLI_LINE_OK, "an index of sections");
-        uint32_t status = gimli_line_index_addresses_of(index, size, (const uint8_t *)wanted[i].path, strlen(wanted[i].path),
-                                                        wanted[i].line, &found, addresses, room, &count);
+        is(gimli_line_index_of_sections(&in, NULL, 0, &index, &size) == GIMLI_LINE_OK, "an index of sections");
+        uint32_t status = gimli_line_index_addresses_of(index, size, wanted[i].path, strlen(wanted[i].path), wanted[i].line, &found,
+                                                        addresses, room, &count);
         is(status == (all == 0 ? GIMLI_LINE_NO_CODE : GIMLI_LINE_OK), wanted[i].path);
         is(found == (all == 0 ? 77 : wanted[i].found) && count == (all == 0 ? 77 : all), wanted[i].path);
         for (size_t k = 0; k < 3; k++) is(addresses[k] == (k < all && k < room ? wanted[i].addresses[k] : 77), wanted[i].path);
@@ -209,7 +208,34 @@ static void directories(const uint8_t *info, size_t size, const char *wanted) {
     }
 }
 
+/* A struct of another size is refused, and nothing is written; null is no bytes, and no room. */
+static void structs(void) {
+    uint64_t count = 77, line = 77;
+    size_t size = 77, many = 77;
+    uint8_t *index;
+    take_version(4);
+    in.strings = in.line_strings = in.string_offsets = NULL;
+    is(gimli_line_read_rows(&in, 0, 0, NULL, 0, &count) == GIMLI_LINE_OK && count == 5, "no room for rows");
+    is(gimli_line_read_path(&in, 0, 1, NULL, 0, NULL, 0, &size) == GIMLI_LINE_OK && size == 3, "no room for a path");
+    is(gimli_line_comp_dir(&in, 0, NULL, 0, &size) == GIMLI_LINE_OK && size == 2, "no room for a directory");
+    is(gimli_line_index_of_sections(&in, NULL, 0, &index, &size) == GIMLI_LINE_OK, "an index without an identity");
+    is(gimli_line_index_find_all(index, size, NULL, 0) == GIMLI_LINE_OK, "no places");
+    is(gimli_line_index_addresses_of(index, size, NULL, 0, 3, &line, NULL, 0, &many) == GIMLI_LINE_OK && line == 3 && many == 2, "no path");
+    free(index);
+    in.struct_size--;
+    gimli_line_unit *unit = room_in(ANOTHER, sizeof *unit);
+    is(gimli_line_read_unit(&in, 0, unit) == GIMLI_LINE_UNKNOWN_OPTIONS && is_untouched(unit, sizeof *unit), "sections of another size");
+    is(gimli_line_index_of_sections(&in, NULL, 0, &index, &size) == GIMLI_LINE_UNKNOWN_OPTIONS && index == NULL && size == 0,
+       "their index");
+    gimli_line_contents contents = {.struct_size = 1};
+    is(gimli_line_write(&contents, NULL, 0, &size) == GIMLI_LINE_UNKNOWN_OPTIONS && size == 0, "contents of another size");
+    in = (gimli_line_sections)GIMLI_LINE_SECTIONS;
+    is(gimli_line_read_unit(&in, 0, unit) == GIMLI_LINE_UNEXPECTED_EOF, "no section");
+    is(gimli_line_sections_of_elf(NULL, 0, &in) == GIMLI_LINE_NO_ELF && in.line == NULL, "no file");
+}
+
 static void *all(void *nothing) {
+    structs();
     directories(info_4, sizeof info_4, "/w");
     directories(info_5, sizeof info_5, "./w");
     paths();

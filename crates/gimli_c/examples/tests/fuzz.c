@@ -25,22 +25,23 @@ int LLVMFuzzerTestOneInput(const uint8_t *data, size_t size) {
     is_quick = true;
     size_t rest = data[1] < size - 2 ? data[1] : size - 2, length = size - 2 - rest;
     const uint8_t *first = data + 2, *last = first + length;
-    in = (gimli_line_sections){first, last, last, first, last, last, length, rest, rest, length, rest, rest};
-    by = (gimli_line_index_options){sizeof by, 0, data[0] >> 1 & 15, data[0] & 1};
+    in = (gimli_line_sections){sizeof in,         first,      last, last, first, last, last, length, rest, rest, length, rest, rest, 0,
+                               data[0] >> 1 & 15, data[0] & 1};
     ask_units();
     ask_index(first, length, 0, 1 << 22);
 
-    uint8_t *index, bytes[64];
-    uint32_t made = gimli_line_index_of_sections(&in, &by, "id", 2, &index, &length);
+    uint8_t *index;
+    uint32_t made = gimli_line_index_of_sections(&in, "id", 2, &index, &length);
     seen(15, made);
     is(made == GIMLI_LINE_OK ? ask_index(index, length, 0, 1 << 12) == GIMLI_LINE_OK : index == NULL && length == 0,
        "the index of any sections");
     free(index);
 
-    gimli_line_elf elf;
-    uint32_t is_elf = gimli_line_elf_open(in.line, in.line_size, &elf);
-    uint32_t status = gimli_line_elf_section(in.line, in.line_size, (const uint8_t *)".debug_line", 11, bytes, sizeof bytes, &length);
-    is(is_elf == GIMLI_LINE_OK ? status != GIMLI_LINE_NO_ELF : status == GIMLI_LINE_NO_ELF, "an ELF file");
+    gimli_line_sections taken;
+    uint32_t is_elf = gimli_line_sections_of_elf(in.line, in.line_size, &taken);
+    uint32_t status = gimli_line_build_id(in.line, in.line_size, NULL, 0, &length);
+    is(is_elf != GIMLI_LINE_NO_ELF || (status == GIMLI_LINE_NO_ELF && taken.line == NULL), "no ELF file");
+    gimli_line_sections_free(&taken);
     seen(16, is_elf);
     seen(17, status);
     return 0;

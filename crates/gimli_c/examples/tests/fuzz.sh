@@ -11,8 +11,7 @@ have() { command -v "$1" >/dev/null || { echo "gimli_c: $1 is missing: the fuzze
 have clang
 have cc
 have objcopy
-library=$crate/build/libgimli_line.a
-[ -f "$library" ] || library="$crate/out/libgimli_c.a $(dirname "$(rt doc)")/c/liblibc_c.a"
+library="$crate/make/calls.c $crate/out/libgimli_c.a $(dirname "$(rt doc)")/c/liblibc_c.a"
 work=$(mktemp -d)
 trap 'rm -rf "$work"' EXIT
 found=${2:-$work/found}

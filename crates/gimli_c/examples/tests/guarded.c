@@ -7,6 +7,7 @@
  * memory.sh. For a little-endian program with addresses of 8 bytes. */
 #define _GNU_SOURCE
 #include "ask.h"
+#include "../../make/proved.h"
 
 enum { LINE = OWN, LINE_STR, INFO, ABBREV, STR, CUT, MADE };
 
@@ -54,13 +55,14 @@ static uint8_t *made_by(writer *call, const void *of, size_t *whole) {
 }
 
 static uint32_t index_of(const void *options, uint8_t *index, size_t room, size_t *size) {
-    return gimli_line_index_write(in.line, in.line_size, in.line_strings, in.line_strings_size, in.strings, in.strings_size, in.info,
-                                  in.info_size, in.abbreviations, in.abbreviations_size, in.string_offsets, in.string_offsets_size, options,
-                                  (const uint8_t *)"name", 4, index, room, size);
+    static const uint8_t none = 0;
+    return gimli_line_proved_index_write(in.line, in.line_size, in.line_strings, in.line_strings_size, in.strings, in.strings_size, in.info,
+                                         in.info_size, in.abbreviations, in.abbreviations_size, &none, 0, options, (const uint8_t *)"name",
+                                         4, index, room, size);
 }
 
 static uint32_t unit_of(const void *contents, uint8_t *unit, size_t room, size_t *size) {
-    return gimli_line_write_contents(contents, unit, room, size);
+    return gimli_line_write(contents, unit, room, size);
 }
 
 /* What the index says of an address is what the first unit says that has a row of it. */
@@ -71,8 +73,8 @@ static void ask_address(const uint8_t *index, size_t length, uint64_t address) {
     size_t offset = 0;
     uint32_t found = GIMLI_LINE_NO_ROW;
     for (; offset < in.line_size; offset = unit.next) {
-        is(gimli_line_read_unit(in.line, in.line_size, false, 8, offset, &unit) == GIMLI_LINE_OK, "a unit");
-        found = gimli_line_find_row(in.line, in.line_size, false, 8, offset, address, first, second);
+        is(gimli_line_read_unit(&in, offset, &unit) == GIMLI_LINE_OK, "a unit");
+        found = gimli_line_find_row(&in, offset, address, first, second);
         if (found == GIMLI_LINE_OK) break;
         is(is_untouched(first, sizeof *first) && is_untouched(second, sizeof *second), "rows that aren't found");
     }
@@ -92,7 +94,8 @@ static void ask_address(const uint8_t *index, size_t length, uint64_t address) {
        "its path");
     uint64_t *addresses = room_in(ARRAY, 2 * sizeof *addresses), *line = room_in(BESIDE, sizeof *line);
     size_t count;
-    found = gimli_line_index_addresses_of(index, length, index + there->path, there->path_size, row.line, line, addresses, 2, &count);
+    found = gimli_line_index_addresses_of(index, length, gimli_line_place_path(index, there), there->path_size, row.line, line, addresses,
+                                          2, &count);
     is(found == GIMLI_LINE_OK ? *line >= row.line && (!there->is_stmt || *line == row.line)
                               : found == GIMLI_LINE_NO_CODE && !there->is_stmt,
        "a line");
@@ -105,6 +108,7 @@ static void ask_address(const uint8_t *index, size_t length, uint64_t address) {
 /* The index of the program, and what it says of each address near a row. */
 static void make_index(void) {
     size_t whole;
+    gimli_line_proved_options by = {sizeof by, in.lowest, 8, false};
     uint8_t *index = made_by(index_of, &by, &whole);
     gimli_line_index *found = room_in(ANOTHER, sizeof *found);
     is(gimli_line_index_open(index, whole, found) == GIMLI_LINE_OK && found->identity_size == 4 && found->address_size == 8 &&
@@ -112,7 +116,7 @@ static void make_index(void) {
        "what an index says of itself");
     gimli_line_unit unit;
     for (size_t offset = 0; offset < in.line_size; offset = unit.next) {
-        is(gimli_line_read_unit(in.line, in.line_size, false, 8, offset, &unit) == GIMLI_LINE_OK, "a unit");
+        is(gimli_line_read_unit(&in, offset, &unit) == GIMLI_LINE_OK, "a unit");
         for (uint64_t i = 0, count; i < unit.rows; i++) {
             gimli_line_row row;
             is(rows_in(offset, i, &row, 1, &count) == GIMLI_LINE_OK && ask_index(index, whole, row.address - 1, 1) == GIMLI_LINE_OK,
@@ -131,11 +135,12 @@ static void make_index(void) {
 static void write_unit(size_t offset, const gimli_line_unit *unit) {
     static gimli_line_row rows[4096], again[4096];
     static gimli_line_file_name files[64];
-    static uint8_t texts[64 * 3 + 1];
+    static char texts[64 * 3 + 1];
     static const gimli_line_name directory = {0, 1};
     uint64_t first = gimli_line_first_number(unit), count;
     is(rows_in(offset, 0, rows, 4096, &count) == GIMLI_LINE_OK && count <= 4096 && unit->files <= 64, "the rows of a unit");
-    gimli_line_contents contents = {.encoding = GIMLI_LINE_ENCODING(unit->version),
+    gimli_line_contents contents = {.struct_size = sizeof contents,
+                                    .encoding = GIMLI_LINE_ENCODING(unit->version),
                                     .texts = texts,
                                     .text_length = sizeof texts,
                                     .directories = &directory,
@@ -149,7 +154,7 @@ static void write_unit(size_t offset, const gimli_line_unit *unit) {
     for (uint64_t i = 0; i < unit->files; i++) {
         gimli_line_file file;
         is(file_path_in(offset, i + first, texts, 0, &file) == GIMLI_LINE_OK, "a file");
-        snprintf((char *)texts + 1 + 3 * i, 3, "%02d", (int)i);
+        snprintf(texts + 1 + 3 * i, 3, "%02d", (int)i);
         files[i] = (gimli_line_file_name){{1 + 3 * i, 2}, first, file.timestamp, file.size, {0}};
         memcpy(files[i].md5, file.md5, sizeof file.md5);
         contents.details = file.details;
@@ -183,8 +188,9 @@ static void write_symbols(bool in_place) {
                                           {6, 0, 0, 0, 0, 0, 0, GIMLI_LINE_END_SEQUENCE}};
     static const gimli_line_symbol symbols[] = {{5, 0x1122334455667788}, {9, -1}};
     static const gimli_line_file_name file = {{0, 1}, 0, 0, 0, {0}};
-    gimli_line_contents contents = {.encoding = GIMLI_LINE_ENCODING(4),
-                                    .texts = (const uint8_t *)"f",
+    gimli_line_contents contents = {.struct_size = sizeof contents,
+                                    .encoding = GIMLI_LINE_ENCODING(4),
+                                    .texts = "f",
                                     .text_length = 1,
                                     .files = &file,
                                     .file_count = 1,
@@ -195,12 +201,12 @@ static void write_symbols(bool in_place) {
                                     .in_place = in_place};
     uint8_t plain[256];
     size_t *size = room_in(BESIDE, sizeof *size), *count = room_in(ANOTHER, sizeof *count), whole;
-    is(gimli_line_write_contents(&contents, plain, sizeof plain, &whole) == GIMLI_LINE_OK, "gimli_line_write");
+    is(gimli_line_write(&contents, plain, sizeof plain, &whole) == GIMLI_LINE_OK, "gimli_line_write");
     for (size_t room = 0; room <= whole + 1; room++)
         for (size_t slots = 0; slots <= 3; slots++) {
             uint8_t *unit = room_in(ARRAY, room);
             gimli_line_relocation *places = room_in(INPUT, slots * sizeof *places);
-            uint32_t status = gimli_line_write_relocatable_contents(&contents, unit, room, size, places, slots, count);
+            uint32_t status = gimli_line_write_relocatable(&contents, unit, room, size, places, slots, count);
             bool fits = room >= whole && slots >= 2;
             size_t written = fits ? whole : 0, filled = fits ? 2 : 0;
             is(status == (fits ? GIMLI_LINE_OK : GIMLI_LINE_NO_ROOM) && *size == whole && *count == 2, "gimli_line_write_relocatable");
@@ -217,8 +223,7 @@ static void write_symbols(bool in_place) {
             is(memcmp(unit, plain, written) == 0, "the other bytes of the unit");
         }
     contents.encoding.version = 6;
-    is(gimli_line_write_relocatable_contents(&contents, NULL, 0, size, NULL, 0, count) == GIMLI_LINE_UNKNOWN_VERSION && *size == 0 &&
-           *count == 0,
+    is(gimli_line_write_relocatable(&contents, NULL, 0, size, NULL, 0, count) == GIMLI_LINE_UNKNOWN_VERSION && *size == 0 && *count == 0,
        "a refused version");
 }
 
@@ -227,17 +232,17 @@ int main(int argc, char **argv) {
         fprintf(stderr, "usage: guarded LINES LINE_STRINGS INFO ABBREVIATIONS STRINGS\n");
         return 2;
     }
+    in = (gimli_line_sections)GIMLI_LINE_SECTIONS;
+    in.lowest = 0;
     in.line = guarded(LINE, argv[1], &in.line_size);
     in.line_strings = guarded(LINE_STR, argv[2], &in.line_strings_size);
     in.info = guarded(INFO, argv[3], &in.info_size);
     in.abbreviations = guarded(ABBREV, argv[4], &in.abbreviations_size);
     in.strings = guarded(STR, argv[5], &in.strings_size);
-    in.string_offsets = in.line;
-    by = (gimli_line_index_options){sizeof by, 0, 8, false};
     ask_units();
     gimli_line_unit unit;
     for (size_t offset = 0; offset < in.line_size; offset = unit.next) {
-        is(gimli_line_read_unit(in.line, in.line_size, false, 8, offset, &unit) == GIMLI_LINE_OK, "a unit");
+        is(gimli_line_read_unit(&in, offset, &unit) == GIMLI_LINE_OK, "a unit");
         write_unit(offset, &unit);
     }
     cut_info();

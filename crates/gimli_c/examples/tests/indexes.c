@@ -111,8 +111,8 @@ static void ask_lines(bytes index) {
         for (size_t room = 0; room < 3; room++) {
             uint64_t line = 77, addresses[2] = {77, 77};
             size_t count = 77;
-            uint32_t status = gimli_line_index_addresses_of(index.at, index.length, (const uint8_t *)wanted[i].path, strlen(wanted[i].path),
-                                                            wanted[i].line, &line, addresses, room, &count);
+            uint32_t status = gimli_line_index_addresses_of(index.at, index.length, wanted[i].path, strlen(wanted[i].path), wanted[i].line,
+                                                            &line, addresses, room, &count);
             bool has = wanted[i].found != 0;
             is(status == (has ? GIMLI_LINE_OK : GIMLI_LINE_NO_CODE), "the status of gimli_line_index_addresses_of");
             is(line == (has ? wanted[i].found : 77) && count == (has ? 1 : 77), "the line of gimli_line_index_addresses_of");

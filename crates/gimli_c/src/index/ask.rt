@@ -72,7 +72,7 @@ fn answer_all(stored: &[u8], index: &LineIndex<'_>, places: &mut [GimliPlace])
 /// Where the index says nothing of an address, `known` and all other numbers of its place are 0.
 /// Where another number than 0 is returned, nothing is written. Takes no memory.
 #[unsafe(no_mangle)]
-pub extern "C" fn gimli_line_index_find_all(stored: &[u8], places: &mut [GimliPlace]) -> u32
+pub extern "C" fn gimli_line_proved_index_find_all(stored: &[u8], places: &mut [GimliPlace]) -> u32
     ensures found { result ≡ OK → WritesIndexAnswers stored.now places.old places.new }
     ensures refused { result ≢ OK → IsNoIndex stored.now result }
     ensures kept { result ≢ OK → places.new ≡ places.old }

@@ -44,7 +44,7 @@ fn put_addresses(found: Addresses<'_, '_>, most: usize, room: &mut [u64]) -> usi
 /// the number of the refusal where the bytes begin with no index. Where another number than 0 is
 /// returned, nothing is written. Takes no memory, and looks at each range twice.
 #[unsafe(no_mangle)]
-pub extern "C" fn gimli_line_index_addresses_of(
+pub extern "C" fn gimli_line_proved_index_addresses_of(
     stored: &[u8],
     path: &[u8],
     line: u64,

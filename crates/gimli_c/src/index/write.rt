@@ -124,7 +124,7 @@ fn made_index<'s>(
 /// size, `UNSUPPORTED_ADDRESS_SIZE`, `OUT_OF_MEMORY`, `INDEX_TOO_LARGE` or `PLACE_TOO_LARGE`. All
 /// units are read for each call.
 #[unsafe(no_mangle)]
-pub extern "C" fn gimli_line_index_write(
+pub extern "C" fn gimli_line_proved_index_write(
     alloc: Global,
     section: &[u8],
     line_strings: &[u8],

@@ -3,7 +3,7 @@ use Rattle.std.specs.Prelude.{unwrap_or}
 use Rattle.gimli_c.specs.FileSeen.{text_here}
 use Rattle.gimli_c.specs.Written.{slots_with}
 use Rattle.gimli_c.proofs.Files.{complete, directory_is, file_is, has_complete, looked_up, seen_is}
-use Rattle.gimli_c.proofs.file.gimli_line_read_file.Goals as goal
+use Rattle.gimli_c.proofs.file.gimli_line_proved_read_file.Goals as goal
 
 pub returns-in-None-clause-none : goal.returns-in-None-clause-none
 returns-in-None-clause-none c = λ _.

@@ -6,7 +6,7 @@ use Rattle.gimli_compilation.specs.Sections.{sections_of}
 use Rattle.gimli_c.specs.CompDir.{sections_handed}
 use Rattle.gimli_c.specs.Written.{slots_with}
 use Rattle.gimli_c.proofs.CompDirs.{tells}
-use Rattle.gimli_c.proofs.comp_dir.gimli_line_comp_dir.Goals as goal
+use Rattle.gimli_c.proofs.comp_dir.gimli_line_proved_comp_dir.Goals as goal
 
 pub returns-in_default-directory_of-clause-none : goal.returns-in_default-directory_of-clause-none
 returns-in_default-directory_of-clause-none c = λ _.

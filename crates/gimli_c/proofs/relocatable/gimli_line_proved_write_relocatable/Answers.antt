@@ -2,7 +2,7 @@ use Rattle.std.proofs.Common.{List, ℕ, length, map, subst, ap, ◌<◌, ◌≤
 use Rattle.gimli_bytes.specs.declared.relocation.Relocation.{Relocation}
 use Rattle.gimli_c.specs.Relocated.{relocation_seen}
 use Rattle.gimli_c.specs.Written.{slots_with}
-use Rattle.gimli_c.proofs.relocatable.gimli_line_write_relocatable.Goals as goal
+use Rattle.gimli_c.proofs.relocatable.gimli_line_proved_write_relocatable.Goals as goal
 
 pub relocatable_of-requires : goal.relocatable_of-requires
 relocatable_of-requires c = (c.in-Ok.ensures.ok c.args.big).can

@@ -1,6 +1,6 @@
 use Rattle.std.proofs.Common.{refl, sym, inr}
 use Rattle.elf_sections.specs.Elf.{file_of}
-use Rattle.gimli_c.proofs.build_id.gimli_line_elf_build_id.Goals as goal
+use Rattle.gimli_c.proofs.build_id.gimli_line_proved_elf_build_id.Goals as goal
 
 pub returns-in-Ok-Some-clause-found : goal.returns-in-Ok-Some-clause-found
 returns-in-Ok-Some-clause-found c = λ _.

@@ -4,7 +4,7 @@ use Rattle.gimli_index.specs.Meaning.{starts_of}
 use Rattle.gimli_index.specs.Views.{index_of}
 use Rattle.gimli_lookup.specs.Statements.{IsFirstLine}
 use Rattle.gimli_c.proofs.LineCounts.{few_of_line}
-use Rattle.gimli_c.proofs.index.lines.gimli_line_index_addresses_of.Goals as goal
+use Rattle.gimli_c.proofs.index.lines.gimli_line_proved_index_addresses_of.Goals as goal
 
 pub put_addresses-requires : goal.put_addresses-requires
 put_addresses-requires c =

@@ -1,7 +1,7 @@
 use Rattle.std.proofs.Common.{refl, sym, ap, ◌∙◌, inr}
 use Rattle.std.specs.Prelude.{Some, Ok}
 use Rattle.elf_sections.specs.Elf.{file_of}
-use Rattle.gimli_c.proofs.elf.gimli_line_elf_section.Goals as goal
+use Rattle.gimli_c.proofs.elf.gimli_line_proved_elf_section.Goals as goal
 
 pub returns-in-Ok-Some-clause-found : goal.returns-in-Ok-Some-clause-found
 returns-in-Ok-Some-clause-found c = λ _.

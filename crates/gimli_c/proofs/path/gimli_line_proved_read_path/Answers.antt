@@ -4,7 +4,7 @@ use Rattle.gimli_c.specs.Location.{location}
 use Rattle.gimli_c.specs.Path.{texts_handed, GivesPath, HasNoPath}
 use Rattle.gimli_c.specs.Written.{slots_with}
 use Rattle.gimli_c.proofs.PathsOfFiles.{path_not_ok, same_texts}
-use Rattle.gimli_c.proofs.path.gimli_line_read_path.Goals as goal
+use Rattle.gimli_c.proofs.path.gimli_line_proved_read_path.Goals as goal
 
 pub returns-in-Err-clause-refused : goal.returns-in-Err-clause-refused
 returns-in-Err-clause-refused c = λ _ memory.

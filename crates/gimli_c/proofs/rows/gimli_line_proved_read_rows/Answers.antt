@@ -3,7 +3,7 @@ use Rattle.gimli_line.specs.run.Rows.{events_left}
 use Rattle.gimli_line.specs.run.Sequences.{events_of}
 use Rattle.gimli_c.specs.Location.{location}
 use Rattle.gimli_c.proofs.Runs.{has_events, rows_at_most}
-use Rattle.gimli_c.proofs.rows.gimli_line_read_rows.Goals as goal
+use Rattle.gimli_c.proofs.rows.gimli_line_proved_read_rows.Goals as goal
 
 pub returns-clause-rows : goal.returns-clause-rows
 returns-clause-rows c = λ not_memory. inl (record {

@@ -4,7 +4,7 @@ use Rattle.gimli_c.specs.Handing.{write_status}
 use Rattle.gimli_c.specs.Written.{slots_with}
 use Rattle.gimli_c.proofs.SamePrograms.{no_cause}
 use Rattle.gimli_c.proofs.Handings.{appended, built_source}
-use Rattle.gimli_c.proofs.write.gimli_line_write.Goals as goal
+use Rattle.gimli_c.proofs.write.gimli_line_proved_write.Goals as goal
 
 pub section_of-requires-clause-can : goal.section_of-requires-clause-can
 section_of-requires-clause-can c = (c.in-Ok.ensures.ok c.args.big).can

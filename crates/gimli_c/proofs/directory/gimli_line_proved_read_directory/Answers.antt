@@ -2,7 +2,7 @@ use Rattle.std.proofs.Common.{◌∙◌, [], ap, sym}
 use Rattle.std.specs.Prelude.{unwrap_or}
 use Rattle.gimli_line.specs.header.Header.{directory_of}
 use Rattle.gimli_c.specs.Written.{slots_with}
-use Rattle.gimli_c.proofs.directory.gimli_line_read_directory.Goals as goal
+use Rattle.gimli_c.proofs.directory.gimli_line_proved_read_directory.Goals as goal
 
 pub returns-in-None-clause-none : goal.returns-in-None-clause-none
 returns-in-None-clause-none c = λ _.

@@ -1,7 +1,7 @@
 use Rattle.std.proofs.Common.{List, ℕ, length, ap, ◌∙◌, arith}
 use Rattle.gimli_c.specs.Written.{slots_with}
 use Rattle.gimli_c.proofs.MadeIndexes.{same_index}
-use Rattle.gimli_c.proofs.index.write.gimli_line_index_write.Goals as goal
+use Rattle.gimli_c.proofs.index.write.gimli_line_proved_index_write.Goals as goal
 
 pub returns-then-bytes-stored-clause-room : goal.returns-then-bytes-stored-clause-room
 returns-then-bytes-stored-clause-room c = λ _.

@@ -1,6 +1,6 @@
 use Rattle.gimli_c.specs.Location.{location}
 use Rattle.gimli_c.proofs.Units.{few_rows_of_unit, unit_given}
-use Rattle.gimli_c.proofs.unit.gimli_line_read_unit.Goals as goal
+use Rattle.gimli_c.proofs.unit.gimli_line_proved_read_unit.Goals as goal
 
 pub returns-in-Ok-read_unit-clause-ok : goal.returns-in-Ok-read_unit-clause-ok
 returns-in-Ok-read_unit-clause-ok c = λ ok.
