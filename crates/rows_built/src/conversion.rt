@@ -1,35 +1,86 @@
 //! Conversions: what one reads, and what is built of it.
 
-ghost use Rattle.std.specs.Prelude.{IsTrue};
-ghost use Rattle.rows.specs.Taken.{IsTaken};
+ghost use Rattle.std.specs.Prelude.{◌≡◌, IsErr, IsTrue};
+ghost use Rattle.rows_built.specs.Taken.{IsTaken};
 
 use crate::built::{Tables, print_row, put_refused};
-use crate::command::Asked;
 use crate::script::Script;
-use gimli_core::{Encoding, LineEncoding, Reader};
+use gimli_core::{
+    DebugLineOffset, Encoding, EndianSlice, Error, LineEncoding, Reader, ReaderOffset,
+    RunTimeEndian,
+};
+use gimli_line::{DebugLine, IncompleteLineProgram};
 use gimli_write::{
     Address, ConvertError, ConvertLineHeader, ConvertLineProgram, ConvertLineRow,
     ConvertLineSequence, ConvertLineSequenceEnd, ConvertResult, FileId, LineProgram,
     LineStringTable,
 };
+use line_text::{AddressSize, Slice};
 use row_text::Piece::{Number, Word};
 use row_text::{Arguments, Attempts, Lines, Stop};
 use std::alloc::Global;
 
+/// Prints a conversion, by the words after its command, of a unit in the sections `.debug_line`,
+/// `.debug_str` and `.debug_line_str`: item by item, and after a line `==` what is built of it; or
+/// sequence by sequence. Refused where the words are none of it.
+pub fn convert(
+    by_items: bool,
+    alloc: Global,
+    words: &[&str],
+    attempts: Attempts,
+    sections: [&[u8]; 3],
+    lines: &mut Lines,
+) -> Result<(), Stop>
+    ensures { IsErr result → lines.new ≡ lines.old }
+{
+    let [section, strings, line_strings] = sections;
+    let mut words = Arguments::new(alloc, words);
+    let order = words.order();
+    let address_size = words.address_size();
+    let offset = words.number(u64::MAX);
+    let directory = words.optional_text(true);
+    let name = words.optional_text(true);
+    let unit_name = words.optional_text(true);
+    let target = Target::parse(alloc, &mut words);
+    words.end()?;
+    let conversion = Conversion {
+        by_items,
+        alloc,
+        attempts,
+        section: DebugLine::new(section, order),
+        strings: EndianSlice::new(strings, order),
+        line_strings: EndianSlice::new(line_strings, order),
+        order,
+        address_size,
+        offset,
+        directory: reader(&directory, order),
+        name: reader(&name, order),
+        unit_name: reader(&unit_name, order),
+        target,
+    };
+    conversion.print(lines);
+    Ok(())
+}
+
+/// A reader over a text that is handed in.
+fn reader(text: &Option<Vec<u8>>, order: RunTimeEndian) -> Option<Slice<'_>> {
+    text.as_deref().map(|text| EndianSlice::new(text, order))
+}
+
 /// The encodings of the program that is built; where none is handed in it is that of the source.
 #[derive(Clone, Copy, Default)]
-pub(crate) struct Target {
-    pub encoding: Option<Encoding>,
-    pub line_encoding: Option<LineEncoding>,
+struct Target {
+    encoding: Option<Encoding>,
+    line_encoding: Option<LineEncoding>,
 }
 
 impl Target {
-    /// The target that the next word names, where one is asked for: `-` for the source's own, or
-    /// the version, the format and the size of an address, and after them what lines are encoded
-    /// by, if it isn't as in the source. All are numbers with commas between.
-    pub fn parse(alloc: Global, is_asked: bool, words: &mut Arguments<'_>) -> Target {
+    /// The target that the next word names: `-` for the source's own, or the version, the format
+    /// and the size of an address, and after them what lines are encoded by, if it isn't as in the
+    /// source. All are numbers with commas between.
+    fn parse(alloc: Global, words: &mut Arguments<'_>) -> Target {
         let mut target = Target::default();
-        if !is_asked || words.takes("-") {
+        if words.takes("-") {
             return target;
         }
         match words.word().split(',').collect::<Vec<&str>>(alloc) {
@@ -50,7 +101,7 @@ impl Target {
 
     /// Whether a conversion takes it. Without numbers of lines it is judged with those that are
     /// usual.
-    pub fn is_taken(self) -> bool
+    fn is_taken(self) -> bool
         ensures { IsTrue result → IsTaken self }
     {
         match (self.encoding, self.line_encoding) {
@@ -73,25 +124,67 @@ struct Ending {
     stands: bool,
 }
 
-impl<R: Reader> Asked<'_, R> {
-    /// Prints what a conversion reads, item by item and after a line `==` what is built of them, or
-    /// sequence by sequence. Where the target breaks a condition, no conversion can be asked for.
-    pub fn print_conversion(&self, by_items: bool, lines: &mut Lines) {
+/// A conversion that is asked for.
+#[derive(Drop)]
+struct Conversion<R: Reader> {
+    /// Whether its items are printed, and what is built of them; else its sequences.
+    by_items: bool,
+    alloc: Global,
+    attempts: Attempts,
+    /// The section `.debug_line`, and those of its texts.
+    section: DebugLine<R>,
+    strings: R,
+    line_strings: R,
+    order: RunTimeEndian,
+    address_size: AddressSize,
+    /// Where the unit stands.
+    offset: u64,
+    /// The directory and the name that are handed to the reader, and the name of the unit.
+    directory: Option<R>,
+    name: Option<R>,
+    unit_name: Option<R>,
+    /// The encodings of the program that is built.
+    target: Target,
+}
+
+impl<R: Reader> Conversion<R> {
+    /// The program of the unit. Where memory was refused it is made once more, if attempts are two.
+    fn program(&self) -> gimli_core::Result<IncompleteLineProgram<R>> {
+        match self.parse() {
+            Err(Error::OutOfMemory) if self.attempts == Attempts::Two => self.parse(),
+            outcome => outcome,
+        }
+    }
+
+    /// The program of the unit.
+    fn parse(&self) -> gimli_core::Result<IncompleteLineProgram<R>> {
+        let offset = DebugLineOffset(R::Offset::from_u64(self.offset)?);
+        let size = self.address_size.bytes();
+        let section = self.section;
+        section.program(self.alloc, offset, size, self.directory, self.name)
+    }
+
+    /// Prints why the unit isn't read, or what is converted of it. Where the target breaks a
+    /// condition, no conversion can be asked for.
+    fn print(&self, lines: &mut Lines) {
+        if let Err(error) = self.program() {
+            return lines.put_refusal("error ", error);
+        }
         if !self.target.is_taken() {
             return lines.print("condition\n", &[]);
         }
         let start = lines.len();
-        let mut ending = self.print_read(by_items, lines);
+        let mut ending = self.print_read(lines);
         let is_refused = matches!(ending.refusal, Some(ConvertError::OutOfMemory));
         if is_refused && self.attempts == Attempts::Two {
             lines.truncate(start);
             lines.print(if ending.stands { "" } else { "state\n" }, &[]);
-            ending = self.print_read(by_items, lines);
+            ending = self.print_read(lines);
         }
         if let Some(error) = ending.refusal {
             put_refused(error, lines);
         }
-        if by_items && ending.is_begun {
+        if self.by_items && ending.is_begun {
             lines.print("==\n", &[]);
             self.print_second(lines);
         }
@@ -99,14 +192,14 @@ impl<R: Reader> Asked<'_, R> {
 
     /// Prints what one conversion reads, up to its end or to the first refusal, in tables that hold
     /// texts before.
-    fn print_read(&self, by_items: bool, lines: &mut Lines) -> Ending
+    fn print_read(&self, lines: &mut Lines) -> Ending
         requires { IsTaken self.now.target }
     {
-        self.print_beside(by_items, &mut Tables::new(self.alloc), lines)
+        self.print_beside(&mut Tables::new(self.alloc), lines)
     }
 
     /// The same, with these tables.
-    fn print_beside(&self, by_items: bool, tables: &mut Tables, lines: &mut Lines) -> Ending
+    fn print_beside(&self, tables: &mut Tables, lines: &mut Lines) -> Ending
         requires { IsTaken self.now.target }
     {
         let mut ending = Ending {
@@ -119,7 +212,7 @@ impl<R: Reader> Asked<'_, R> {
             return ending;
         }
         match self.begin(&mut tables.line_strings) {
-            Ok(header) => ending = print_after_header(by_items, header, tables, lines),
+            Ok(header) => ending = print_after_header(self.by_items, header, tables, lines),
             Err(error) => ending.refusal = Some(error),
         }
         ending.stands = ending.stands && tables.begin_old();
@@ -179,8 +272,8 @@ impl<R: Reader> Asked<'_, R> {
         requires { IsTaken self.now.target }
     {
         ConvertLineHeader::new(
-            self.texts.debug_str,
-            self.texts.debug_line_str,
+            self.strings,
+            self.line_strings,
             self.program()?,
             self.unit_name,
             self.target.encoding,
