@@ -93,18 +93,14 @@ pub(crate) struct Asked<'w, R: Reader> {
 impl<R: Reader> Asked<'_, R> {
     /// The program of the unit. Where memory was refused it is made once more, if attempts are two.
     pub fn program(&self) -> gimli_core::Result<IncompleteLineProgram<R>> {
-        match self.parse() {
-            Err(Error::OutOfMemory) if self.attempts == Attempts::Two => self.parse(),
+        let offset = DebugLineOffset(R::Offset::from_u64(self.offset)?);
+        let (section, size) = (self.section, self.address_size.bytes());
+        match section.program(self.alloc, offset, size, self.directory, self.name) {
+            Err(Error::OutOfMemory) if self.attempts == Attempts::Two => {
+                section.program(self.alloc, offset, size, self.directory, self.name)
+            }
             outcome => outcome,
         }
-    }
-
-    /// The program of the unit.
-    fn parse(&self) -> gimli_core::Result<IncompleteLineProgram<R>> {
-        let offset = DebugLineOffset(R::Offset::from_u64(self.offset)?);
-        let size = self.address_size.bytes();
-        let section = self.section;
-        section.program(self.alloc, offset, size, self.directory, self.name)
     }
 }
 

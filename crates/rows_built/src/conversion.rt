@@ -50,7 +50,6 @@ pub fn convert(
         section: DebugLine::new(section, order),
         strings: EndianSlice::new(strings, order),
         line_strings: EndianSlice::new(line_strings, order),
-        order,
         address_size,
         offset,
         directory: reader(&directory, order),
@@ -58,7 +57,10 @@ pub fn convert(
         unit_name: reader(&unit_name, order),
         target,
     };
-    conversion.print(lines);
+    let mut script = Script::new(alloc, attempts);
+    script.order = order;
+    script.reads_back = true;
+    conversion.print(&mut script, lines);
     Ok(())
 }
 
@@ -135,7 +137,6 @@ struct Conversion<R: Reader> {
     section: DebugLine<R>,
     strings: R,
     line_strings: R,
-    order: RunTimeEndian,
     address_size: AddressSize,
     /// Where the unit stands.
     offset: u64,
@@ -150,23 +151,19 @@ struct Conversion<R: Reader> {
 impl<R: Reader> Conversion<R> {
     /// The program of the unit. Where memory was refused it is made once more, if attempts are two.
     fn program(&self) -> gimli_core::Result<IncompleteLineProgram<R>> {
-        match self.parse() {
-            Err(Error::OutOfMemory) if self.attempts == Attempts::Two => self.parse(),
+        let offset = DebugLineOffset(R::Offset::from_u64(self.offset)?);
+        let (section, size) = (self.section, self.address_size.bytes());
+        match section.program(self.alloc, offset, size, self.directory, self.name) {
+            Err(Error::OutOfMemory) if self.attempts == Attempts::Two => {
+                section.program(self.alloc, offset, size, self.directory, self.name)
+            }
             outcome => outcome,
         }
     }
 
-    /// The program of the unit.
-    fn parse(&self) -> gimli_core::Result<IncompleteLineProgram<R>> {
-        let offset = DebugLineOffset(R::Offset::from_u64(self.offset)?);
-        let size = self.address_size.bytes();
-        let section = self.section;
-        section.program(self.alloc, offset, size, self.directory, self.name)
-    }
-
     /// Prints why the unit isn't read, or what is converted of it. Where the target breaks a
     /// condition, no conversion can be asked for.
-    fn print(&self, lines: &mut Lines) {
+    fn print(&self, script: &mut Script, lines: &mut Lines) {
         if let Err(error) = self.program() {
             return lines.put_refusal("error ", error);
         }
@@ -174,32 +171,25 @@ impl<R: Reader> Conversion<R> {
             return lines.print("condition\n", &[]);
         }
         let start = lines.len();
-        let mut ending = self.print_read(lines);
+        let mut ending = self.print_read(&mut script.tables, lines);
         let is_refused = matches!(ending.refusal, Some(ConvertError::OutOfMemory));
         if is_refused && self.attempts == Attempts::Two {
             lines.truncate(start);
             lines.print(if ending.stands { "" } else { "state\n" }, &[]);
-            ending = self.print_read(lines);
+            ending = self.print_read(&mut script.tables, lines);
         }
         if let Some(error) = ending.refusal {
             put_refused(error, lines);
         }
         if self.by_items && ending.is_begun {
             lines.print("==\n", &[]);
-            self.print_second(lines);
+            self.print_built(script, lines);
         }
     }
 
     /// Prints what one conversion reads, up to its end or to the first refusal, in tables that hold
     /// texts before.
-    fn print_read(&self, lines: &mut Lines) -> Ending
-        requires { IsTaken self.now.target }
-    {
-        self.print_beside(&mut Tables::new(self.alloc), lines)
-    }
-
-    /// The same, with these tables.
-    fn print_beside(&self, tables: &mut Tables, lines: &mut Lines) -> Ending
+    fn print_read(&self, tables: &mut Tables, lines: &mut Lines) -> Ending
         requires { IsTaken self.now.target }
     {
         let mut ending = Ending {
@@ -219,26 +209,13 @@ impl<R: Reader> Conversion<R> {
         ending
     }
 
-    /// Prints what a second conversion builds, in tables without a text.
-    fn print_second(&self, lines: &mut Lines)
-        requires { IsTaken self.now.target }
-    {
-        let mut script = Script::new(self.alloc, self.attempts);
-        script.order = self.order;
-        script.reads_back = true;
-        self.print_built(&mut script, lines)
-    }
-
-    /// The same, with this script; of a third one, where memory is refused to it and attempts are
-    /// two.
+    /// Prints what a second conversion builds; a third one, where memory is refused to it and
+    /// attempts are two.
     fn print_built(&self, script: &mut Script, lines: &mut Lines)
         requires { IsTaken self.now.target }
     {
-        let built = match self.convert(script) {
-            Err(ConvertError::OutOfMemory) if self.attempts == Attempts::Two => {
-                script.tables = Tables::new(self.alloc);
-                self.convert(script)
-            }
+        let built = match self.build(script) {
+            Err(ConvertError::OutOfMemory) if self.attempts == Attempts::Two => self.build(script),
             built => built,
         };
         match built {
@@ -254,11 +231,12 @@ impl<R: Reader> Conversion<R> {
         }
     }
 
-    /// Builds the program of one conversion, by a closure that keeps each address, and returns its
-    /// files.
-    fn convert(&self, script: &mut Script) -> ConvertResult<Vec<FileId>>
+    /// Builds the program of one conversion, in tables without a text, by a closure that keeps each
+    /// address, and returns its files.
+    fn build(&self, script: &mut Script) -> ConvertResult<Vec<FileId>>
         requires { IsTaken self.now.target }
     {
+        script.tables = Tables::new(self.alloc);
         let tables = &mut script.tables;
         let header = self.begin(&mut tables.line_strings)?;
         let converter = header.converter(&mut tables.line_strings, &mut tables.strings);
@@ -311,45 +289,35 @@ fn print_each<R: Reader>(
     lines: &mut Lines,
 ) -> ConvertResult<()> {
     for _turn in 0..u64::MAX {
-        if !print_next(by_items, converter, lines)? {
+        let is_printed = if by_items {
+            print_item(converter.read_row()?, lines)
+        } else {
+            print_sequence(converter.read_sequence()?, lines)
+        };
+        if !is_printed {
             break;
         }
     }
     Ok(())
 }
 
-/// Prints the next item or sequence; false where there is none.
-fn print_next<R: Reader>(
-    by_items: bool,
-    converter: &mut ConvertLineProgram<'_, '_, R>,
-    lines: &mut Lines,
-) -> ConvertResult<bool> {
-    let printed = if by_items {
-        let item = converter.read_row()?;
-        item.map(|item| print_item(item, lines))
-    } else {
-        let sequence = converter.read_sequence()?;
-        sequence.map(|sequence| print_sequence(&sequence, lines))
-    };
-    Ok(printed.is_some())
-}
-
-/// Prints an item: an address, a row, or an end.
-fn print_item(item: ConvertLineRow, lines: &mut Lines) {
+/// Prints an item: an address, a row, or an end; false where there is none.
+fn print_item(item: Option<ConvertLineRow>, lines: &mut Lines) -> bool {
     match item {
-        ConvertLineRow::Row(row) => print_row(row, lines),
-        ConvertLineRow::SetAddress(address) => lines.print("set %\n", &[Number(address)]),
-        ConvertLineRow::EndSequence(offset) => lines.print("end %\n", &[Number(offset)]),
+        Some(ConvertLineRow::Row(row)) => print_row(row, lines),
+        Some(ConvertLineRow::SetAddress(address)) => lines.print("set %\n", &[Number(address)]),
+        Some(ConvertLineRow::EndSequence(offset)) => lines.print("end %\n", &[Number(offset)]),
+        None => return false,
     }
+    true
 }
 
-/// Prints a sequence: its start, its rows and its end.
-fn print_sequence(sequence: &ConvertLineSequence, lines: &mut Lines) {
-    let start = match sequence.start {
-        Some(start) => Number(start),
-        None => Word("-"),
+/// Prints a sequence: its start, its rows and its end; false where there is none.
+fn print_sequence(sequence: Option<ConvertLineSequence>, lines: &mut Lines) -> bool {
+    let Some(sequence) = sequence else {
+        return false;
     };
-    lines.print("sequence %\n", &[start]);
+    lines.print("sequence %\n", &[sequence.start.map_or(Word("-"), Number)]);
     for row in sequence.rows.as_slice() {
         print_row(*row, lines);
     }
@@ -357,4 +325,5 @@ fn print_sequence(sequence: &ConvertLineSequence, lines: &mut Lines) {
         ConvertLineSequenceEnd::Length(length) => lines.print("length %\n", &[Number(length)]),
         ConvertLineSequenceEnd::Address(address) => lines.print("address %\n", &[Number(address)]),
     }
+    true
 }
