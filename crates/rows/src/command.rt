@@ -43,18 +43,6 @@ impl Command {
             _ => None,
         }
     }
-
-    /// Which texts stand after the order of bytes, the size of an address and a number: the
-    /// directory and the name that are handed to the reader; and the directory of the compilation,
-    /// or the path of a file.
-    fn texts(self) -> [bool; 3] {
-        match self {
-            Command::Header => [true, true, false],
-            Command::Paths => [true, false, true],
-            Command::Addresses => [false, false, true],
-            _ => [false; 3],
-        }
-    }
 }
 
 /// A reader that lends the bytes left.
@@ -124,10 +112,9 @@ pub fn print(
         Command::Walk => 0,
         _ => words.number(u64::MAX),
     };
-    let [has_directory, has_name, has_path] = command.texts();
-    let directory = words.optional_text(has_directory);
-    let name = words.optional_text(has_name);
-    let path = words.optional_text(has_path);
+    let directory = words.optional_text(matches!(command, Command::Header | Command::Paths));
+    let name = words.optional_text(matches!(command, Command::Header));
+    let path = words.optional_text(matches!(command, Command::Paths | Command::Addresses));
     let line = match command {
         Command::Addresses => words.number(u64::MAX),
         _ => 0,
