@@ -20,7 +20,7 @@ const LAST_FILE: u64 = 999;
 #[derive(Drop)]
 struct Digest(u64);
 
-impl fmt::Write for Digest {
+impl Write for Digest {
     fn write_str(&mut self, text: &str) -> fmt::Result {
         for byte in text.as_bytes() {
             self.0 = (self.0 ^ u64::from(*byte)).wrapping_mul(0x100_0000_01b3);
@@ -32,13 +32,18 @@ impl fmt::Write for Digest {
 impl Script {
     /// A number that is the same for the same program and tables.
     fn digest(&self) -> u64 {
+        let mut digest = Digest(0xcbf2_9ce4_8422_2325);
+        // A digest takes every text.
+        let _ = self.print_all(&mut digest);
+        digest.0
+    }
+
+    /// Prints each field of the program and of the tables.
+    fn print_all<W: Write>(&self, out: &mut W) -> fmt::Result {
         let program = &self.program;
         let strings = &self.tables.strings;
         let line_strings = &self.tables.line_strings;
-        let mut digest = Digest(0xcbf2_9ce4_8422_2325);
-        // A digest takes every text.
-        let _ = write!(digest, "{program:?} {strings:?} {line_strings:?}");
-        digest.0
+        write!(out, "{program:?} {strings:?} {line_strings:?}")
     }
 
     /// Keeps what stands before a call of the library.

@@ -2,7 +2,6 @@
 
 use crate::array_section::{ArraySection, Section};
 use crate::built::{Tables, print_answer, put_refused};
-use crate::command::Request;
 use gimli_core::{Encoding, RunTimeEndian};
 use gimli_write::{
     ConvertError, ConvertResult, DebugLine, EndianVec, Error, LineProgram, LineString, PieceVec,
@@ -15,12 +14,14 @@ use std::alloc::Global;
 /// Builds the programs of a text's scripts and writes them; prints what that gives, and returns the
 /// status: 1 where a program is refused or a condition isn't met. Of a bad script nothing is
 /// printed.
-pub fn write(request: Request<'_>, input: &str, lines: &mut Lines) -> Result<u8, Stop> {
-    if !request.words.is_empty() {
-        return Err(Stop::Bad);
-    }
+pub fn write(
+    alloc: Global,
+    attempts: Attempts,
+    input: &str,
+    lines: &mut Lines,
+) -> Result<u8, Stop> {
     let start = lines.len();
-    let mut script = Script::new(request.alloc, request.attempts);
+    let mut script = Script::new(alloc, attempts);
     let status = script.run(input, lines);
     if status.is_err() {
         lines.truncate(start);
