@@ -59,10 +59,29 @@ fn convert<R: Reader>(
     name: Option<R>,
     no_texts: R,
 ) -> ConvertResult<RoundTrip> {
-    let from = source.header().encoding();
-    let encoding = Encoding { version: 5, ..from };
     let mut strings = StringTable::default(alloc);
     let mut line_strings = LineStringTable::default(alloc);
+    convert_with(
+        alloc,
+        source,
+        name,
+        no_texts,
+        &mut line_strings,
+        &mut strings,
+    )
+}
+
+/// Converts with the tables of texts that a program has.
+fn convert_with<R: Reader>(
+    alloc: Global,
+    source: IncompleteLineProgram<R>,
+    name: Option<R>,
+    no_texts: R,
+    line_strings: &mut LineStringTable,
+    strings: &mut StringTable,
+) -> ConvertResult<RoundTrip> {
+    let from = source.header().encoding();
+    let encoding = Encoding { version: 5, ..from };
     let (program, _files) = convert_program(
         no_texts,
         no_texts,
@@ -70,11 +89,11 @@ fn convert<R: Reader>(
         name,
         Some(encoding),
         None,
-        &mut line_strings,
-        &mut strings,
+        line_strings,
+        strings,
         |address| Some(Address::Constant(address)),
     )?;
-    read_back(alloc, &program, &mut line_strings, &mut strings)
+    read_back(alloc, &program, line_strings, strings)
 }
 
 /// What is read of a program after it was written.
