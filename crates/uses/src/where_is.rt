@@ -55,10 +55,9 @@ pub fn program_of<'a>(
         debug_line_str: section(&elf, b".debug_line_str")?,
         debug_str_offsets: section(&elf, b".debug_str_offsets")?,
     };
-    match Program::new(alloc, lines, sections, elf.lowest_code_address()) {
-        Ok(program) => Ok(program),
-        Err(_) => Err(ElfError::OutOfMemory),
-    }
+    Program::new(alloc, lines, sections, elf.lowest_code_address()).map_err(
+        |_| ElfError::OutOfMemory,
+    )
 }
 
 /// A section of an ELF file; no bytes where it has none of this name.
