@@ -1,8 +1,9 @@
 //! The index of the lines of a program: made, opened, checked, and asked.
 #![tactic(auto)]
 
-use crate::where_is::program_of;
+use crate::where_is::{Program, program_of};
 use anyhow::{Result, bail};
+use gimli_core::Reader;
 use gimli_index::{LineIndex, Place, write_index};
 use std::alloc::Global;
 use std::fmt::Write;
@@ -24,9 +25,14 @@ pub fn start(rt: &HostRuntime, words: &[String], text: &mut String) -> Result<()
     print_place(rt.alloc(), index.find(address), text)
 }
 
-/// The bytes of the index of an ELF file whose addresses have 8 bytes.
+/// The bytes of the index of an ELF file.
 fn map_of(alloc: Global, file: &[u8]) -> Result<Vec<u8>> {
     let program = program_of(alloc, file)?;
+    bytes_of(alloc, &program)
+}
+
+/// The bytes of the index of a program whose addresses have 8 bytes.
+fn bytes_of<R: Reader>(alloc: Global, program: &Program<R>) -> Result<Vec<u8>> {
     let mut bytes = Vec::new(alloc);
     write_index(
         alloc,

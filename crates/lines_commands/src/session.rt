@@ -2,8 +2,7 @@
 
 ghost use Rattle.std.specs.Prelude.{◌≡◌, ◌≤◌, ◌↔◌, IfOk, true};
 
-use crate::inputs::Inputs;
-use lines_inputs::{Program, show_reading, tell_refusal};
+use lines_inputs::show_reading;
 use lines_places::{Asked, asked_by};
 use lines_words::{CodeAddress, Output, Request, Screen};
 use std::alloc::AllocError;
@@ -11,46 +10,38 @@ use std::io::{BufRead, BufReader, IsTerminal};
 use std::rt::Stdin;
 use std::{env, io};
 
+/// The status where something was refused.
+pub const REFUSED: u8 = 1;
+
 /// What a command runs with.
 #[derive(Clone, Copy)]
-pub(crate) struct Run<'r> {
+pub struct Run<'r> {
     /// The system.
-    pub(crate) rt: &'r HostRuntime,
+    pub rt: &'r HostRuntime,
     /// What is asked for.
-    pub(crate) request: &'r Request<'r>,
+    pub request: &'r Request<'r>,
 }
 
 /// A command over the file of a name.
 #[derive(Drop)]
-pub(crate) struct Session<'r> {
-    pub(crate) run: Run<'r>,
+pub struct Session<'r> {
+    pub run: Run<'r>,
     /// What it prints.
-    pub(crate) output: Output<'r>,
+    pub output: Output<'r>,
 }
 
 impl<'r> Run<'r> {
     /// A command over the file of a name, which printed nothing.
-    pub(crate) fn over(self, name: &'r str) -> Session<'r> {
+    pub fn over(self, name: &'r str) -> Session<'r> {
         let output = Output::new(self.rt.alloc(), self.request, name, screen(self.rt));
         Session { run: self, output }
     }
 }
 
 impl<'r> Session<'r> {
-    /// The sections of a program. None where they can't be read, which is reported.
-    pub(crate) fn program_of<'i>(&mut self, inputs: &'i Inputs) -> io::Result<Option<Program<'i>>> {
-        match Program::new(self.run.rt.alloc(), inputs.kind, inputs.files()) {
-            Ok(program) => Ok(Some(program)),
-            Err(refusal) => {
-                tell_refusal(refusal, &mut self.output)?;
-                Ok(None)
-            }
-        }
-    }
-
     /// Hands on what was printed. Fails where standard output takes no more, and where memory is
     /// missing.
-    pub(crate) fn hand_on(&mut self) -> io::Result<()> {
+    pub fn hand_on(&mut self) -> io::Result<()> {
         let rt = self.run.rt;
         self.output.hand_on(&mut rt.stdout(), &mut rt.stderr())
     }
@@ -74,14 +65,14 @@ impl<'r> Session<'r> {
     }
 
     /// Tells at a terminal that a whole section is read, where that is long.
-    pub(crate) fn begin_reading(&mut self, length: u64) -> io::Result<()> {
+    pub fn begin_reading(&mut self, length: u64) -> io::Result<()> {
         show_reading(length, &mut self.output);
         self.hand_on()
     }
 
     /// Hands on what was printed, where nothing failed before, and returns the status of the
     /// program: 0, or 1 where something was reported, or a check found what is denied.
-    pub(crate) fn finish(self, printed: io::Result<()>) -> io::Result<u8>
+    pub fn finish(self, printed: io::Result<()>) -> io::Result<u8>
         ensures bound { IfOk result (λ status. status ≤ 1) }
         ensures exact { IfOk result
             (λ status. (status ≡ 1) ↔ (self.entry.output.is_faulty ≡ true)) }
@@ -107,7 +98,7 @@ fn screen(rt: &HostRuntime) -> Screen {
 /// What the command `where` is asked: the addresses that are named, or where none is, those of
 /// standard input, one a line.
 #[derive(Drop)]
-pub(crate) struct Questions<'q> {
+pub struct Questions<'q> {
     /// The named addresses that are left.
     named: &'q [CodeAddress<'q>],
     /// Where lines are read from, if none is named.
@@ -120,11 +111,10 @@ pub(crate) struct Questions<'q> {
 
 impl<'q> Questions<'q> {
     /// The questions from the first on.
-    pub(crate) fn new(rt: &HostRuntime, named: &'q [CodeAddress<'q>]) -> io::Result<Questions<'q>> {
-        let lines = if named.is_empty() {
-            Some(BufReader::new(rt.alloc(), rt.stdin())?)
-        } else {
-            None
+    pub fn new(rt: &HostRuntime, named: &'q [CodeAddress<'q>]) -> io::Result<Questions<'q>> {
+        let lines = match named {
+            [] => Some(BufReader::new(rt.alloc(), rt.stdin())?),
+            _ => None,
         };
         Ok(Questions {
             named,
@@ -135,7 +125,7 @@ impl<'q> Questions<'q> {
     }
 
     /// What is asked now; None at the end.
-    pub(crate) fn current(&mut self) -> io::Result<Option<Asked<'_>>> {
+    pub fn current(&mut self) -> io::Result<Option<Asked<'_>>> {
         if let Some(address) = self.named.first() {
             return Ok(Some(Asked::Address(*address)));
         }
@@ -146,7 +136,7 @@ impl<'q> Questions<'q> {
     }
 
     /// Goes on to the next question.
-    pub(crate) fn go_on(&mut self) {
+    pub fn go_on(&mut self) {
         self.is_answered = true;
         if let [_, rest @ ..] = self.named {
             self.named = rest;
@@ -154,7 +144,7 @@ impl<'q> Questions<'q> {
     }
 
     /// The next line, where lines are read; empty at the end.
-    pub(crate) fn read_line(&mut self) -> io::Result<&[u8]> {
+    pub fn read_line(&mut self) -> io::Result<&[u8]> {
         self.line.clear();
         if let Some(lines) = &mut self.lines {
             lines.read_until(b'\n', &mut self.line)?;

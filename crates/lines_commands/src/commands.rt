@@ -4,9 +4,7 @@ ghost use Rattle.std.specs.Prelude.{◌≡◌, ◌≤◌, IfOk, IfErr};
 ghost use Rattle.std.specs.IoError.{error_kind};
 ghost use Rattle.lines_inputs.specs.Lines.{HasLines};
 
-use crate::REFUSED;
-use crate::inputs::Inputs;
-use crate::session::{Questions, Run, Session};
+use crate::session::{Questions, REFUSED, Run, Session};
 use elf_sections::ElfError;
 use gimli_core::Reader;
 use lines_answers::{SourceRows, print_addresses};
@@ -17,13 +15,13 @@ use lines_words::{CodeAddress, Command, Files, Kind, PathText, SourcePlace};
 use std::io::ErrorKind;
 use std::{fs, io, str};
 
-impl<'r> Run<'r> {
+impl Run<'_> {
     /// Does what the request asks for over the bytes of files, and returns the status of the
     /// program: 0, or 1 where something was refused, and reported on standard error, or found by a
     /// check. On a terminal headings and faults are set off, and a long command prints how far it
     /// is. Fails where memory is missing, where standard input can't be read, and where standard
     /// output takes no more; what was printed before stands.
-    pub(crate) fn perform(self, kind: Kind, files: Files<'_>) -> io::Result<u8>
+    pub fn perform(self, kind: Kind, files: Files<'_>) -> io::Result<u8>
         ensures status { IfOk result (λ status. status ≤ 1) }
         ensures no_lines { kind ≡ Kind.Elf → (HasLines files.entry.file.now → ⊥)
             → IfOk result (λ status. status ≡ 1) }
@@ -46,22 +44,6 @@ impl<'r> Run<'r> {
                 Ok(REFUSED)
             }
         }
-    }
-
-    /// Prints how the program that the request names differs from a new one, and returns the
-    /// status: 0, or 1 where they differ, or something was refused. Fails as `perform` does.
-    pub(crate) fn compare(self, new_name: &'r str) -> io::Result<u8>
-        ensures { IfOk result (λ status. status ≤ 1) }
-    {
-        let Some(old) = self.inputs_of(self.request.file)? else {
-            return Ok(REFUSED);
-        };
-        let Some(new) = self.inputs_of(new_name)? else {
-            return Ok(REFUSED);
-        };
-        let mut session = self.over(self.request.file);
-        let printed = session.compare(&old, new_name, &new);
-        session.finish(printed)
     }
 }
 
@@ -106,20 +88,8 @@ impl<'r> Session<'r> {
         }
     }
 
-    /// Prints how a program differs from a new one, where both can be read.
-    fn compare(&mut self, old: &Inputs, new_name: &'r str, new: &Inputs) -> io::Result<()> {
-        let Some(old) = self.program_of(old)? else {
-            return Ok(());
-        };
-        self.output.turn_to(new_name);
-        match self.program_of(new)? {
-            Some(new) => self.compare_programs(&old.input(), new_name, &new.input()),
-            None => Ok(()),
-        }
-    }
-
-    /// Prints how a program differs from a new one.
-    fn compare_programs<R: Reader>(
+    /// Prints how a program differs from a new one of a name.
+    pub fn compare<R: Reader>(
         &mut self,
         old: &Input<R>,
         new_name: &'r str,
