@@ -362,8 +362,9 @@ uint32_t gimli_elf_open(const uint8_t *file, size_t length, gimli_elf *found) GI
 /* Puts what the first section of a name (".debug_line", without a zero byte) holds into bytes[0] and so on, as far as there is room:
  * made whole where it is compressed by zlib (SHF_COMPRESSED, or .zdebug_line), and relocated where the file is an object file, whose
  * sections all stand at 0. *size is how many bytes there are; too little room is no refusal. GIMLI_NO_SECTION where there is no such
- * section, GIMLI_BAD_SECTION where it can't be read, as one that Zstandard compressed, GIMLI_NO_ELF where the file is none. Where another
- * number than 0 is answered, nothing is written. */
+ * section, GIMLI_BAD_SECTION where it can't be read, as one that Zstandard compressed, or one that is compressed and states more bytes than
+ * 256 * length and 64 MiB, before memory is taken for it, GIMLI_NO_ELF where the file is none. Where another number than 0 is answered,
+ * nothing is written. */
 uint32_t gimli_elf_section(const uint8_t *file, size_t length, const uint8_t *name, size_t name_length, uint8_t *bytes, size_t room,
                            size_t *size) GIMLI_CALL GIMLI_READS(1, 2) GIMLI_READS(3, 4) GIMLI_WRITES(5, 6);
 

@@ -36,7 +36,9 @@ impl<'r> Run<'r> {
     /// The build id of a program by its name, where it is a file, as `build_id_in` has it.
     fn build_id_of(self, name: &str) -> io::Result<Option<Vec<u8>>> {
         match self.request.kind {
-            Kind::Elf if name != STANDARD_INPUT => build_id_in(self.rt, name),
+            Kind::Elf if name != STANDARD_INPUT => {
+                build_id_in(self.rt, name, self.request.memory_limit)
+            }
             _ => Ok(None),
         }
     }
