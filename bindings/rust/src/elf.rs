@@ -44,7 +44,8 @@ impl<'a> Elf<'a> {
     ///
     /// # Errors
     ///
-    /// [`Error::BAD_SECTION`] where it can't be read, and [`Error::OUT_OF_MEMORY`].
+    /// [`Error::BAD_SECTION`] where it can't be read, or is compressed and states more bytes than 256 times the file's and 64 MiB, and
+    /// [`Error::OUT_OF_MEMORY`].
     pub fn section(&self, name: &str) -> Result<Option<Vec<u8>>, Error> {
         let bytes = whole(0, |room, size| {
             // The pointers are those of slices and of a local.

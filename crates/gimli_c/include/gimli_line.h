@@ -148,7 +148,8 @@ typedef struct gimli_line_sections {
  * and relocated where the file is an object file, whose sections all stand at 0; with its order of bytes, its size of addresses and its
  * lowest address of a section of code (0 in an object file). They are in memory of their own, which gimli_line_sections_free gives back:
  * the file may go. GIMLI_LINE_NO_ELF where it is none that can be read, GIMLI_LINE_BAD_SECTION where a section can't be read, as one that
- * Zstandard compressed. Where another number than 0 is answered, nothing is there to give back. */
+ * Zstandard compressed, or one that is compressed and states more bytes than 256 * length and 64 MiB. Where another number than 0 is
+ * answered, nothing is there to give back. */
 gimli_line_status gimli_line_sections_of_elf(const void *file, size_t length, gimli_line_sections *sections) GIMLI_LINE_CALL;
 
 /* Gives the memory back of sections that gimli_line_sections_of_elf took, and makes them those of no program. */

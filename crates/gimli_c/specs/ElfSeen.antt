@@ -1,6 +1,8 @@
 -- What C sees of an ELF file (System V ABI, chapter 4).
-use Rattle.std.specs.Prelude.{◌≡◌, ◌⊎◌, ℕ, List, [], length, nat_eq, Some, None, Ok, Err}
+use Rattle.std.specs.Prelude.{◌≡◌, ◌⊎◌, ℕ, List, [], length, nat_eq, Option, Some, None, Result}
+use Rattle.std.specs.Prelude.{Ok, Err}
 use Rattle.gimli_core.specs.Order.{is_big}
+use Rattle.elf_sections.specs.Compression.{usual_limit}
 use Rattle.elf_sections.specs.File.{File, file_at, code_addresses, IsLeast}
 use Rattle.elf_sections.specs.Layout.{address_size}
 use Rattle.elf_sections.specs.Relocating.{relocated_at}
@@ -27,12 +29,16 @@ pub record SeesElf (bytes : List ℕ) (seen : GimliElf) : Type 0 where
   pub big : seen.big ≡ is_big file.layout.order
   pub relocatable : seen.relocatable ≡ nat_eq file.kind 1
 
+-- what the first section of a name holds, made whole up to the usual limit
+abbrev pub section_of : List ℕ → File → List ℕ → Result (Option (List ℕ)) ElfError
+section_of bytes file name = relocated_at file AllAtZero (usual_limit (length bytes)) name
+
 -- what the first section of a name holds, made whole, in an array of the caller, and its length
 pub record WritesSection (bytes name old new : List ℕ) (size : ℕ) : Type 0 where
   pub file : File
   pub is : file_at bytes ≡ Ok file
   pub whole : List ℕ
-  pub holds : relocated_at file AllAtZero name ≡ Ok (Some whole)
+  pub holds : section_of bytes file name ≡ Ok (Some whole)
   pub written : new ≡ slots_with whole old
   pub size_is : size ≡ length whole
 
@@ -40,11 +46,11 @@ pub record WritesSection (bytes name old new : List ℕ) (size : ℕ) : Type 0 w
 pub record HasNoSection (bytes name : List ℕ) : Type 0 where
   pub file : File
   pub is : file_at bytes ≡ Ok file
-  pub none : relocated_at file AllAtZero name ≡ Ok None
+  pub none : section_of bytes file name ≡ Ok None
 
 -- the section of the name can't be read
 pub record CantReadSection (bytes name : List ℕ) : Type 0 where
   pub file : File
   pub is : file_at bytes ≡ Ok file
   pub error : ElfError
-  pub refused : relocated_at file AllAtZero name ≡ Err error
+  pub refused : section_of bytes file name ≡ Err error

@@ -9,7 +9,7 @@ ghost use Rattle.gimli_c.specs.ElfSeen.{WritesSection};
 
 use crate::file::copy_bytes;
 use crate::status::{BAD_SECTION, NO_ELF, NO_SECTION, OK, OUT_OF_MEMORY};
-use elf_sections::{Elf, ElfError, SectionPlace};
+use elf_sections::{Elf, ElfError, SectionPlace, usual_limit};
 use std::alloc::Global;
 
 /// What an ELF file says of itself.
@@ -83,8 +83,9 @@ fn section_status(error: ElfError) -> u32
 /// Puts what the first section of a name of an ELF file holds into `bytes`, as far as there is
 /// room: made whole where it is compressed, and relocated where it is an object file, whose
 /// sections all stand at 0. `size` is how many bytes there are. `NO_SECTION` where there is none,
-/// `BAD_SECTION` where it can't be read, and `NO_ELF` where the file is none. Where another number
-/// than 0 is returned, nothing is written.
+/// `BAD_SECTION` where it can't be read, or would have more bytes than the usual limit of the
+/// file's size, and `NO_ELF` where the file is none. Where another number than 0 is returned,
+/// nothing is written.
 #[unsafe(no_mangle)]
 pub extern "C" fn gimli_line_proved_elf_section(
     alloc: Global,
@@ -105,7 +106,8 @@ pub extern "C" fn gimli_line_proved_elf_section(
         Ok(elf) => elf,
         Err(status) => return status,
     };
-    match elf.relocated(alloc, name, SectionPlace::AllAtZero) {
+    let limit = usual_limit(file.len() as u64);
+    match elf.relocated(alloc, name, SectionPlace::AllAtZero, limit) {
         Ok(Some(section)) => {
             let whole = section.as_slice();
             *size = whole.len();

@@ -70,7 +70,9 @@ FILE - needed An ELF file, or with --raw a section .debug_line; - is standard in
 raw - little|big FILE is a section .debug_line alone, in this order of bytes
 address-size - N With --raw: the bytes of an address up to version 4: 1, 2, 4 or 8 (8 if unsaid)
 line-str - FILE The section .debug_line_str
-str - FILE The section .debug_str";
+str - FILE The section .debug_str
+memory-limit - BYTES Refuses a compressed section of more bytes; K, M or G may follow them (256 \
+    times the file and 64M if unsaid)";
 
 /// What has no place beside the option of a name.
 fn conflicts_of(name: &str) -> &'static [&'static str] {
