@@ -47,9 +47,11 @@ impl<'a> Elf<'a> {
     /// [`Error::BAD_SECTION`] where it can't be read, or is compressed and states more bytes than 256 times the file's and 64 MiB, and
     /// [`Error::OUT_OF_MEMORY`].
     pub fn section(&self, name: &str) -> Result<Option<Vec<u8>>, Error> {
+        let most = self.bytes.len().saturating_mul(256).saturating_add(64 << 20);
         let bytes = whole(0, |room, size| {
             // The pointers are those of slices and of a local.
-            Error::of(unsafe { call!(gimli_line_proved_elf_section([self.bytes], [name.as_bytes()], [mut room], size)) })
+            let status = unsafe { call!(gimli_line_proved_elf_section([self.bytes], [name.as_bytes()], [mut room], size)) };
+            Error::of(if *size > most { Error::BAD_SECTION.number() } else { status })
         });
         unless(Error::NO_SECTION, bytes)
     }

@@ -83,26 +83,26 @@ gimli_line_status gimli_line_index_addresses_of(const void *index, size_t length
         gimli_line_proved_index_addresses_of(READ(index), length, READ(path), path_length, line, found_line, AT(addresses), room, count));
 }
 
-/* The bytes of a section of an ELF file, in memory of their own; none where the file has no such section. */
+/* The bytes of a section of an ELF file, in memory of their own; none where the file has no such section. One that is compressed says how
+ * many they are: a small file may say that they are many. */
 static uint32_t take_section(const uint8_t *file, size_t length, const char *name, const void **section, size_t *size) {
+    const size_t most = length < SIZE_MAX / 512 ? 256 * length + (64 << 20) : SIZE_MAX, name_length = strlen(name);
     uint8_t *bytes = NULL;
-    for (size_t room = 0;; room = *size) {
-        uint32_t status = gimli_line_proved_elf_section(file, length, (const uint8_t *)name, strlen(name), AT((void *)bytes), room, size);
-        if (status == GIMLI_LINE_OK && *size <= room) {
-            *section = bytes;
-            return status;
-        }
-        free(bytes);
-        if (status != GIMLI_LINE_OK) {
-            *size = 0;
-            return status == GIMLI_LINE_NO_SECTION ? GIMLI_LINE_OK : status;
-        }
-        bytes = malloc(*size);
-        if (bytes == NULL) {
-            *size = 0;
-            return GIMLI_LINE_OUT_OF_MEMORY;
-        }
+    size_t room = 0;
+    uint32_t status = gimli_line_proved_elf_section(file, length, (const uint8_t *)name, name_length, AT((void *)bytes), room, &room);
+    if (status == GIMLI_LINE_NO_ROOM) {
+        if (room > most) return GIMLI_LINE_BAD_SECTION;
+        bytes = malloc(room);
+        if (bytes == NULL) return GIMLI_LINE_OUT_OF_MEMORY;
+        status = gimli_line_proved_elf_section(file, length, (const uint8_t *)name, name_length, bytes, room, &room);
     }
+    if (status != GIMLI_LINE_OK) {
+        free(bytes);
+        return status == GIMLI_LINE_NO_SECTION ? GIMLI_LINE_OK : status;
+    }
+    *section = bytes;
+    *size = room;
+    return GIMLI_LINE_OK;
 }
 
 gimli_line_status gimli_line_sections_of_elf(const void *file, size_t length, gimli_line_sections *sections) {

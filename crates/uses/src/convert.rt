@@ -13,8 +13,8 @@ use std::alloc::Global;
 use std::fs;
 
 /// Reads a section from a file, and prints the rows that are read of a unit after it was converted.
-/// The directory is `DW_AT_comp_dir` of its entry in `.debug_info`, and the name `DW_AT_name`. Up to
-/// version 4 all texts of a unit stand in its header, so the sections of texts have no bytes.
+/// The directory is `DW_AT_comp_dir` of its entry in `.debug_info`, and the name `DW_AT_name`. Up
+/// to version 4 all texts of a unit stand in its header, so the sections of texts have no bytes.
 pub fn start(rt: &HostRuntime, words: &[String], text: &mut String) -> Result<()> {
     let [lines, offset, known @ ..] = words else {
         bail!("usage: convert LINES OFFSET [DIRECTORY [NAME]]");
