@@ -174,6 +174,8 @@ pub struct Index {
 pub struct Place {
     pub address: u64,
     pub unit: u64,
+    pub first: u64,
+    pub end: u64,
     pub path: usize,
     pub path_size: usize,
     pub line: u32,

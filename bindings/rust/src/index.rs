@@ -26,6 +26,10 @@ pub struct Place<'a> {
     pub is_stmt: bool,
     /// The offset in `.debug_line` of the unit that says so.
     pub unit: u64,
+    /// The first address of those around the one that was asked for, of which all this holds.
+    pub first: u64,
+    /// The address after the last one of them; None where they go on up to the greatest address.
+    pub end: Option<u64>,
 }
 
 /// The addresses for a breakpoint.
@@ -207,6 +211,7 @@ impl<'a> Index<'a> {
             (0 | u32::MAX, _) => Err(NoPath::Outside),
             (reason, _) => Err(NoPath::Reason(reason)),
         };
-        Place { path, line: place.line, column: place.column, is_stmt: place.is_stmt, unit: place.unit }
+        let calls::Place { line, column, is_stmt, unit, first, end, .. } = *place;
+        Place { path, line, column, is_stmt, unit, first, end: Some(end).filter(|end| *end != 0) }
     }
 }

@@ -36,8 +36,10 @@ fn places_are_those_of_the_index() {
     assert_eq!((index.len(), index.is_empty(), index.identity(), index.address_size()), (3, false, &b"id"[..], 8));
     let place = index.find(0x100f).expect("it is known");
     assert_eq!((place.path, place.line, place.column, place.unit, place.is_stmt), (Ok(&b"/a.c"[..]), 5, 2, 7, true));
+    assert_eq!((place.first, place.end), (0x1000, Some(0x1010)));
     let place = index.find(0x1010).expect("it is known");
     assert_eq!((place.path, place.line, place.unit, place.is_stmt), (Err(NoPath::Reason(4)), 6, 9, false));
+    assert_eq!((place.first, place.end), (0x1010, Some(0x1020)));
     assert_eq!([0, 0xfff, 0x1020, u64::MAX].map(|address| index.find(address)), [None; 4]);
     let addresses = [0xfff, 0x1000, 0x101f, 0x1020];
     assert_eq!(index.find_all(&addresses), addresses.map(|address| index.find(address)));

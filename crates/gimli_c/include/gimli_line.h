@@ -300,6 +300,8 @@ gimli_line_status gimli_line_index_check(const void *index, size_t length) GIMLI
 typedef struct gimli_line_place {
     uint64_t address; /* the address that is asked for */
     uint64_t unit;    /* the offset in .debug_line of the unit that says so: the DW_AT_stmt_list of its compilation */
+    uint64_t first;   /* the first address of those around it of which all this holds: who asks for them needn't ask again */
+    uint64_t end;     /* the address after the last one of them; 0 where they go on up to the greatest address */
     size_t path;      /* where the whole path begins, from the index's first byte on; 0 where there is none */
     size_t path_size; /* in bytes: no zero byte follows */
     uint32_t line;    /* from 1 on; 0 where none is known */

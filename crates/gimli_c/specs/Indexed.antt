@@ -1,10 +1,11 @@
 -- What an index says (docs/INDEX.md), as C sees it.
-use Rattle.std.specs.Prelude.{◌≡◌, ◌≤◌, ◌⊎◌, ℕ, ◌+◌, List, length, slice_range, Some, None, Result}
-use Rattle.std.specs.Prelude.{Ok, Err, true, false}
+use Rattle.std.specs.Prelude.{◌≡◌, ◌≤◌, ◌⊎◌, ℕ, ◌+◌, List, length, slice_range, Option, Some, None}
+use Rattle.std.specs.Prelude.{Result, Ok, Err, true, false}
 use Rattle.std.specs.List.{AllZip}
 use Rattle.gimli_index.specs.Meaning.{place_at, starts_of, AreAscending, Place}
 use Rattle.gimli_index.specs.Parts.{index_at, Index}
 use Rattle.gimli_index.specs.Sound.{IsSound, IsFaultOf}
+use Rattle.gimli_index.specs.Spans.{HoldsAround}
 use Rattle.gimli_index.specs.declared.error.IndexError.{IndexError}
 use Rattle.gimli_index.specs.declared.error.IndexError.TheVariants.{NotIndex, HeaderCut, Version}
 use Rattle.gimli_index.specs.declared.error.IndexError.TheVariants.{AddressSize, StartSize, Base}
@@ -87,13 +88,23 @@ pub record SeesPlace (bytes : List ℕ) (address : ℕ) (place : Place) (seen : 
   pub unit : seen.unit ≡ place.unit
   pub path : SeesPath bytes place.path seen
 
--- the place of an address, where the ranges of the index ascend
+-- the end of a range; 0 where it goes on up to the greatest address
+abbrev pub end_seen : Option ℕ → ℕ
+end_seen None = 0
+end_seen (Some end) = end
+
+-- the place of an address, and the addresses around it with the same one, where the ranges of the
+-- index ascend
 pub record SeesPlaceAt (bytes : List ℕ) (address : ℕ) (seen : GimliPlace) : Type 0 where
   pub index : Index
   pub is : IsIndex bytes index
   pub place : Place
   pub said : AreAscending (starts_of index) → place_at address (starts_of index) ≡ Some place
   pub seen_is : SeesPlace bytes address place seen
+  pub end : Option ℕ
+  pub around : AreAscending (starts_of index)
+      → HoldsAround (starts_of index) address seen.first end
+  pub end_is : seen.end ≡ end_seen end
 
 -- the index says nothing of an address, where its ranges ascend
 pub record HasNoPlace (bytes : List ℕ) (address : ℕ) : Type 0 where
@@ -113,6 +124,8 @@ no_index_place address = record {
   no_path = 0;
   known = false;
   is_stmt = false;
+  first = 0;
+  end = 0;
 }
 
 abbrev pub IsIndexAnswer : List ℕ → ℕ → GimliPlace → Type 0

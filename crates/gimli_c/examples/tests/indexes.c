@@ -87,7 +87,7 @@ static bool is_right(bytes index, size_t ranges, size_t sources, const gimli_lin
     bool path_is = *wanted == 0 ? path == NULL && place->no_path == 4
                                 : place->no_path == 0 && place->path_size == strlen(wanted) && memcmp(path, wanted, place->path_size) == 0;
     return path_is && place->known && place->line == i + 1 && place->column == i % 7 && place->unit == i % sources * 1000 &&
-           place->is_stmt == (i % 2 == 0);
+           place->is_stmt == (i % 2 == 0) && place->first == base + i * 16 && place->end == (i + 1 < ranges ? base + i * 16 + 16 : 0);
 }
 
 static uint64_t next(uint64_t *seed) {

@@ -3,7 +3,7 @@
 ghost use Rattle.std.specs.Prelude.{◌≡◌, ◌+◌, ◌≤◌, ◌<◌, ◌^◌, ℕ, List, length, IfOk};
 ghost use Rattle.gimli_index.specs.Spans.{identity_begin, place_among, StandsIn};
 ghost use Rattle.gimli_index.specs.Views.{index_of};
-ghost use Rattle.gimli_c.specs.Indexed.{no_index_place, SeesPlace};
+ghost use Rattle.gimli_c.specs.Indexed.{end_seen, no_index_place, SeesPlace};
 
 use gimli_index::{LineIndex, NoPath, PlaceSpan, Span};
 
@@ -16,6 +16,10 @@ pub struct GimliPlace {
     /// The offset in `.debug_line` of the unit that says so: the `DW_AT_stmt_list` of its
     /// compilation.
     pub unit: u64,
+    /// The first address of those around it of which all this holds.
+    pub first: u64,
+    /// The address after the last one of them; 0 where they go on up to the greatest address.
+    pub end: u64,
     /// Where the path begins, from the first byte of the index on; 0 where there is none.
     pub path: usize,
     /// How many bytes the path has.
@@ -42,6 +46,8 @@ pub(crate) fn no_place(address: u64) -> GimliPlace
     GimliPlace {
         address,
         unit: 0,
+        first: 0,
+        end: 0,
         path: 0,
         path_size: 0,
         line: 0,
@@ -57,7 +63,8 @@ pub(crate) fn place_seen(index: &LineIndex<'_>, address: u64, place: PlaceSpan) 
     requires inside { IfOk place.path
         (λ s. s.first + s.size ≤ length (index_of index.now).path_bytes) }
     requires fits { identity_begin (index_of index.now) < 2 ^ 64 }
-    ensures { (bytes : List ℕ) → StandsIn bytes (index_of index.now) → SeesPlace bytes address
+    ensures range { (result.first ≡ place.first) × (result.end ≡ end_seen place.end) }
+    ensures seen { (bytes : List ℕ) → StandsIn bytes (index_of index.now) → SeesPlace bytes address
         (place_among (index_of index.now).path_bytes place) result }
 {
     let (path, path_size, no_path) = match place.path {
@@ -68,6 +75,8 @@ pub(crate) fn place_seen(index: &LineIndex<'_>, address: u64, place: PlaceSpan) 
     GimliPlace {
         address,
         unit: place.unit,
+        first: place.first,
+        end: place.end.unwrap_or(0),
         path,
         path_size,
         line: place.line,

@@ -9,5 +9,8 @@ returns c = record {
   is = c.requires.stored;
   place = place_among (index_of c.args.index.now).path_bytes c.in_ok-place.place;
   said = λ ascending. sym (c.in_ok-place.ensures.place ascending);
-  seen_is = c.place_seen.ensures c.args.stored.now c.requires.stands;
+  seen_is = c.place_seen.ensures.seen c.args.stored.now c.requires.stands;
+  end = c.in_ok-place.place.end;
+  around = λ ascending. rw c.place_seen.ensures.range.0 (c.in_ok-place.ensures.range ascending);
+  end_is = c.place_seen.ensures.range.1;
 }

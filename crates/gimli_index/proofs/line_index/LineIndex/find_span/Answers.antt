@@ -2,7 +2,7 @@ use Rattle.std.proofs.Common.{◌≡◌, ◌+◌, ◌≤◌, ◌<◌, sym, ◌�
 use Rattle.gimli_index.specs.Views.{index_of}
 use Rattle.gimli_index.specs.Spans.{place_among}
 use Rattle.gimli_index.proofs.Ascending.{numbers_ascend}
-use Rattle.gimli_index.proofs.Finds.{at_start, below_base, below_starts}
+use Rattle.gimli_index.proofs.Finds.{at_start, below_base, below_starts, holds_around}
 use Rattle.gimli_index.proofs.line_index.LineIndex.find_span.Goals as goal
 
 pub returns-in_err-number-clause-place : goal.returns-in_err-number-clause-place
@@ -32,3 +32,6 @@ returns-clause-place c =
     ∙ sym (at_start index c.args.address number i is (omega (arith, c.starts_up_to.ensures.within))
     (c.starts_up_to.ensures.before (numbers_ascend index ascending) i (omega arith))
     (λ k later within. c.starts_up_to.ensures.after (numbers_ascend index ascending) k (omega arith) within))
+
+pub returns-clause-range : goal.returns-clause-range
+returns-clause-range c = ?
