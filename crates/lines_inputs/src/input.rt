@@ -321,7 +321,7 @@ impl fmt::Display for InputError {
             ),
             InputError::Elf(error) => {
                 let rest = match error {
-                    ElfError::SectionTooLarge(_) => "; --memory-limit says another",
+                    ElfError::SectionTooLarge(_) => "; --memory-limit sets it",
                     _ => "",
                 };
                 write!(f, "{error}{rest}")

@@ -65,10 +65,10 @@ impl Script {
         match name {
             "line_str" => drop(self.text(Form::LineStrings, encoding, &mut words)),
             "str" => drop(self.text(Form::Strings, encoding, &mut words)),
-            "program" => self.begin_program(&mut words),
-            "dir" => self.add_directory(encoding, &mut words),
-            "file" => self.add_file(encoding, &mut words),
-            name => self.build_item(name, &mut words),
+            "program" => self.begin_program(&mut words)?,
+            "dir" => self.add_directory(encoding, &mut words)?,
+            "file" => self.add_file(encoding, &mut words)?,
+            name => self.build_item(name, &mut words)?,
         }
         words.end()
     }
@@ -115,7 +115,8 @@ impl Script {
     }
 
     /// Begins the program.
-    fn begin_program(&mut self, words: &mut Arguments<'_>) {
+    fn begin_program(&mut self, words: &mut Arguments<'_>) -> Result<(), Stop> {
+        let alloc = self.alloc;
         let encoding = words.encoding();
         let lines = words.line_encoding();
         let directory = self.text(Form::Usual, encoding, words);
@@ -126,49 +127,36 @@ impl Script {
             None
         };
         let info = self.info(encoding, words);
+        words.end()?;
         if !LineProgram::accepts(encoding, lines)
             || !directory.has_no_zero()
             || !file.has_no_zero()
             || !is_optional_name(&source_dir)
         {
-            return words.refuse(Stop::Condition);
+            return Err(Stop::Condition);
         }
-        if words.is_fine() {
-            let alloc = self.alloc;
-            match LineProgram::new(alloc, encoding, lines, directory, source_dir, file, info) {
-                Ok(program) => {
-                    self.directories.clear();
-                    self.program = program;
-                }
-                Err(error) => words.refuse(Stop::Refused(error)),
-            }
-        }
+        self.program = LineProgram::new(alloc, encoding, lines, directory, source_dir, file, info)?;
+        Ok(())
     }
 
     /// Adds a directory, and keeps its text.
-    fn add_directory(&mut self, encoding: Encoding, words: &mut Arguments<'_>) {
+    fn add_directory(&mut self, encoding: Encoding, words: &mut Arguments<'_>) -> Result<(), Stop> {
         let text = self.text(Form::Usual, encoding, words);
-        if words.is_fine() {
-            if let Err(stop) = push_directory(&mut self.program, &mut self.directories, text) {
-                words.refuse(stop);
-            }
-        }
+        words.end()?;
+        push_directory(&mut self.program, &mut self.directories, text)
     }
 
     /// Adds a file to the directory of a number.
-    fn add_file(&mut self, encoding: Encoding, words: &mut Arguments<'_>) {
+    fn add_file(&mut self, encoding: Encoding, words: &mut Arguments<'_>) -> Result<(), Stop> {
         let text = self.text(Form::Usual, encoding, words);
         let number = words.number(u64::MAX);
         let info = self.info(encoding, words);
-        if words.may_call(true) {
-            if let Err(stop) = push_file(&mut self.program, &self.directories, text, number, info) {
-                words.refuse(stop);
-            }
-        }
+        words.end()?;
+        push_file(&mut self.program, &self.directories, text, number, info)
     }
 
     /// Builds the item of a call, or sets what is written of files.
-    fn build_item(&mut self, name: &str, words: &mut Arguments<'_>) {
+    fn build_item(&mut self, name: &str, words: &mut Arguments<'_>) -> Result<(), Stop> {
         let program = &mut self.program;
         let mut address = None;
         let mut offset = 0;
@@ -186,11 +174,8 @@ impl Script {
             _ => words.refuse(Stop::Bad),
         }
         self.keep_before();
-        if words.may_call(!self.program.is_none()) {
-            if let Err(stop) = build(&mut self.program, name, address, offset) {
-                words.refuse(stop);
-            }
-        }
+        words.end()?;
+        build(&mut self.program, name, address, offset)
     }
 }
 
@@ -355,10 +340,9 @@ fn build(
     name: &str,
     address: Option<Address>,
     offset: u64,
-) -> Result<(), Stop>
-    requires { program.old.is_none ≡ false }
-{
+) -> Result<(), Stop> {
     match (name, address) {
+        _ if program.is_none() => return Err(Stop::Condition),
         ("begin", _) if !program.in_sequence() => program.begin_sequence(address)?,
         ("set", Some(address)) => program.set_address(address)?,
         ("row", _) if program.can_generate_row() => program.generate_row()?,
