@@ -1,9 +1,10 @@
 -- What the starts of an index say, by their numbers above its base.
-use Rattle.std.proofs.Common.{◌≡◌, ℕ, ◌+◌, ◌-◌, ◌*◌, ◌<◌, ◌≤◌, drop, Option, Some, None, sym, ap, absurd, tt, ◌∙◌, arith, inl, inr}
+use Rattle.std.proofs.Common.{◌≡◌, ℕ, ◌+◌, ◌-◌, ◌*◌, ◌<◌, ◌≤◌, drop, Option, Some, None, IfSome, sym, ap, ◌∙◌, arith, inl, inr}
 use Rattle.std.proofs.lemmas.Bool.{cases_lt}
 use Rattle.gimli_index.specs.Parts.{Index}
 use Rattle.gimli_index.specs.Meaning.{entry_place, place_at, start_at, start_number, starts_of}
 use Rattle.gimli_index.specs.Spans.{HoldsAround, IsRangeOf}
+use Rattle.gimli_index.specs.declared.span.PlaceSpan.{PlaceSpan}
 use Rattle.gimli_index.specs.inside.Numbers.{NumbersAscend}
 use Rattle.gimli_index.proofs.Places.{none_below, last_place}
 
@@ -44,3 +45,10 @@ holds_around index a number i first (Some e) is within below ascend above (first
       at_start index b (b - index.base) i (omega (arith, from, first_is)) within (omega (arith, from, first_is)) later_above
       ∙ sym (at_start index a number i is within below above);
 }
+
+pub found_around : (index : Index) (a number i : ℕ) (found : Option PlaceSpan) → a ≡ index.base + number → i < index.starts
+    → start_number index i ≤ number → NumbersAscend index → ((k : ℕ) → i < k → k < index.starts → number < start_number index k)
+    → IfSome found (λ p. IsRangeOf index i p.first p.end) → IfSome found (λ p. HoldsAround (starts_of index) a p.first p.end)
+found_around index a number i None is within below ascend above range = tt
+found_around index a number i (Some p) is within below ascend above range =
+    holds_around index a number i p.first p.end is within below ascend above range
