@@ -143,7 +143,11 @@ impl Script {
     fn add_directory(&mut self, encoding: Encoding, words: &mut Arguments<'_>) -> Result<(), Stop> {
         let text = self.text(Form::Usual, encoding, words);
         words.end()?;
-        push_directory(&mut self.program, &mut self.directories, text)
+        self.directories.reserve(1)?;
+        let kept = text.clone()?;
+        add_directory(&mut self.program, text)?;
+        self.directories.push_reserved(kept);
+        Ok(())
     }
 
     /// Adds a file to the directory of a number.
@@ -222,19 +226,6 @@ fn add_directory(program: &mut LineProgram, text: LineString) -> Result<Director
         return Err(Stop::Condition);
     }
     Ok(program.add_directory(text)?)
-}
-
-/// Adds a directory, and its text to those that were added before.
-fn push_directory(
-    program: &mut LineProgram,
-    texts: &mut Vec<LineString>,
-    text: LineString,
-) -> Result<(), Stop> {
-    let kept = text.clone()?;
-    texts.reserve(1)?;
-    add_directory(program, text)?;
-    texts.push_reserved(kept);
-    Ok(())
 }
 
 /// The id of the directory of a number: the working directory is 0, and the others are those of

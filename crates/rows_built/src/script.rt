@@ -138,7 +138,7 @@ impl Script {
         let mut end = self.perform(name, words).err();
         if self.is_made_again(end) {
             if !self.stands() {
-                self.print_state(lines);
+                lines.print("state %\n", &[Number(self.number)]);
             }
             end = self.perform(name, words).err();
         }
@@ -158,11 +158,6 @@ impl Script {
     fn is_made_again(&self, end: Option<Stop>) -> bool {
         let is_refused = matches!(end, Some(Stop::Memory | Stop::Refused(Error::OutOfMemory)));
         is_refused && self.attempts == Attempts::Two
-    }
-
-    /// Says that something doesn't stand as it must.
-    fn print_state(&self, lines: &mut Lines) {
-        lines.print("state %\n", &[Number(self.number)]);
     }
 
     /// Prints the line of an end that isn't as it should be, and where the conditions were met the
@@ -249,7 +244,7 @@ impl Script {
         let takes_none = matches!(self.target, Target::Array(_));
         let is_own = matches!(end, Some(Stop::Memory));
         if !begins || !stand || takes_none && !is_own {
-            self.print_state(lines);
+            lines.print("state %\n", &[Number(self.number)]);
         }
         self.written_once(encoding)
     }
