@@ -11,13 +11,12 @@ use std::alloc::Global;
 use std::fmt::Write;
 
 /// Prints the bytes of a unit, and those of its texts.
-pub fn start(alloc: Global, text: &mut String) -> anyhow::Result<()> {
+pub fn start(alloc: Global, text: &mut String) -> Result<()> {
     let mut lines = DebugLine::from(EndianVec::new(alloc, LittleEndian));
     let mut texts = DebugLineStr::from(EndianVec::new(alloc, LittleEndian));
     write_unit(alloc, AT_0X1000, &mut lines, &mut texts)?;
     print_bytes(".debug_line", lines.0.slice(), text)?;
-    print_bytes(".debug_line_str", texts.0.slice(), text)?;
-    Ok(())
+    print_bytes(".debug_line_str", texts.0.slice(), text)
 }
 
 /// Adds a line with the name of a section and its bytes, in hexadecimal digits.
