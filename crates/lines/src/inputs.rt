@@ -1,8 +1,11 @@
 //! The bytes of the files that a request names.
 
-use crate::session::Run;
+ghost use Rattle.std.specs.Prelude.{◌≤◌, IfOk};
+
 use debug_files::{Found, Missing, PathSections, Source, Wanted};
-use lines_inputs::InputError;
+use elf_sections::usual_limit;
+use lines_commands::{REFUSED, Run, Session};
+use lines_inputs::{InputError, Program, tell_refusal};
 use lines_words::{Files, Kind, NameText, Notation, UnitFiles};
 use std::io::{Read, Write};
 use std::{fmt, fs, io};
@@ -14,59 +17,59 @@ pub(crate) const STANDARD_INPUT: &str = "-";
 #[derive(Drop)]
 pub(crate) struct Inputs {
     pub(crate) kind: Kind,
+    limit: Option<u64>,
     found: Found,
     line_str: Vec<u8>,
     strings: Vec<u8>,
 }
 
-impl Run<'_> {
-    /// Reads a file, and those that the request names beside it; None where there is one that can't
-    /// be read, which is reported.
-    pub(crate) fn inputs_of(self, name: &str) -> io::Result<Option<Inputs>> {
-        let Run { rt, request } = self;
-        let found = match request.kind {
-            Kind::Elf if name != STANDARD_INPUT => self.sections_of(name)?,
-            _ => read(rt, name)?.map(Found::Whole),
-        };
-        let line_str = read_named(rt, request.line_str)?;
-        let strings = read_named(rt, request.strings)?;
-        let (Some(found), Some(line_str), Some(strings)) = (found, line_str, strings) else {
-            return Ok(None);
-        };
-        let kind = match &found {
-            Found::Whole(_) => request.kind,
-            Found::Sections(source) => Kind::Raw(notation_of(source)),
-        };
-        Ok(Some(Inputs {
-            kind,
-            found,
-            line_str,
-            strings,
-        }))
-    }
+/// Reads a file, and those that the request names beside it; None where there is one that can't be
+/// read, which is reported.
+pub(crate) fn inputs_of(run: Run<'_>, name: &str) -> io::Result<Option<Inputs>> {
+    let Run { rt, request } = run;
+    let found = match request.kind {
+        Kind::Elf if name != STANDARD_INPUT => sections_of(run, name)?,
+        _ => read(rt, name)?.map(Found::Whole),
+    };
+    let line_str = read_named(rt, request.line_str)?;
+    let strings = read_named(rt, request.strings)?;
+    let (Some(found), Some(line_str), Some(strings)) = (found, line_str, strings) else {
+        return Ok(None);
+    };
+    let kind = match &found {
+        Found::Whole(_) => request.kind,
+        Found::Sections(source) => Kind::Raw(notation_of(source)),
+    };
+    Ok(Some(Inputs {
+        kind,
+        limit: request.memory_limit,
+        found,
+        line_str,
+        strings,
+    }))
+}
 
-    /// The sections of a program that the request needs, of its own file or of its debug file; None
-    /// where there are none, which is reported.
-    fn sections_of(self, name: &str) -> io::Result<Option<Found>> {
-        let Run { rt, request } = self;
-        if !can_be_opened(rt, name)? {
-            return Ok(None);
-        }
-        let wanted = if request.command.prints_functions() {
-            Wanted::Symbols
-        } else if request.command.prints_whole_paths() {
-            Wanted::Paths
-        } else if request.command.prints_paths() {
-            Wanted::Names
-        } else {
-            Wanted::Lines
-        };
-        match debug_files::source_of(rt, name, wanted) {
-            Ok(found) => Ok(Some(found)),
-            Err(missing) => {
-                report_missing(rt, name, &missing);
-                Ok(None)
-            }
+/// The sections of a program that the request needs, of its own file or of its debug file; None
+/// where there are none, which is reported.
+fn sections_of(run: Run<'_>, name: &str) -> io::Result<Option<Found>> {
+    let Run { rt, request } = run;
+    if !can_be_opened(rt, name)? {
+        return Ok(None);
+    }
+    let wanted = if request.command.prints_functions() {
+        Wanted::Symbols
+    } else if request.command.prints_whole_paths() {
+        Wanted::Paths
+    } else if request.command.prints_paths() {
+        Wanted::Names
+    } else {
+        Wanted::Lines
+    };
+    match debug_files::source_of(rt, name, wanted, request.memory_limit) {
+        Ok(found) => Ok(Some(found)),
+        Err(missing) => {
+            report_missing(rt, name, &missing);
+            Ok(None)
         }
     }
 }
@@ -92,6 +95,7 @@ impl Inputs {
         match &self.found {
             Found::Whole(file) => Files {
                 file,
+                limit: self.limit.unwrap_or(usual_limit(file.len() as u64)),
                 line_str: &self.line_str,
                 strings: &self.strings,
                 ..Files::default()
@@ -103,7 +107,19 @@ impl Inputs {
                 units: units_of(&source.paths),
                 symbols: &source.symbols,
                 symbol_names: &source.symbol_names,
+                limit: 0,
             },
+        }
+    }
+
+    /// The sections of the program. None where they can't be read, which is reported.
+    pub(crate) fn program(&self, session: &mut Session<'_>) -> io::Result<Option<Program<'_>>> {
+        match Program::new(session.run.rt.alloc(), self.kind, self.files()) {
+            Ok(program) => Ok(Some(program)),
+            Err(refusal) => {
+                tell_refusal(refusal, &mut session.output)?;
+                Ok(None)
+            }
         }
     }
 }
@@ -119,11 +135,10 @@ fn report_missing(rt: &HostRuntime, name: &str, missing: &Missing) {
         Missing::Elf(error) => report(rt, name, InputError::Elf(*error)),
         Missing::NoLines => report(rt, name, InputError::NoLines),
         Missing::Core => report(rt, name, InputError::Core),
-        Missing::NotRegular => report(
-            rt,
-            name,
-            format_args!("{missing}; for a raw section say --raw, and - for standard input"),
-        ),
+        Missing::NotRegular => {
+            let hint = "for a raw section say --raw, and - for standard input";
+            report(rt, name, format_args!("{missing}; {hint}"))
+        }
         missing => report(rt, name, missing),
     }
 }
@@ -141,11 +156,8 @@ pub(crate) fn can_be_opened(rt: &HostRuntime, name: &str) -> io::Result<bool> {
     if bytes.as_slice() == name.as_bytes() {
         return Ok(true);
     }
-    report(
-        rt,
-        name,
-        "a name that isn't UTF-8 can't be opened; write - in its place, and hand it in by <",
-    );
+    let way = "a name that isn't UTF-8 can't be opened; write - in its place, and hand it in by <";
+    report(rt, name, way);
     Ok(false)
 }
 
@@ -173,5 +185,38 @@ fn read_named(rt: &HostRuntime, name: Option<&str>) -> io::Result<Option<Vec<u8>
     match name {
         Some(name) => read(rt, name),
         None => Ok(Some(Vec::new(rt.alloc()))),
+    }
+}
+
+/// Prints how the program that the request names differs from a new one, and returns the status: 0,
+/// or 1 where they differ, or something was refused. Fails as `perform` does.
+pub(crate) fn compare(run: Run<'_>, new_name: &str) -> io::Result<u8>
+    ensures { IfOk result (λ status. status ≤ 1) }
+{
+    let Some(old) = inputs_of(run, run.request.file)? else {
+        return Ok(REFUSED);
+    };
+    let Some(new) = inputs_of(run, new_name)? else {
+        return Ok(REFUSED);
+    };
+    let mut session = run.over(run.request.file);
+    let printed = compare_inputs(&mut session, &old, new_name, &new);
+    session.finish(printed)
+}
+
+/// Prints how a program differs from a new one, where both can be read.
+fn compare_inputs<'r>(
+    session: &mut Session<'r>,
+    old: &Inputs,
+    new_name: &'r str,
+    new: &Inputs,
+) -> io::Result<()> {
+    let Some(old) = old.program(session)? else {
+        return Ok(());
+    };
+    session.output.turn_to(new_name);
+    match new.program(session)? {
+        Some(new) => session.compare(&old.input(), new_name, &new.input()),
+        None => Ok(()),
     }
 }

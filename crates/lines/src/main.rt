@@ -1,14 +1,14 @@
 //! The program `lines`: what the line tables of a program say.
 #![tactic(auto)]
 
-mod commands;
 mod indexes;
 mod inputs;
-mod session;
 
-use crate::session::Run;
+use crate::indexes::{ask, ask_lines, write_index};
+use crate::inputs::{compare, inputs_of};
 use clap::Error;
 use clap::error::ErrorKind as WordsError;
+use lines_commands::{REFUSED, Run};
 use lines_words::{Command, Request};
 use std::env::{Env, FillError};
 use std::io::{self, ErrorKind, Write};
@@ -19,9 +19,6 @@ const LONGEST_WORD: usize = 131_072;
 
 /// The status for words that are none of the program's.
 const USAGE: u8 = 2;
-
-/// The status where something was refused.
-pub(crate) const REFUSED: u8 = 1;
 
 fn main(rt: HostRuntime) -> ExitCode {
     let status = match start(&rt) {
@@ -81,11 +78,11 @@ fn explain(rt: &HostRuntime, error: &Error) -> io::Result<u8> {
 fn perform(rt: &HostRuntime, request: &Request<'_>) -> io::Result<u8> {
     let run = Run { rt, request };
     match request.command {
-        Command::Index(out) => run.write_index(out),
-        Command::Ask(index) => run.ask(index),
-        Command::AskLines(names) => run.ask_lines(names),
-        Command::Diff(new) => run.compare(new),
-        _ => match run.inputs_of(request.file)? {
+        Command::Index(out) => write_index(run, out),
+        Command::Ask(index) => ask(run, index),
+        Command::AskLines(names) => ask_lines(run, names),
+        Command::Diff(new) => compare(run, new),
+        _ => match inputs_of(run, request.file)? {
             Some(inputs) => run.perform(inputs.kind, inputs.files()),
             None => Ok(REFUSED),
         },

@@ -6,7 +6,7 @@ use crate::make_unit::{print_bytes, write_unit};
 use gimli_core::{LittleEndian, SectionId};
 use gimli_write::{
     Addends, Address, DebugLine, DebugLineStr, EndianVec, RelocatableVec, Relocation,
-    RelocationTarget, Result, Writer,
+    RelocationTarget, Result,
 };
 use std::alloc::Global;
 
@@ -45,30 +45,26 @@ const START: &[u8] = b"\x7fELF\x02\x01\x01\0\0\0\0\0\0\0\0\0\x01\0\x3e\0\x01\0\0
     \0\0\0\0\0\0\0\0\0\0\0\0\0\0\0\0\x40\0\0\0\0\0\0\0\0\0\0\0\x40\0\0\0\0\0\x40\0\x0a\0\x09\0";
 
 /// Prints the bytes of the object file, in hexadecimal digits.
-pub fn start(alloc: Global, text: &mut String) -> anyhow::Result<()> {
-    let mut object = EndianVec::new(alloc, LittleEndian);
+pub fn start(alloc: Global, text: &mut String) -> Result<()> {
+    let mut object = Vec::new(alloc);
     make_object(alloc, &mut object)?;
-    print_bytes("object", object.slice(), text)?;
-    Ok(())
+    print_bytes("object", &object, text)
 }
 
 /// Appends the object file: two functions, their lines, and a unit that leads to the lines. Beside
 /// the bytes of a section stand where its name is, with its kind; its flags; its link, with its
 /// info; and the size of an entry.
-fn make_object<W: Writer>(alloc: Global, object: &mut W) -> Result<()> {
+fn make_object(alloc: Global, object: &mut Vec<u8>) -> Result<()> {
     let section = RelocatableVec::new(alloc, LittleEndian, Addends::Listed);
     let mut lines = DebugLine::from(section);
     let mut texts = DebugLineStr::from(EndianVec::new(alloc, LittleEndian));
     write_unit(alloc, [symbol(4), symbol(5)], &mut lines, &mut texts)?;
-    let mut relocations = EndianVec::new(alloc, LittleEndian);
-    write_relocations(&mut relocations, lines.0.relocations())?;
+    let mut relocations = Vec::new(alloc);
+    add_relocations(&mut relocations, lines.0.relocations())?;
     let sections = [
         ([0x1_0000_0001, 6, 0, 0], CODE),
         ([0x1_0000_000c, 0, 0, 0], lines.0.slice()),
-        (
-            [0x4_0000_0007, 0x40, 0x2_0000_0008, 24],
-            relocations.slice(),
-        ),
+        ([0x4_0000_0007, 0x40, 0x2_0000_0008, 24], &relocations),
         ([0x1_0000_0018, 0x30, 0, 1], texts.0.slice()),
         ([0x1_0000_002d, 0, 0, 0], UNIT),
         ([0x4_0000_0028, 0x40, 0x5_0000_0008, 24], UNIT_RELOCATIONS),
@@ -76,7 +72,7 @@ fn make_object<W: Writer>(alloc: Global, object: &mut W) -> Result<()> {
         ([0x2_0000_0047, 0, 0x4_0000_0009, 24], SYMBOLS),
         ([0x3_0000_004f, 0, 0, 0], NAMES),
     ];
-    write_object(object, &sections)
+    add_object(object, &sections)
 }
 
 fn symbol(symbol: usize) -> Address {
@@ -84,7 +80,7 @@ fn symbol(symbol: usize) -> Address {
 }
 
 /// Relocations with their addends: R_X86_64_64 of eight bytes, else R_X86_64_32.
-fn write_relocations<W: Writer>(w: &mut W, list: &[Relocation]) -> Result<()> {
+fn add_relocations(bytes: &mut Vec<u8>, list: &[Relocation]) -> Result<()> {
     for relocation in list {
         let symbol = match relocation.target {
             RelocationTarget::OfSymbol(symbol) => symbol as u64,
@@ -94,32 +90,32 @@ fn write_relocations<W: Writer>(w: &mut W, list: &[Relocation]) -> Result<()> {
         let kind = if relocation.size == 8 { 1 } else { 10 };
         let info = symbol.rotate_left(32) | kind;
         let addend = relocation.addend.cast_unsigned();
-        write_numbers(w, &[relocation.offset as u64, info, addend])?;
+        add_numbers(bytes, &[relocation.offset as u64, info, addend])?;
     }
     Ok(())
 }
 
 /// Numbers of eight bytes.
-fn write_numbers<W: Writer>(w: &mut W, numbers: &[u64]) -> Result<()> {
+fn add_numbers(bytes: &mut Vec<u8>, numbers: &[u64]) -> Result<()> {
     for number in numbers {
-        w.write_u64(*number)?;
+        bytes.extend_from_slice(&number.to_le_bytes())?;
     }
     Ok(())
 }
 
 /// The headers of the file and of its sections, the first of them empty, and the bytes of these.
-fn write_object<W: Writer>(w: &mut W, sections: &[([u64; 4], &[u8])]) -> Result<()> {
-    w.write(START)?;
-    w.write(&[0; 64])?;
+fn add_object(bytes: &mut Vec<u8>, sections: &[([u64; 4], &[u8])]) -> Result<()> {
+    bytes.extend_from_slice(START)?;
+    bytes.extend_from_slice(&[0; 64])?;
     let mut offset = 704u64;
-    for (header, bytes) in sections {
+    for (header, section) in sections {
         let [name, flags, link, entry_size] = *header;
-        let size = bytes.len() as u64;
-        write_numbers(w, &[name, flags, 0, offset, size, link, 1, entry_size])?;
+        let size = section.len() as u64;
+        add_numbers(bytes, &[name, flags, 0, offset, size, link, 1, entry_size])?;
         offset = offset.wrapping_add(size);
     }
-    for (_, bytes) in sections {
-        w.write(bytes)?;
+    for (_, section) in sections {
+        bytes.extend_from_slice(section)?;
     }
     Ok(())
 }

@@ -11,13 +11,12 @@ use std::alloc::Global;
 use std::fmt::Write;
 
 /// Prints the bytes of a unit, and those of its texts.
-pub fn start(alloc: Global, text: &mut String) -> anyhow::Result<()> {
+pub fn start(alloc: Global, text: &mut String) -> Result<()> {
     let mut lines = DebugLine::from(EndianVec::new(alloc, LittleEndian));
     let mut texts = DebugLineStr::from(EndianVec::new(alloc, LittleEndian));
     write_unit(alloc, AT_0X1000, &mut lines, &mut texts)?;
     print_bytes(".debug_line", lines.0.slice(), text)?;
-    print_bytes(".debug_line_str", texts.0.slice(), text)?;
-    Ok(())
+    print_bytes(".debug_line_str", texts.0.slice(), text)
 }
 
 /// Adds a line with the name of a section and its bytes, in hexadecimal digits.
@@ -41,15 +40,19 @@ pub fn write_unit<W: Writer, T: Writer>(
     texts: &mut DebugLineStr<T>,
 ) -> Result<()> {
     let mut line_strings = LineStringTable::default(alloc);
-    let mut program = with_source(alloc, &mut line_strings)?;
-    write_program(
-        alloc,
-        &mut program,
-        functions,
-        lines,
-        texts,
-        &mut line_strings,
-    )
+    write_built(alloc, functions, lines, texts, &mut line_strings)
+}
+
+/// Builds the unit, whose texts go to this table, and appends it.
+fn write_built<W: Writer, T: Writer>(
+    alloc: Global,
+    functions: [Address; 2],
+    lines: &mut DebugLine<W>,
+    texts: &mut DebugLineStr<T>,
+    line_strings: &mut LineStringTable,
+) -> Result<()> {
+    let mut program = with_source(alloc, line_strings)?;
+    write_program(alloc, &mut program, functions, lines, texts, line_strings)
 }
 
 /// Adds to a program of one file the lines 3 and 4 of `a.c` for the first function, and the lines 8

@@ -23,20 +23,20 @@ pub fn start(rt: &HostRuntime, words: &[String], text: &mut String) -> anyhow::R
         bail!("usage: where_is FILE ADDRESS..");
     };
     let file = fs::read(rt, file.as_str())?;
-    print_places(rt.alloc(), &file, addresses, text)
+    let program = program_of(rt.alloc(), &file)?;
+    print_places(rt.alloc(), &program, addresses, text)
 }
 
-/// Adds a line for each address of an ELF file.
-fn print_places(
+/// Adds a line for each address.
+fn print_places<R: Reader>(
     alloc: Global,
-    file: &[u8],
+    program: &Program<R>,
     addresses: &[String],
     text: &mut String,
 ) -> anyhow::Result<()> {
-    let program = program_of(alloc, file)?;
     for address in addresses {
         let address = u64::from_str_radix(address.as_str(), 16)?;
-        print_place(alloc, &program, address, text)?;
+        print_place(alloc, program, address, text)?;
     }
     Ok(())
 }
@@ -55,10 +55,9 @@ pub fn program_of<'a>(
         debug_line_str: section(&elf, b".debug_line_str")?,
         debug_str_offsets: section(&elf, b".debug_str_offsets")?,
     };
-    match Program::new(alloc, lines, sections, elf.lowest_code_address()) {
-        Ok(program) => Ok(program),
-        Err(_) => Err(ElfError::OutOfMemory),
-    }
+    Program::new(alloc, lines, sections, elf.lowest_code_address()).map_err(
+        |_| ElfError::OutOfMemory,
+    )
 }
 
 /// A section of an ELF file; no bytes where it has none of this name.

@@ -1,0 +1,233 @@
+//! What the program does over the bytes of files.
+
+ghost use Rattle.std.specs.Prelude.{◌≡◌, ◌≤◌, IfOk, IfErr};
+ghost use Rattle.std.specs.IoError.{error_kind};
+ghost use Rattle.lines_inputs.specs.Lines.{HasLines};
+
+use crate::session::{Questions, REFUSED, Run, Session};
+use elf_sections::ElfError;
+use gimli_core::Reader;
+use lines_answers::{SourceRows, print_addresses};
+use lines_inputs::{Functions, Input, InputError, NOT_LINKED, Program, tell_refusal};
+use lines_places::{Answered, Asked, PlacePrinter, Places, print_below, print_lines};
+use lines_reports::{Diff, Report};
+use lines_words::{CodeAddress, Command, Files, Kind, PathText, SourcePlace};
+use std::io::ErrorKind;
+use std::{fs, io, str};
+
+impl Run<'_> {
+    /// Does what the request asks for over the bytes of files, and returns the status of the
+    /// program: 0, or 1 where something was refused, and reported on standard error, or found by a
+    /// check. On a terminal headings and faults are set off, and a long command prints how far it
+    /// is. Fails where memory is missing, where standard input can't be read, and where standard
+    /// output takes no more; what was printed before stands.
+    pub fn perform(self, kind: Kind, files: Files<'_>) -> io::Result<u8>
+        ensures status { IfOk result (λ status. status ≤ 1) }
+        ensures no_lines { kind ≡ Kind.Elf → (HasLines files.entry.limit files.entry.file.now → ⊥)
+            → IfOk result (λ status. status ≡ 1) }
+        ensures no_lines_fails { kind ≡ Kind.Elf
+            → (HasLines files.entry.limit files.entry.file.now → ⊥)
+            → IfErr result (λ e. error_kind e ≡ ErrorKind.OutOfMemory) }
+    {
+        let mut session = self.over(self.request.file);
+        match Program::new(self.rt.alloc(), kind, files) {
+            Ok(program) => {
+                let printed = session.print(&program, &program.input(), files);
+                session.finish(printed)
+            }
+            Err(InputError::Elf(ElfError::OutOfMemory)) => {
+                Err(io::Error::from(ErrorKind::OutOfMemory))
+            }
+            Err(refusal) => {
+                session.output.tell(refusal);
+                // Where the message can't be written, the status still says it.
+                let _ = session.hand_on();
+                Ok(REFUSED)
+            }
+        }
+    }
+}
+
+impl<'r> Session<'r> {
+    /// Prints what the request asks for over a program.
+    fn print<R: Reader>(
+        &mut self,
+        program: &Program<'_>,
+        input: &Input<R>,
+        files: Files<'_>,
+    ) -> io::Result<()> {
+        let Run { rt, request } = self.run;
+        let alloc = rt.alloc();
+        let output = &mut self.output;
+        match request.command {
+            Command::Where { .. } if !input.is_linked => self.locate_in_sections(files),
+            Command::Where { .. } => {
+                let mut questions = Questions::new(rt, &request.addresses)?;
+                self.locate(program, input, None, &mut questions)
+            }
+            Command::At(_, _) | Command::Source(_) if !input.is_linked => {
+                output.tell(NOT_LINKED);
+                Ok(())
+            }
+            Command::At(path, line) => {
+                self.begin_reading(input.length())?;
+                print_addresses(alloc, input, request, path, line, &mut self.output)?;
+                self.output.clear();
+                Ok(())
+            }
+            Command::Source(place) => {
+                let functions = Functions::new(alloc, program.symbols(), None)?;
+                match SourceRows::new(alloc, input, &functions, place, request.context, output)? {
+                    Some(mut found) => self.print_found(place, &mut found),
+                    None => Ok(()),
+                }
+            }
+            _ => match Report::new(alloc, input, request, output)? {
+                Some(mut report) => self.print_steps(|output| report.print_next(output)),
+                None => Ok(()),
+            },
+        }
+    }
+
+    /// Prints how a program differs from a new one of a name.
+    pub fn compare<R: Reader>(
+        &mut self,
+        old: &Input<R>,
+        new_name: &'r str,
+        new: &Input<R>,
+    ) -> io::Result<()> {
+        let Run { rt, request } = self.run;
+        self.output.turn_to(request.file);
+        let mut diff = Diff::new(rt.alloc(), old, new, &mut self.output)?;
+        self.print_steps(|output| diff.print_next(output))?;
+        self.output.turn_to(new_name);
+        diff.begin_new();
+        self.print_steps(|output| diff.print_next(output))
+    }
+
+    /// Prints the place of each address in an object file. Each section has rows of its own, which
+    /// are kept until another section is asked for.
+    fn locate_in_sections(&mut self, files: Files<'_>) -> io::Result<()> {
+        let Run { rt, request } = self.run;
+        let printer = PlacePrinter::new(rt.alloc(), request)?;
+        let mut questions = Questions::new(rt, &request.addresses)?;
+        for _ in 0..u64::MAX {
+            let Some(asked) = questions.current()? else {
+                break;
+            };
+            if let Asked::Address(CodeAddress::InSection { section, .. }) = asked {
+                let name = Vec::from_slice(rt.alloc(), section.as_bytes())?;
+                if self.locate_in_section(files, &name, &mut questions)? {
+                    continue;
+                }
+                printer.print(None, None, None, &mut self.output);
+            } else {
+                printer.print_other(asked, &mut self.output);
+            }
+            self.hand_on()?;
+            questions.go_on();
+        }
+        Ok(())
+    }
+
+    /// Prints the places of the addresses that follow each other in a section. False where it can't
+    /// be read, which is reported.
+    fn locate_in_section(
+        &mut self,
+        files: Files<'_>,
+        name: &[u8],
+        questions: &mut Questions<'_>,
+    ) -> io::Result<bool> {
+        match Program::of_section(self.run.rt.alloc(), files, name) {
+            Ok(Some(program)) => {
+                self.locate(&program, &program.input(), Some(name), questions)?;
+                return Ok(true);
+            }
+            Ok(None) => {
+                let name = PathText(name);
+                self.output.tell(format_args!("there is no section {name}"));
+            }
+            Err(refusal) => tell_refusal(refusal, &mut self.output)?,
+        }
+        Ok(false)
+    }
+
+    /// Prints the places of addresses by the rows of a program, or of the section of a name.
+    fn locate<R: Reader>(
+        &mut self,
+        program: &Program<'_>,
+        input: &Input<R>,
+        section: Option<&[u8]>,
+        questions: &mut Questions<'_>,
+    ) -> io::Result<()> {
+        let Run { rt, request } = self.run;
+        if section.is_none() {
+            self.begin_reading(input.length())?;
+        }
+        let functions = Functions::new(rt.alloc(), program.symbols(), program.section())?;
+        let output = &mut self.output;
+        let places = Places::new(rt.alloc(), input, functions, request, section, output)?;
+        output.clear();
+        self.answer_all(&places, questions)
+    }
+
+    /// Answers questions up to the first that is asked of another section.
+    fn answer_all<R: Reader>(
+        &mut self,
+        places: &Places<'_, '_, R>,
+        questions: &mut Questions<'_>,
+    ) -> io::Result<()> {
+        for _ in 0..u64::MAX {
+            let Some(asked) = questions.current()? else {
+                break;
+            };
+            match places.answer(asked, &mut self.output)? {
+                Answered::Elsewhere => break,
+                Answered::Whole => {}
+                Answered::Above(place) => {
+                    if let Some(file) = self.read_source(&place.path)? {
+                        print_below(self.run.rt.alloc(), &place, &file, &mut self.output)?;
+                    }
+                }
+            }
+            self.hand_on()?;
+            questions.go_on();
+        }
+        Ok(())
+    }
+
+    /// Finds the rows of a place or of a function, and prints their lines with their addresses.
+    fn print_found<R: Reader>(
+        &mut self,
+        place: SourcePlace<'_>,
+        found: &mut SourceRows<'_, R>,
+    ) -> io::Result<()> {
+        self.print_steps(|output| found.add_next(output))?;
+        let Run { rt, request } = self.run;
+        for number in 0..usize::MAX {
+            let Some((path, rows)) = found.get(number) else {
+                break;
+            };
+            let file = self.read_source(path)?;
+            let output = &mut self.output;
+            print_lines(rt.alloc(), path, file, rows, place, request.context, output)?;
+            self.hand_on()?;
+        }
+        Ok(())
+    }
+
+    /// The bytes of the source file of a path, or of the one that the request names in its place.
+    /// None where it can't be read.
+    fn read_source(&self, path: &[u8]) -> io::Result<Option<Vec<u8>>> {
+        let name = match (self.run.request.source, str::from_utf8(path)) {
+            (Some(name), _) => name,
+            (None, Ok(name)) => name,
+            (None, Err(_)) => return Ok(None),
+        };
+        match fs::read(self.run.rt, name) {
+            Ok(bytes) => Ok(Some(bytes)),
+            Err(error) if error.kind() == ErrorKind::OutOfMemory => Err(error),
+            Err(_) => Ok(None),
+        }
+    }
+}
