@@ -70,13 +70,13 @@ pub record SeesIndex (bytes : List ℕ) (seen : GimliIndex) : Type 0 where
 -- ---- what it says of an address
 
 -- the path of a place is these bytes of the index, or there is none for the reason of a number
-abbrev pub SeesPath : List ℕ → Result (List ℕ) NoPath → GimliPlace → Type 0
-SeesPath bytes (Ok path) seen =
-    (seen.no_path ≡ 0) × (seen.path + seen.path_size ≤ length bytes)
-    × (slice_range bytes seen.path (seen.path + seen.path_size) ≡ path)
-SeesPath bytes (Err (Reason n)) seen = (seen.no_path ≡ n) × (seen.path ≡ 0) × (seen.path_size ≡ 0)
-SeesPath bytes (Err Outside) seen =
-    (seen.no_path ≡ 0xffff_ffff) × (seen.path ≡ 0) × (seen.path_size ≡ 0)
+abbrev pub SeesPath : List ℕ → Result (List ℕ) NoPath → ℕ → ℕ → ℕ → Type 0
+SeesPath bytes (Ok path) first size no_path =
+    (no_path ≡ 0) × (first + size ≤ length bytes)
+    × (slice_range bytes first (first + size) ≡ path)
+SeesPath bytes (Err (Reason n)) first size no_path = (no_path ≡ n) × (first ≡ 0) × (size ≡ 0)
+SeesPath bytes (Err Outside) first size no_path =
+    (no_path ≡ 0xffff_ffff) × (first ≡ 0) × (size ≡ 0)
 
 pub record SeesPlace (bytes : List ℕ) (address : ℕ) (place : Place) (seen : GimliPlace)
     : Type 0 where
@@ -86,7 +86,7 @@ pub record SeesPlace (bytes : List ℕ) (address : ℕ) (place : Place) (seen : 
   pub column : seen.column ≡ place.column
   pub is_stmt : seen.is_stmt ≡ place.is_stmt
   pub unit : seen.unit ≡ place.unit
-  pub path : SeesPath bytes place.path seen
+  pub path : SeesPath bytes place.path seen.path seen.path_size seen.no_path
 
 -- the end of a range; 0 where it goes on up to the greatest address
 abbrev pub end_seen : Option ℕ → ℕ

@@ -1,12 +1,11 @@
 //! The sections of an ELF file, made whole.
 
-ghost use Rattle.std.specs.Prelude.{◌≡◌, ◌≢◌, ◌≤◌, ◌<◌, ◌⊎◌, length, IfErr, IfOk};
+ghost use Rattle.std.specs.Prelude.{◌≡◌, ◌≢◌, ◌⊎◌, length, IfErr, IfOk};
 ghost use Rattle.elf_sections.specs.Elf.{file_of};
 ghost use Rattle.elf_sections.specs.File.{file_at};
 ghost use Rattle.elf_sections.specs.declared.error.ElfError.TheVariants.{OutOfMemory};
 ghost use Rattle.gimli_c.specs.ElfSeen.{CantReadSection, HasNoSection, IsLowest, IsNoElf, SeesElf};
 ghost use Rattle.gimli_c.specs.ElfSeen.{NeedsSectionRoom, WritesSection};
-ghost use Rattle.gimli_c.specs.Written.{slots_with};
 
 use crate::file::copy_bytes;
 use crate::status::{BAD_SECTION, NO_ELF, NO_ROOM, NO_SECTION, OK, OUT_OF_MEMORY};
@@ -74,27 +73,12 @@ pub extern "C" fn gimli_line_proved_elf_open(file: &[u8], found: &mut GimliElf) 
 fn section_status(error: ElfError) -> u32
     ensures number { result ≢ OUT_OF_MEMORY → (result ≡ BAD_SECTION) × (error ≢ OutOfMemory) }
     ensures bad { result ≢ OK }
+    ensures other { (result ≢ NO_ROOM) × (result ≢ NO_SECTION) }
 {
     match error {
         ElfError::OutOfMemory => OUT_OF_MEMORY,
         _ => BAD_SECTION,
     }
-}
-
-/// Puts a section into an array, and its length beside it: nothing where the array is too small.
-fn put_section(section: &[u8], bytes: &mut [u8], size: &mut usize) -> u32
-    ensures size { size.new ≡ length section.now }
-    ensures ok { result ≡ OK → bytes.new ≡ slots_with section.now bytes.old }
-    ensures kept { result ≢ OK → bytes.new ≡ bytes.old }
-    ensures fits { result ≡ OK → length section.now ≤ length bytes.old }
-    ensures larger { result ≢ OK → (result ≡ NO_ROOM) × (length bytes.old < length section.now) }
-{
-    *size = section.len();
-    if section.len() > bytes.len() {
-        return NO_ROOM;
-    }
-    copy_bytes(section, bytes);
-    OK
 }
 
 /// Puts what the first section of a name of an ELF file holds into `bytes`: made whole where it is
@@ -127,7 +111,15 @@ pub extern "C" fn gimli_line_proved_elf_section(
         Err(status) => return status,
     };
     match elf.relocated(alloc, name, SectionPlace::AllAtZero, bytes.len() as u64) {
-        Ok(Some(section)) => put_section(section.as_slice(), bytes, size),
+        Ok(Some(section)) => {
+            let whole = section.as_slice();
+            *size = whole.len();
+            if whole.len() > bytes.len() {
+                return NO_ROOM;
+            }
+            copy_bytes(whole, bytes);
+            OK
+        }
         Ok(None) => NO_SECTION,
         Err(ElfError::SectionTooLarge(stated)) => {
             *size = stated as usize;

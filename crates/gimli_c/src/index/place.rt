@@ -1,9 +1,10 @@
 //! What an index says of an address.
 
 ghost use Rattle.std.specs.Prelude.{◌≡◌, ◌+◌, ◌≤◌, ◌<◌, ◌^◌, ℕ, List, length, IfOk};
-ghost use Rattle.gimli_index.specs.Spans.{identity_begin, place_among, StandsIn};
+ghost use Rattle.gimli_core.specs.Reading.{result_map};
+ghost use Rattle.gimli_index.specs.Spans.{identity_begin, path_at, place_among, StandsIn};
 ghost use Rattle.gimli_index.specs.Views.{index_of};
-ghost use Rattle.gimli_c.specs.Indexed.{end_seen, no_index_place, SeesPlace};
+ghost use Rattle.gimli_c.specs.Indexed.{end_seen, no_index_place, SeesPath, SeesPlace};
 
 use gimli_index::{LineIndex, NoPath, PlaceSpan, Span};
 
@@ -58,6 +59,22 @@ pub(crate) fn no_place(address: u64) -> GimliPlace
     }
 }
 
+/// Where the path of a place begins in the bytes that an index stands in, its size, and 0; or zeros
+/// and the number of why there is none.
+fn path_seen(index: &LineIndex<'_>, path: Result<Span, NoPath>) -> (usize, usize, u32)
+    requires inside { IfOk path
+        (λ s. s.first + s.size ≤ length (index_of index.now).path_bytes) }
+    requires fits { identity_begin (index_of index.now) < 2 ^ 64 }
+    ensures { (bytes : List ℕ) → StandsIn bytes (index_of index.now) → SeesPath bytes
+        (result_map (path_at (index_of index.now).path_bytes) path) result.0 result.1 result.2 }
+{
+    match path {
+        Ok(span) => (index.paths_offset() + span.first, span.size, 0),
+        Err(NoPath::Reason(reason)) => (0, 0, reason),
+        Err(NoPath::Outside) => (0, 0, NO_PATH_OUTSIDE),
+    }
+}
+
 /// A place of an index that stands in some bytes, as C sees it.
 pub(crate) fn place_seen(index: &LineIndex<'_>, address: u64, place: PlaceSpan) -> GimliPlace
     requires inside { IfOk place.path
@@ -67,11 +84,7 @@ pub(crate) fn place_seen(index: &LineIndex<'_>, address: u64, place: PlaceSpan) 
     ensures seen { (bytes : List ℕ) → StandsIn bytes (index_of index.now) → SeesPlace bytes address
         (place_among (index_of index.now).path_bytes place) result }
 {
-    let (path, path_size, no_path) = match place.path {
-        Ok(span) => (index.paths_offset() + span.first, span.size, 0),
-        Err(NoPath::Reason(reason)) => (0, 0, reason),
-        Err(NoPath::Outside) => (0, 0, NO_PATH_OUTSIDE),
-    };
+    let (path, path_size, no_path) = path_seen(index, place.path);
     GimliPlace {
         address,
         unit: place.unit,
