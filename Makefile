@@ -14,7 +14,7 @@ to = $(DESTDIR)$(PREFIX)
 program = crates/lines/out/lines
 archive = crates/gimli_c/out/libgimli_c.a
 man = build/lines.1
-version = $(shell sed -n 's/^\#define GIMLI_VERSION_\(MAJOR\|MINOR\|PATCH\) \([0-9]*\)$$/\2/p' crates/gimli_c/include/gimli_line.h | paste -sd.)
+version = $(shell sed -n 's/^\#define GIMLI_LINE_VERSION_\(MAJOR\|MINOR\|PATCH\) \([0-9]*\)$$/\2/p' crates/gimli_c/include/gimli_line.h | paste -sd.)
 name = notsimbera-$(version)-x86_64
 pages = README.md CHANGELOG.md LICENSE-APACHE LICENSE-MIT docs/LINES.md docs/INDEX.md
 

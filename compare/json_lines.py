@@ -153,7 +153,7 @@ def check_program(program):
         lines = "".join(f"{program} {it}\n" for it in [*addresses, "0"])
         check(program, "where --files", [], form, f"{lines}\n{program}".encode())
         lines = lines.replace(f"{program} ", "abcd ")
-        check(program, "where", ["--maps", maps], form, lines.encode())
+        check(program, "where", ["--indexes", maps], form, lines.encode())
     for it in [it for it in found if it["path"] and it["line"]][:: max(1, len(found) // 20)]:
         path = bytes.fromhex(it["path_bytes"]) if "path_bytes" in it else it["path"].encode()
         for name in ("at", "source"):

@@ -2,7 +2,7 @@
 _lines() {
     local word=${COMP_WORDS[COMP_CWORD]} before=${COMP_WORDS[COMP_CWORD-1]} command=${COMP_WORDS[1]}
     local kinds="fault lost odd usual header program no-path no-file goes-down below-code no-end same-path overlap file-0 merged dropped"
-    local of_file="--raw --address-size --line-str --str --help" options
+    local of_file="--raw --address-size --line-str --str --memory-limit --help" options
     COMPREPLY=()
     if [ "$COMP_CWORD" = 1 ]; then
         COMPREPLY=($(compgen -W "where index at source units files rows check stat diff help --help --version" -- "$word"))
@@ -13,11 +13,11 @@ _lines() {
         --address-size) COMPREPLY=($(compgen -W "1 2 4 8" -- "$word")); return ;;
         --deny | --allow) COMPREPLY=($(compgen -W "$kinds" -- "$word")); return ;;
         --index | --output | -o) COMPREPLY=($(compgen -f -- "$word")); return ;;
-        --relative-to | --maps) COMPREPLY=($(compgen -d -- "$word")); return ;;
-        --bias | --context | -C) return ;;
+        --relative-to | --indexes) COMPREPLY=($(compgen -d -- "$word")); return ;;
+        --bias | --context | -C | --memory-limit) return ;;
     esac
     case $command in
-        where) options="$of_file --basenames --relative-to --bias --functions --pretty --source --index --maps --files --json" ;;
+        where) options="$of_file --basenames --relative-to --bias --functions --pretty --source --index --indexes --files --json" ;;
         index) options="$of_file --output" ;;
         at) options="$of_file --columns --range --json" ;;
         source) options="$of_file --context --source --json" ;;

@@ -5,8 +5,9 @@
 #include "ask.h"
 
 int main(int argc, char **argv) {
-    static const Dwfl_Callbacks callbacks = {
-        .find_elf = dwfl_build_id_find_elf, .find_debuginfo = dwfl_standard_find_debuginfo, .section_address = dwfl_offline_section_address};
+    static const Dwfl_Callbacks callbacks = {.find_elf = dwfl_build_id_find_elf,
+                                             .find_debuginfo = dwfl_standard_find_debuginfo,
+                                             .section_address = dwfl_offline_section_address};
     Dwfl *all = argc != 5 ? NULL : dwfl_begin(&callbacks);
     if (all == NULL) return 2;
     Dwfl_Module *module = dwfl_report_offline(all, argv[1], argv[1], -1);

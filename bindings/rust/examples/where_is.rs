@@ -2,7 +2,7 @@
 //!
 //!   cargo run --example where_is PROGRAM ADDRESS..
 
-use gimli_line_proved::{Elf, Map};
+use gimli_line_proved::{Elf, Index};
 use std::error::Error;
 use std::{env, fs};
 
@@ -12,10 +12,10 @@ fn main() -> Result<(), Box<dyn Error>> {
         return Err("usage: where_is PROGRAM ADDRESS..".into());
     };
     let file = fs::read(program)?;
-    let bytes = Map::write_elf(&Elf::open(&file)?)?;
-    let map = Map::open(&bytes)?;
+    let bytes = Index::write_elf(&Elf::open(&file)?)?;
+    let index = Index::open(&bytes)?;
     for address in addresses {
-        match map.find(u64::from_str_radix(address, 16)?) {
+        match index.find(u64::from_str_radix(address, 16)?) {
             Some(place) => {
                 let path = String::from_utf8_lossy(place.path.unwrap_or(b"??"));
                 println!("{path}:{}:{}", place.line, place.column);

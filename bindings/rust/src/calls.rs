@@ -104,17 +104,17 @@ pub struct Elf {
 
 #[repr(C)]
 #[derive(Clone, Copy)]
-pub struct MapOptions {
+pub struct IndexOptions {
     pub size: usize,
     pub lowest: u64,
     pub address_size: u8,
     pub big: bool,
 }
 
-impl MapOptions {
-    pub fn new(sections: &Sections<'_>, lowest: u64) -> MapOptions {
-        MapOptions {
-            size: size_of::<MapOptions>(),
+impl IndexOptions {
+    pub fn new(sections: &Sections<'_>, lowest: u64) -> IndexOptions {
+        IndexOptions {
+            size: size_of::<IndexOptions>(),
             lowest,
             address_size: sections.address_size,
             big: sections.big_endian,
@@ -162,7 +162,7 @@ pub struct FileName {
 
 #[repr(C)]
 #[derive(Clone, Copy, Debug, Default)]
-pub struct Map {
+pub struct Index {
     pub ranges: usize,
     pub identity: usize,
     pub identity_size: usize,
@@ -171,9 +171,11 @@ pub struct Map {
 
 #[repr(C)]
 #[derive(Clone, Copy, Debug, Default)]
-pub struct MapPlace {
+pub struct Place {
     pub address: u64,
     pub unit: u64,
+    pub first: u64,
+    pub end: u64,
     pub path: usize,
     pub path_size: usize,
     pub line: u32,
@@ -201,45 +203,45 @@ pub struct Relocation {
 }
 
 declared! {
-    gimli_version();
-    gimli_line_map_open([map: u8], found: *mut Map);
-    gimli_line_map_check([map: u8]);
-    gimli_line_map_find([map: u8], address: u64, place: *mut MapPlace);
-    gimli_line_map_find_all([map: u8], [mut places: MapPlace]);
-    gimli_line_map_addresses_of(
-        [map: u8], [path: u8], line: u64, found_line: *mut u64, [mut addresses: u64], count: *mut usize
+    gimli_line_version();
+    gimli_line_index_open([index: u8], found: *mut Index);
+    gimli_line_index_check([index: u8]);
+    gimli_line_index_find([index: u8], address: u64, place: *mut Place);
+    gimli_line_proved_index_find_all([index: u8], [mut places: Place]);
+    gimli_line_proved_index_addresses_of(
+        [index: u8], [path: u8], line: u64, found_line: *mut u64, [mut addresses: u64], count: *mut usize
     );
-    gimli_line_map_write(
+    gimli_line_proved_index_write(
         [section: u8], [line_strings: u8], [strings: u8], [info: u8], [abbreviations: u8], [string_offsets: u8],
-        options: *const MapOptions, [identity: u8], [mut map: u8], size: *mut usize
+        options: *const IndexOptions, [identity: u8], [mut index: u8], size: *mut usize
     );
-    gimli_elf_open([file: u8], found: *mut Elf);
-    gimli_elf_section([file: u8], [name: u8], [mut bytes: u8], size: *mut usize);
-    gimli_elf_build_id([file: u8], [mut id: u8], size: *mut usize);
-    gimli_line_unit([section: u8], big: bool, address_size: u8, offset: usize, unit: *mut Unit);
-    gimli_line_rows(
+    gimli_line_proved_elf_open([file: u8], found: *mut Elf);
+    gimli_line_proved_elf_section([file: u8], [name: u8], [mut bytes: u8], size: *mut usize);
+    gimli_line_proved_elf_build_id([file: u8], [mut id: u8], size: *mut usize);
+    gimli_line_proved_read_unit([section: u8], big: bool, address_size: u8, offset: usize, unit: *mut Unit);
+    gimli_line_proved_read_rows(
         [section: u8], big: bool, address_size: u8, offset: usize, skip: u64, [mut rows: Row], count: *mut u64
     );
-    gimli_line_file(
+    gimli_line_proved_read_file(
         [section: u8], big: bool, address_size: u8, offset: usize, number: u64, file: *mut File, [mut path: u8],
         [mut directory: u8]
     );
-    gimli_line_directory(
+    gimli_line_proved_read_directory(
         [section: u8], big: bool, address_size: u8, offset: usize, number: u64, directory: *mut Text, [mut bytes: u8]
     );
-    gimli_line_path(
+    gimli_line_proved_read_path(
         [section: u8], [line_strings: u8], [strings: u8], big: bool, address_size: u8, offset: usize, number: u64,
         [comp_dir: u8], [mut path: u8], size: *mut usize
     );
-    gimli_line_comp_dir(
+    gimli_line_proved_comp_dir(
         [info: u8], [abbreviations: u8], [line_strings: u8], [strings: u8], [string_offsets: u8], big: bool,
         offset: u64, [mut directory: u8], size: *mut usize
     );
-    gimli_line_write(
+    gimli_line_proved_write(
         encoding: *const Encoding, big: bool, details: u64, [texts: u8], [directories: Name], [files: FileName],
         [rows: Row], [mut unit: u8], size: *mut usize
     );
-    gimli_line_write_relocatable(
+    gimli_line_proved_write_relocatable(
         encoding: *const Encoding, big: bool, details: u64, in_place: bool, [texts: u8], [directories: Name],
         [files: FileName], [rows: Row], [symbols: Symbol], [mut unit: u8], size: *mut usize,
         [mut relocations: Relocation], count: *mut usize

@@ -33,7 +33,7 @@ impl CompilationSections<'_> {
         let directory = whole(256, |room, size| {
             // The pointers are those of slices and of a local.
             Error::of(unsafe {
-                call!(gimli_line_comp_dir(
+                call!(gimli_line_proved_comp_dir(
                     [self.debug_info], [self.debug_abbrev], [self.debug_line_str], [self.debug_str],
                     [self.debug_str_offsets], self.big_endian, offset, [mut room], size
                 ))

@@ -19,7 +19,7 @@ impl<'a> Elf<'a> {
     pub fn open(bytes: &'a [u8]) -> Result<Elf<'a>, Error> {
         let mut found = calls::Elf::default();
         // The pointers are those of a slice and of a local.
-        Error::of(unsafe { call!(gimli_elf_open([bytes], &mut found)) })?;
+        Error::of(unsafe { call!(gimli_line_proved_elf_open([bytes], &mut found)) })?;
         Ok(Elf { bytes, found })
     }
 
@@ -44,11 +44,14 @@ impl<'a> Elf<'a> {
     ///
     /// # Errors
     ///
-    /// [`Error::BAD_SECTION`] where it can't be read, and [`Error::OUT_OF_MEMORY`].
+    /// [`Error::BAD_SECTION`] where it can't be read, or is compressed and states more bytes than 256 times the file's and 64 MiB, and
+    /// [`Error::OUT_OF_MEMORY`].
     pub fn section(&self, name: &str) -> Result<Option<Vec<u8>>, Error> {
+        let most = self.bytes.len().saturating_mul(256).saturating_add(64 << 20);
         let bytes = whole(0, |room, size| {
             // The pointers are those of slices and of a local.
-            Error::of(unsafe { call!(gimli_elf_section([self.bytes], [name.as_bytes()], [mut room], size)) })
+            let status = unsafe { call!(gimli_line_proved_elf_section([self.bytes], [name.as_bytes()], [mut room], size)) };
+            Error::of(if *size > most { Error::BAD_SECTION.number() } else { status })
         });
         unless(Error::NO_SECTION, bytes)
     }
@@ -61,7 +64,7 @@ impl<'a> Elf<'a> {
     pub fn build_id(&self) -> Result<Option<Vec<u8>>, Error> {
         let id = whole(20, |room, size| {
             // The pointers are those of slices and of a local.
-            Error::of(unsafe { call!(gimli_elf_build_id([self.bytes], [mut room], size)) })
+            Error::of(unsafe { call!(gimli_line_proved_elf_build_id([self.bytes], [mut room], size)) })
         });
         unless(Error::NO_SECTION, id)
     }

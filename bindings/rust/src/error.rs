@@ -2,7 +2,7 @@
 
 use std::fmt;
 
-/// Why a call is refused: a number of `gimli_status` in gimli_line.h, which is not 0.
+/// Why a call is refused: a number of `gimli_line_status` in gimli_line.h, which is not 0.
 #[derive(Clone, Copy, Debug, PartialEq, Eq, Hash)]
 pub struct Error(u32);
 
@@ -71,18 +71,18 @@ impl Error {
     pub const NO_ROOM: Error = Error(31);
     /// A string of a path can't be told.
     pub const UNKNOWN_PATH: Error = Error(33);
-    /// The bytes don't begin as a map does.
-    pub const NO_MAP: Error = Error(34);
-    /// The version of a map is unknown.
-    pub const UNKNOWN_MAP_VERSION: Error = Error(35);
-    /// A map ends before its parts do.
-    pub const MAP_CUT: Error = Error(36);
-    /// A size or the base in the header of a map is one that can't be.
-    pub const MAP_HEADER: Error = Error(37);
-    /// The ranges of a map don't ascend.
-    pub const MAP_DISORDERED: Error = Error(38);
-    /// A path isn't inside its map.
-    pub const MAP_PATH_OUTSIDE: Error = Error(39);
+    /// The bytes don't begin as an index does.
+    pub const NO_INDEX: Error = Error(34);
+    /// The version of an index is unknown.
+    pub const UNKNOWN_INDEX_VERSION: Error = Error(35);
+    /// An index ends before its parts do.
+    pub const INDEX_CUT: Error = Error(36);
+    /// A size or the base in the header of an index is one that can't be.
+    pub const INDEX_HEADER: Error = Error(37);
+    /// The ranges of an index don't ascend.
+    pub const INDEX_DISORDERED: Error = Error(38);
+    /// A path isn't inside its index.
+    pub const INDEX_PATH_OUTSIDE: Error = Error(39);
     /// No line from the one asked for on has code.
     pub const NO_CODE: Error = Error(41);
     /// No unit of .debug_info tells the directory of the compilation.
@@ -95,9 +95,9 @@ impl Error {
     pub const NO_SECTION: Error = Error(45);
     /// A section of an ELF file can't be read.
     pub const BAD_SECTION: Error = Error(46);
-    /// A map would have ranges, files, or bytes of paths or of the identity that 32 bits don't count.
-    pub const MAP_TOO_LARGE: Error = Error(47);
-    /// A line or a column that a map would have is one that 32 bits don't hold.
+    /// An index would have ranges, files, or bytes of paths or of the identity that 32 bits don't count.
+    pub const INDEX_TOO_LARGE: Error = Error(47);
+    /// A line or a column that an index would have is one that 32 bits don't hold.
     pub const PLACE_TOO_LARGE: Error = Error(48);
 
     /// The number of the header.
@@ -127,7 +127,7 @@ impl Error {
 /// What is said of a number that no call answers.
 const NONE: &str = "the number is none that a call answers";
 
-/// A sentence for each number, as `gimli_status_sentence` of the header has it.
+/// A sentence for each number, as `gimli_line_status_sentence` of the header has it.
 const SENTENCES: [&str; 49] = [
     "the call did what it says",
     "bytes are missing",
@@ -147,7 +147,7 @@ const SENTENCES: [&str; 49] = [
     "a number doesn't fit an offset",
     "a value that stands for a text is of another kind",
     "not enough memory",
-    "no row covers the address, or a map says nothing of it",
+    "no row covers the address, or an index says nothing of it",
     "the size of offsets isn't 4 or 8",
     "rows can't be written by the line encoding",
     "a text isn't within the texts",
@@ -163,12 +163,12 @@ const SENTENCES: [&str; 49] = [
     "what is written is longer than the room for it",
     NONE,
     "a string of a path can't be told",
-    "the bytes don't begin as a map does",
-    "the version of a map is unknown",
-    "a map ends before its parts do",
-    "a size or the base in the header of a map is one that can't be",
-    "the ranges of a map don't ascend",
-    "a path isn't inside its map",
+    "the bytes don't begin as an index does",
+    "the version of an index is unknown",
+    "an index ends before its parts do",
+    "a size or the base in the header of an index is one that can't be",
+    "the ranges of an index don't ascend",
+    "a path isn't inside its index",
     NONE,
     "no line from the one asked for on has code",
     "no unit of .debug_info tells the directory of the compilation",
@@ -176,7 +176,7 @@ const SENTENCES: [&str; 49] = [
     "the bytes are no ELF file that can be read",
     "the ELF file has no section of this name",
     "a section is cut, or its compression or relocations are unknown",
-    "a map would have more ranges, files or bytes than 32 bits count",
+    "an index would have more ranges, files or bytes than 32 bits count",
     "a line or a column is more than 32 bits hold",
 ];
 

@@ -75,7 +75,7 @@ impl Sections<'_> {
         let path = whole(256, |path, size| {
             // The pointers are those of slices, of vectors and of a local.
             Error::of(unsafe {
-                call!(gimli_line_file(
+                call!(gimli_line_proved_read_file(
                     [self.debug_line], self.big_endian, self.address_size, offset, number, &mut file, [mut path], [mut directory]
                 ))
             })?;
@@ -97,7 +97,7 @@ impl Sections<'_> {
         let bytes = whole(256, |room, size| {
             // The pointers are those of slices, of a vector and of a local.
             Error::of(unsafe {
-                call!(gimli_line_directory(
+                call!(gimli_line_proved_read_directory(
                     [self.debug_line], self.big_endian, self.address_size, offset, number, &mut text, [mut room]
                 ))
             })?;
@@ -120,7 +120,7 @@ impl Sections<'_> {
         whole(256, |room, size| {
             // The pointers are those of slices and of a local.
             Error::of(unsafe {
-                call!(gimli_line_path(
+                call!(gimli_line_proved_read_path(
                     [self.debug_line], [self.debug_line_str], [self.debug_str], self.big_endian, self.address_size, offset, number,
                     [comp_dir], [mut room], size
                 ))

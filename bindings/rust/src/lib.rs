@@ -1,8 +1,8 @@
 //! Line number programs of DWARF, versions 2 to 5, over the library `libgimli_line.a`, whose calls are proved. What this crate adds
 //! isn't: it hands slices on, and keeps to what the header asks of a caller.
 //!
-//! [`Map`] looks addresses up in an index that is bytes, from any thread; [`Map::write_elf`] makes it of an ELF file, and
-//! [`Map::write`] of the sections of a program. [`Units`] gives the units of a section with their rows, and [`Sections`] the files of
+//! [`Index`] looks addresses up in an index that is bytes, from any thread; [`Index::write_elf`] makes it of an ELF file, and
+//! [`Index::write`] of the sections of a program. [`Units`] gives the units of a section with their rows, and [`Sections`] the files of
 //! one. [`CompilationSections`] tell the directory of a unit, for whole paths. [`Contents`] are written as a unit. The names are
 //! gimli's where they fit.
 //!
@@ -16,7 +16,7 @@ mod compilation;
 mod elf;
 mod error;
 mod file;
-mod map;
+mod index;
 mod row;
 mod write;
 
@@ -24,7 +24,7 @@ pub use compilation::CompilationSections;
 pub use elf::Elf;
 pub use error::Error;
 pub use file::{File, Text};
-pub use map::{Addresses, Map, MapPlace, NoPath};
+pub use index::{Addresses, Index, Place, NoPath};
 pub use row::{ColumnType, LineRow, Unit, Units};
 pub use write::{Addends, Contents, Encoding, RelocatableUnit, Relocation, Symbol};
 
@@ -53,5 +53,5 @@ impl<'a> Sections<'a> {
 /// The version of the library: 10,000 times the major number, 100 times the minor one, and the patch number.
 pub fn version() -> u32 {
     // It takes nothing.
-    unsafe { calls::gimli_version() }
+    unsafe { calls::gimli_line_version() }
 }

@@ -180,13 +180,13 @@ impl Unit {
         let (section, big, size) = (sections.debug_line, sections.big_endian, sections.address_size);
         let mut found = calls::Unit::default();
         // The pointers are those of a slice and of a local.
-        let read = Error::of(unsafe { call!(gimli_line_unit([section], big, size, offset, &mut found)) });
+        let read = Error::of(unsafe { call!(gimli_line_proved_read_unit([section], big, size, offset, &mut found)) });
         let next = found.next as usize;
         read.map_err(|error| (error, (next > offset).then_some(next)))?;
         let mut rows = vec![calls::Row::default(); found.rows as usize];
         let mut count = 0;
         // The pointers are those of a slice, a vector and a local.
-        let status = unsafe { call!(gimli_line_rows([section], big, size, offset, 0, [mut rows], &mut count)) };
+        let status = unsafe { call!(gimli_line_proved_read_rows([section], big, size, offset, 0, [mut rows], &mut count)) };
         let fault = Error::fault(status);
         if fault == Some(Error::OUT_OF_MEMORY) {
             return Err((Error::OUT_OF_MEMORY, Some(next)));

@@ -133,14 +133,14 @@ impl Contents {
     ///
     /// # Errors
     ///
-    /// What is wrong with the contents, as `gimli_line_write` of the header says it: [`Error::UNKNOWN_VERSION`],
+    /// What is wrong with the contents, as `gimli_line_proved_write` of the header says it: [`Error::UNKNOWN_VERSION`],
     /// [`Error::NO_SOURCE_FILE`], [`Error::NO_SUCH_FILE`], [`Error::NO_SUCH_DIRECTORY`], [`Error::ROW_OUT_OF_ORDER`] and the like; or
     /// [`Error::OUT_OF_MEMORY`].
     pub fn write(&self) -> Result<Vec<u8>, Error> {
         whole(self.size(), |unit, size| {
             // The pointers are those of slices and of locals.
             Error::of(unsafe {
-                call!(gimli_line_write(
+                call!(gimli_line_proved_write(
                     &self.encoding, self.big_endian, 0, [self.texts], [self.directories], [self.files], [self.rows], [mut unit], size
                 ))
             })
@@ -163,7 +163,7 @@ impl Contents {
             let mut count = 0;
             // The pointers are those of slices and of locals.
             let answer = Error::of(unsafe {
-                call!(gimli_line_write_relocatable(
+                call!(gimli_line_proved_write_relocatable(
                     &self.encoding, self.big_endian, 0, in_place, [self.texts], [self.directories], [self.files], [self.rows], [symbols],
                     [mut unit], size, [mut relocations], &mut count
                 ))

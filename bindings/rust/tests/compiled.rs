@@ -1,8 +1,8 @@
-//! The map and the rows of a program that the C compiler makes, against addr2line of binutils. Where a tool is missing the test
+//! The index and the rows of a program that the C compiler makes, against addr2line of binutils. Where a tool is missing the test
 //! says so, and ends well.
 
 use gimli_line_proved::{
-    version, ColumnType, CompilationSections, Contents, Elf, Encoding, Error, LineRow, Map, Sections, Text,
+    version, ColumnType, CompilationSections, Contents, Elf, Encoding, Error, LineRow, Index, Sections, Text,
 };
 use std::collections::BTreeSet;
 use std::fs;
@@ -112,12 +112,12 @@ impl Built {
 #[test]
 fn places_are_those_of_addr2line() {
     for built in built() {
-        let bytes = Map::write(&built.sections(), &built.compilations(), 0, &[]).expect("the map is made");
-        let map = Map::open(&bytes).expect("it is a map");
+        let bytes = Index::write(&built.sections(), &built.compilations(), 0, &[]).expect("the index is made");
+        let index = Index::open(&bytes).expect("it is an index");
         let addresses = built.addresses();
         assert!(addresses.len() > 4);
         for address in addresses {
-            let place = map.find(address).expect("a row covers it");
+            let place = index.find(address).expect("a row covers it");
             let path = String::from_utf8(place.path.expect("it has a path").to_vec()).expect("the path is text");
             assert_eq!(format!("{path}:{}", place.line), built.addr2line(address));
         }
@@ -125,10 +125,10 @@ fn places_are_those_of_addr2line() {
 }
 
 #[test]
-fn paths_of_files_are_those_of_the_map() {
+fn paths_of_files_are_those_of_the_index() {
     for built in built() {
-        let bytes = Map::write(&built.sections(), &built.compilations(), 0, &[]).expect("the map is made");
-        let map = Map::open(&bytes).expect("it is a map");
+        let bytes = Index::write(&built.sections(), &built.compilations(), 0, &[]).expect("the index is made");
+        let index = Index::open(&bytes).expect("it is an index");
         for unit in built.sections().units() {
             let unit = unit.expect("the unit is read");
             let comp_dir = built.compilations().comp_dir(unit.offset as u64).expect("there is memory");
@@ -138,7 +138,7 @@ fn paths_of_files_are_those_of_the_map() {
             for pair in rows.windows(2).filter(|pair| pair[0].address() < pair[1].address() && !pair[0].end_sequence()) {
                 let row = pair[0];
                 let path = built.sections().path(unit.offset, row.file_index(), &comp_dir).expect("the path is told");
-                let place = map.find(row.address()).expect("a row covers it");
+                let place = index.find(row.address()).expect("a row covers it");
                 assert_eq!((place.path, place.unit), (Ok(path.as_slice()), unit.offset as u64));
             }
         }
@@ -146,7 +146,7 @@ fn paths_of_files_are_those_of_the_map() {
 }
 
 #[test]
-fn an_elf_file_has_the_map_of_its_sections() {
+fn an_elf_file_has_the_index_of_its_sections() {
     for built in built() {
         let file = fs::read(&built.program).expect("it is there");
         let elf = Elf::open(&file).expect("it is an ELF file");
@@ -154,8 +154,8 @@ fn an_elf_file_has_the_map_of_its_sections() {
         assert_eq!(elf.section(".debug_line"), Ok(Some(built.line.clone())));
         assert_eq!(elf.section(".no_such_section"), Ok(None));
         let id = elf.build_id().expect("it can be read").unwrap_or_default();
-        let bytes = Map::write(&built.sections(), &built.compilations(), elf.lowest(), &id).expect("the map is made");
-        assert_eq!(Map::write_elf(&elf), Ok(bytes));
+        let bytes = Index::write(&built.sections(), &built.compilations(), elf.lowest(), &id).expect("the index is made");
+        assert_eq!(Index::write_elf(&elf), Ok(bytes));
     }
     assert_eq!(Elf::open(b"no ELF").map(|_| ()), Err(Error::NO_ELF));
 }
@@ -184,13 +184,13 @@ fn a_unit_that_is_cut_has_no_directory() {
 #[test]
 fn many_addresses_are_found_as_one_is() {
     for built in built() {
-        let bytes = Map::write(&built.sections(), &built.compilations(), 0, &[]).expect("the map is made");
-        let map = Map::open(&bytes).expect("it is a map");
+        let bytes = Index::write(&built.sections(), &built.compilations(), 0, &[]).expect("the index is made");
+        let index = Index::open(&bytes).expect("it is an index");
         let mut addresses: Vec<u64> = built.addresses().into_iter().flat_map(|address| [address, address + 1]).collect();
         addresses.extend([0, u64::MAX]);
-        let each: Vec<_> = addresses.iter().map(|address| map.find(*address)).collect();
+        let each: Vec<_> = addresses.iter().map(|address| index.find(*address)).collect();
         assert!(each.iter().any(Option::is_some) && each.iter().any(Option::is_none));
-        assert_eq!(map.find_all(&addresses), each);
+        assert_eq!(index.find_all(&addresses), each);
     }
 }
 
@@ -321,22 +321,22 @@ fn a_refused_unit_has_a_next_one() {
 #[test]
 fn addresses_of_a_line_have_that_line() {
     for built in built() {
-        let bytes = Map::write(&built.sections(), &built.compilations(), 0, &[]).expect("the map is made");
-        let map = Map::open(&bytes).expect("it is a map");
+        let bytes = Index::write(&built.sections(), &built.compilations(), 0, &[]).expect("the index is made");
+        let index = Index::open(&bytes).expect("it is an index");
         for address in built.addresses() {
-            let place = map.find(address).expect("a row covers it");
+            let place = index.find(address).expect("a row covers it");
             let path = place.path.expect("it has a path");
-            if let Some(found) = map.addresses_of(path, u64::from(place.line)) {
+            if let Some(found) = index.addresses_of(path, u64::from(place.line)) {
                 assert!(found.line >= u64::from(place.line));
                 assert!(found.addresses.iter().all(|at| built.addresses().contains(at)));
                 let name = path.rsplit(|byte| *byte == b'/').next().expect("there is a last component");
-                assert_eq!(map.addresses_of(name, u64::from(place.line)), Some(found.clone()));
-                assert_eq!(map.addresses_of(&[b"./x/../", name].concat(), u64::from(place.line)), Some(found));
-                assert_eq!(map.addresses_of(&[b"x/", name].concat(), u64::from(place.line)), None);
+                assert_eq!(index.addresses_of(name, u64::from(place.line)), Some(found.clone()));
+                assert_eq!(index.addresses_of(&[b"./x/../", name].concat(), u64::from(place.line)), Some(found));
+                assert_eq!(index.addresses_of(&[b"x/", name].concat(), u64::from(place.line)), None);
             }
-            assert_eq!(map.addresses_of(path, u64::MAX), None);
+            assert_eq!(index.addresses_of(path, u64::MAX), None);
         }
-        assert_eq!(map.addresses_of(b"no such file", 1), None);
+        assert_eq!(index.addresses_of(b"no such file", 1), None);
     }
 }
 

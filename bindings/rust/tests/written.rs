@@ -1,8 +1,8 @@
-//! Units and maps that are written: read back, and by readelf and addr2line of binutils. Where a tool is missing the test says so, and
+//! Units and indexes that are written: read back, and by readelf and addr2line of binutils. Where a tool is missing the test says so, and
 //! ends well.
 
 use gimli_line_proved::{
-    Addends, CompilationSections, Contents, Encoding, Error, LineRow, Map, Relocation, Sections, Symbol,
+    Addends, CompilationSections, Contents, Encoding, Error, LineRow, Index, Relocation, Sections, Symbol,
 };
 use std::fs;
 use std::path::{Path, PathBuf};
@@ -129,7 +129,7 @@ fn section(program: &Path, name: &str) -> Vec<u8> {
 }
 
 #[test]
-fn a_map_says_what_addr2line_says() {
+fn an_index_says_what_addr2line_says() {
     if !has(&["cc", "objcopy", "addr2line", "nm"]) {
         return;
     }
@@ -153,9 +153,9 @@ fn a_map_says_what_addr2line_says() {
             debug_str_offsets: &[],
             big_endian: false,
         };
-        let bytes = Map::write(&sections, &compilations, 1, b"name").expect("it is made");
-        let map = Map::open(&bytes).expect("it is a map");
-        assert_eq!((map.check(), map.identity(), map.address_size()), (Ok(()), &b"name"[..], 8));
+        let bytes = Index::write(&sections, &compilations, 1, b"name").expect("it is made");
+        let index = Index::open(&bytes).expect("it is an index");
+        assert_eq!((index.check(), index.identity(), index.address_size()), (Ok(()), &b"name"[..], 8));
         let symbols = Command::new("nm").arg(&program).output().expect("nm runs");
         let addresses: Vec<u64> = String::from_utf8_lossy(&symbols.stdout)
             .lines()
@@ -166,7 +166,7 @@ fn a_map_says_what_addr2line_says() {
         for address in addresses {
             let said = Command::new("addr2line").arg("-e").arg(&program).arg(format!("{address:x}")).output();
             let said = String::from_utf8_lossy(&said.expect("it runs").stdout).trim().to_string();
-            let place = map.find(address);
+            let place = index.find(address);
             assert_eq!(place.is_none(), said.starts_with("??"), "{said}");
             if let Some(place) = place {
                 let path = String::from_utf8_lossy(place.path.expect("it has a path")).into_owned();
@@ -176,6 +176,6 @@ fn a_map_says_what_addr2line_says() {
         }
         assert!(known >= 2);
         let wrong = Sections { address_size: 3, ..sections };
-        assert_eq!(Map::write(&wrong, &compilations, 1, &[]), Err(Error::UNSUPPORTED_ADDRESS_SIZE));
+        assert_eq!(Index::write(&wrong, &compilations, 1, &[]), Err(Error::UNSUPPORTED_ADDRESS_SIZE));
     }
 }

@@ -60,7 +60,7 @@ const RELOCATED: [(&[u8], SectionPlace, &[u8]); 3] = [
 /// Whether `.debug_line` of a file is relocated to these bytes.
 fn is_relocated(alloc: Global, file: &[u8], place: SectionPlace, wanted: &[u8]) -> bool {
     let found = match Elf::parse(file) {
-        Ok(elf) => elf.relocated(alloc, LINES, place),
+        Ok(elf) => elf.relocated(alloc, LINES, place, 12),
         Err(e) => Err(e),
     };
     match found {
@@ -91,15 +91,15 @@ const SOUGHT: [Sought; 4] = [
     (RISCV, b".debug_info", None),
 ];
 
-/// What a section of a file holds.
-fn held(alloc: Global, file: &[u8], name: &[u8]) -> Result<Option<Vec<u8>>, Refusal> {
+/// What a section of a file holds, up to a limit.
+fn held(alloc: Global, file: &[u8], name: &[u8], limit: u64) -> Result<Option<Vec<u8>>, Refusal> {
     let mut file = Cursor::new(file);
-    Outline::read(alloc, &mut file)?.section(alloc, &mut file, name)
+    Outline::read(alloc, &mut file)?.section(alloc, &mut file, name, limit)
 }
 
 /// Whether a section holds these bytes.
 fn holds(alloc: Global, (file, name, wanted): &Sought) -> bool {
-    held(alloc, *file, *name).is_ok_and(|found| found.as_deref() == *wanted)
+    held(alloc, *file, *name, 12).is_ok_and(|found| found.as_deref() == *wanted)
 }
 
 /// The first section that holds something else.
@@ -132,7 +132,7 @@ pub fn outlines(alloc: Global) -> Found {
 
 /// Why `.debug_line` of a file isn't read.
 fn refusal(alloc: Global, file: &[u8]) -> Option<ElfError> {
-    match held(alloc, file, LINES) {
+    match held(alloc, file, LINES, u64::MAX) {
         Err(Refusal::Elf(error)) => Some(error),
         _ => None,
     }
@@ -178,6 +178,43 @@ fn refusal_with(alloc: Global, offset: usize) -> Option<ElfError> {
 /// The first number that is refused otherwise.
 pub fn huge(alloc: Global) -> Found {
     Ok(HUGE.iter().position(|(offset, wanted)| refusal_with(alloc, *offset) != Some(*wanted)))
+}
+
+/// A file, the name of a section, the limit, and why it isn't made whole, where it isn't: what
+/// `.debug_line` says that it holds has as many bytes as the limit, or one more, in both forms.
+/// What isn't compressed has no limit.
+const LIMITS: [(&[u8], &[u8], u64, Option<ElfError>); 5] = [
+    (RISCV, LINES, 12, None),
+    (RISCV, LINES, 11, Some(ElfError::SectionTooLarge(12))),
+    (ARM, LINES, 8, None),
+    (ARM, LINES, 7, Some(ElfError::SectionTooLarge(8))),
+    (RISCV, b".debug_str", 0, None),
+];
+
+/// Why a section isn't made whole by a limit, of a file that is read whole.
+fn whole_refusal(alloc: Global, file: &[u8], name: &[u8], limit: u64) -> Option<ElfError> {
+    match Elf::parse(file) {
+        Ok(elf) => elf.section_data(alloc, name, limit).err(),
+        Err(e) => Some(e),
+    }
+}
+
+/// Whether a section is refused so by a limit, of a file that is read whole and of one that isn't.
+fn is_limited(
+    alloc: Global,
+    (file, name, limit, wanted): &(&[u8], &[u8], u64, Option<ElfError>),
+) -> bool {
+    let sought = match held(alloc, *file, *name, *limit) {
+        Err(Refusal::Elf(error)) => Some(error),
+        Err(_) => return false,
+        Ok(_) => None,
+    };
+    sought == *wanted && whole_refusal(alloc, *file, *name, *limit) == *wanted
+}
+
+/// The first section that is refused otherwise.
+pub fn limits(alloc: Global) -> Found {
+    Ok(LIMITS.iter().position(|case| !is_limited(alloc, case)))
 }
 
 // ---- debug files

@@ -21,7 +21,7 @@ fn first_false(found: &[bool]) -> Option<usize> {
 }
 
 /// Each check, and what it finds.
-fn checks(alloc: Global) -> [(&'static str, Found); 8] {
+fn checks(alloc: Global) -> [(&'static str, Found); 9] {
     [
         ("compilations::units", compilations::units()),
         ("compilations::lines", compilations::lines(alloc)),
@@ -30,6 +30,7 @@ fn checks(alloc: Global) -> [(&'static str, Found); 8] {
         ("elf_files::outlines", elf_files::outlines(alloc)),
         ("elf_files::cut", elf_files::cut(alloc)),
         ("elf_files::huge", elf_files::huge(alloc)),
+        ("elf_files::limits", elf_files::limits(alloc)),
         ("elf_files::checksums", elf_files::checksums(alloc)),
     ]
 }

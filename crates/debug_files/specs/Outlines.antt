@@ -16,10 +16,10 @@ outlined outline = list_by (place_of outline.table) outline.entries.items outlin
 abbrev pub section_in : Outline → List ℕ → Result (Option StoredSection) ElfError
 section_in outline name = outlined outline >>= λ list. stored_named list name
 
--- the data of that section, by as many bytes as it has
-pub record Holds (outline : Outline) (name held : List ℕ) : Type 0 where
+-- the data of that section, by as many bytes as it has, up to a limit
+pub record Holds (outline : Outline) (limit : ℕ) (name held : List ℕ) : Type 0 where
   pub section : StoredSection
   pub is_section : section_in outline name ≡ Ok (Some section)
   pub bytes : List ℕ
   pub is_whole : length bytes ≡ section.range.size
-  pub is_held : stored_data section bytes ≡ Ok held
+  pub is_held : stored_data section limit bytes ≡ Ok held

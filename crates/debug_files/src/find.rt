@@ -13,13 +13,16 @@ use std::rt::Files;
 /// The sections of a program by its path. Where its own file has no line programs, its debug file
 /// is looked for: by the build id, and then by the name in the program's link. A file there with
 /// another build id, or another checksum, is passed over. The lowest address of code is that of the
-/// file with the line programs, or else the program's. An object file is read whole.
+/// file with the line programs, or else the program's. An object file is read whole. A compressed
+/// section that would have more bytes than the limit is refused; without a limit,
+/// [`elf_sections::usual_limit`] of the size of its file holds.
 pub fn source_of<R: Files + AllocGlobal>(
     rt: &R,
     path: &str,
     wanted: Wanted,
+    limit: Option<u64>,
 ) -> Result<Found, Missing> {
-    let mut program = open(rt, path)?;
+    let mut program = open(rt, path, limit)?;
     if program.is_relocatable()? {
         let bytes = program.whole(rt.alloc())?;
         return Ok(Found::Whole(bytes));
@@ -27,7 +30,7 @@ pub fn source_of<R: Files + AllocGlobal>(
     if let Some(source) = program.source(rt.alloc(), wanted)? {
         return Ok(Found::Sections(source));
     }
-    let mut source = find_apart(rt, path, &mut program, wanted)?;
+    let mut source = find_apart(rt, path, &mut program, wanted, limit)?;
     if source.lowest == 0 {
         source.lowest = program.lowest()?;
     }
@@ -48,6 +51,7 @@ enum Sign<'i> {
 struct Search<'i> {
     sign: Sign<'i>,
     wanted: Wanted,
+    limit: Option<u64>,
 }
 
 /// The sections in the debug file of a program.
@@ -56,6 +60,7 @@ fn find_apart<R: Files + AllocGlobal>(
     path: &str,
     program: &mut ProgramFile<R::File>,
     wanted: Wanted,
+    limit: Option<u64>,
 ) -> Result<Source, Missing> {
     let alloc = rt.alloc();
     let whole = whole_path(rt, path)?;
@@ -65,6 +70,7 @@ fn find_apart<R: Files + AllocGlobal>(
         let search = Search {
             sign: Sign::BuildId(&id),
             wanted,
+            limit,
         };
         if let Some(source) = try_each(rt, &places, search, &mut reasons)? {
             return Ok(source);
@@ -75,6 +81,7 @@ fn find_apart<R: Files + AllocGlobal>(
         let search = Search {
             sign: Sign::Checksum(link.checksum),
             wanted,
+            limit,
         };
         if let Some(source) = try_each(rt, &places, search, &mut reasons)? {
             return Ok(source);
@@ -123,7 +130,7 @@ fn signed_source<R: Files + AllocGlobal>(
     search: Search<'_>,
 ) -> Result<Source, Missing> {
     let alloc = rt.alloc();
-    let mut file = open(rt, place)?;
+    let mut file = open(rt, place, search.limit)?;
     check_sign(alloc, &mut file, search.sign)?;
     if file.is_relocatable()? {
         return Err(Missing::NotLinked);

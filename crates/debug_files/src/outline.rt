@@ -65,26 +65,27 @@ impl Outline {
     }
 
     /// What the first section of a name holds, uncompressed; None where there is none. It reads the
-    /// bytes of that section alone. Refused as [`elf_sections::Elf::section_data`] refuses it, and
-    /// where the file can't be read.
+    /// bytes of that section alone. Refused as [`elf_sections::Elf::section_data`] refuses it by
+    /// the limit, in bytes, and where the file can't be read.
     pub fn section<F: Read + Seek>(
         &self,
         alloc: Global,
         file: &mut F,
         name: &[u8],
+        limit: u64,
     ) -> Result<Option<Vec<u8>>, Refusal>
         // None says that the sections have none of the name; what is there is what its bytes hold,
         // as they were read.
         ensures { IfOk result (λ found.
             MatchOption found (section_in self.now name.now ≡ Ok None)
-            (λ held. Holds self.now name.now held.items)) }
+            (λ held. Holds self.now limit name.now held.items)) }
     {
         let sections = self.sections()?;
         let Some(section) = sections.stored(alloc, name)? else {
             return Ok(None);
         };
         let bytes = bytes_of(alloc, file, section.range())?;
-        let held = section.section_data(alloc, bytes)?;
+        let held = section.section_data(alloc, bytes, limit)?;
         Ok(Some(held))
     }
 }

@@ -7,7 +7,7 @@ use crate::directories::need_units;
 use crate::missing::Missing;
 use crate::outline::{Outline, checksum, whole};
 use crate::source::{PathSections, Source, Wanted};
-use elf_sections::ElfError;
+use elf_sections::usual_limit;
 use std::alloc::Global;
 use std::fs::File;
 use std::io::{Read, Seek};
@@ -26,6 +26,8 @@ pub(crate) struct Link {
 pub(crate) struct ProgramFile<F> {
     file: F,
     outline: Outline,
+    /// The most bytes that a section of it may have, once it is made whole.
+    limit: u64,
 }
 
 impl<F: Read + Seek> ProgramFile<F> {
@@ -55,7 +57,7 @@ impl<F: Read + Seek> ProgramFile<F> {
     ) -> Result<Option<Source>, Missing>
         ensures { let outline = self.old.outline in let name = codes ".debug_line" in
             IfOk result (λ found. MatchOption found (section_in outline name ≡ Ok None)
-            (λ source. Holds outline name source.lines.items)) }
+            (λ source. Holds outline self.old.limit name source.lines.items)) }
     {
         let Some(lines) = self.section(alloc, b".debug_line")? else {
             return Ok(None);
@@ -124,9 +126,11 @@ impl<F: Read + Seek> ProgramFile<F> {
         ensures outline { self.new.outline ≡ self.old.outline }
         ensures held { let outline = self.old.outline in
             IfOk result (λ found. MatchOption found (section_in outline name.now ≡ Ok None)
-            (λ held. Holds outline name.now held.items)) }
+            (λ held. Holds outline self.old.limit name.now held.items)) }
     {
-        let bytes = self.outline.section(alloc, &mut self.file, name)?;
+        let bytes = self
+            .outline
+            .section(alloc, &mut self.file, name, self.limit)?;
         Ok(bytes)
     }
 
@@ -139,11 +143,12 @@ impl<F: Read + Seek> ProgramFile<F> {
     }
 
     /// The bytes of a section of units, none where there is no such section, or one that isn't one
-    /// that can be read: paths then stay as the line programs have them.
+    /// that can be read: paths then stay as the line programs have them. What memory is missing
+    /// for, or the limit forbids, is refused.
     fn readable(&mut self, alloc: Global, name: &[u8]) -> Result<Vec<u8>, Missing> {
         match self.texts(alloc, name) {
             Ok(bytes) => Ok(bytes),
-            Err(Missing::Elf(error)) if error != ElfError::OutOfMemory => Ok(Vec::new(alloc)),
+            Err(Missing::Elf(error)) if !error.is_for_memory() => Ok(Vec::new(alloc)),
             Err(missing) => Err(missing),
         }
     }
@@ -185,13 +190,15 @@ impl<F: Read + Seek> ProgramFile<F> {
     }
 }
 
-/// Opens a file, and reads what its sections are known by.
+/// Opens a file, and reads what its sections are known by. The usual limit goes by its size.
 pub(crate) fn open<R: Files + AllocGlobal>(
     rt: &R,
     path: &str,
+    limit: Option<u64>,
 ) -> Result<ProgramFile<R::File>, Missing> {
     // Asked before it is opened: to open a pipe may take for ever.
-    if !fs::metadata(rt, path)?.is_file() {
+    let found = fs::metadata(rt, path)?;
+    if !found.is_file() {
         return Err(Missing::NotRegular);
     }
     let mut file = File::open(rt, path)?;
@@ -199,7 +206,11 @@ pub(crate) fn open<R: Files + AllocGlobal>(
         return Err(Missing::Core);
     }
     let outline = Outline::read(rt.alloc(), &mut file)?;
-    Ok(ProgramFile { file, outline })
+    Ok(ProgramFile {
+        file,
+        outline,
+        limit: limit.unwrap_or(usual_limit(found.len())),
+    })
 }
 
 /// Whether a file begins as the memory of a program that ended does (System V ABI, chapter 4:

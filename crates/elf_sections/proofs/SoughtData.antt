@@ -43,77 +43,80 @@ stored_found bytes header =
     ]
 
 -- what is found at a range, in a form
-by_form : (bytes : List ℕ) (layout : Layout) (form : StoredForm) (range : Result FileRange ElfError)
-    → data_at bytes (stored_at layout form range)
-    ≡ some_of ((range >>= λ r. Ok (bytes_at bytes r)) >>= data_by layout form)
-by_form bytes layout form (Ok range) = refl
-by_form bytes layout form (Err e) = refl
+by_form : (bytes : List ℕ) (layout : Layout) (form : StoredForm) (limit : ℕ) (range : Result FileRange ElfError)
+    → data_at limit bytes (stored_at layout form range)
+    ≡ some_of ((range >>= λ r. Ok (bytes_at bytes r)) >>= data_by layout form limit)
+by_form bytes layout form limit (Ok range) = refl
+by_form bytes layout form limit (Err e) = refl
 
-by_flag : (layout : Layout) (b : Bool) (r : Result (List ℕ) ElfError)
-    → (r >>= data_by layout (if b then Compressed else Plain)) ≡ (r >>= λ bytes. if b then uncompressed layout bytes else Ok bytes)
-by_flag layout true (Ok bytes) = refl
-by_flag layout true (Err e) = refl
-by_flag layout false (Ok bytes) = refl
-by_flag layout false (Err e) = refl
+by_flag : (layout : Layout) (limit : ℕ) (b : Bool) (r : Result (List ℕ) ElfError)
+    → (r >>= data_by layout (if b then Compressed else Plain) limit)
+    ≡ (r >>= λ bytes. if b then uncompressed limit layout bytes else Ok bytes)
+by_flag layout limit true (Ok bytes) = refl
+by_flag layout limit true (Err e) = refl
+by_flag layout limit false (Ok bytes) = refl
+by_flag layout limit false (Err e) = refl
 
-plain_found : (bytes : List ℕ) (layout : Layout) (header : SectionHeader)
-    → data_at bytes (stored_at layout (stored_form header) (stored_range (length bytes) header)) ≡ some_of (data_of layout bytes header)
-plain_found bytes layout header =
-    by_form bytes layout (stored_form header) (stored_range (length bytes) header)
-    ∙ ap (λ (r : Result (List ℕ) ElfError). some_of (r >>= data_by layout (stored_form header))) (stored_found bytes header)
-    ∙ ap some_of (by_flag layout (has_flag header 0x800) (stored_bytes bytes header))
+plain_found : (bytes : List ℕ) (layout : Layout) (limit : ℕ) (header : SectionHeader)
+    → data_at limit bytes (stored_at layout (stored_form header) (stored_range (length bytes) header))
+    ≡ some_of (data_of limit layout bytes header)
+plain_found bytes layout limit header =
+    by_form bytes layout (stored_form header) limit (stored_range (length bytes) header)
+    ∙ ap (λ (r : Result (List ℕ) ElfError). some_of (r >>= data_by layout (stored_form header) limit)) (stored_found bytes header)
+    ∙ ap some_of (by_flag layout limit (has_flag header 0x800) (stored_bytes bytes header))
 
-by_old : (layout : Layout) (r : Result (List ℕ) ElfError) → (r >>= data_by layout Old) ≡ (r >>= uncompressed_old)
-by_old layout (Ok bytes) = refl
-by_old layout (Err e) = refl
+by_old : (layout : Layout) (limit : ℕ) (r : Result (List ℕ) ElfError)
+    → (r >>= data_by layout Old limit) ≡ (r >>= uncompressed_old limit)
+by_old layout limit (Ok bytes) = refl
+by_old layout limit (Err e) = refl
 
-old_found : (bytes : List ℕ) (list : Listed) (found : Option SectionHeader) → list.length ≡ length bytes
-    → data_at bytes (old_stored list found) ≡ old_data_in bytes found
-old_found bytes list None size = refl
-old_found bytes list (Some header) size =
-    ap (λ n. data_at bytes (stored_at list.layout Old (header_range n header))) size
-    ∙ by_form bytes list.layout Old (header_range (length bytes) header)
-    ∙ ap (λ (r : Result (List ℕ) ElfError). some_of (r >>= data_by list.layout Old)) (header_found bytes header)
-    ∙ ap some_of (by_old list.layout (section_bytes bytes header))
+old_found : (bytes : List ℕ) (list : Listed) (limit : ℕ) (found : Option SectionHeader) → list.length ≡ length bytes
+    → data_at limit bytes (old_stored list found) ≡ old_data_in limit bytes found
+old_found bytes list limit None size = refl
+old_found bytes list limit (Some header) size =
+    ap (λ n. data_at limit bytes (stored_at list.layout Old (header_range n header))) size
+    ∙ by_form bytes list.layout Old limit (header_range (length bytes) header)
+    ∙ ap (λ (r : Result (List ℕ) ElfError). some_of (r >>= data_by list.layout Old limit)) (header_found bytes header)
+    ∙ ap some_of (by_old list.layout limit (section_bytes bytes header))
 
 -- ---- a file
 
-data_found : (file : File) (name : List ℕ) (found : Option SectionHeader)
-    → data_at file.bytes (stored_or_old (listed_of file) name found) ≡ data_or_old file name found
-data_found file name (Some header) = plain_found file.bytes file.layout header
-data_found file name None =
+data_found : (file : File) (limit : ℕ) (name : List ℕ) (found : Option SectionHeader)
+    → data_at limit file.bytes (stored_or_old (listed_of file) name found) ≡ data_or_old file limit name found
+data_found file limit name (Some header) = plain_found file.bytes file.layout limit header
+data_found file limit name None =
     elim (has_old_name name) as (λ b.
-    data_at file.bytes (if b then old_stored (listed_of file) (section_named file (old_name name)) else Ok None)
-    ≡ (if b then old_data_in file.bytes (section_named file (old_name name)) else Ok None)) [
-      | true ↦ old_found file.bytes (listed_of file) (section_named file (old_name name)) refl
+    data_at limit file.bytes (if b then old_stored (listed_of file) (section_named file (old_name name)) else Ok None)
+    ≡ (if b then old_data_in limit file.bytes (section_named file (old_name name)) else Ok None)) [
+      | true ↦ old_found file.bytes (listed_of file) limit (section_named file (old_name name)) refl
       | false ↦ refl
     ]
 
-by_file : (bytes name : List ℕ) (list : Listed) (r : Result File ElfError) → Keeps bytes r
+by_file : (bytes name : List ℕ) (limit : ℕ) (list : Listed) (r : Result File ElfError) → Keeps bytes r
     → (r >>= λ file. Ok (listed_of file)) ≡ Ok list
-    → (r >>= λ file. section_data_at file name) ≡ data_at bytes (stored_named list name)
-by_file bytes name list (Err e) kept is = absurd (cc)
-by_file bytes name list (Ok file) kept is =
+    → (r >>= λ file. section_data_at file limit name) ≡ data_at limit bytes (stored_named list name)
+by_file bytes name limit list (Err e) kept is = absurd (cc)
+by_file bytes name limit list (Ok file) kept is =
     let same : listed_of file ≡ list = cc in
-    sym (data_found file name (section_named file name))
-    ∙ ap (λ (l : Listed). data_at file.bytes (stored_named l name)) same
-    ∙ ap (λ b. data_at b (stored_named list name)) kept
+    sym (data_found file limit name (section_named file name))
+    ∙ ap (λ (l : Listed). data_at limit file.bytes (stored_named l name)) same
+    ∙ ap (λ b. data_at limit b (stored_named list name)) kept
 
-sought_data : (bytes name : List ℕ) (list : Listed) → listed bytes ≡ Ok list
-    → data_in bytes name ≡ data_at bytes (stored_named list name)
-sought_data bytes name list is =
-    by_file bytes name list (file_at bytes) (kept_layout bytes (layout_at bytes)) (sym (sought_is_whole bytes) ∙ is)
+sought_data : (bytes name : List ℕ) (limit : ℕ) (list : Listed) → listed bytes ≡ Ok list
+    → data_in bytes limit name ≡ data_at limit bytes (stored_named list name)
+sought_data bytes name limit list is =
+    by_file bytes name limit list (file_at bytes) (kept_layout bytes (layout_at bytes)) (sym (sought_is_whole bytes) ∙ is)
 
 -- ---- what the calls answer
 
-pub found_data : (list : Listed) (name bytes : List ℕ) (r : Result (Option StoredSection) ElfError)
+pub found_data : (list : Listed) (name bytes : List ℕ) (limit : ℕ) (r : Result (Option StoredSection) ElfError)
     → Gives (λ found. found) r (stored_named list name) → listed bytes ≡ Ok list
-    → IfOk r (λ found. data_in bytes name ≡ data_there bytes found)
-found_data list name bytes (Ok found) gives is = sought_data bytes name list is ∙ ap (data_at bytes) gives
-found_data list name bytes (Err e) gives is = tt
+    → IfOk r (λ found. data_in bytes limit name ≡ data_there limit bytes found)
+found_data list name bytes limit (Ok found) gives is = sought_data bytes name limit list is ∙ ap (data_at limit bytes) gives
+found_data list name bytes limit (Err e) gives is = tt
 
-pub refused_data : (list : Listed) (name bytes : List ℕ) (r : Result (Option StoredSection) ElfError)
+pub refused_data : (list : Listed) (name bytes : List ℕ) (limit : ℕ) (r : Result (Option StoredSection) ElfError)
     → Gives (λ found. found) r (stored_named list name) → listed bytes ≡ Ok list
-    → IfErr r (λ e. e ≢ OutOfMemory → data_in bytes name ≡ Err e)
-refused_data list name bytes (Ok found) gives is = tt
-refused_data list name bytes (Err e) gives is = λ other. sought_data bytes name list is ∙ ap (data_at bytes) (gives other)
+    → IfErr r (λ e. e ≢ OutOfMemory → data_in bytes limit name ≡ Err e)
+refused_data list name bytes limit (Ok found) gives is = tt
+refused_data list name bytes limit (Err e) gives is = λ other. sought_data bytes name limit list is ∙ ap (data_at limit bytes) (gives other)

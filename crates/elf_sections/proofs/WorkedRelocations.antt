@@ -11,9 +11,9 @@ use Rattle.elf_sections.specs.declared.place.SectionPlace.{SectionPlace}
 use Rattle.elf_sections.specs.declared.place.SectionPlace.TheVariants.{AllAtZero, Only}
 use Rattle.elf_sections.proofs.Worked.{header_32, contents_32, section_32}
 
--- the section .debug_line, relocated
+-- the section .debug_line, relocated; it isn't compressed, and so the limit 0 doesn't matter
 abbrev relocated : SectionPlace → List ℕ → Result (Option (List ℕ)) ElfError
-relocated place bytes = file_at bytes >>= λ file. relocated_at file place (codes ".debug_line")
+relocated place bytes = file_at bytes >>= λ file. relocated_at file place 0 (codes ".debug_line")
 
 -- a section header: its offset is above 0x100, and its address 0
 abbrev section : ℕ → ℕ → ℕ → ℕ → ℕ → ℕ → ℕ → List ℕ

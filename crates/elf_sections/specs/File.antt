@@ -59,20 +59,21 @@ abbrev pub some_of : Result (List ℕ) ElfError → Result (Option (List ℕ)) E
 some_of answer = answer >>= λ bytes. Ok (Some bytes)
 
 -- the data of the first section of the older form of a name
-abbrev pub old_data_in : List ℕ → Option SectionHeader → Result (Option (List ℕ)) ElfError
-old_data_in file None = Ok None
-old_data_in file (Some header) = some_of (old_data_of file header)
+abbrev pub old_data_in : ℕ → List ℕ → Option SectionHeader → Result (Option (List ℕ)) ElfError
+old_data_in limit file None = Ok None
+old_data_in limit file (Some header) = some_of (old_data_of limit file header)
 
 -- the data of a section, or else of the section of the older form
-abbrev pub data_or_old : File → List ℕ → Option SectionHeader → Result (Option (List ℕ)) ElfError
-data_or_old file name (Some header) = some_of (data_of file.layout file.bytes header)
-data_or_old file name None =
-    if has_old_name name then old_data_in file.bytes (section_named file (old_name name))
+abbrev pub data_or_old : File → ℕ → List ℕ → Option SectionHeader
+    → Result (Option (List ℕ)) ElfError
+data_or_old file limit name (Some header) = some_of (data_of limit file.layout file.bytes header)
+data_or_old file limit name None =
+    if has_old_name name then old_data_in limit file.bytes (section_named file (old_name name))
     else Ok None
 
--- the data of the first section of a name, made whole where it is compressed
-abbrev pub section_data_at : File → List ℕ → Result (Option (List ℕ)) ElfError
-section_data_at file name = data_or_old file name (section_named file name)
+-- the data of the first section of a name, made whole where it is compressed, up to a limit
+abbrev pub section_data_at : File → ℕ → List ℕ → Result (Option (List ℕ)) ElfError
+section_data_at file limit name = data_or_old file limit name (section_named file name)
 
 -- the addresses of the sections of code
 abbrev pub code_addresses : File → List ℕ

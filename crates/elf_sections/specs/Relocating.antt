@@ -134,5 +134,6 @@ relocated_data file place name (Some bytes) =
     else Ok (Some bytes)
 
 -- what the first section of a name holds, relocated
-abbrev pub relocated_at : File → SectionPlace → List ℕ → Result (Option (List ℕ)) ElfError
-relocated_at file place name = section_data_at file name >>= relocated_data file place name
+abbrev pub relocated_at : File → SectionPlace → ℕ → List ℕ → Result (Option (List ℕ)) ElfError
+relocated_at file place limit name =
+    section_data_at file limit name >>= relocated_data file place name

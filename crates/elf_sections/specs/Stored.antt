@@ -44,24 +44,25 @@ stored_named list name = stored_or_old list name (header_named list name)
 
 -- ---- what they are
 
-abbrev pub data_by : Layout → StoredForm → List ℕ → Result (List ℕ) ElfError
-data_by layout Plain bytes = Ok bytes
-data_by layout Compressed bytes = uncompressed layout bytes
-data_by layout Old bytes = uncompressed_old bytes
+abbrev pub data_by : Layout → StoredForm → ℕ → List ℕ → Result (List ℕ) ElfError
+data_by layout Plain limit bytes = Ok bytes
+data_by layout Compressed limit bytes = uncompressed limit layout bytes
+data_by layout Old limit bytes = uncompressed_old limit bytes
 
 -- by the bytes where they are
-abbrev pub stored_data : StoredSection → List ℕ → Result (List ℕ) ElfError
-stored_data section bytes = data_by section.layout section.form bytes
+abbrev pub stored_data : StoredSection → ℕ → List ℕ → Result (List ℕ) ElfError
+stored_data section limit bytes = data_by section.layout section.form limit bytes
 
 -- the data in a file, if there is such a section
-abbrev pub data_there : List ℕ → Option StoredSection → Result (Option (List ℕ)) ElfError
-data_there bytes None = Ok None
-data_there bytes (Some section) = some_of (stored_data section (bytes_at bytes section.range))
+abbrev pub data_there : ℕ → List ℕ → Option StoredSection → Result (Option (List ℕ)) ElfError
+data_there limit bytes None = Ok None
+data_there limit bytes (Some section) =
+    some_of (stored_data section limit (bytes_at bytes section.range))
 
-abbrev pub data_at : List ℕ → Result (Option StoredSection) ElfError
+abbrev pub data_at : ℕ → List ℕ → Result (Option StoredSection) ElfError
     → Result (Option (List ℕ)) ElfError
-data_at bytes found = found >>= data_there bytes
+data_at limit bytes found = found >>= data_there limit bytes
 
 -- the data of a section of a file that is read whole
-abbrev pub data_in : List ℕ → List ℕ → Result (Option (List ℕ)) ElfError
-data_in bytes name = file_at bytes >>= λ file. section_data_at file name
+abbrev pub data_in : List ℕ → ℕ → List ℕ → Result (Option (List ℕ)) ElfError
+data_in bytes limit name = file_at bytes >>= λ file. section_data_at file limit name

@@ -1,11 +1,11 @@
 //! A file and its sections.
 
-ghost use Rattle.std.specs.Prelude.{◌≡◌, nat_eq, IfOk, IfErr, MatchOption, []};
+ghost use Rattle.std.specs.Prelude.{◌≡◌, ◌≢◌, nat_eq, IfOk, IfErr, MatchOption, [], None};
 ghost use Rattle.std.specs.Option.{option_copied, option_map};
 ghost use Rattle.gimli_core.specs.Order.{is_big};
 ghost use Rattle.gimli_core.specs.Reading.{result_map};
 ghost use Rattle.elf_sections.specs.Layout.{address_size};
-ghost use Rattle.elf_sections.specs.Gives.{Gives};
+ghost use Rattle.elf_sections.specs.Gives.{Gives, RefusesLarge};
 ghost use Rattle.elf_sections.specs.Compression.{data_of, old_data_of, old_name};
 ghost use Rattle.elf_sections.specs.declared.error.ElfError.TheVariants.{OutOfMemory};
 ghost use Rattle.elf_sections.specs.Relocating.{index_of, data_index, applied_at, relocated_at};
@@ -125,21 +125,30 @@ impl<'a> Elf<'a> {
     /// bytes aren't all in the file (`SectionCut`), one that ends within its header of compression
     /// (`CompressionHeaderCut`), another way of compression than zlib's (`Zstd`,
     /// `UnknownCompression`), a section of the older form without its first bytes (`NotZlib`) or
-    /// with `SHF_COMPRESSED` (`Compressed`), and one that doesn't hold what its header says
-    /// (`Decompression`). `OutOfMemory` is answered where there is no memory for what it makes.
+    /// with `SHF_COMPRESSED` (`Compressed`), a compressed one whose header says more bytes than the
+    /// limit, before memory is taken for them (`SectionTooLarge`), and one that doesn't hold what
+    /// its header says (`Decompression`). `OutOfMemory` is answered where there is no memory for
+    /// what it makes.
     pub fn section_data(
         &self,
         alloc: Global,
         name: &[u8],
+        limit: u64,
     ) -> Result<Option<SectionBytes<'a>>, ElfError>
-        ensures { Gives (option_map bytes_of) result (section_data_at (file_of self.now) name.now) }
+        ensures gives { Gives (option_map bytes_of) result
+            (section_data_at (file_of self.now) limit name.now) }
+
+        // A section of the name itself that would be larger than the limit is refused for that, and
+        // never for missing memory.
+        ensures large { section_named (file_of self.now) name.now ≢ None
+            → RefusesLarge result (section_data_at (file_of self.now) limit name.now) }
     {
         if let Some(header) = self.table.find(self.names, name) {
-            let data = self.data_of(alloc, &header)?;
+            let data = self.data_of(alloc, limit, &header)?;
             return Ok(Some(data));
         }
         if name.starts_with(DEBUG) {
-            return self.old_section_data(alloc, name);
+            return self.old_section_data(alloc, limit, name);
         }
         Ok(None)
     }
@@ -161,11 +170,12 @@ impl<'a> Elf<'a> {
         alloc: Global,
         name: &[u8],
         place: SectionPlace,
+        limit: u64,
     ) -> Result<Option<SectionBytes<'a>>, ElfError>
         ensures { Gives (option_map bytes_of) result
-            (relocated_at (file_of self.now) place name.now) }
+            (relocated_at (file_of self.now) place limit name.now) }
     {
-        let Some(section) = self.section_data(alloc, name)? else {
+        let Some(section) = self.section_data(alloc, name, limit)? else {
             return Ok(None);
         };
         if !self.is_relocatable() {
@@ -218,13 +228,20 @@ impl<'a> Elf<'a> {
     }
 
     /// What a section holds.
-    fn data_of(&self, alloc: Global, header: &SectionHeader) -> Result<SectionBytes<'a>, ElfError>
-        ensures { let file = file_of self.now in
-            Gives bytes_of result (data_of file.layout file.bytes header.now) }
+    fn data_of(
+        &self,
+        alloc: Global,
+        limit: u64,
+        header: &SectionHeader,
+    ) -> Result<SectionBytes<'a>, ElfError>
+        ensures gives { let file = file_of self.now in
+            Gives bytes_of result (data_of limit file.layout file.bytes header.now) }
+        ensures large { let file = file_of self.now in
+            RefusesLarge result (data_of limit file.layout file.bytes header.now) }
     {
         let bytes = header.stored_in(self.bytes)?;
         if header.is_compressed() {
-            let made = uncompressed(alloc, self.layout, bytes)?;
+            let made = uncompressed(alloc, limit, self.layout, bytes)?;
             return Ok(SectionBytes::Made(made));
         }
         Ok(SectionBytes::Lent(bytes))
@@ -234,15 +251,16 @@ impl<'a> Elf<'a> {
     fn old_section_data(
         &self,
         alloc: Global,
+        limit: u64,
         name: &[u8],
     ) -> Result<Option<SectionBytes<'a>>, ElfError>
         ensures { let file = file_of self.now in Gives (option_map bytes_of) result
-            (old_data_in file.bytes (section_named file (old_name name.now))) }
+            (old_data_in limit file.bytes (section_named file (old_name name.now))) }
     {
         let Some(header) = self.old_header(alloc, name)? else {
             return Ok(None);
         };
-        let data = self.old_data_of(alloc, &header)?;
+        let data = self.old_data_of(alloc, limit, &header)?;
         Ok(Some(data))
     }
 
@@ -261,12 +279,13 @@ impl<'a> Elf<'a> {
     fn old_data_of(
         &self,
         alloc: Global,
+        limit: u64,
         header: &SectionHeader,
     ) -> Result<SectionBytes<'a>, ElfError>
-        ensures { Gives bytes_of result (old_data_of (file_of self.now).bytes header.now) }
+        ensures { Gives bytes_of result (old_data_of limit (file_of self.now).bytes header.now) }
     {
         let bytes = header.bytes_in(self.bytes)?;
-        let made = uncompressed_old(alloc, bytes)?;
+        let made = uncompressed_old(alloc, limit, bytes)?;
         Ok(SectionBytes::Made(made))
     }
 

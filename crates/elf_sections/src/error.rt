@@ -2,7 +2,7 @@
 
 ghost use Rattle.std.specs.Prelude.{◌≡◌};
 ghost use Rattle.elf_sections.specs.declared.error.ElfError.TheVariants.{OutOfMemory};
-ghost use Rattle.elf_sections.specs.Fault.{fault_of};
+ghost use Rattle.elf_sections.specs.Fault.{fault_of, is_for_memory};
 
 use std::alloc::AllocError;
 use std::fmt;
@@ -42,6 +42,9 @@ pub enum ElfError {
     Zstd,
     /// A section `.zdebug_` doesn't begin with the bytes of `ZLIB`.
     NotZlib,
+    /// What the section holds would be larger than the caller's limit. It holds the size that the
+    /// header of compression says, in bytes.
+    SectionTooLarge(u64),
     /// What the section is compressed to isn't the zlib format, or doesn't hold as many bytes as
     /// the header of compression says.
     Decompression(inflate::Error),
@@ -83,6 +86,14 @@ impl From<AllocError> for ElfError {
 }
 
 impl ElfError {
+    /// Whether memory is missing, or the limit forbids to take it (`OutOfMemory`,
+    /// `SectionTooLarge`).
+    pub fn is_for_memory(self) -> bool
+        ensures { result ≡ is_for_memory self }
+    {
+        matches!(self, ElfError::OutOfMemory | ElfError::SectionTooLarge(_))
+    }
+
     /// What the error says before the number that it holds, or all of it where it holds none.
     fn text(self) -> &'static str {
         match self {
@@ -105,6 +116,7 @@ impl ElfError {
                  objcopy --decompress-debug-sections FILE"
             }
             ElfError::NotZlib => "the compressed section does not begin with ZLIB",
+            ElfError::SectionTooLarge(_) => "the compressed section would take ",
             ElfError::Decompression(_) => "the section cannot be decompressed",
             ElfError::OutOfMemory => "out of memory",
             ElfError::UnknownMachine(_) => "the relocations of the machine ",
@@ -126,6 +138,7 @@ impl ElfError {
             ElfError::ByteOrder(_) => " is unknown",
             ElfError::Version(_) => " is unknown",
             ElfError::SectionHeaderSize(_) => " bytes",
+            ElfError::SectionTooLarge(_) => " bytes, which is more than the limit",
             ElfError::UnknownMachine(_) => " are unknown",
             ElfError::UnknownRelocation(_) => " is unknown",
             ElfError::EntrySize(_) => " bytes",
@@ -141,6 +154,7 @@ impl ElfError {
             ElfError::Version(version) => Some(u64::from(version)),
             ElfError::SectionHeaderSize(size) => Some(u64::from(size)),
             ElfError::UnknownCompression(kind) => Some(u64::from(kind)),
+            ElfError::SectionTooLarge(size) => Some(size),
             ElfError::UnknownMachine(machine) => Some(u64::from(machine)),
             ElfError::UnknownRelocation(kind) => Some(u64::from(kind)),
             ElfError::EntrySize(size) => Some(size),

@@ -26,6 +26,7 @@ mod stored;
 mod symbol;
 mod symbols;
 
+pub use compression::usual_limit;
 pub use crc::{crc32, crc32_more};
 pub use debug_file::DebugLink;
 pub use elf::Elf;

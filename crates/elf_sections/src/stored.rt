@@ -2,7 +2,7 @@
 
 ghost use Rattle.std.specs.Prelude.{◌≡◌, ◌≢◌, ℕ, List, IfOk, IfErr, Ok, Err};
 ghost use Rattle.elf_sections.specs.Compression.{old_name};
-ghost use Rattle.elf_sections.specs.Gives.{Gives};
+ghost use Rattle.elf_sections.specs.Gives.{Gives, RefusesLarge};
 ghost use Rattle.elf_sections.specs.Seeking.{listed, header_named};
 ghost use Rattle.elf_sections.specs.Stored.{stored_named, stored_data, data_there, data_in};
 ghost use Rattle.elf_sections.specs.Stored.{stored_form, old_stored};
@@ -38,7 +38,7 @@ pub(crate) enum StoredForm {
 ///     return Ok(None);
 /// };
 /// let bytes = bytes_of(alloc, file, section.range())?;
-/// let held = section.section_data(alloc, bytes)?;
+/// let held = section.section_data(alloc, bytes, limit)?;
 /// ```
 #[derive(Clone, Copy, Debug)]
 pub struct StoredSection {
@@ -56,15 +56,25 @@ impl StoredSection {
     }
 
     /// What it holds, by the bytes that are at its range. They are handed back where they aren't
-    /// compressed. Refused as [`Elf::section_data`](crate::Elf::section_data) refuses what a
-    /// section holds, and `OutOfMemory` where there is no memory for what it makes.
-    pub fn section_data(&self, alloc: Global, bytes: Vec<u8>) -> Result<Vec<u8>, ElfError>
-        ensures { Gives (λ made. made.items) result (stored_data self.now bytes.items) }
+    /// compressed, whatever the limit is. Refused as
+    /// [`Elf::section_data`](crate::Elf::section_data) refuses what a section holds, and
+    /// `OutOfMemory` where there is no memory for what it makes.
+    pub fn section_data(
+        &self,
+        alloc: Global,
+        bytes: Vec<u8>,
+        limit: u64,
+    ) -> Result<Vec<u8>, ElfError>
+        ensures gives { Gives (λ made. made.items) result
+            (stored_data self.now limit bytes.items) }
+
+        // What would be larger than the limit is refused for that, and never for missing memory.
+        ensures large { RefusesLarge result (stored_data self.now limit bytes.items) }
     {
         match self.form {
             StoredForm::Plain => Ok(bytes),
-            StoredForm::Compressed => uncompressed(alloc, self.layout, &bytes),
-            StoredForm::Old => uncompressed_old(alloc, &bytes),
+            StoredForm::Compressed => uncompressed(alloc, limit, self.layout, &bytes),
+            StoredForm::Old => uncompressed_old(alloc, limit, &bytes),
         }
     }
 }
@@ -81,10 +91,10 @@ impl SectionList<'_> {
         ensures stored { Gives (λ found. found) result (stored_named (list_of self.now) name.now) }
 
         // Where the sections are those of a file, the data there are what the section holds.
-        ensures whole { (bytes : List ℕ) → listed bytes ≡ Ok (list_of self.now)
-            → IfOk result (λ found. data_in bytes name.now ≡ data_there bytes found) }
-        ensures refused { (bytes : List ℕ) → listed bytes ≡ Ok (list_of self.now)
-            → IfErr result (λ e. e ≢ OutOfMemory → data_in bytes name.now ≡ Err e) }
+        ensures whole { (bytes : List ℕ) (limit : ℕ) → listed bytes ≡ Ok (list_of self.now)
+            → IfOk result (λ found. data_in bytes limit name.now ≡ data_there limit bytes found) }
+        ensures refused { (bytes : List ℕ) (limit : ℕ) → listed bytes ≡ Ok (list_of self.now)
+            → IfErr result (λ e. e ≢ OutOfMemory → data_in bytes limit name.now ≡ Err e) }
     {
         self.stored_named(alloc, name)
     }

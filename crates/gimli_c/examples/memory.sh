@@ -1,17 +1,16 @@
 #!/usr/bin/env bash
 # Looks for misused memory: the example where_is under valgrind; all examples built with the address sanitiser; each call over buffers
 # that end at a page that can't be read (guarded.c); many threads over the same sections (directories.c), also under helgrind of valgrind;
-# and maps (maps.c): many threads and a signal handler over one, with a malloc that ends the program where a question asks for memory, and
-# maps with bytes that were changed or cut. Over compiled programs of versions 2 to 5. What a machine lacks is said, and passed over. The
-# library is that of `make`, or of .ci/library.
+# and indexes (indexes.c): many threads and a signal handler over one, with a malloc that ends the program where a question asks for memory, and
+# indexes with bytes that were changed or cut. Over compiled programs of versions 2 to 5. What a machine lacks is said, and passed over. The
+# archive is that of .ci/library, and make/calls.c is built with each.
 set -eu
 here=$(cd "$(dirname "$0")" && pwd)
 crate=$(dirname "$here")
 top=$(cd "$crate/../.." && pwd)
 have() { command -v "$1" >/dev/null || { echo "gimli_c: $1 is missing: $2 isn't tried"; false; }; }
 have cc "memory" && have objcopy "memory" || exit 0
-library=$crate/build/libgimli_line.a
-[ -f "$library" ] || library="$crate/out/libgimli_c.a $(dirname "$(rt doc)")/c/liblibc_c.a"
+library="$crate/make/calls.c $crate/out/libgimli_c.a $(dirname "$(rt doc)")/c/liblibc_c.a"
 work=$(mktemp -d)
 trap 'rm -rf "$work"' EXIT
 
@@ -20,7 +19,7 @@ build() {
     local name=$1 source=$2
     shift 2
     # shellcheck disable=SC2086
-    cc -std=c11 -g -O1 -Wall -Wextra -Werror -I "$crate/include" "$@" "$here/c/$source.c" $library -lpthread -o "$work/$name"
+    cc -std=c11 -g -O1 -Wall -Wextra -Werror -I "$crate/include" -I "$here/c" "$@" "$here"/*/"$source.c" $library -lpthread -o "$work/$name"
 }
 
 for version in 2 3 4 5; do
@@ -46,10 +45,10 @@ echo "gimli_c: $calls answers over buffers that end at a page that can't be read
 build directories directories
 echo "gimli_c: $("$work/directories") answers over sections made by hand, and the same in 8 threads at once"
 
-build maps maps
-echo "gimli_c: maps: $("$work/maps"), without memory"
-if build raced maps -fsanitize=thread -DSANITISED 2>/dev/null && "$work/raced" >"$work/said" 2>&1; then
-    echo "gimli_c: the thread sanitiser finds nothing in the questions to one map"
+build indexes indexes
+echo "gimli_c: indexes: $("$work/indexes"), without memory"
+if build raced indexes -fsanitize=thread -DSANITISED 2>/dev/null && "$work/raced" >"$work/said" 2>&1; then
+    echo "gimli_c: the thread sanitiser finds nothing in the questions to one index"
 else
     # It needs addresses that some machines don't give.
     ! grep -q 'WARNING: ThreadSanitizer' "$work/said" || { cat "$work/said"; exit 1; }
@@ -58,23 +57,23 @@ fi
 
 # Some machines have the compiler's word, and no library for it.
 if build sanitised_where_is where_is -fsanitize=address,undefined 2>/dev/null; then
-    for example in addr2line directories map make_map compiler; do
+    for example in addr2line directories index make_index compiler; do
         build "sanitised_$example" "$example" -fsanitize=address,undefined
     done
-    build sanitised_maps maps -fsanitize=address,undefined -DSANITISED
+    build sanitised_maps indexes -fsanitize=address,undefined -DSANITISED
     "$work/sanitised_directories" >/dev/null
     "$work/sanitised_maps" >/dev/null
-    "$work/maps" "$work/small.map"
-    "$work/sanitised_map" "$work/small.map" 400000 400015 400020 0.c:1 0.c:2 >/dev/null
+    "$work/indexes" "$work/small.index"
+    "$work/sanitised_ask_index" "$work/small.index" 400000 400015 400020 0.c:1 0.c:2 >/dev/null
     for version in 2 3 4 5; do
         # shellcheck disable=SC2086
         "$work/sanitised_where_is" "$work/built$version" $addresses >/dev/null
         "$work/sanitised_addr2line" "$work/line$version" >/dev/null
         # shellcheck disable=SC2086
         "$work/sanitised_addr2line" "$work/line$version" $addresses >/dev/null
-        "$work/sanitised_make_map" "$work/built$version" "$work/made.map" >/dev/null
+        "$work/sanitised_make_index" "$work/built$version" "$work/made.index" >/dev/null
         # shellcheck disable=SC2086
-        "$work/sanitised_map" "$work/made.map" $addresses main.c:1 sums.c:1 >/dev/null
+        "$work/sanitised_ask_index" "$work/made.index" $addresses main.c:1 sums.c:1 >/dev/null
         "$work/sanitised_compiler" "$version" >/dev/null
         "$work/sanitised_compiler" "$version" in-place >/dev/null
     done
@@ -85,12 +84,12 @@ fi
 
 if have valgrind "memory by it"; then
     checked() { valgrind -q --error-exitcode=9 --leak-check=full --errors-for-leak-kinds=all "$@" >/dev/null; }
-    for example in where_is addr2line make_map compiler; do build "$example" "$example"; done
+    for example in where_is addr2line make_index compiler; do build "$example" "$example"; done
     for version in 2 5; do
         # shellcheck disable=SC2086
         checked "$work/where_is" "$work/built$version" $addresses
         checked "$work/addr2line" "$work/line$version"
-        checked "$work/make_map" "$work/built$version" "$work/made.map"
+        checked "$work/make_index" "$work/built$version" "$work/made.index"
         checked "$work/compiler" "$version"
     done
     valgrind -q --error-exitcode=9 --tool=helgrind "$work/directories" >/dev/null

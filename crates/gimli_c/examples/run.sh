@@ -1,7 +1,7 @@
 #!/usr/bin/env bash
 # Builds a small program, takes its line information as raw bytes, builds the examples over libgimli_c.a, and compares what one
 # prints with what linetool prints: every row of every unit, and the rows round some addresses. Others, in C and in C++, print
-# paths and lines by a map of the program, which are compared with those of addr2line of binutils. Another writes lines for an assembler,
+# paths and lines by an index of the program, which are compared with those of addr2line of binutils. Another writes lines for an assembler,
 # which addr2line reads once they are linked. Another asks for directories of compilations, paths and lines, by sections that are made by
 # hand.
 # It needs a C compiler, objcopy and addr2line, and a C++ compiler for the one in C++.
@@ -15,10 +15,11 @@ crate=$(dirname "$here")
 top=$(cd "$crate/../.." && pwd)
 # Each number of the header is that of the constant of the same name: a law ties those of status.rt, the others stand in row.rt
 # and in file.rt.
-diff <(sed -nE 's/^ +(GIMLI_|X\()([A-Z0-9_]+)( =|,) ([0-9]+).*/\2 \4/p' "$crate/include/gimli_line.h") \
+diff <(grep -oE '^ +X\([A-Z0-9_]+, [0-9]+|GIMLI_LINE_[A-Z0-9_]+ = [0-9]+' "$crate/include/gimli_line.h" |
+    sed -E 's/^ *(GIMLI_LINE_|X\()([A-Z0-9_]+)( =|,) ([0-9]+)/\2 \4/') \
     <(cd "$crate/src" && sed -nE 's/^pub const ([A-Z0-9_]+): u[0-9]+ = ([0-9]+);/\1 \2/p' status.rt row.rt file.rt)
 # So is its version.
-[ "$(sed -nE 's/^#define GIMLI_VERSION_[A-Z]+ ([0-9]+)$/\1/p' "$crate/include/gimli_line.h" | awk '{v = v * 100 + $1} END {print v}')" = \
+[ "$(sed -nE 's/^#define GIMLI_LINE_VERSION_[A-Z]+ ([0-9]+)$/\1/p' "$crate/include/gimli_line.h" | awk '{v = v * 100 + $1} END {print v}')" = \
     "$(sed -nE 's/^pub const VERSION: u32 = ([0-9]+);/\1/p' "$crate/src/version.rt")" ]
 for tool in cc objcopy addr2line; do
     command -v $tool >/dev/null || { echo "gimli_c: not tried, since $tool is missing"; exit 0; }
@@ -32,12 +33,15 @@ kit=$(dirname "$(rt doc)")/c
 work=$(mktemp -d)
 trap 'rm -rf "$work"' EXIT
 
-for example in addr2line where_is directories make_map map maps compiler; do
-    cc -std=c11 -Wall -Wextra -Werror -O2 -I "$crate/include" "$here/c/$example.c" "$library" "$kit/liblibc_c.a" -lpthread -o "$work/$example"
+cc -std=c11 -Wall -Wextra -Werror -O2 -I "$crate/include" -c "$crate/make/calls.c" -o "$work/calls.o"
+for example in addr2line where_is directories make_index ask_index indexes compiler; do
+    cc -std=c11 -Wall -Wextra -Werror -O2 -I "$crate/include" -I "$here/c" "$here"/*/"$example.c" "$work/calls.o" \
+        "$library" "$kit/liblibc_c.a" -lpthread -o "$work/$example"
 done
 in_each=where_is
 if command -v c++ >/dev/null; then
-    c++ -std=c++11 -Wall -Wextra -Werror -O2 -I "$crate/include" "$here/cpp/where_is.cc" "$library" "$kit/liblibc_c.a" -o "$work/where_is_cpp"
+    c++ -std=c++11 -Wall -Wextra -Werror -O2 -I "$crate/include" "$here/cpp/where_is.cc" "$work/calls.o" "$library" "$kit/liblibc_c.a" \
+        -o "$work/where_is_cpp"
     in_each="where_is where_is_cpp"
 else
     echo "gimli_c: the C++ example isn't tried, since c++ is missing"
@@ -81,25 +85,25 @@ none" ]
             places=$((places + $(wc -l <"$work/places")))
         done
     done
-    # The same by maps that stand in files, which are named by the build id, and say the same of every address.
+    # The same by indexes that stand in files, which are named by the build id, and say the same of every address.
     for name in built compressed; do
-        "$work/make_map" "$work/$name" "$work/$name.map" >"$work/named"
+        "$work/make_index" "$work/$name" "$work/$name.index" >"$work/named"
         readelf -n "$work/$name" | sed -nE 's/.*Build ID: //p' | cmp - "$work/named"
         # shellcheck disable=SC2086
-        "$work/map" "$work/$name.map" $covered | sed -E "s,:[0-9]+\$,," | cmp "$work/places" -
-        [ "$("$work/map" "$work/$name.map" 0 ffffffffffffffff)" = "none
+        "$work/ask_index" "$work/$name.index" $covered | sed -E "s,:[0-9]+\$,," | cmp "$work/places" -
+        [ "$("$work/ask_index" "$work/$name.index" 0 ffffffffffffffff)" = "none
 none" ]
         mapped=$((mapped + $(wc -l <"$work/places")))
     done
-    cmp "$work/built.map" "$work/compressed.map"
+    cmp "$work/built.index" "$work/compressed.index"
     # Back again, of a program without two rows at one address: the addresses that are told of a line have the line that is told,
     # up to the last line of each file that has code.
     (cd "$top/compare" && cc -g "-gdwarf-$version" -O0 sources/main.c sources/sums.c -o "$work/plain")
-    "$work/make_map" "$work/plain" "$work/plain.map" >/dev/null
+    "$work/make_index" "$work/plain" "$work/plain.index" >/dev/null
     for source in main.c sums.c; do
         last=0
         for line in $(seq "$(wc -l <"$top/compare/sources/$source")"); do
-            "$work/map" "$work/plain.map" "sources/$source:$line" >"$work/begins"
+            "$work/ask_index" "$work/plain.index" "sources/$source:$line" >"$work/begins"
             [ "$(cut -d' ' -f1 "$work/begins" | sort -u | wc -l)" = 1 ]
             last=$line
             [ "$(cat "$work/begins")" != none ] || break
@@ -112,23 +116,23 @@ none" ]
         done
         [ "$last" -gt 10 ]
     done
-    "$work/addr2line" "$work/line.bin" | cmp "$work/rows" -
+    "$work/addr2line" "$work/built" | cmp "$work/rows" -
     # shellcheck disable=SC2086
-    "$work/addr2line" "$work/line.bin" $addresses 0 ffffffffffffffff | cmp "$work/pairs" -
+    "$work/addr2line" "$work/built" $addresses 0 ffffffffffffffff | cmp "$work/pairs" -
     compared=$((compared + $(cat "$work/rows" "$work/pairs" | wc -l)))
 done
-# A map that is written by the page of its format alone: the ranges from 400000 on have 16 bytes each, and each third is a gap.
-"$work/maps" "$work/small.map"
-printf '%s\n' /source/0.c:1:0 '??:2:1' none /source/0.c:4:3 none >"$work/expected_map"
-"$work/map" "$work/small.map" 400000 40001f 400020 400037 3fffff | cmp "$work/expected_map" -
+# An index that is written by the page of its format alone: the ranges from 400000 on have 16 bytes each, and each third is a gap.
+"$work/indexes" "$work/small.index"
+printf '%s\n' /source/0.c:1:0 '??:2:1' none /source/0.c:4:3 none >"$work/expected_index"
+"$work/ask_index" "$work/small.index" 400000 40001f 400020 400037 3fffff | cmp "$work/expected_index" -
 # Lines 2 to 6 have no statement in that file, so the addresses of line 7 stand in for them.
-[ "$("$work/map" "$work/small.map" 0.c:1 source/./0.c:2 /0.c:1 0.c:8)" = "1 400000
+[ "$("$work/ask_index" "$work/small.index" 0.c:1 source/./0.c:2 /0.c:1 0.c:8)" = "1 400000
 7 400060
 none
 none" ]
-! "$work/map" "$crate/include/gimli_line.h" 400000 2>"$work/said"
-[ "$(cat "$work/said")" = "the bytes don't begin as a map does" ]
-! "$work/make_map" "$crate/include/gimli_line.h" "$work/no.map" 2>"$work/said"
+! "$work/ask_index" "$crate/include/gimli_line.h" 400000 2>"$work/said"
+[ "$(cat "$work/said")" = "the bytes don't begin as an index does" ]
+! "$work/make_index" "$crate/include/gimli_line.h" "$work/no.index" 2>"$work/said"
 [ "$(cat "$work/said")" = "the bytes are no ELF file that can be read" ]
 # The lines of two functions whose addresses a linker gives, by each form of relocations: addr2line finds what compiler.c wrote.
 linked=0
@@ -159,14 +163,15 @@ objcopy --strip-debug "$work/built" "$work/stripped"
 [ "$("$work/where_is" "$work/stripped" 0 2>&1 || true)" = "the ELF file has no section of this name" ]
 # After a unit that is refused the rows of the next ones are still printed.
 printf '\4\0\0\0\11\0\0\0' | cat - "$work/line.bin" >"$work/refused.bin"
-! "$work/addr2line" "$work/refused.bin" >"$work/answer" 2>"$work/said"
+objcopy --update-section ".debug_line=$work/refused.bin" "$work/built" "$work/refused"
+! "$work/addr2line" "$work/refused" >"$work/answer" 2>"$work/said"
 cmp "$work/rows" "$work/answer"
 [ "$(cat "$work/said")" = "unit at 0: the version of a unit is none of 2 to 5" ]
 directories=$("$work/directories")
-echo "gimli_c: a map that was written by docs/INDEX.md alone is read as it was written"
+echo "gimli_c: an index that was written by docs/INDEX.md alone is read as it was written"
 echo "gimli_c: $directories answers on directories, paths and lines are as made by hand"
-echo "gimli_c: $mapped places by maps that make_map made are addr2line's, and each map has its program's build id"
-echo "gimli_c: $begins addresses of lines by those maps have these lines by addr2line too"
+echo "gimli_c: $mapped places by indexes that make_index made are addr2line's, and each index has its program's build id"
+echo "gimli_c: $begins addresses of lines by those indexes have these lines by addr2line too"
 echo "gimli_c: $linked lines at symbols that a linker placed are addr2line's"
 echo "gimli_c: $places paths and lines of the examples ($in_each) are addr2line's"
 echo "gimli_c: $compared lines of the example addr2line are linetool's"

@@ -9,7 +9,7 @@ pub mod CauseLemmas
 pub mod SamePrograms
 pub mod CompDirs
 pub mod PathsOfFiles
-pub mod Maps
-pub mod MadeMaps
+pub mod Indexes
+pub mod MadeIndexes
 pub mod LineCounts
 pub mod TakenOne

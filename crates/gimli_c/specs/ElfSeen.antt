@@ -1,10 +1,12 @@
 -- What C sees of an ELF file (System V ABI, chapter 4).
-use Rattle.std.specs.Prelude.{◌≡◌, ◌⊎◌, ℕ, List, [], length, nat_eq, Some, None, Ok, Err}
+use Rattle.std.specs.Prelude.{◌≡◌, ◌≤◌, ◌<◌, ◌⊎◌, ℕ, List, [], length, nat_eq, Option, Some}
+use Rattle.std.specs.Prelude.{None, Result, Ok, Err}
 use Rattle.gimli_core.specs.Order.{is_big}
 use Rattle.elf_sections.specs.File.{File, file_at, code_addresses, IsLeast}
 use Rattle.elf_sections.specs.Layout.{address_size}
 use Rattle.elf_sections.specs.Relocating.{relocated_at}
 use Rattle.elf_sections.specs.declared.error.ElfError.{ElfError}
+use Rattle.elf_sections.specs.declared.error.ElfError.TheVariants.{SectionTooLarge}
 use Rattle.elf_sections.specs.declared.place.SectionPlace.TheVariants.{AllAtZero}
 use Rattle.gimli_c.specs.declared.elf.GimliElf.{GimliElf}
 use Rattle.gimli_c.specs.Written.{slots_with}
@@ -27,24 +29,38 @@ pub record SeesElf (bytes : List ℕ) (seen : GimliElf) : Type 0 where
   pub big : seen.big ≡ is_big file.layout.order
   pub relocatable : seen.relocatable ≡ nat_eq file.kind 1
 
+-- what the first section of a name holds, made whole if it has no more bytes than there is room for
+abbrev pub section_of : ℕ → File → List ℕ → Result (Option (List ℕ)) ElfError
+section_of room file name = relocated_at file AllAtZero room name
+
 -- what the first section of a name holds, made whole, in an array of the caller, and its length
 pub record WritesSection (bytes name old new : List ℕ) (size : ℕ) : Type 0 where
   pub file : File
   pub is : file_at bytes ≡ Ok file
   pub whole : List ℕ
-  pub holds : relocated_at file AllAtZero name ≡ Ok (Some whole)
+  pub holds : section_of (length old) file name ≡ Ok (Some whole)
   pub written : new ≡ slots_with whole old
   pub size_is : size ≡ length whole
+  pub fits : size ≤ length old
 
--- the file has no section of the name
-pub record HasNoSection (bytes name : List ℕ) : Type 0 where
+-- the section of the name has so many bytes, or states them where it is compressed, and an array of
+-- so much room is too small for them
+pub record NeedsSectionRoom (bytes name : List ℕ) (room size : ℕ) : Type 0 where
   pub file : File
   pub is : file_at bytes ≡ Ok file
-  pub none : relocated_at file AllAtZero name ≡ Ok None
+  pub has : ((whole : List ℕ) × (section_of room file name ≡ Ok (Some whole))
+      × (size ≡ length whole) × (room < size))
+      ⊎ (section_of room file name ≡ Err (SectionTooLarge size))
+
+-- the file has no section of the name
+pub record HasNoSection (bytes name : List ℕ) (room : ℕ) : Type 0 where
+  pub file : File
+  pub is : file_at bytes ≡ Ok file
+  pub none : section_of room file name ≡ Ok None
 
 -- the section of the name can't be read
-pub record CantReadSection (bytes name : List ℕ) : Type 0 where
+pub record CantReadSection (bytes name : List ℕ) (room : ℕ) : Type 0 where
   pub file : File
   pub is : file_at bytes ≡ Ok file
   pub error : ElfError
-  pub refused : relocated_at file AllAtZero name ≡ Err error
+  pub refused : section_of room file name ≡ Err error

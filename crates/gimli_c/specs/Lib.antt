@@ -15,9 +15,9 @@ pub mod Refused
 pub mod Causes
 pub mod Path
 pub mod CompDir
-pub mod Mapped
-pub mod MadeMap
-pub mod MapLines
+pub mod Indexed
+pub mod MadeIndex
+pub mod IndexLines
 pub mod ElfSeen
 pub mod BuildId
 pub mod inside

@@ -17,15 +17,23 @@ use Rattle.gimli_c.specs.declared.status.TheConstants.{TEXT_OUT_OF_BOUNDS, ZERO_
 use Rattle.gimli_c.specs.declared.status.TheConstants.{NO_SOURCE_FILE, NO_SUCH_DIRECTORY}
 use Rattle.gimli_c.specs.declared.status.TheConstants.{NO_SUCH_FILE, ROW_OUT_OF_ORDER, UNKNOWN_FLAG}
 use Rattle.gimli_c.specs.declared.status.TheConstants.{NEED_VERSION_4, UNIT_TOO_LONG, NO_ROOM}
-use Rattle.gimli_c.specs.declared.status.TheConstants.{UNKNOWN_PATH, NO_MAP}
-use Rattle.gimli_c.specs.declared.status.TheConstants.{UNKNOWN_MAP_VERSION, MAP_CUT, MAP_HEADER}
-use Rattle.gimli_c.specs.declared.status.TheConstants.{MAP_DISORDERED, MAP_PATH_OUTSIDE}
+use Rattle.gimli_c.specs.declared.status.TheConstants.{UNKNOWN_PATH, NO_INDEX}
+use Rattle.gimli_c.specs.declared.status.TheConstants.{
+  UNKNOWN_INDEX_VERSION,
+  INDEX_CUT,
+  INDEX_HEADER,
+}
+use Rattle.gimli_c.specs.declared.status.TheConstants.{INDEX_DISORDERED, INDEX_PATH_OUTSIDE}
 use Rattle.gimli_c.specs.declared.status.TheConstants.{NO_CODE, NO_COMP_DIR}
 use Rattle.gimli_c.specs.declared.status.TheConstants.{UNKNOWN_OPTIONS, NO_ELF, NO_SECTION}
-use Rattle.gimli_c.specs.declared.status.TheConstants.{BAD_SECTION, MAP_TOO_LARGE, PLACE_TOO_LARGE}
+use Rattle.gimli_c.specs.declared.status.TheConstants.{
+  BAD_SECTION,
+  INDEX_TOO_LARGE,
+  PLACE_TOO_LARGE,
+}
 
--- the constants are these numbers, which the enum `gimli_status` of include/gimli_line.h has under
--- the same names
+-- the constants are these numbers, which the enum `gimli_line_status` of include/gimli_line.h has
+-- under the same names
 pub record AreNumbered : Type 0 where
   pub ok : OK ≡ 0
   pub unexpected_eof : UNEXPECTED_EOF ≡ 1
@@ -60,17 +68,17 @@ pub record AreNumbered : Type 0 where
   pub unit_too_long : UNIT_TOO_LONG ≡ 30
   pub no_room : NO_ROOM ≡ 31
   pub unknown_path : UNKNOWN_PATH ≡ 33
-  pub no_map : NO_MAP ≡ 34
-  pub unknown_map_version : UNKNOWN_MAP_VERSION ≡ 35
-  pub map_cut : MAP_CUT ≡ 36
-  pub map_header : MAP_HEADER ≡ 37
-  pub map_disordered : MAP_DISORDERED ≡ 38
-  pub map_path_outside : MAP_PATH_OUTSIDE ≡ 39
+  pub no_index : NO_INDEX ≡ 34
+  pub unknown_index_version : UNKNOWN_INDEX_VERSION ≡ 35
+  pub index_cut : INDEX_CUT ≡ 36
+  pub index_header : INDEX_HEADER ≡ 37
+  pub index_disordered : INDEX_DISORDERED ≡ 38
+  pub index_path_outside : INDEX_PATH_OUTSIDE ≡ 39
   pub no_code : NO_CODE ≡ 41
   pub no_comp_dir : NO_COMP_DIR ≡ 42
   pub unknown_options : UNKNOWN_OPTIONS ≡ 43
   pub no_elf : NO_ELF ≡ 44
   pub no_section : NO_SECTION ≡ 45
   pub bad_section : BAD_SECTION ≡ 46
-  pub map_too_large : MAP_TOO_LARGE ≡ 47
+  pub index_too_large : INDEX_TOO_LARGE ≡ 47
   pub place_too_large : PLACE_TOO_LARGE ≡ 48

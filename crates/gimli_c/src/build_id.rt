@@ -13,7 +13,11 @@ use crate::status::{BAD_SECTION, NO_ELF, NO_SECTION, OK};
 /// and `NO_ELF` where the file is none. Where another number than 0 is returned, nothing is
 /// written. Takes no memory.
 #[unsafe(no_mangle)]
-pub extern "C" fn gimli_elf_build_id(file: &[u8], id: &mut [u8], size: &mut usize) -> u32
+pub extern "C" fn gimli_line_proved_elf_build_id(
+    file: &[u8],
+    id: &mut [u8],
+    size: &mut usize,
+) -> u32
     ensures found { result ≡ OK → WritesBuildId file.now id.old id.new size.new }
     ensures none { result ≡ NO_SECTION → HasNoBuildId file.now }
     ensures refused { result ≢ OK → result ≢ NO_SECTION → ((result ≡ NO_ELF) × IsNoElf file.now)

@@ -41,7 +41,7 @@ pub(crate) fn sections_in<'s>(
 /// `NO_COMP_DIR` where no unit that can be read has one. Where another number than 0 is returned,
 /// nothing is written. The first entry of each unit is read for each call.
 #[unsafe(no_mangle)]
-pub extern "C" fn gimli_line_comp_dir(
+pub extern "C" fn gimli_line_proved_comp_dir(
     alloc: Global,
     info: &[u8],
     abbreviations: &[u8],

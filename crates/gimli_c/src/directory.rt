@@ -18,9 +18,9 @@ use std::alloc::Global;
 /// 0 on. Its bytes go into `bytes`, as far as they stand in the section itself, and there is room.
 /// `NO_SUCH_DIRECTORY` where there is no such directory, as there is none of number 0 up to
 /// version 4. Where another number than 0 is returned, nothing is written. For `address_size` and
-/// the order see `gimli_line_unit`.
+/// the order see `gimli_line_proved_read_unit`.
 #[unsafe(no_mangle)]
-pub extern "C" fn gimli_line_directory(
+pub extern "C" fn gimli_line_proved_read_directory(
     alloc: Global,
     section: &[u8],
     big: bool,

@@ -1,14 +1,15 @@
 //! The sections of an ELF file, made whole.
 
-ghost use Rattle.std.specs.Prelude.{◌≡◌, ◌≢◌, ◌⊎◌, IfErr, IfOk};
+ghost use Rattle.std.specs.Prelude.{◌≡◌, ◌≢◌, ◌≤◌, ◌<◌, ◌⊎◌, length, IfErr, IfOk};
 ghost use Rattle.elf_sections.specs.Elf.{file_of};
 ghost use Rattle.elf_sections.specs.File.{file_at};
 ghost use Rattle.elf_sections.specs.declared.error.ElfError.TheVariants.{OutOfMemory};
 ghost use Rattle.gimli_c.specs.ElfSeen.{CantReadSection, HasNoSection, IsLowest, IsNoElf, SeesElf};
-ghost use Rattle.gimli_c.specs.ElfSeen.{WritesSection};
+ghost use Rattle.gimli_c.specs.ElfSeen.{NeedsSectionRoom, WritesSection};
+ghost use Rattle.gimli_c.specs.Written.{slots_with};
 
 use crate::file::copy_bytes;
-use crate::status::{BAD_SECTION, NO_ELF, NO_SECTION, OK, OUT_OF_MEMORY};
+use crate::status::{BAD_SECTION, NO_ELF, NO_ROOM, NO_SECTION, OK, OUT_OF_MEMORY};
 use elf_sections::{Elf, ElfError, SectionPlace};
 use std::alloc::Global;
 
@@ -50,7 +51,7 @@ fn lowest_in(elf: &Elf<'_>) -> u64
 /// Tells what an ELF file says of itself. `NO_ELF` where the bytes are none that can be read; then
 /// nothing is written. Takes no memory.
 #[unsafe(no_mangle)]
-pub extern "C" fn gimli_elf_open(file: &[u8], found: &mut GimliElf) -> u32
+pub extern "C" fn gimli_line_proved_elf_open(file: &[u8], found: &mut GimliElf) -> u32
     ensures found { result ≡ OK → SeesElf file.now found.new }
     ensures refused { result ≢ OK → (result ≡ NO_ELF) × IsNoElf file.now }
     ensures kept { result ≢ OK → found.new ≡ found.old }
@@ -80,13 +81,30 @@ fn section_status(error: ElfError) -> u32
     }
 }
 
-/// Puts what the first section of a name of an ELF file holds into `bytes`, as far as there is
-/// room: made whole where it is compressed, and relocated where it is an object file, whose
-/// sections all stand at 0. `size` is how many bytes there are. `NO_SECTION` where there is none,
+/// Puts a section into an array, and its length beside it: nothing where the array is too small.
+fn put_section(section: &[u8], bytes: &mut [u8], size: &mut usize) -> u32
+    ensures size { size.new ≡ length section.now }
+    ensures ok { result ≡ OK → bytes.new ≡ slots_with section.now bytes.old }
+    ensures kept { result ≢ OK → bytes.new ≡ bytes.old }
+    ensures fits { result ≡ OK → length section.now ≤ length bytes.old }
+    ensures larger { result ≢ OK → (result ≡ NO_ROOM) × (length bytes.old < length section.now) }
+{
+    *size = section.len();
+    if section.len() > bytes.len() {
+        return NO_ROOM;
+    }
+    copy_bytes(section, bytes);
+    OK
+}
+
+/// Puts what the first section of a name of an ELF file holds into `bytes`: made whole where it is
+/// compressed, and relocated where it is an object file, whose sections all stand at 0. `size` is
+/// how many bytes there are. `NO_ROOM` where `bytes` is shorter: then `size` says how many there
+/// are, and what is compressed isn't made whole for that. `NO_SECTION` where there is none,
 /// `BAD_SECTION` where it can't be read, and `NO_ELF` where the file is none. Where another number
-/// than 0 is returned, nothing is written.
+/// than 0 is returned, nothing else is written.
 #[unsafe(no_mangle)]
-pub extern "C" fn gimli_elf_section(
+pub extern "C" fn gimli_line_proved_elf_section(
     alloc: Global,
     file: &[u8],
     name: &[u8],
@@ -95,24 +113,26 @@ pub extern "C" fn gimli_elf_section(
 ) -> u32
     ensures found { result ≡ OK →
         WritesSection file.now name.now bytes.old bytes.new size.new }
-    ensures none { result ≡ NO_SECTION → HasNoSection file.now name.now }
-    ensures refused { result ≢ OK → result ≢ NO_SECTION → result ≢ OUT_OF_MEMORY →
-        ((result ≡ NO_ELF) × IsNoElf file.now)
-        ⊎ ((result ≡ BAD_SECTION) × CantReadSection file.now name.now) }
-    ensures kept { result ≢ OK → (bytes.new ≡ bytes.old) × (size.new ≡ size.old) }
+    ensures larger { result ≡ NO_ROOM →
+        NeedsSectionRoom file.now name.now (length bytes.old) size.new }
+    ensures none { result ≡ NO_SECTION → HasNoSection file.now name.now (length bytes.old) }
+    ensures refused { result ≢ OK → result ≢ NO_ROOM → result ≢ NO_SECTION →
+        result ≢ OUT_OF_MEMORY → ((result ≡ NO_ELF) × IsNoElf file.now)
+        ⊎ ((result ≡ BAD_SECTION) × CantReadSection file.now name.now (length bytes.old)) }
+    ensures kept { result ≢ OK → bytes.new ≡ bytes.old }
+    ensures no_size { result ≢ OK → result ≢ NO_ROOM → size.new ≡ size.old }
 {
     let elf = match elf_in(file) {
         Ok(elf) => elf,
         Err(status) => return status,
     };
-    match elf.relocated(alloc, name, SectionPlace::AllAtZero) {
-        Ok(Some(section)) => {
-            let whole = section.as_slice();
-            *size = whole.len();
-            copy_bytes(whole, bytes);
-            OK
-        }
+    match elf.relocated(alloc, name, SectionPlace::AllAtZero, bytes.len() as u64) {
+        Ok(Some(section)) => put_section(section.as_slice(), bytes, size),
         Ok(None) => NO_SECTION,
+        Err(ElfError::SectionTooLarge(stated)) => {
+            *size = stated as usize;
+            NO_ROOM
+        }
         Err(e) => section_status(e),
     }
 }

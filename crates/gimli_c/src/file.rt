@@ -84,9 +84,9 @@ pub const HAS_SOURCE: u64 = 8;
 /// files that it defines. The bytes of the path and of the directory go into `path` and
 /// `directory`, as far as they stand in the section itself, and there is room. `NO_SUCH_FILE` where
 /// there is no such file. Where another number than 0 is returned, nothing is written. For
-/// `address_size` and the order see `gimli_line_unit`.
+/// `address_size` and the order see `gimli_line_proved_read_unit`.
 #[unsafe(no_mangle)]
-pub extern "C" fn gimli_line_file(
+pub extern "C" fn gimli_line_proved_read_file(
     alloc: Global,
     section: &[u8],
     big: bool,

@@ -16,9 +16,9 @@ use std::alloc::Global;
 /// one sequence of which the first has an address at most the one that is looked up, and the second
 /// one above it. `NO_ROW` where there are none. A program whose run has a fault has no sequences,
 /// and its first fault is returned. Where another number than 0 is returned, both rows stay as they
-/// were. For `address_size` and the order see `gimli_line_unit`.
+/// were. For `address_size` and the order see `gimli_line_proved_read_unit`.
 #[unsafe(no_mangle)]
-pub extern "C" fn gimli_line_find(
+pub extern "C" fn gimli_line_proved_find_row(
     alloc: Global,
     section: &[u8],
     big: bool,

@@ -1,6 +1,6 @@
 //! Line number programs of DWARF, versions 2 to 5, for programs in C and in Rust.
 //!
-//! Each call takes the bytes of a section or of a map, and numbers, and returns a number of
+//! Each call takes the bytes of a section or of an index, and numbers, and returns a number of
 //! [`status`]; what it found goes into places of the caller. Nothing is kept after a call.
 //! `include/gimli_line.h` declares all of it.
 #![tactic(auto)]
@@ -12,10 +12,10 @@ mod elf;
 mod encoding;
 mod file;
 mod find;
+mod index;
 mod items;
 pub mod laws;
 mod location;
-mod map;
 mod next_unit;
 mod path;
 mod relocatable;
@@ -29,28 +29,30 @@ mod unit;
 mod version;
 mod write;
 
-pub use build_id::gimli_elf_build_id;
-pub use comp_dir::gimli_line_comp_dir;
-pub use directory::gimli_line_directory;
-pub use elf::{GimliElf, gimli_elf_open, gimli_elf_section};
+pub use build_id::gimli_line_proved_elf_build_id;
+pub use comp_dir::gimli_line_proved_comp_dir;
+pub use directory::gimli_line_proved_read_directory;
+pub use elf::{GimliElf, gimli_line_proved_elf_open, gimli_line_proved_elf_section};
 pub use encoding::GimliEncoding;
 pub use file::{
     GimliFile, GimliText, HAS_MD5, HAS_SIZE, HAS_SOURCE, HAS_TIMESTAMP, TEXT_DEBUG_LINE_STR,
-    TEXT_DEBUG_STR, TEXT_DEBUG_STR_SUP, TEXT_HERE, TEXT_INDEX, TEXT_NONE, gimli_line_file,
+    TEXT_DEBUG_STR, TEXT_DEBUG_STR_SUP, TEXT_HERE, TEXT_INDEX, TEXT_NONE,
+    gimli_line_proved_read_file,
 };
-pub use find::gimli_line_find;
+pub use find::gimli_line_proved_find_row;
+pub use index::{
+    GimliIndex, GimliIndexOptions, GimliPlace, NO_PATH_OUTSIDE, OPTIONS_SIZE,
+    gimli_line_index_check, gimli_line_index_find, gimli_line_index_open,
+    gimli_line_proved_index_addresses_of, gimli_line_proved_index_find_all,
+    gimli_line_proved_index_write,
+};
 pub use items::GimliSymbol;
-pub use map::{
-    GimliMap, GimliMapOptions, GimliMapPlace, NO_PATH_OUTSIDE, OPTIONS_SIZE,
-    gimli_line_map_addresses_of, gimli_line_map_check, gimli_line_map_find,
-    gimli_line_map_find_all, gimli_line_map_open, gimli_line_map_write,
-};
-pub use path::gimli_line_path;
-pub use relocatable::{GimliRelocation, gimli_line_write_relocatable};
+pub use path::gimli_line_proved_read_path;
+pub use relocatable::{GimliRelocation, gimli_line_proved_write_relocatable};
 pub use row::{BASIC_BLOCK, END_SEQUENCE, EPILOGUE_BEGIN, GimliRow, IS_STMT, PROLOGUE_END};
-pub use rows::gimli_line_rows;
+pub use rows::gimli_line_proved_read_rows;
 pub use tables::GimliFileName;
 pub use text::GimliName;
-pub use unit::{GimliUnit, gimli_line_unit};
-pub use version::{VERSION, gimli_version};
-pub use write::gimli_line_write;
+pub use unit::{GimliUnit, gimli_line_proved_read_unit};
+pub use version::{VERSION, gimli_line_version};
+pub use write::gimli_line_proved_write;

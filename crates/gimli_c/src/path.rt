@@ -103,9 +103,9 @@ fn path_of<'s>(
 /// faults, for the files that it defines. The bytes go into `path`, as far as there is room; `size`
 /// is how many there are. `NO_SUCH_FILE` where there is no such file, and `UNKNOWN_PATH` where a
 /// string of the path can't be told. Where another number than 0 is returned, nothing is written.
-/// For `address_size` and the order see `gimli_line_unit`.
+/// For `address_size` and the order see `gimli_line_proved_read_unit`.
 #[unsafe(no_mangle)]
-pub extern "C" fn gimli_line_path(
+pub extern "C" fn gimli_line_proved_read_path(
     alloc: Global,
     section: &[u8],
     line_strings: &[u8],

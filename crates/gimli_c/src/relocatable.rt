@@ -139,7 +139,7 @@ fn passes(size: usize, room: usize, count: usize, slots: usize) -> bool
     size > room || count > slots
 }
 
-/// Does what `gimli_line_write` does, where the first sequences begin at symbols: that of
+/// Does what `gimli_line_proved_write` does, where the first sequences begin at symbols: that of
 /// `symbols[0]` and so on; the others begin at the addresses of their first rows. Of a sequence at
 /// a symbol the addresses of its rows are counted from that of its first row, which stands for the
 /// symbol with its addend. The places of these addresses are told in `relocations`, in order, and
@@ -148,7 +148,7 @@ fn passes(size: usize, room: usize, count: usize, slots: usize) -> bool
 /// `relocations`: then `size` and `count` say how many it takes, and nothing is written. Where
 /// another number than these is returned, both are 0.
 #[unsafe(no_mangle)]
-pub extern "C" fn gimli_line_write_relocatable(
+pub extern "C" fn gimli_line_proved_write_relocatable(
     alloc: Global,
     encoding: &GimliEncoding,
     big: bool,

@@ -17,9 +17,9 @@ use std::alloc::Global;
 /// than bytes, so an array of as many rows as its `length` has room for all. The first fault ends
 /// the run: its number is returned, and the rows before it are there. Where memory is missing,
 /// `count` is 0, and the first rows may be there. For `address_size` and the order see
-/// `gimli_line_unit`.
+/// `gimli_line_proved_read_unit`.
 #[unsafe(no_mangle)]
-pub extern "C" fn gimli_line_rows(
+pub extern "C" fn gimli_line_proved_read_rows(
     alloc: Global,
     section: &[u8],
     big: bool,

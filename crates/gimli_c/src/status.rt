@@ -42,7 +42,7 @@ pub const UNSUPPORTED_OFFSET: u32 = 15;
 pub const EXPECTED_STRING_ATTRIBUTE_VALUE: u32 = 16;
 /// Not enough memory.
 pub const OUT_OF_MEMORY: u32 = 17;
-/// No row covers the address, or a map says nothing of it.
+/// No row covers the address, or an index says nothing of it.
 pub const NO_ROW: u32 = 18;
 /// The size of offsets, in bytes, isn't 4 or 8.
 pub const UNSUPPORTED_OFFSET_SIZE: u32 = 19;
@@ -78,18 +78,18 @@ pub const NO_ROOM: u32 = 31;
 /// outside its section, or has no zero byte at its end; or a file's directory isn't there.
 pub const UNKNOWN_PATH: u32 = 33;
 
-/// The bytes don't begin as a map does.
-pub const NO_MAP: u32 = 34;
-/// The version of a map is unknown.
-pub const UNKNOWN_MAP_VERSION: u32 = 35;
-/// A map ends before its parts do.
-pub const MAP_CUT: u32 = 36;
-/// A size or the base in the header of a map is one that can't be.
-pub const MAP_HEADER: u32 = 37;
-/// The ranges of a map don't ascend.
-pub const MAP_DISORDERED: u32 = 38;
-/// A path isn't inside its map.
-pub const MAP_PATH_OUTSIDE: u32 = 39;
+/// The bytes don't begin as an index does.
+pub const NO_INDEX: u32 = 34;
+/// The version of an index is unknown.
+pub const UNKNOWN_INDEX_VERSION: u32 = 35;
+/// An index ends before its parts do.
+pub const INDEX_CUT: u32 = 36;
+/// A size or the base in the header of an index is one that can't be.
+pub const INDEX_HEADER: u32 = 37;
+/// The ranges of an index don't ascend.
+pub const INDEX_DISORDERED: u32 = 38;
+/// A path isn't inside its index.
+pub const INDEX_PATH_OUTSIDE: u32 = 39;
 
 /// No line from the one that is asked for on has code.
 pub const NO_CODE: u32 = 41;
@@ -104,10 +104,10 @@ pub const NO_SECTION: u32 = 45;
 /// A section of an ELF file can't be read: it is cut, compressed in a way that is unknown, or its
 /// relocations are.
 pub const BAD_SECTION: u32 = 46;
-/// A map would have ranges, files, bytes of paths or bytes of its identity that 32 bits don't
+/// An index would have ranges, files, bytes of paths or bytes of its identity that 32 bits don't
 /// count.
-pub const MAP_TOO_LARGE: u32 = 47;
-/// A line that a map would have is one that 32 bits don't hold, or a column one that 31 don't.
+pub const INDEX_TOO_LARGE: u32 = 47;
+/// A line that an index would have is one that 32 bits don't hold, or a column one that 31 don't.
 pub const PLACE_TOO_LARGE: u32 = 48;
 
 /// The number of a refusal.

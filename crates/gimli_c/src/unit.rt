@@ -47,7 +47,7 @@ pub struct GimliUnit {
 /// read, or says more bytes than there are, no unit follows, and `next` is the length of the
 /// section.
 #[unsafe(no_mangle)]
-pub extern "C" fn gimli_line_unit(
+pub extern "C" fn gimli_line_proved_read_unit(
     alloc: Global,
     section: &[u8],
     big: bool,

@@ -40,7 +40,7 @@ use std::alloc::Global;
 /// other bits are ignored. Only the first address of a sequence is tested against the size of
 /// addresses.
 #[unsafe(no_mangle)]
-pub extern "C" fn gimli_line_write(
+pub extern "C" fn gimli_line_proved_write(
     alloc: Global,
     encoding: &GimliEncoding,
     big: bool,

@@ -1,9 +1,10 @@
 -- Where the paths of an index stand in its bytes (docs/INDEX.md, "Parts").
-use Rattle.std.specs.Prelude.{◌≡◌, ◌≤◌, ℕ, ◌+◌, ◌*◌, List, length, slice_range}
+use Rattle.std.specs.Prelude.{◌≡◌, ◌<◌, ◌≤◌, ℕ, ◌+◌, ◌*◌, List, length, slice_range, Option}
+use Rattle.std.specs.Prelude.{IfSome, MatchOption}
 use Rattle.gimli_core.specs.Reading.{result_map}
 use Rattle.gimli_index.specs.Header.{size_of}
 use Rattle.gimli_index.specs.Parts.{Index}
-use Rattle.gimli_index.specs.Meaning.{Place}
+use Rattle.gimli_index.specs.Meaning.{Place, Start, place_at, start_at}
 use Rattle.gimli_index.specs.declared.span.Span.{Span}
 use Rattle.gimli_index.specs.declared.span.PlaceSpan.{PlaceSpan}
 
@@ -37,3 +38,15 @@ place_among paths p = record {
   is_stmt = p.is_stmt;
   unit = p.unit;
 }
+
+-- the addresses from the start of an index on, up to the next start where there is one
+abbrev pub IsRangeOf : Index → ℕ → ℕ → Option ℕ → Type 0
+IsRangeOf index i first end = (first ≡ (start_at index i).address)
+    × MatchOption end (i + 1 ≡ index.starts)
+    (λ e. (i + 1 < index.starts) × (e ≡ (start_at index (i + 1)).address))
+
+-- from the first address on, up to the end where there is one, all holds that holds at an address
+pub record HoldsAround (starts : List Start) (a first : ℕ) (end : Option ℕ) : Type 0 where
+  pub begins : first ≤ a
+  pub ends : IfSome end (λ e. a < e)
+  pub same : (b : ℕ) → first ≤ b → IfSome end (λ e. b < e) → place_at b starts ≡ place_at a starts

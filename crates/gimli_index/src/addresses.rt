@@ -21,7 +21,7 @@ use crate::place::Place;
 
 /// The addresses for a breakpoint at a line, in ascending order: an iterator.
 ///
-/// <!-- part of crates/uses/src/line_map.rt -->
+/// <!-- part of crates/uses/src/line_index.rt -->
 /// ```rust
 /// let line = found.line();
 /// for address in found {

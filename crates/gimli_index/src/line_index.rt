@@ -26,7 +26,7 @@ const SOURCE_SIZE: usize = 24;
 
 /// An index of the lines of a program, as it lies in its bytes. Any number of threads may ask one.
 ///
-/// <!-- part of crates/uses/src/line_map.rt -->
+/// <!-- part of crates/uses/src/line_index.rt -->
 /// ```rust
 /// let index = LineIndex::open(&bytes)?;
 /// index.check()?;

@@ -6,6 +6,7 @@ ghost use Rattle.gimli_core.specs.Reading.{result_map};
 ghost use Rattle.gimli_index.specs.Meaning.{entry_place, path_of, place_at, starts_of};
 ghost use Rattle.gimli_index.specs.Meaning.{AreAscending};
 ghost use Rattle.gimli_index.specs.Spans.{identity_begin, paths_begin, path_at, place_among};
+ghost use Rattle.gimli_index.specs.Spans.{HoldsAround, IsRangeOf};
 
 use crate::line_index::{ENTRY_SIZE, LineIndex, column_in, is_statement_in};
 use crate::number::{long, word};
@@ -34,6 +35,10 @@ pub struct PlaceSpan {
     pub is_stmt: bool,
     /// The offset in `.debug_line` of the unit that says so.
     pub unit: u64,
+    /// The first address of those around the one that was asked for, of which all this holds.
+    pub first: u64,
+    /// The address after the last one of them; None where they go on up to the greatest address.
+    pub end: Option<u64>,
 }
 
 impl<'a> LineIndex<'a> {
@@ -72,11 +77,26 @@ impl<'a> LineIndex<'a> {
         Ok(Span { first, size })
     }
 
+    /// The first address from the start of an index on, and that of the next start.
+    fn range_at(&self, index: usize) -> (u64, Option<u64>)
+        requires { index < self.now.starts }
+        ensures { IsRangeOf (index_of self.now) index result.0 result.1 }
+    {
+        let next = index + 1;
+        let end = if next < self.starts {
+            Some(self.address_at(next))
+        } else {
+            None
+        };
+        (self.address_at(index), end)
+    }
+
     /// What the entry of an index says.
     fn entry_span(&self, index: usize) -> Option<PlaceSpan>
         requires { index < self.now.starts }
         ensures place { option_map (place_among self.now.path_bytes.now) result
             ≡ entry_place (index_of self.now) (drop (12 * index) self.now.entry_bytes.now) }
+        ensures range { IfSome result (λ p. IsRangeOf (index_of self.now) index p.first p.end) }
         ensures inside { IfSome result (λ p. IfOk p.path
             (λ s. s.first + s.size ≤ length self.now.path_bytes.now)) }
     {
@@ -87,12 +107,15 @@ impl<'a> LineIndex<'a> {
         }
         let source = self.source(number);
         let column = word(entry, 8);
+        let (first, end) = self.range_at(index);
         Some(PlaceSpan {
             path: self.path_span(source),
             line: word(entry, 4),
             column: column_in(column),
             is_stmt: is_statement_in(column),
             unit: long(source, 0),
+            first,
+            end,
         })
     }
 
@@ -102,6 +125,8 @@ impl<'a> LineIndex<'a> {
     pub fn find_span(&self, address: u64) -> Option<PlaceSpan>
         ensures place { let starts = starts_of (index_of self.now) in AreAscending starts →
             option_map (place_among self.now.path_bytes.now) result ≡ place_at address starts }
+        ensures range { let starts = starts_of (index_of self.now) in AreAscending starts →
+            IfSome result (λ p. HoldsAround starts address p.first p.end) }
         ensures inside { IfSome result (λ p. IfOk p.path
             (λ s. s.first + s.size ≤ length self.now.path_bytes.now)) }
     {

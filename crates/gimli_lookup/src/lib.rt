@@ -9,7 +9,6 @@
 
 mod covering_pairs;
 mod ends;
-mod step_table;
 mod kept_rows;
 pub mod laws;
 mod lookup;
@@ -28,6 +27,7 @@ mod section_unit;
 mod sequence_cut;
 mod sequence_rows;
 mod statements;
+mod step_table;
 mod steps;
 mod string_sections;
 mod unit_run;

@@ -13,10 +13,10 @@ ghost use Rattle.gimli_lookup.specs.Covering.{covering_probes, scan_probes, IsLo
 ghost use Rattle.gimli_lookup.specs.Probes.{binary_digits, most_probes};
 ghost use Rattle.gimli_lookup.specs.Statements.{addresses_of, AreAddressesFrom};
 
-use crate::step_table::StepTable;
 use crate::kept_rows::KeptRows;
 use crate::search;
 use crate::statements::{self, Addresses};
+use crate::step_table::StepTable;
 use gimli_core::{Error, Reader, Result};
 use gimli_line::{
     CompleteLineProgram, IncompleteLineProgram, LineProgramHeader, LineRow, LineSequence, RowList,

@@ -3,8 +3,8 @@
 ghost use Rattle.std.specs.Prelude.{◌≡◌, ◌<◌, Some, None, IfSome, MatchOption};
 ghost use Rattle.gimli_lookup.specs.Ranges.{AreFoundIn};
 
-use crate::step_table::Aside;
 use crate::section_lookup::{CoveringRows, SectionLookup};
+use crate::step_table::Aside;
 use crate::walk::Stand;
 use gimli_core::{Reader, ReaderOffset};
 use std::marker::Model;

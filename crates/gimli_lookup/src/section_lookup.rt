@@ -17,10 +17,10 @@ ghost use Rattle.gimli_lookup.specs.Section.{AreAdjacent, IsFirstPairOfUnit, Kep
 ghost use Rattle.gimli_lookup.specs.SectionUnits.{IsUnitOf};
 ghost use Rattle.gimli_lookup.specs.inside.Ends.{IsAside};
 
-use crate::step_table::{Aside, StepTable};
 use crate::kept_rows::KeptRows;
 use crate::ranges::CoveredRange;
 use crate::section_unit::UnitLookup;
+use crate::step_table::{Aside, StepTable};
 use crate::walk::Stand;
 use gimli_core::{EndianSlice, Endianity, Error, Reader, ReaderOffset, Result};
 use gimli_line::{DebugLine, LineRow};

@@ -27,8 +27,9 @@ use std::ops::Range;
 #[derive_where(Debug; R, R::Offset)]
 pub struct UnitLookup<R: Reader> {
     offset: DebugLineOffset<R::Offset>,
-    /// The run of the program, at its first fault or its end. None where the unit was refused.
-    run: Option<OneShotLineRows<R>>,
+    /// The run of the program, at its first fault or its end. None where the unit was refused. It
+    /// has memory of its own, so that a unit which is refused takes little.
+    run: Option<Box<OneShotLineRows<R>>>,
     fault: Option<Error>,
     /// The index of the first sequence among those of all units.
     first: usize,
@@ -45,14 +46,15 @@ impl<R: Reader> Model for UnitLookup<R> {
 
     ghost view = { λ a. record {
       offset = R.Offset.number a.offset.0;
-      header = option_map header_at a.run;
+      header = option_map (λ run. header_at run.value) a.run;
       fault = a.fault;
       first = a.first;
       end = a.end;
     } };
 
     ghost invariant = { λ a.
-        IfSome a.run (λ run. IsOfOneOrder run × (run.offset ≡ R.Offset.number a.offset.0)) };
+        IfSome a.run (λ run.
+        IsOfOneOrder run.value × (run.value.offset ≡ R.Offset.number a.offset.0)) };
 }
 
 impl<R: Reader> UnitLookup<R> {
@@ -91,7 +93,7 @@ impl<R: Reader> UnitLookup<R> {
         append(unit_run.parts, sequences)?;
         Ok(UnitLookup {
             offset,
-            run: Some(unit_run.run),
+            run: Some(boxed(alloc, unit_run.run)?),
             fault: unit_run.fault,
             first,
             end: sequences.len(),
@@ -128,7 +130,7 @@ impl<R: Reader> UnitLookup<R> {
         }
         Ok(UnitLookup {
             offset,
-            run: Some(found.run),
+            run: Some(boxed(alloc, found.run)?),
             fault: found.fault,
             first: 0,
             end: 0,
@@ -201,6 +203,17 @@ impl<R: Reader<Offset = usize>> UnitLookup<R> {
             first: self.first,
             end: self.end,
         }
+    }
+}
+
+/// A run in memory of its own. Fails only with `OutOfMemory`.
+fn boxed<R: Reader>(alloc: Global, run: OneShotLineRows<R>) -> Result<Box<OneShotLineRows<R>>>
+    ensures ok { IfOk result (λ made. made.value ≡ run) }
+    ensures err { IfErr result (λ e. e ≡ Error.OutOfMemory) }
+{
+    match Box::new(alloc, run) {
+        Ok(boxed) => Ok(boxed),
+        Err(_) => Err(Error::OutOfMemory),
     }
 }
 

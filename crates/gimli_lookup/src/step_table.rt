@@ -1,5 +1,5 @@
-//! A table of steps over sequences: few stored addresses are looked at to find the first sequence that covers
-//! an address.
+//! A table of steps over sequences: few stored addresses are looked at to find the first sequence
+//! that covers an address.
 
 ghost use Rattle.std.specs.Prelude.{◌≡◌, ◌≤◌, ◌<◌, ◌+◌, ◌*◌, ◌^◌, ℕ, true, false, length};
 ghost use Rattle.std.specs.Prelude.{slice_index_or, sum_by, take, All, Any, IfErr, IfOk, IfSome};
@@ -13,7 +13,8 @@ ghost use Rattle.gimli_lookup.specs.inside.Ends.{IsUnorderedClear};
 ghost use Rattle.gimli_lookup.specs.inside.FirstPair.{IsFirstPairIn};
 ghost use Rattle.gimli_lookup.specs.Covering.{covering_probes, scan_probes, IsLookedInto};
 ghost use Rattle.gimli_lookup.specs.Probes.{binary_digits};
-ghost use Rattle.gimli_lookup.specs.Steps.{step_at, indexes_out_of_order, AreInOrder, IsStepTableOf};
+ghost use Rattle.gimli_lookup.specs.Steps.{step_at, indexes_out_of_order, AreInOrder};
+ghost use Rattle.gimli_lookup.specs.Steps.{IsStepTableOf};
 ghost use Rattle.gimli_lookup.specs.inside.Steps.{HaveNoUnorderedPair, IsFirstUnorderedPair};
 
 use crate::ends::{nearer, next_step, next_unordered};

@@ -34,7 +34,9 @@ fn index_of(run: Run<'_>, name: &str) -> io::Result<MadeIndex>
 /// The build id of a program by its name, where it is a file, as `build_id_in` has it.
 fn build_id_of(run: Run<'_>, name: &str) -> io::Result<Option<Vec<u8>>> {
     match run.request.kind {
-        Kind::Elf if name != STANDARD_INPUT => build_id_in(run.rt, name),
+        Kind::Elf if name != STANDARD_INPUT => {
+            build_id_in(run.rt, name, run.request.memory_limit)
+        }
         _ => Ok(None),
     }
 }

@@ -3,6 +3,7 @@
 ghost use Rattle.std.specs.Prelude.{◌≤◌, IfOk};
 
 use debug_files::{Found, Missing, PathSections, Source, Wanted};
+use elf_sections::usual_limit;
 use lines_commands::{REFUSED, Run, Session};
 use lines_inputs::{InputError, Program, tell_refusal};
 use lines_words::{Files, Kind, NameText, Notation, UnitFiles};
@@ -16,6 +17,7 @@ pub(crate) const STANDARD_INPUT: &str = "-";
 #[derive(Drop)]
 pub(crate) struct Inputs {
     pub(crate) kind: Kind,
+    limit: Option<u64>,
     found: Found,
     line_str: Vec<u8>,
     strings: Vec<u8>,
@@ -40,6 +42,7 @@ pub(crate) fn inputs_of(run: Run<'_>, name: &str) -> io::Result<Option<Inputs>> 
     };
     Ok(Some(Inputs {
         kind,
+        limit: request.memory_limit,
         found,
         line_str,
         strings,
@@ -62,7 +65,7 @@ fn sections_of(run: Run<'_>, name: &str) -> io::Result<Option<Found>> {
     } else {
         Wanted::Lines
     };
-    match debug_files::source_of(rt, name, wanted) {
+    match debug_files::source_of(rt, name, wanted, request.memory_limit) {
         Ok(found) => Ok(Some(found)),
         Err(missing) => {
             report_missing(rt, name, &missing);
@@ -92,6 +95,7 @@ impl Inputs {
         match &self.found {
             Found::Whole(file) => Files {
                 file,
+                limit: self.limit.unwrap_or(usual_limit(file.len() as u64)),
                 line_str: &self.line_str,
                 strings: &self.strings,
                 ..Files::default()
@@ -103,6 +107,7 @@ impl Inputs {
                 units: units_of(&source.paths),
                 symbols: &source.symbols,
                 symbol_names: &source.symbol_names,
+                limit: 0,
             },
         }
     }

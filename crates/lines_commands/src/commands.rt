@@ -23,9 +23,10 @@ impl Run<'_> {
     /// output takes no more; what was printed before stands.
     pub fn perform(self, kind: Kind, files: Files<'_>) -> io::Result<u8>
         ensures status { IfOk result (λ status. status ≤ 1) }
-        ensures no_lines { kind ≡ Kind.Elf → (HasLines files.entry.file.now → ⊥)
+        ensures no_lines { kind ≡ Kind.Elf → (HasLines files.entry.limit files.entry.file.now → ⊥)
             → IfOk result (λ status. status ≡ 1) }
-        ensures no_lines_fails { kind ≡ Kind.Elf → (HasLines files.entry.file.now → ⊥)
+        ensures no_lines_fails { kind ≡ Kind.Elf
+            → (HasLines files.entry.limit files.entry.file.now → ⊥)
             → IfErr result (λ e. error_kind e ≡ ErrorKind.OutOfMemory) }
     {
         let mut session = self.over(self.request.file);

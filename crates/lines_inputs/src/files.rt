@@ -1,16 +1,21 @@
 //! Files by their names: what names a program, and a file that is written whole.
 
 use debug_files::{Outline, Refusal};
-use elf_sections::ElfError;
+use elf_sections::{ElfError, usual_limit};
 use std::fs::File;
 use std::io::ErrorKind;
 use std::rt::Files;
 use std::{fs, io};
 
 /// The build id of a file that is an ELF file; None where it has none, and where it can't be read,
-/// which its reader reports. Fails where memory is missing.
-pub fn build_id_in<R: Files + AllocGlobal>(rt: &R, name: &str) -> io::Result<Option<Vec<u8>>> {
-    match read_build_id(rt, name) {
+/// which its reader reports. The limit is that of [`debug_files::source_of`]. Fails where memory is
+/// missing.
+pub fn build_id_in<R: Files + AllocGlobal>(
+    rt: &R,
+    name: &str,
+    limit: Option<u64>,
+) -> io::Result<Option<Vec<u8>>> {
+    match read_build_id(rt, name, limit) {
         Ok(id) => Ok(id),
         Err(Refusal::Elf(ElfError::OutOfMemory)) => Err(io::Error::from(ErrorKind::OutOfMemory)),
         Err(Refusal::Io(error)) if error.kind() == ErrorKind::OutOfMemory => Err(error),
@@ -19,15 +24,22 @@ pub fn build_id_in<R: Files + AllocGlobal>(rt: &R, name: &str) -> io::Result<Opt
 }
 
 /// The build id of a file.
-fn read_build_id<R: Files + AllocGlobal>(rt: &R, name: &str) -> Result<Option<Vec<u8>>, Refusal> {
+fn read_build_id<R: Files + AllocGlobal>(
+    rt: &R,
+    name: &str,
+    limit: Option<u64>,
+) -> Result<Option<Vec<u8>>, Refusal> {
     // Asked before it is opened: to open a pipe may take for ever.
-    if !fs::metadata(rt, name)?.is_file() {
+    let found = fs::metadata(rt, name)?;
+    if !found.is_file() {
         return Ok(None);
     }
+    let limit = limit.unwrap_or(usual_limit(found.len()));
     let alloc = rt.alloc();
     let mut file = File::open(rt, name)?;
     let outline = Outline::read(alloc, &mut file)?;
-    let Some(section) = outline.section(alloc, &mut file, b".note.gnu.build-id")? else {
+    let note = outline.section(alloc, &mut file, b".note.gnu.build-id", limit)?;
+    let Some(section) = note else {
         return Ok(None);
     };
     match outline.sections()?.build_id(&section) {

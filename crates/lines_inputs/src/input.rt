@@ -1,10 +1,12 @@
 //! The sections of a program, lent by its file or made anew, and why they can't be read.
 
-ghost use Rattle.std.specs.Prelude.{◌≡◌, ℕ, List, IfErr, IfOk, Ok, OnOk, Some, codes};
+ghost use Rattle.std.specs.Prelude.{◌≡◌, ℕ, List, IfErr, IfOk, Ok, OnOk, Some, codes, true};
+ghost use Rattle.std.specs.Option.{option_map};
 ghost use Rattle.elf_sections.specs.Elf.{file_of};
+ghost use Rattle.elf_sections.specs.Gives.{Gives};
 ghost use Rattle.elf_sections.specs.Relocating.{relocated_at};
 ghost use Rattle.elf_sections.specs.SectionBytes.{bytes_of};
-ghost use Rattle.elf_sections.specs.declared.error.ElfError.TheVariants.{OutOfMemory};
+ghost use Rattle.elf_sections.specs.Fault.{is_for_memory};
 ghost use Rattle.lines_inputs.specs.Lines.{HasLines};
 
 use elf_sections::{Elf, ElfError, SectionBytes, SectionPlace, SymbolTable};
@@ -89,7 +91,7 @@ impl<'i> OtherSections<'i> {
     /// The sections of an ELF file, of symbols all, or else those for linking when it runs. A
     /// section of texts that is named apart from it takes the place of its own. One of units or of
     /// symbols that is missing or can't be read counts as empty: paths stay as the line programs
-    /// have them, and code has no names.
+    /// have them, and code has no names. One above the limit is refused.
     fn of_elf(source: SectionSource<'i>) -> Result<OtherSections<'i>, ElfError> {
         let mut symbols = source.readable(b".symtab")?;
         let has_all = !symbols.as_slice().is_empty();
@@ -112,7 +114,8 @@ impl<'i> Program<'i> {
     /// The sections of files; in an object file each section stands at 0. Refused as `InputError`
     /// says.
     pub fn new(alloc: Global, kind: Kind, files: Files<'i>) -> Result<Program<'i>, InputError>
-        ensures elf { kind ≡ Kind.Elf → OnOk result (HasLines files.entry.file.now) }
+        ensures elf { kind ≡ Kind.Elf → OnOk result
+            (HasLines files.entry.limit files.entry.file.now) }
     {
         match kind {
             Kind::Elf => {
@@ -153,7 +156,7 @@ impl<'i> Program<'i> {
         place: SectionPlace,
     ) -> Result<Program<'i>, InputError>
         ensures { OnOk result ((section : List ℕ) × (relocated_at (file_of elf.entry) place
-            (codes ".debug_line") ≡ Ok (Some section))) }
+            files.entry.limit (codes ".debug_line") ≡ Ok (Some section))) }
     {
         let source = SectionSource {
             alloc,
@@ -242,9 +245,9 @@ impl<'i> SectionSource<'i> {
     /// The section `.debug_line`. Refused where there is none.
     fn lines(self) -> Result<SectionBytes<'i>, InputError>
         ensures { IfOk result (λ section. relocated_at (file_of self.entry.elf) self.entry.place
-            (codes ".debug_line") ≡ Ok (Some (bytes_of section))) }
+            self.entry.files.limit (codes ".debug_line") ≡ Ok (Some (bytes_of section))) }
     {
-        match self.elf.relocated(self.alloc, b".debug_line", self.place) {
+        match self.section(b".debug_line") {
             Ok(Some(section)) => Ok(section),
             Ok(None) => Err(InputError::no_lines(self.files.file)),
             Err(e) => Err(InputError::Elf(e)),
@@ -256,20 +259,29 @@ impl<'i> SectionSource<'i> {
         if !other.is_empty() {
             return Ok(SectionBytes::Lent(other));
         }
-        let section = self.elf.relocated(self.alloc, name, self.place)?;
+        let section = self.section(name)?;
         Ok(section.unwrap_or(SectionBytes::Lent(other)))
     }
 
-    /// The section of a name; no bytes where it is missing or can't be read. Fails only with
-    /// `OutOfMemory`.
+    /// The section of a name; no bytes where it is missing or can't be read. Fails only where
+    /// memory is missing, or the limit forbids it.
     fn readable(self, name: &[u8]) -> Result<SectionBytes<'i>, ElfError>
-        ensures err { IfErr result (λ e. e ≡ OutOfMemory) }
+        ensures err { IfErr result (λ e. is_for_memory e ≡ true) }
     {
-        match self.elf.relocated(self.alloc, name, self.place) {
+        match self.section(name) {
             Ok(Some(section)) => Ok(section),
-            Err(ElfError::OutOfMemory) => Err(ElfError::OutOfMemory),
+            Err(error) if error.is_for_memory() => Err(error),
             _ => Ok(SectionBytes::Lent(&[])),
         }
+    }
+
+    /// The section of a name, whole and relocated; None where there is none.
+    fn section(self, name: &[u8]) -> Result<Option<SectionBytes<'i>>, ElfError>
+        ensures { Gives (option_map bytes_of) result (relocated_at (file_of self.entry.elf)
+            self.entry.place self.entry.files.limit name.now) }
+    {
+        self.elf
+            .relocated(self.alloc, name, self.place, self.files.limit)
     }
 }
 
@@ -307,7 +319,13 @@ impl fmt::Display for InputError {
                 "not an ELF file; for a raw section say --raw little or --raw big, and \
                 --address-size",
             ),
-            InputError::Elf(error) => write!(f, "{error}"),
+            InputError::Elf(error) => {
+                let rest = match error {
+                    ElfError::SectionTooLarge(_) => "; --memory-limit sets it",
+                    _ => "",
+                };
+                write!(f, "{error}{rest}")
+            }
             InputError::NoLines => f.write_str(
                 "there is no section .debug_line; compile and link with -g, and of a stripped \
                  program name the file with its debug information",

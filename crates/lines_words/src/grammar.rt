@@ -21,10 +21,10 @@ relative-to - DIR Prints paths that begin with this directory without it
 bias - ADDRESS Subtracts this from each address, for a program that was loaded elsewhere
 index - INDEX Asks an index in the place of FILE, which may be left out; where it is named, the \
     index has to be its own
-maps - DIR Reads lines of a build id and an address, and asks DIR/xx/rest.lines of each
+indexes - DIR Reads lines of a build id and an address, and asks DIR/xx/rest.lines of each
 files - flag Reads lines of a file and an address, in the place of FILE
 >Example: lines where a.out 401136 0x40113D",
-    "index Writes an index of the lines, for where --index and where --maps
+    "index Writes an index of the lines, for where --index and where --indexes
 output o OUT Where the index goes; without it to FILE with .lines after it, and - is standard output
 >Example: lines index a.out -o a.out.lines",
     "at Prints the addresses to break at for a line, or for the next one that has code
@@ -70,7 +70,9 @@ FILE - needed An ELF file, or with --raw a section .debug_line; - is standard in
 raw - little|big FILE is a section .debug_line alone, in this order of bytes
 address-size - N With --raw: the bytes of an address up to version 4: 1, 2, 4 or 8 (8 if unsaid)
 line-str - FILE The section .debug_line_str
-str - FILE The section .debug_str";
+str - FILE The section .debug_str
+memory-limit - BYTES Refuses a compressed section of more bytes; K, M or G may follow them (256 \
+    times the file and 64M if unsaid)";
 
 /// What has no place beside the option of a name.
 fn conflicts_of(name: &str) -> &'static [&'static str] {
@@ -79,8 +81,8 @@ fn conflicts_of(name: &str) -> &'static [&'static str] {
         "whole-paths" => &["json"],
         "basenames" => &["relative-to"],
         "index" => &["functions"],
-        "maps" => &["index", "functions", "raw", "line-str", "str"],
-        "files" => &["index", "maps", "functions"],
+        "indexes" => &["index", "functions", "raw", "line-str", "str"],
+        "files" => &["index", "indexes", "functions"],
         _ => &[],
     }
 }
@@ -153,8 +155,8 @@ fn argument<'a>(alloc: Global, command: &str, row: &'static str) -> Result<Arg<'
     };
     match name {
         "FILE" if command == "where" => word
-            .required_unless_present_any(&["index", "maps", "files"])?
-            .conflicts_with_all(&["maps", "files"]),
+            .required_unless_present_any(&["index", "indexes", "files"])?
+            .conflicts_with_all(&["indexes", "files"]),
         "address-size" => word.requires_arg("raw"),
         _ => word.conflicts_with_all(conflicts_of(name)),
     }

@@ -20,6 +20,9 @@ pub struct Request<'w> {
     pub line_str: Option<&'w str>,
     /// The file with the section `.debug_str`, for a raw section.
     pub strings: Option<&'w str>,
+    /// The most bytes of a compressed section once it is made whole; None where it goes by the
+    /// size of its file.
+    pub memory_limit: Option<u64>,
     /// The source file that is read in the place of those that paths name.
     pub source: Option<&'w str>,
     /// The addresses that are asked; those of standard input where there is none.
@@ -193,6 +196,8 @@ pub struct Notation {
 pub struct Files<'i> {
     /// The file.
     pub file: &'i [u8],
+    /// The most bytes of a compressed section of it, once it is made whole.
+    pub limit: u64,
     /// The section `.debug_line_str`.
     pub line_str: &'i [u8],
     /// The section `.debug_str`.

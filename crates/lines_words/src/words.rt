@@ -22,6 +22,9 @@ const CONTEXT: u64 = 3;
 /// The most lines that it prints there.
 const MOST_CONTEXT: u64 = 100_000;
 
+/// The letters that may stand after a number of bytes, and how many bytes each stands for.
+const UNITS: [(char, u64); 3] = [('K', 1 << 10), ('M', 1 << 20), ('G', 1 << 30)];
+
 /// What the value of a name says, as it is read; None where it isn't among the words. A wrong word
 /// is the mistake of the function around it.
 macro_rules! said {
@@ -48,6 +51,7 @@ fn wanted_of(name: &str) -> &'static str {
         "PATH:LINE" => "a path, a colon and a line",
         "PLACE" => "a path, a colon and a line, or the name of a function",
         "context" => "a number of lines up to 100000",
+        "memory-limit" => "a number of bytes, decimal and with K, M or G after it or none",
         "UNIT" => "an offset, decimal or hexadecimal after 0x",
         "deny" | "allow" => "a kind of findings, or fault, lost, odd or usual",
         _ => "a command",
@@ -119,6 +123,7 @@ fn request_of<'w>(alloc: Global, matches: &ArgMatches<'w>) -> Result<Request<'w>
         file: if first.is_some() { "" } else { word },
         line_str: matches.get_str("line-str"),
         strings: matches.get_str("str"),
+        memory_limit: said!(matches, "memory-limit", parse_bytes),
         source: matches.get_str("source"),
         form: form_of(matches),
         paths: path_form_of(matches),
@@ -169,7 +174,7 @@ fn command_of<'w>(name: &'w str, matches: &ArgMatches<'w>) -> Result<Command<'w>
 
 /// The command `where`, by what it asks.
 fn where_of<'w>(matches: &ArgMatches<'w>) -> Command<'w> {
-    match (matches.get_str("index"), matches.get_str("maps")) {
+    match (matches.get_str("index"), matches.get_str("indexes")) {
         (Some(index), _) => Command::Ask(index),
         (None, Some(folder)) => Command::AskLines(LineNames::BuildIds(folder)),
         _ if matches.get_flag("files") => Command::AskLines(LineNames::Files),
@@ -220,6 +225,17 @@ fn parse_source_place(word: &str) -> Option<SourcePlace<'_>> {
 /// How many lines are printed before a place and after it.
 fn parse_context(word: &str) -> Option<u64> {
     parse_digits(word, 10).filter(|lines| *lines <= MOST_CONTEXT)
+}
+
+/// A number of bytes: decimal digits, and a unit of 1024 bytes or of a power of them. None for
+/// another word, and for one that doesn't fit 64 bits.
+fn parse_bytes(word: &str) -> Option<u64> {
+    for (letter, unit) in &UNITS {
+        if let Some(digits) = word.strip_suffix(*letter) {
+            return parse_digits(digits, 10)?.checked_mul(*unit);
+        }
+    }
+    parse_digits(word, 10)
 }
 
 /// How much of a path is printed.

@@ -2,7 +2,6 @@
 
 ghost use Rattle.std.specs.Prelude.{◌≡◌, IsErr};
 
-use crate::conversion::Target;
 use crate::lookup_text::{print_lookup, print_paths, print_units, watch_rows};
 use crate::unit_text::{print_header, print_instructions};
 use gimli_core::{DebugLineOffset, EndianSlice, Error, Reader, ReaderOffset, RunTimeEndian};
@@ -26,9 +25,6 @@ pub enum Command {
     Addresses,
     /// The whole paths of the files of a unit.
     Paths,
-    /// What a conversion reads, item by item, and what is built of it; or sequence by sequence.
-    Items,
-    Sequences,
     /// No command of a row: where something doesn't stand as it must after memory is refused to
     /// the rows of a unit.
     Watch,
@@ -44,39 +40,10 @@ impl Command {
             "places" => Some(Command::Places),
             "addresses" => Some(Command::Addresses),
             "paths" => Some(Command::Paths),
-            "convert" => Some(Command::Items),
-            "convert_sequences" => Some(Command::Sequences),
             _ => None,
         }
     }
-
-    /// Which texts stand after the order of bytes, the size of an address and a number: the
-    /// directory and the name that are handed to the reader; and the name of the unit that is
-    /// converted, the directory of the compilation, or the path of a file.
-    fn texts(self) -> [bool; 3] {
-        match self {
-            Command::Header => [true, true, false],
-            Command::Paths => [true, false, true],
-            Command::Addresses => [false, false, true],
-            Command::Items | Command::Sequences => [true; 3],
-            _ => [false; 3],
-        }
-    }
 }
-
-/// A command that is asked for.
-#[derive(Clone, Copy)]
-pub struct Request<'w> {
-    /// What takes memory.
-    pub alloc: Global,
-    /// The words after its name.
-    pub words: &'w [&'w str],
-    /// How often a library call is made.
-    pub attempts: Attempts,
-}
-
-/// The sections `.debug_line`, `.debug_str` and `.debug_line_str`.
-pub type Sections<'i> = [&'i [u8]; 3];
 
 /// A reader that lends the bytes left.
 pub(crate) trait Lender: Reader<Offset = usize> + Debug {
@@ -98,17 +65,12 @@ pub(crate) struct Asked<'w, R: Reader> {
     /// The section `.debug_line`, and those of its texts.
     pub section: DebugLine<R>,
     pub texts: StringSections<R>,
-    pub order: RunTimeEndian,
     pub address_size: AddressSize,
     /// Where the unit stands, or the lowest address of code.
     pub offset: u64,
     /// The directory and the name that are handed to the reader.
     pub directory: Option<R>,
     pub name: Option<R>,
-    /// The name of the unit that is converted.
-    pub unit_name: Option<R>,
-    /// The encodings of the program that is built.
-    pub target: Target,
     /// The path that is looked up, or the directory of the compilation, empty for none.
     pub path: &'w [u8],
     /// The line and the addresses that are looked up.
@@ -119,66 +81,59 @@ pub(crate) struct Asked<'w, R: Reader> {
 impl<R: Reader> Asked<'_, R> {
     /// The program of the unit. Where memory was refused it is made once more, if attempts are two.
     pub fn program(&self) -> gimli_core::Result<IncompleteLineProgram<R>> {
-        match self.parse() {
-            Err(Error::OutOfMemory) if self.attempts == Attempts::Two => self.parse(),
+        let offset = DebugLineOffset(R::Offset::from_u64(self.offset)?);
+        let (section, size) = (self.section, self.address_size.bytes());
+        match section.program(self.alloc, offset, size, self.directory, self.name) {
+            Err(Error::OutOfMemory) if self.attempts == Attempts::Two => {
+                section.program(self.alloc, offset, size, self.directory, self.name)
+            }
             outcome => outcome,
         }
     }
-
-    /// The program of the unit.
-    fn parse(&self) -> gimli_core::Result<IncompleteLineProgram<R>> {
-        let offset = DebugLineOffset(R::Offset::from_u64(self.offset)?);
-        let size = self.address_size.bytes();
-        let section = self.section;
-        section.program(self.alloc, offset, size, self.directory, self.name)
-    }
 }
 
-/// Does what a command asks for. Refused where its words are none of it.
+/// Does what a command asks for, by the words after its name, of the sections `.debug_line`,
+/// `.debug_str` and `.debug_line_str`. Refused where the words are none of it.
 pub fn print(
     command: Command,
-    request: Request<'_>,
-    sections: Sections<'_>,
+    alloc: Global,
+    words: &[&str],
+    attempts: Attempts,
+    sections: [&[u8]; 3],
     lines: &mut Lines,
 ) -> Result<(), Stop>
     ensures { IsErr result → lines.new ≡ lines.old }
 {
-    let alloc = request.alloc;
     let [section, strings, line_strings] = sections;
-    let mut words = Arguments::new(alloc, request.words);
+    let mut words = Arguments::new(alloc, words);
     let order = words.order();
     let address_size = words.address_size();
     let offset = match command {
         Command::Walk => 0,
         _ => words.number(u64::MAX),
     };
-    let [has_directory, has_name, has_last] = command.texts();
-    let directory = words.optional_text(has_directory);
-    let name = words.optional_text(has_name);
-    let last = words.optional_text(has_last);
+    let directory = words.optional_text(matches!(command, Command::Header | Command::Paths));
+    let name = words.optional_text(matches!(command, Command::Header));
+    let path = words.optional_text(matches!(command, Command::Paths | Command::Addresses));
     let line = match command {
         Command::Addresses => words.number(u64::MAX),
         _ => 0,
     };
     let addresses = words.numbers(matches!(command, Command::Places));
-    let target = Target::parse(alloc, has_name && has_last, &mut words);
     words.end()?;
     let asked = Asked {
         alloc,
-        attempts: request.attempts,
+        attempts,
         section: DebugLine::new(section, order),
         texts: StringSections {
             debug_line_str: EndianSlice::new(line_strings, order),
             debug_str: EndianSlice::new(strings, order),
         },
-        order,
         address_size,
         offset,
         directory: reader(&directory, order),
         name: reader(&name, order),
-        unit_name: reader(&last, order),
-        target,
-        path: last.as_deref().unwrap_or(&[]),
+        path: path.as_deref().unwrap_or(&[]),
         line,
         addresses,
     };
@@ -204,7 +159,6 @@ fn perform<R: Lender>(command: Command, asked: &Asked<'_, R>, lines: &mut Lines)
         (Command::Header, Ok(program)) => print_header(program.header(), lines),
         (Command::Instructions, Ok(program)) => print_instructions(program.header(), lines),
         (Command::Paths, Ok(program)) => print_paths(asked, program.header(), lines),
-        (Command::Watch, Ok(program)) => watch_rows(program.rows(), lines),
-        (_, Ok(_program)) => asked.print_conversion(matches!(command, Command::Items), lines),
+        (_, Ok(program)) => watch_rows(program.rows(), lines),
     }
 }

@@ -1,16 +1,9 @@
-//! Commands of rows: what is read, as text (headers, instructions, lookups over a section), builder
-//! scripts, which make a line program by the calls that a text names, and conversions.
+//! Commands of rows that read: headers, instructions, units and lookups over a section, as text.
 //! `crates/vectors/ROWS.md` has their words and what they print.
 #![tactic(auto)]
 
-mod array_section;
-mod builder;
-mod built;
 mod command;
-mod conversion;
 mod lookup_text;
-mod script;
 mod unit_text;
 
-pub use command::{Command, Request, Sections, print};
-pub use script::write;
+pub use command::{Command, print};

@@ -31,26 +31,25 @@ fn print_numbers<R: Lender>(header: &LineProgramHeader<R>, lines: &mut Lines) {
         Format::Dwarf32 => 32,
         Format::Dwarf64 => 64,
     };
-    let instruction = header.minimum_instruction_length();
-    let operations = Number(u64::from(header.maximum_operations_per_instruction()));
     let is_stmt = [(header.default_is_stmt(), "true")];
     let numbers = [
-        ("offset", Number(header.offset().0.into_u64())),
-        ("unit_length", Number(header.unit_length().into_u64())),
-        ("format", Number(bits)),
-        ("version", Number(u64::from(header.version()))),
-        ("address_size", Number(u64::from(header.address_size()))),
-        ("header_length", Number(header.header_length().into_u64())),
-        ("minimum_instruction_length", Number(u64::from(instruction))),
-        ("maximum_operations_per_instruction", operations),
-        ("default_is_stmt", Flags(&is_stmt, "false")),
-        ("line_base", Signed(i64::from(header.line_base()))),
-        ("line_range", Number(u64::from(header.line_range()))),
-        ("opcode_base", Number(u64::from(header.opcode_base()))),
+        Number(header.offset().0.into_u64()),
+        Number(header.unit_length().into_u64()),
+        Number(bits),
+        Number(u64::from(header.version())),
+        Number(u64::from(header.address_size())),
+        Number(header.header_length().into_u64()),
+        Number(u64::from(header.minimum_instruction_length())),
+        Number(u64::from(header.maximum_operations_per_instruction())),
+        Flags(&is_stmt, "false"),
+        Signed(i64::from(header.line_base())),
+        Number(u64::from(header.line_range())),
+        Number(u64::from(header.opcode_base())),
     ];
-    for (word, number) in numbers {
-        lines.print("% %\n", &[Word(word), number]);
-    }
+    let text = "offset %\nunit_length %\nformat %\nversion %\naddress_size %\nheader_length %\n\
+        minimum_instruction_length %\nmaximum_operations_per_instruction %\ndefault_is_stmt %\n\
+        line_base %\nline_range %\nopcode_base %\n";
+    lines.print(text, &numbers);
 }
 
 /// Prints bytes after a word, and the word alone where there are none.

@@ -3,7 +3,7 @@
 #![tactic(auto)]
 
 mod convert;
-mod line_map;
+mod line_index;
 mod make_object;
 mod make_unit;
 mod own;
@@ -37,7 +37,7 @@ fn run(rt: &HostRuntime, command: &[String], text: &mut String) -> Result<()> {
     match program.as_str() {
         "rows" => rows::start(rt, words, text),
         "where_is" => where_is::start(rt, words, text),
-        "line_map" => line_map::start(rt, words, text),
+        "line_index" => line_index::start(rt, words, text),
         "make_unit" => Ok(make_unit::start(rt.alloc(), text)?),
         "make_object" => Ok(make_object::start(rt.alloc(), text)?),
         "convert" => convert::start(rt, words, text),

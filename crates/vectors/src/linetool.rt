@@ -1,7 +1,8 @@
 //! The program `linetool`, as a command of a row.
 
 use row_text::{Attempts, Lines, Stop, parse_number};
-use rows::{Command, Request, Sections, print};
+use rows::{Command, print};
+use std::alloc::Global;
 use std::io;
 use std::io::{ErrorKind, Read, Write};
 
@@ -50,9 +51,10 @@ impl Write for Room {
 /// attempts are two, and returns its status. Before it may stand `room N`, where its output has
 /// room for N bytes, `missing`, where its file isn't there, or `broken`, where reading that fails.
 pub fn run_linetool(
-    request: Request<'_>,
+    alloc: Global,
     words: &[&str],
-    sections: Sections<'_>,
+    attempts: Attempts,
+    sections: [&[u8]; 3],
     lines: &mut Lines,
 ) -> Result<u8, Stop> {
     let [section, _, _] = sections;
@@ -73,7 +75,7 @@ pub fn run_linetool(
         }),
         None => None,
     };
-    let mut own = Vec::new(request.alloc);
+    let mut own = Vec::new(alloc);
     for word in words {
         own.push(*word)?;
         // A file stands after each name but `demo`.
@@ -81,34 +83,31 @@ pub fn run_linetool(
             own.push("FILE")?;
         }
     }
-    let status = run_words(request, &own, file, left, lines)?;
-    if request.attempts == Attempts::Two && words.first() == Some(&"rows") {
-        let request = Request {
-            words: words.get(1..).unwrap_or(&[]),
-            ..request
-        };
+    let status = run_words(alloc, &own, attempts, file, left, lines)?;
+    if attempts == Attempts::Two && words.first() == Some(&"rows") {
+        let rest = words.get(1..).unwrap_or(&[]);
         // Words that are no location have no rows.
-        let _ = print(Command::Watch, request, sections, lines);
+        let _ = print(Command::Watch, alloc, rest, attempts, sections, lines);
     }
     Ok(status)
 }
 
 /// Runs the words of `linetool` over a file, and prints what stands on its outputs.
 fn run_words(
-    request: Request<'_>,
+    alloc: Global,
     words: &[&str],
+    attempts: Attempts,
     file: Option<RowFile<'_>>,
     left: usize,
     lines: &mut Lines,
 ) -> Result<u8, Stop> {
-    let alloc = request.alloc;
     let mut err = Vec::new(alloc);
     let mut printed = Room {
         out: Vec::new(alloc),
         left,
     };
     let mut status = linetool_commands::run(alloc, words, file, &mut printed, &mut err);
-    if request.attempts == Attempts::Two && err.as_slice() == b"refused: memory\n".as_slice() {
+    if attempts == Attempts::Two && err.as_slice() == b"refused: memory\n".as_slice() {
         printed.out.clear();
         err.clear();
         status = linetool_commands::run(alloc, words, file, &mut printed, &mut err);

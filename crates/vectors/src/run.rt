@@ -2,7 +2,8 @@
 
 use crate::linetool::run_linetool;
 use row_text::{Attempts, Input, Lines, Piece, RowCommand, Stop, words_before_parts};
-use rows::{Command, Request, Sections, print, write};
+use rows::{Command, print};
+use rows_built::{convert, write};
 use std::alloc::{AllocError, Global};
 
 /// What a command of a row prints: its output, its lines on standard error after `stderr`, and its
@@ -36,19 +37,22 @@ pub fn run(
 ) -> Result<u8, Stop> {
     let name = words.first().copied().unwrap_or("");
     let count = words_before_parts(name).unwrap_or(words.len());
-    let request = Request {
-        alloc,
-        words: words.get(1..count.min(words.len())).unwrap_or(&[]),
-        attempts,
-    };
-    match input {
-        Input::Script(script) => write(request, script, lines),
-        Input::Section(section, named) => {
-            if words.iter().skip(count).any(|word| !word.starts_with('@')) {
+    let (own, parts) = words.split_at(count.min(words.len()));
+    match (input, own) {
+        (Input::Script(script), [_]) => write(alloc, attempts, script, lines),
+        (Input::Script(_), _) => Err(Stop::Bad),
+        (Input::Section(section, named), _) => {
+            if parts.iter().any(|word| !word.starts_with('@')) {
                 return Err(Stop::Bad);
             }
             let (strings, line_strings) = texts_of(named)?;
-            run_over(request, words, [section, strings, line_strings], lines)
+            run_over(
+                alloc,
+                own,
+                attempts,
+                [section, strings, line_strings],
+                lines,
+            )
         }
     }
 }
@@ -65,16 +69,19 @@ fn texts_of(named: &[Vec<u8>]) -> Result<(&[u8], &[u8]), Stop> {
 
 /// Runs a command over sections, and returns its status.
 fn run_over(
-    request: Request<'_>,
+    alloc: Global,
     words: &[&str],
-    sections: Sections<'_>,
+    attempts: Attempts,
+    sections: [&[u8]; 3],
     lines: &mut Lines,
 ) -> Result<u8, Stop> {
-    match Command::parse(words.first().copied().unwrap_or("")) {
-        Some(command) => match print(command, request, sections, lines) {
-            Ok(()) => Ok(0),
-            Err(stop) => Err(stop),
-        },
-        None => run_linetool(request, words, sections, lines),
-    }
+    let name = words.first().copied().unwrap_or("");
+    let rest = words.get(1..).unwrap_or(&[]);
+    let done = match (name, Command::parse(name)) {
+        (_, Some(command)) => print(command, alloc, rest, attempts, sections, lines),
+        ("convert", _) => convert(true, alloc, rest, attempts, sections, lines),
+        ("convert_sequences", _) => convert(false, alloc, rest, attempts, sections, lines),
+        _ => return run_linetool(alloc, words, attempts, sections, lines),
+    };
+    done.and(Ok(0))
 }

@@ -1,17 +1,14 @@
 /* Prints rows of a program's line information.
  *
- *   objcopy --dump-section .debug_line=line.bin program copy            (for an executable; see run.sh)
- *   addr2line line.bin ADDRESS..      the row that each address belongs to, and the next one, by linetool's numbers, or none
- *   addr2line line.bin                every row of every unit
- *
- * For a little-endian program with addresses of 8 bytes. */
+ *   addr2line PROGRAM ADDRESS..      the row that each address belongs to, and the next one, by linetool's numbers, or none
+ *   addr2line PROGRAM                every row of every unit */
 #include "file.h"
 #include "gimli_line.h"
 
-static void print_row(const gimli_row *row) {
+static void print_row(const gimli_line_row *row) {
     printf("%016llx %llu %llu %llu %llu %llu %llu ", (unsigned long long)row->address, (unsigned long long)row->op_index,
-           (unsigned long long)row->file, (unsigned long long)row->line, (unsigned long long)row->column,
-           (unsigned long long)row->isa, (unsigned long long)row->discriminator);
+           (unsigned long long)row->file, (unsigned long long)row->line, (unsigned long long)row->column, (unsigned long long)row->isa,
+           (unsigned long long)row->discriminator);
     if (row->flags == 0) printf("-");
     for (int flag = 0; flag < 5; flag++)
         if (row->flags >> flag & 1) putchar("sbepq"[flag]);
@@ -19,22 +16,22 @@ static void print_row(const gimli_row *row) {
 }
 
 /* All rows of the unit at an offset. The status is that of its program's first fault, which comes after the rows before it. */
-static uint32_t print_rows(bytes section, size_t offset, uint64_t count) {
-    gimli_row *rows = malloc((count + 1) * sizeof *rows);
-    if (rows == NULL) return GIMLI_OUT_OF_MEMORY;
-    uint32_t status = gimli_line_rows(section.at, section.length, false, 8, offset, 0, rows, count, &count);
+static gimli_line_status print_rows(const gimli_line_sections *sections, size_t offset, uint64_t count) {
+    gimli_line_row *rows = malloc((count + 1) * sizeof *rows);
+    if (rows == NULL) return GIMLI_LINE_OUT_OF_MEMORY;
+    gimli_line_status status = gimli_line_read_rows(sections, offset, 0, rows, count, &count);
     for (uint64_t i = 0; i < count; i++) print_row(&rows[i]);
     free(rows);
     return status;
 }
 
 /* The two rows of an address: those of the first unit that has it. */
-static void print_pair(bytes section, uint64_t address) {
-    gimli_row first, second;
-    gimli_unit unit;
-    for (size_t offset = 0; offset < section.length; offset = unit.next) {
-        if (gimli_line_unit(section.at, section.length, false, 8, offset, &unit) != GIMLI_OK) continue;
-        if (gimli_line_find(section.at, section.length, false, 8, offset, address, &first, &second) != GIMLI_OK) continue;
+static void print_pair(const gimli_line_sections *sections, uint64_t address) {
+    gimli_line_row first, second;
+    gimli_line_unit unit;
+    for (size_t offset = 0; offset < sections->line_size; offset = unit.next) {
+        if (gimli_line_read_unit(sections, offset, &unit) != GIMLI_LINE_OK) continue;
+        if (gimli_line_find_row(sections, offset, address, &first, &second) != GIMLI_LINE_OK) continue;
         print_row(&first);
         print_row(&second);
         return;
@@ -44,20 +41,23 @@ static void print_pair(bytes section, uint64_t address) {
 
 int main(int argc, char **argv) {
     if (argc < 2) {
-        fprintf(stderr, "usage: addr2line SECTION [ADDRESS..]\n");
+        fprintf(stderr, "usage: addr2line PROGRAM [ADDRESS..]\n");
         return 2;
     }
-    bytes section = read_file(argv[1]);
+    bytes program = read_file(argv[1]);
+    gimli_line_sections sections;
+    stop_if(gimli_line_sections_of_elf(program.at, program.length, &sections));
+    free(program.at); /* the sections are copies */
     int faults = 0;
-    gimli_unit unit;
-    for (size_t offset = 0; argc == 2 && offset < section.length; offset = unit.next) {
-        uint32_t status = gimli_line_unit(section.at, section.length, false, 8, offset, &unit);
-        if (status == GIMLI_OK) status = print_rows(section, offset, unit.rows);
-        if (status == GIMLI_OK) continue;
-        fprintf(stderr, "unit at %zu: %s\n", offset, gimli_status_sentence(status));
+    gimli_line_unit unit;
+    for (size_t offset = 0; argc == 2 && offset < sections.line_size; offset = unit.next) {
+        gimli_line_status status = gimli_line_read_unit(&sections, offset, &unit);
+        if (status == GIMLI_LINE_OK) status = print_rows(&sections, offset, unit.rows);
+        if (status == GIMLI_LINE_OK) continue;
+        fprintf(stderr, "unit at %zu: %s\n", offset, gimli_line_status_sentence(status));
         faults++;
     }
-    for (int i = 2; i < argc; i++) print_pair(section, strtoull(argv[i], NULL, 16));
-    free(section.at);
+    for (int i = 2; i < argc; i++) print_pair(&sections, strtoull(argv[i], NULL, 16));
+    gimli_line_sections_free(&sections);
     return faults != 0;
 }

@@ -10,23 +10,22 @@
 static const char *const symbols[] = {"first", "second"};
 
 /* The functions, and a unit of .debug_info that leads to their lines. */
-static const char code[] =
-    ".text\n"
-    ".globl first, second\n"
-    "first: movl $1, %eax\n ret\n"
-    "second: movl $2, %eax\n ret\n"
-    ".section .debug_abbrev, \"\", @progbits\n"
-    ".byte 1, 0x11, 0, 0x03, 0x08, 0x1b, 0x08, 0x10, 0x17, 0x11, 0x01, 0x12, 0x07, 0, 0, 0\n"
-    ".section .debug_info, \"\", @progbits\n"
-    ".long 2f - 1f\n"
-    "1: .short 4\n .long .debug_abbrev\n .byte 8, 1\n"
-    ".asciz \"two.c\"\n .asciz \"/made\"\n .long .debug_line\n .quad first\n .quad 12\n"
-    "2:\n"
-    ".section .note.GNU-stack, \"\", @progbits\n"
-    ".section .debug_line, \"\", @progbits\n";
+static const char code[] = ".text\n"
+                           ".globl first, second\n"
+                           "first: movl $1, %eax\n ret\n"
+                           "second: movl $2, %eax\n ret\n"
+                           ".section .debug_abbrev, \"\", @progbits\n"
+                           ".byte 1, 0x11, 0, 0x03, 0x08, 0x1b, 0x08, 0x10, 0x17, 0x11, 0x01, 0x12, 0x07, 0, 0, 0\n"
+                           ".section .debug_info, \"\", @progbits\n"
+                           ".long 2f - 1f\n"
+                           "1: .short 4\n .long .debug_abbrev\n .byte 8, 1\n"
+                           ".asciz \"two.c\"\n .asciz \"/made\"\n .long .debug_line\n .quad first\n .quad 12\n"
+                           "2:\n"
+                           ".section .note.GNU-stack, \"\", @progbits\n"
+                           ".section .debug_line, \"\", @progbits\n";
 
 /* The addend of a relocation, which stands in the list or at the place; the other is 0. */
-static int64_t addend_of(const gimli_relocation *relocation, const uint8_t *unit, bool in_place) {
+static int64_t addend_of(const gimli_line_relocation *relocation, const uint8_t *unit, bool in_place) {
     uint64_t there = 0;
     for (unsigned i = 8; i-- != 0;) there = there << 8 | unit[relocation->offset + i];
     if (relocation->size != 8 || relocation->section != 0 || (in_place ? relocation->addend != 0 : there != 0)) exit(3);
@@ -39,29 +38,39 @@ int main(int argc, char **argv) {
     bool from_0 = version >= 5; /* numbers of directories and files count from 0 on */
 
     static const char texts[] = "/madetwo.c";
-    gimli_name directory = {0, 5};
-    gimli_file_name file = {{5, 5}, 0, 0, 0, {0}};
+    gimli_line_name directory = {0, 5};
+    gimli_line_file_name file = {{5, 5}, 0, 0, 0, {0}};
     uint64_t number = from_0 ? 0 : 1;
     /* Two functions of six bytes; the last byte of each is of the next line. */
-    gimli_row rows[] = {
-        {0, 0, number, 3, 1, 0, 0, GIMLI_IS_STMT}, {5, 0, number, 4, 1, 0, 0, GIMLI_IS_STMT}, {6, 0, 0, 0, 0, 0, 0, GIMLI_END_SEQUENCE},
-        {0, 0, number, 8, 1, 0, 0, GIMLI_IS_STMT}, {5, 0, number, 9, 1, 0, 0, GIMLI_IS_STMT}, {6, 0, 0, 0, 0, 0, 0, GIMLI_END_SEQUENCE},
+    gimli_line_row rows[] = {
+        {0, 0, number, 3, 1, 0, 0, GIMLI_LINE_IS_STMT}, {5, 0, number, 4, 1, 0, 0, GIMLI_LINE_IS_STMT},
+        {6, 0, 0, 0, 0, 0, 0, GIMLI_LINE_END_SEQUENCE}, {0, 0, number, 8, 1, 0, 0, GIMLI_LINE_IS_STMT},
+        {5, 0, number, 9, 1, 0, 0, GIMLI_LINE_IS_STMT}, {6, 0, 0, 0, 0, 0, 0, GIMLI_LINE_END_SEQUENCE},
     };
     /* The second function begins six bytes after the first: its symbol is the first one's, with an addend, where the version is even. */
-    gimli_symbol starts[] = {{0, 0}, {version % 2 != 0, version % 2 != 0 ? 0 : 6}};
-    gimli_contents contents = {
-        .encoding = GIMLI_ENCODING(version), .texts = (const uint8_t *)texts, .text_length = sizeof texts - 1, .directories = &directory,
-        .directory_count = from_0, .files = &file, .file_count = 1, .rows = rows, .row_count = sizeof rows / sizeof rows[0],
-        .symbols = starts, .symbol_count = sizeof starts / sizeof starts[0], .in_place = argc > 2 && strcmp(argv[2], "in-place") == 0};
+    gimli_line_symbol starts[] = {{0, 0}, {version % 2 != 0, version % 2 != 0 ? 0 : 6}};
+    gimli_line_contents contents = {.struct_size = sizeof contents,
+                                    .encoding = GIMLI_LINE_ENCODING(version),
+                                    .texts = texts,
+                                    .text_length = sizeof texts - 1,
+                                    .directories = &directory,
+                                    .directory_count = from_0,
+                                    .files = &file,
+                                    .file_count = 1,
+                                    .rows = rows,
+                                    .row_count = sizeof rows / sizeof rows[0],
+                                    .symbols = starts,
+                                    .symbol_count = sizeof starts / sizeof starts[0],
+                                    .in_place = argc > 2 && strcmp(argv[2], "in-place") == 0};
 
     /* How much room it takes is asked first. */
     size_t size, count;
-    uint32_t status = gimli_line_write_relocatable_contents(&contents, NULL, 0, &size, NULL, 0, &count);
-    if (status != GIMLI_NO_ROOM) stop_if(status);
+    gimli_line_status status = gimli_line_write_relocatable(&contents, NULL, 0, &size, NULL, 0, &count);
+    if (status != GIMLI_LINE_NO_ROOM) stop_if(status);
     uint8_t *unit = malloc(size);
-    gimli_relocation *relocations = malloc(count * sizeof *relocations);
+    gimli_line_relocation *relocations = malloc(count * sizeof *relocations);
     if (unit == NULL || relocations == NULL) return 2;
-    stop_if(gimli_line_write_relocatable_contents(&contents, unit, size, &size, relocations, count, &count));
+    stop_if(gimli_line_write_relocatable(&contents, unit, size, &size, relocations, count, &count));
 
     fputs(code, stdout);
     for (size_t at = 0, next = 0; at < size;) {
@@ -69,8 +78,7 @@ int main(int argc, char **argv) {
             int64_t addend = addend_of(&relocations[next], unit, contents.in_place);
             printf(".quad %s + %" PRId64 "\n", symbols[relocations[next].symbol], addend);
             at += relocations[next++].size;
-        } else
-            printf(".byte %d\n", unit[at++]);
+        } else printf(".byte %d\n", unit[at++]);
     }
     free(relocations);
     free(unit);

@@ -13,9 +13,9 @@ typedef struct bytes {
 } bytes;
 
 /* Ends the program where a call answered another number than 0. */
-static inline void stop_if(uint32_t status) {
-    if (status == GIMLI_OK) return;
-    fprintf(stderr, "%s\n", gimli_status_sentence(status));
+static inline void stop_if(gimli_line_status status) {
+    if (status == GIMLI_LINE_OK) return;
+    fprintf(stderr, "%s\n", gimli_line_status_sentence(status));
     exit(1);
 }
 

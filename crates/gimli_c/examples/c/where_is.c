@@ -10,23 +10,23 @@ int main(int argc, char **argv) {
         return 2;
     }
     bytes program = read_file(argv[1]);
-    uint8_t *map;
+    uint8_t *index;
     size_t size;
-    stop_if(gimli_line_map_of_elf(program.at, program.length, &map, &size));
-    free(program.at); /* the map has all that it needs */
+    stop_if(gimli_line_index_of_elf(program.at, program.length, &index, &size));
+    free(program.at); /* the index has all that it needs */
 
     for (int i = 2; i < argc; i++) {
-        gimli_map_place place;
-        uint32_t status = gimli_line_map_find(map, size, strtoull(argv[i], NULL, 16), &place);
-        if (status == GIMLI_NO_ROW) { /* no line is known of this address */
+        gimli_line_place place;
+        gimli_line_status status = gimli_line_index_find(index, size, strtoull(argv[i], NULL, 16), &place);
+        if (status == GIMLI_LINE_NO_ROW) { /* no line is known of this address */
             puts("none");
             continue;
         }
         stop_if(status);
-        const char *path = gimli_map_path(map, &place); /* no zero byte follows it */
+        const char *path = gimli_line_place_path(index, &place); /* no zero byte follows it */
         printf("%.*s:%" PRIu32 ":%" PRIu32 "\n", path != NULL ? (int)place.path_size : 2, path != NULL ? path : "??", place.line,
                place.column);
     }
-    free(map);
+    free(index);
     return 0;
 }

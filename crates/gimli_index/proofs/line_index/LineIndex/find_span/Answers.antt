@@ -2,7 +2,7 @@ use Rattle.std.proofs.Common.{◌≡◌, ◌+◌, ◌≤◌, ◌<◌, sym, ◌�
 use Rattle.gimli_index.specs.Views.{index_of}
 use Rattle.gimli_index.specs.Spans.{place_among}
 use Rattle.gimli_index.proofs.Ascending.{numbers_ascend}
-use Rattle.gimli_index.proofs.Finds.{at_start, below_base, below_starts}
+use Rattle.gimli_index.proofs.Finds.{at_start, below_base, below_starts, found_around}
 use Rattle.gimli_index.proofs.line_index.LineIndex.find_span.Goals as goal
 
 pub returns-in_err-number-clause-place : goal.returns-in_err-number-clause-place
@@ -32,3 +32,15 @@ returns-clause-place c =
     ∙ sym (at_start index c.args.address number i is (omega (arith, c.starts_up_to.ensures.within))
     (c.starts_up_to.ensures.before (numbers_ascend index ascending) i (omega arith))
     (λ k later within. c.starts_up_to.ensures.after (numbers_ascend index ascending) k (omega arith) within))
+
+pub returns-clause-range : goal.returns-clause-range
+returns-clause-range c =
+    let index = index_of c.args.self.now in
+    let number = c.in_ok-number.number in
+    let i = c.in_ok-index.index in
+    let is : c.args.address ≡ index.base + number = omega (arith, c.in_ok-number.ensures) in
+    let last : i + 1 ≡ c.starts_up_to.result = omega (arith, c.in_ok-index.ensures) in
+    λ ascending. found_around index c.args.address number i c.entry_span.result is (omega (arith, c.starts_up_to.ensures.within))
+    (c.starts_up_to.ensures.before (numbers_ascend index ascending) i (omega arith)) (numbers_ascend index ascending)
+    (λ k later within. c.starts_up_to.ensures.after (numbers_ascend index ascending) k (omega arith) within)
+    c.entry_span.ensures.range

@@ -12,7 +12,7 @@ returns-in_err-rows-clause-err g c =
     rw (p.1, p.2) (λ other. absurd (other c.in_err-rows.ensures.err))
 
 pub invariant_of-result : goal.invariant_of-result
-invariant_of-result g c = rw c.as_slice.ensures.value at c.in_ok-index.ensures.ok
+invariant_of-result g c = rw c.as_slice.ensures.value at c.in_ok-table.ensures.ok
 
 pub returns-clause-each : goal.returns-clause-each
 returns-clause-each g c = rw c.in_ok-rows.ensures.ok c.in_ok-program.ensures.each

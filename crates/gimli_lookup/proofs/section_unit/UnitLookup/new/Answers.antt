@@ -15,4 +15,5 @@ pub invariant_of-result-2 : goal.invariant_of-result-2
 invariant_of-result-2 g c =
     let order = rw c.in-Ok.is at c.requires.order in
     let same = rw c.in-Ok.is at c.requires.offset in
+    rw c.in_ok-boxed.ensures.ok
     (c.in_ok-unit_run-in-Ok.ensures.order order, c.in_ok-unit_run-in-Ok.ensures.offset ∙ ap (λ o. g.R.Offset.ReaderOffset.number o.0) same)

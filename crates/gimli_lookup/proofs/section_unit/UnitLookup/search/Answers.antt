@@ -29,10 +29,9 @@ returns-then-is_none-clause-searched g c =
 pub invariant_of-result : goal.invariant_of-result
 invariant_of-result g c =
     let order = rw c.in-Ok.is at c.requires.order in
-    let same = rw c.in-Ok.is at c.requires.offset in (
-      c.in_ok-found-in-Ok.ensures.order order,
-      c.in_ok-found-in-Ok.ensures.offset ∙ ap (λ o. g.R.Offset.ReaderOffset.number o.0) same,
-    )
+    let same = rw c.in-Ok.is at c.requires.offset in
+    rw c.in_ok-boxed.ensures.ok
+    (c.in_ok-found-in-Ok.ensures.order order, c.in_ok-found-in-Ok.ensures.offset ∙ ap (λ o. g.R.Offset.ReaderOffset.number o.0) same)
 
 pub returns-clause-searched : goal.returns-clause-searched
 returns-clause-searched g c =
@@ -41,7 +40,7 @@ returns-clause-searched g c =
     let old = c.args.pairs.now.items in
     let new = c.keep_pairs.new.pairs.items in
     let kept = subst (λ (ps : List CoveringRows). AreKeptBehind c.args.addresses.now old ps new) c.deref.ensures.value c.in_ok-keep_pairs.ensures.ok in
-    rw c.in-Ok.is
+    rw (c.in-Ok.is, c.in_ok-boxed.ensures.ok)
     (searched c.args.lowest c.args.index c.args.addresses.now c.in-Ok.program found.run (g.R.Offset.ReaderOffset.number c.args.offset.0) found.fault _ old
     found.pairs.items new
     parts.0 parts.1 c.in_ok-found-in-Ok.ensures.notation parts.2 kept (inl refl))

@@ -1,0 +1,99 @@
+//! Indexes, which are written here by docs/INDEX.md alone.
+
+use gimli_line_proved::{Addresses, Error, Index, NoPath};
+
+/// Two ranges of a file each, from 0x1000 and from 0x1010 on, a gap from 0x1020 on; the second file has no path, for the reason 4.
+fn small_index() -> Vec<u8> {
+    let mut index = b"LINEIDX\0".to_vec();
+    index.extend(1u32.to_le_bytes());
+    index.extend([8, 0, 4, 0]);
+    index.extend(0x1000u64.to_le_bytes());
+    for size in [3u32, 2, 4, 2] {
+        index.extend(size.to_le_bytes());
+    }
+    for (unit, size, reason) in [(7u64, 4u32, 0u32), (9, 0, 4)] {
+        index.extend(unit.to_le_bytes());
+        for number in [0, size, reason, 0] {
+            index.extend(number.to_le_bytes());
+        }
+    }
+    for start in [0u32, 0x10, 0x20] {
+        index.extend(start.to_le_bytes());
+    }
+    // The first is a statement.
+    for entry in [[0, 5, 2 | 1 << 31], [1, 6, 0], [u32::MAX, 0, 0]] {
+        entry.iter().for_each(|number| index.extend(number.to_le_bytes()));
+    }
+    index.extend(b"/a.cid");
+    index
+}
+
+#[test]
+fn places_are_those_of_the_index() {
+    let bytes = small_index();
+    let index = Index::open(&bytes).expect("it is an index");
+    assert_eq!(index.check(), Ok(()));
+    assert_eq!((index.len(), index.is_empty(), index.identity(), index.address_size()), (3, false, &b"id"[..], 8));
+    let place = index.find(0x100f).expect("it is known");
+    assert_eq!((place.path, place.line, place.column, place.unit, place.is_stmt), (Ok(&b"/a.c"[..]), 5, 2, 7, true));
+    assert_eq!((place.first, place.end), (0x1000, Some(0x1010)));
+    let place = index.find(0x1010).expect("it is known");
+    assert_eq!((place.path, place.line, place.unit, place.is_stmt), (Err(NoPath::Reason(4)), 6, 9, false));
+    assert_eq!((place.first, place.end), (0x1010, Some(0x1020)));
+    assert_eq!([0, 0xfff, 0x1020, u64::MAX].map(|address| index.find(address)), [None; 4]);
+    let addresses = [0xfff, 0x1000, 0x101f, 0x1020];
+    assert_eq!(index.find_all(&addresses), addresses.map(|address| index.find(address)));
+    assert_eq!(index.find_all(&[]), []);
+}
+
+#[test]
+fn addresses_of_a_line_are_those_of_the_index() {
+    let bytes = small_index();
+    let index = Index::open(&bytes).expect("it is an index");
+    let first = Some(Addresses { line: 5, addresses: vec![0x1000] });
+    assert_eq!(index.addresses_of(b"a.c", 0), first);
+    assert_eq!(index.addresses_of(b"/x/../a.c", 5), first);
+    // No line after it, no file of this name, and one from the root that has other components.
+    assert_eq!([&b"a.c"[..], b"b.c", b"/x/a.c"].map(|path| index.addresses_of(path, 5 + u64::from(path == b"a.c"))), [None, None, None]);
+}
+
+#[test]
+fn threads_share_one_index() {
+    let bytes = small_index();
+    let index = Index::open(&bytes).expect("it is an index");
+    std::thread::scope(|scope| {
+        for number in 0..8u64 {
+            let index = &index;
+            scope.spawn(move || {
+                for round in 0..10_000u64 {
+                    let address = 0xff0 + (number * 7 + round) % 0x40;
+                    let line = index.find(address).map(|place| place.line);
+                    assert_eq!(line, [None, Some(5), Some(6), None][((address - 0xff0) / 0x10) as usize]);
+                }
+            });
+        }
+    });
+}
+
+#[test]
+fn what_is_no_index_is_refused() {
+    let mut bytes = small_index();
+    for length in 0..bytes.len() {
+        let error = Index::open(&bytes[..length]).map(|_| ()).expect_err("it is cut");
+        assert!(error == Error::NO_INDEX && length < 8 || error == Error::INDEX_CUT && length >= 8);
+    }
+    bytes[8] = 2;
+    assert_eq!(Index::open(&bytes).map(|_| ()), Err(Error::UNKNOWN_INDEX_VERSION));
+    bytes[8] = 1;
+    bytes[12] = 3;
+    assert_eq!(Index::open(&bytes).map(|_| ()), Err(Error::INDEX_HEADER));
+    bytes[12] = 8;
+    // The third start is below the second; then a path that ends behind the part of paths.
+    bytes[40 + 48 + 8] = 8;
+    assert_eq!(Index::open(&bytes).expect("it is an index").check(), Err(Error::INDEX_DISORDERED));
+    bytes[40 + 48 + 8] = 0x20;
+    bytes[40 + 12] = 5;
+    let index = Index::open(&bytes).expect("it is an index");
+    assert_eq!(index.check(), Err(Error::INDEX_PATH_OUTSIDE));
+    assert_eq!(index.find(0x1000).map(|place| place.path), Some(Err(NoPath::Outside)));
+}

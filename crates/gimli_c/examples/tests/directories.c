@@ -1,0 +1,256 @@
+/* Asks for directories of compilations, for whole paths, for units, and for the addresses of lines, over sections that are made by hand,
+ * whole and cut: once, and then in many threads at once, which share the sections alone. Prints how many answers were as the standard has
+ * them (DWARF 4 and 5, sections 3.1.1, 6.2.2, 6.2.4 and 6.2.5.3); the first other one ends it. See run.sh and memory.sh. */
+#define _GNU_SOURCE
+#include <pthread.h>
+
+#include "ask.h"
+
+enum { THREADS = 8 };
+
+/* One declaration, by the code 1: a compile unit without children, with DW_AT_stmt_list as DW_FORM_sec_offset, and DW_AT_comp_dir as
+ * DW_FORM_string; and the end of the table. */
+static const uint8_t declaration[] = {1, 0x11, 0, 0x10, 0x17, 0x1b, 8, 0, 0, 0};
+
+/* Version 4: the line program at 0, and the directory /w. */
+static const uint8_t info_4[] = {15, 0, 0, 0, 4, 0, 0, 0, 0, 0, 8, 1, 0, 0, 0, 0, '/', 'w', 0};
+
+/* Version 4: the directory inc, and the files a.c in no directory of the table and b.h in inc. Line 3 of a.c at 0x1000 and 0x1008, line 5
+ * of b.h at 0x1004, and at 0x100c line 9 of a.c, which is no statement; the sequence ends at 0x1010. Then the program defines the file
+ * d.c in inc. */
+static const uint8_t lines_4[] = {
+    0x5f, 0,   0,   0, 4, 0, 0x28, 0,   0,   0,   1,    1, 1, 0xfb, 14, 13, 0, 1, 1, 1, 1, 0,    0, 0, 1, 0, 0,   1,   'i', 'n', 'c', 0, 0,
+    'a',  '.', 'c', 0, 0, 0, 0,    'b', '.', 'h', 0,    1, 0, 0,    0,  0,  0, 0, 9, 2, 0, 0x10, 0, 0, 0, 0, 0,   0,   3,   2,   1,   4, 2,
+    2,    4,   3,   2, 1, 4, 1,    2,   4,   3,   0x7e, 1, 6, 2,    4,  3,  6, 1, 2, 4, 0, 1,    1, 0, 8, 3, 'd', '.', 'c', 0,   1,   0, 0};
+
+/* Version 5: the line program at 0, and the directory ./w. */
+static const uint8_t info_5[] = {17, 0, 0, 0, 5, 0, 1, 8, 0, 0, 0, 0, 1, 0, 0, 0, 0, '.', '/', 'w', 0};
+
+/* Version 5: the directories ./w, ../inc and /abs, and a file of each; no rows. */
+static const uint8_t lines_5[] = {0x43, 0, 0,   0,   5,   0,   8,   0,   0x3b, 0,   0,   0,   1,   1,   1,   0xfb, 14,  13,
+                                  0,    1, 1,   1,   1,   0,   0,   0,   1,    0,   0,   1,   1,   1,   8,   3,    '.', '/',
+                                  'w',  0, '.', '.', '/', 'i', 'n', 'c', 0,    '/', 'a', 'b', 's', 0,   2,   1,    8,   2,
+                                  11,   3, 'a', '.', 'c', 0,   0,   'b', '.',  'h', 0,   1,   'c', '.', 'c', 0,    2};
+
+/* Version 5, a directory and a file, whose names stand in .debug_str at 0 and at 8 (DW_FORM_strp). */
+static const uint8_t lines_strp[] = {30, 0, 0, 0,    5, 0, 8, 0, 22, 0, 0, 0,    1, 1, 1, 0, 1,
+                                     1,  1, 1, 0x0e, 1, 0, 0, 0, 0,  1, 1, 0x0e, 1, 8, 0, 0, 0};
+enum { DIRECTORY_FORM = 20, FILE_FORM = 28, DW_FORM_line_strp = 0x1f };
+static const uint8_t names[] = "/source\0made.c";
+
+/* Takes these sections, copies of them just so long. */
+static void take(const void *lines, size_t lines_size, const void *info, size_t info_size) {
+    in = (gimli_line_sections)GIMLI_LINE_SECTIONS;
+    in.line = memcpy(room_in(OWN, lines_size), lines, lines_size);
+    in.line_size = lines_size;
+    in.info = memcpy(room_in(OWN + 1, info_size), info, info_size);
+    in.info_size = info_size;
+    in.abbreviations = declaration;
+    in.abbreviations_size = sizeof declaration;
+}
+
+static void take_version(int version) {
+    if (version == 4) take(lines_4, sizeof lines_4, info_4, sizeof info_4);
+    else take(lines_5, sizeof lines_5, info_5, sizeof info_5);
+}
+
+/* A call tells these bytes, or has this refusal. */
+static void tells(call *made, uint64_t number, uint32_t status, const char *wanted) {
+    static _Thread_local told told;
+    is(try_rooms(made, 0, number, 1, sizeof(size_t), 0, &told) == status, wanted);
+    is(status != GIMLI_LINE_OK || (told.count == strlen(wanted) && memcmp(told.array, wanted, told.count) == 0), wanted);
+}
+
+/* The whole path of a file, from a directory on. */
+static void path_is(const char *from, uint64_t number, uint32_t status, const char *wanted) {
+    comp_dir = from;
+    comp_dir_size = strlen(from);
+    tells(path_in, number, status, wanted);
+}
+
+/* Up to version 4 a path goes on from the directory of the compilation, which .debug_info has. In version 5 a relative directory
+ * goes on from it, where directory 0 is relative; that one only where the caller's is absolute. */
+static void paths(void) {
+    static const struct {
+        int version;
+        uint64_t number;
+        const char *from, *path;
+    } wanted[] = {{4, 1, "/w", "/w/a.c"},
+                  {4, 2, "/w", "/w/inc/b.h"},
+                  {4, 3, "/w", "/w/inc/d.c"},
+                  {4, 1, "", "a.c"},
+                  {4, 2, "", "inc/b.h"},
+                  {4, 2, "/other", "/other/inc/b.h"},
+                  {5, 0, "./w", "./w/a.c"},
+                  {5, 1, "./w", "./w/../inc/b.h"},
+                  {5, 2, "./w", "/abs/c.c"},
+                  {5, 0, "/src", "/src/./w/a.c"},
+                  {5, 1, "/src", "/src/../inc/b.h"},
+                  {5, 0, "", "./w/a.c"},
+                  {5, 1, "", "./w/../inc/b.h"},
+                  {4, 0, "/w", NULL},
+                  {4, 4, "/w", NULL},
+                  {4, UINT64_MAX, "/w", NULL},
+                  {5, 3, "/w", NULL},
+                  {5, UINT64_MAX, "/w", NULL}};
+    for (size_t i = 0; i < sizeof wanted / sizeof wanted[0]; i++) {
+        take_version(wanted[i].version);
+        path_is(wanted[i].from, wanted[i].number, wanted[i].path != NULL ? GIMLI_LINE_OK : GIMLI_LINE_NO_SUCH_FILE, wanted[i].path);
+    }
+}
+
+/* A path whose strings stand in other sections: in .debug_str and, by the other form, in .debug_line_str. It isn't told where one of them
+ * is outside, or has no end. */
+static void strings_of_paths(void) {
+    uint8_t lines[sizeof lines_strp];
+    memcpy(lines, lines_strp, sizeof lines);
+    for (int form = 0; form < 2; form++) {
+        for (size_t length = 0; length <= sizeof names; length++) {
+            const void *cut = memcpy(room_in(OWN + 2, length), names, length);
+            uint32_t status = length < sizeof names ? GIMLI_LINE_UNKNOWN_PATH : GIMLI_LINE_OK;
+            take(lines, sizeof lines, info_5, sizeof info_5);
+            *(form == 0 ? &in.strings : &in.line_strings) = cut;
+            *(form == 0 ? &in.strings_size : &in.line_strings_size) = length;
+            path_is("", 0, status, "/source/made.c");
+            path_is("/other", 0, status, "/source/made.c");
+            *(form != 0 ? &in.strings : &in.line_strings) = cut;
+            *(form != 0 ? &in.strings_size : &in.line_strings_size) = length;
+            *(form == 0 ? &in.strings_size : &in.line_strings_size) = 0;
+            path_is("", 0, GIMLI_LINE_UNKNOWN_PATH, "a string of another section");
+        }
+        lines[DIRECTORY_FORM] = lines[FILE_FORM] = DW_FORM_line_strp;
+    }
+}
+
+/* Reads a unit that is refused: but for where the next one begins, what was there stays. */
+static void refused(size_t next, uint32_t status, const char *what) {
+    gimli_line_unit *unit = room_in(ANOTHER, sizeof *unit);
+    is(gimli_line_read_unit(&in, 0, unit) == status && unit->next == next, what);
+    memset(&unit->next, 0xaa, sizeof unit->next);
+    is(is_untouched(unit, sizeof *unit), what);
+    path_is("", 1, status, what);
+}
+
+/* A unit that is cut anywhere, and one of an unknown version, after which the next one can be read. */
+static void units(const uint8_t *lines, size_t size, gimli_line_unit wanted) {
+    for (size_t length = 0; length < size; length++) {
+        take(lines, length, info_4, sizeof info_4);
+        refused(length, GIMLI_LINE_UNEXPECTED_EOF, "a cut unit");
+    }
+    uint8_t two[2 * sizeof lines_4];
+    gimli_line_unit unit;
+    memcpy(two, lines, size);
+    memcpy(two + size, lines, size);
+    two[4] = 6;
+    take(two, 2 * size, info_4, sizeof info_4);
+    refused(size, GIMLI_LINE_UNKNOWN_VERSION, "version 6");
+    in.address_size = 3;
+    is(gimli_line_read_unit(&in, size, &unit) == GIMLI_LINE_UNSUPPORTED_ADDRESS_SIZE, "addresses of 3 bytes");
+    in.address_size = 8;
+    is(gimli_line_read_unit(&in, size, &unit) == GIMLI_LINE_OK && unit.next == 2 * size, "the unit after it");
+    wanted.next = unit.next;
+    is(memcmp(&unit, &wanted, sizeof unit) == 0 && gimli_line_first_number(&unit) == (unit.version < 5), "what a unit says of itself");
+    ask_units();
+}
+
+/* An index of sections has the whole paths where .debug_info is there. It tells the addresses of a line of a path, or of the next line that
+ * has any: none of a file that no row has, nor of one without statements from the line on. indexes.c has more paths. */
+static void lines_of_paths(void) {
+    static const struct {
+        int has_info;
+        const char *path;
+        uint64_t line, found, addresses[2];
+    } wanted[] = {{1, "a.c", 3, 3, {0x1000, 0x1008}}, {1, "/w/a.c", 1, 3, {0x1000, 0x1008}},
+                  {1, "x/../b.h", 4, 5, {0x1004, 0}}, {1, "/w/./inc//b.h/", 5, 5, {0x1004, 0}},
+                  {1, "", 4, 5, {0x1004, 0}},         {1, "a.c", 4, 0, {0, 0}},
+                  {1, "b.h", 6, 0, {0, 0}},           {1, "d.c", 1, 0, {0, 0}},
+                  {1, "/inc/b.h", 1, 0, {0, 0}},      {1, "v/a.c", 1, 0, {0, 0}},
+                  {1, "x/w/a.c", 1, 0, {0, 0}},       {0, "a.c", 3, 3, {0x1000, 0x1008}},
+                  {0, "inc/b.h", 3, 5, {0x1004, 0}},  {0, "/w/a.c", 1, 0, {0, 0}}};
+    for (size_t i = 0; i < sizeof wanted / sizeof wanted[0]; i++) {
+        uint64_t found = 77, addresses[3] = {77, 77, 77}, room = i % 4;
+        size_t size, count = 77, all = (wanted[i].addresses[0] != 0) + (wanted[i].addresses[1] != 0);
+        uint8_t *index;
+        take(lines_4, sizeof lines_4, info_4, wanted[i].has_info ? sizeof info_4 : 0);
+        is(gimli_line_index_of_sections(&in, NULL, 0, &index, &size) == GIMLI_LINE_OK, "an index of sections");
+        uint32_t status = gimli_line_index_addresses_of(index, size, wanted[i].path, strlen(wanted[i].path), wanted[i].line, &found,
+                                                        addresses, room, &count);
+        is(status == (all == 0 ? GIMLI_LINE_NO_CODE : GIMLI_LINE_OK), wanted[i].path);
+        is(found == (all == 0 ? 77 : wanted[i].found) && count == (all == 0 ? 77 : all), wanted[i].path);
+        for (size_t k = 0; k < 3; k++) is(addresses[k] == (k < all && k < room ? wanted[i].addresses[k] : 77), wanted[i].path);
+        gimli_line_place place;
+        is(gimli_line_index_find(index, size, 0x100c, &place) == GIMLI_LINE_OK && place.line == 9 && !place.is_stmt, "line 9");
+        free(index);
+    }
+}
+
+/* The directory of a compilation; none of another line program, nor where a section is cut, a unit can't be read, or a text has no end. */
+static void directories(const uint8_t *info, size_t size, const char *wanted) {
+    uint8_t changed[64];
+    take(lines_4, sizeof lines_4, info, size);
+    tells(comp_dir_in, 0, GIMLI_LINE_OK, wanted);
+    for (size_t length = 0; length < sizeof declaration - 1; length++) {
+        in.abbreviations = memcpy(room_in(OWN + 3, length), declaration, length);
+        in.abbreviations_size = length;
+        tells(comp_dir_in, 0, GIMLI_LINE_NO_COMP_DIR, "a cut .debug_abbrev");
+    }
+    for (size_t length = 0; length < size; length++) {
+        take(lines_4, sizeof lines_4, info, length);
+        tells(comp_dir_in, 0, GIMLI_LINE_NO_COMP_DIR, "a cut .debug_info");
+    }
+    /* In turn the length, the version, the line program's offset, and the end of the text. */
+    const size_t at[] = {0, 1, 2, 3, 4, 5, size - strlen(wanted) - 5, size - 1};
+    for (size_t i = 0; i < sizeof at / sizeof at[0]; i++) {
+        memcpy(changed, info, size);
+        changed[at[i]] = 0xff;
+        take(lines_4, sizeof lines_4, changed, size);
+        tells(comp_dir_in, 0, GIMLI_LINE_NO_COMP_DIR, "a unit that can't be read");
+    }
+}
+
+/* A struct of another size is refused, and nothing is written; null is no bytes, and no room. */
+static void structs(void) {
+    uint64_t count = 77, line = 77;
+    size_t size = 77, many = 77;
+    uint8_t *index;
+    take_version(4);
+    in.strings = in.line_strings = in.string_offsets = NULL;
+    is(gimli_line_read_rows(&in, 0, 0, NULL, 0, &count) == GIMLI_LINE_OK && count == 5, "no room for rows");
+    is(gimli_line_read_path(&in, 0, 1, NULL, 0, NULL, 0, &size) == GIMLI_LINE_OK && size == 3, "no room for a path");
+    is(gimli_line_comp_dir(&in, 0, NULL, 0, &size) == GIMLI_LINE_OK && size == 2, "no room for a directory");
+    is(gimli_line_index_of_sections(&in, NULL, 0, &index, &size) == GIMLI_LINE_OK, "an index without an identity");
+    is(gimli_line_index_find_all(index, size, NULL, 0) == GIMLI_LINE_OK, "no places");
+    is(gimli_line_index_addresses_of(index, size, NULL, 0, 3, &line, NULL, 0, &many) == GIMLI_LINE_OK && line == 3 && many == 2, "no path");
+    free(index);
+    in.struct_size--;
+    gimli_line_unit *unit = room_in(ANOTHER, sizeof *unit);
+    is(gimli_line_read_unit(&in, 0, unit) == GIMLI_LINE_UNKNOWN_OPTIONS && is_untouched(unit, sizeof *unit), "sections of another size");
+    is(gimli_line_index_of_sections(&in, NULL, 0, &index, &size) == GIMLI_LINE_UNKNOWN_OPTIONS && index == NULL && size == 0,
+       "their index");
+    gimli_line_contents contents = {.struct_size = 1};
+    is(gimli_line_write(&contents, NULL, 0, &size) == GIMLI_LINE_UNKNOWN_OPTIONS && size == 0, "contents of another size");
+    in = (gimli_line_sections)GIMLI_LINE_SECTIONS;
+    is(gimli_line_read_unit(&in, 0, unit) == GIMLI_LINE_UNEXPECTED_EOF, "no section");
+    is(gimli_line_sections_of_elf(NULL, 0, &in) == GIMLI_LINE_NO_ELF && in.line == NULL, "no file");
+}
+
+static void *all(void *nothing) {
+    structs();
+    directories(info_4, sizeof info_4, "/w");
+    directories(info_5, sizeof info_5, "./w");
+    paths();
+    strings_of_paths();
+    units(lines_4, sizeof lines_4, (gimli_line_unit){sizeof lines_4 - 4, 0, 1, 3, 5, 4, 8, 4, 0});
+    units(lines_5, sizeof lines_5, (gimli_line_unit){sizeof lines_5 - 4, 0, 3, 3, 0, 5, 8, 4, 0});
+    lines_of_paths();
+    return nothing;
+}
+
+int main(void) {
+    all(NULL);
+    printf("%lu\n", atomic_load(&answers));
+    pthread_t threads[THREADS];
+    for (int i = 0; i < THREADS; i++) is(pthread_create(&threads[i], NULL, all, NULL) == 0, "a thread");
+    for (int i = 0; i < THREADS; i++) pthread_join(threads[i], NULL);
+    return 0;
+}

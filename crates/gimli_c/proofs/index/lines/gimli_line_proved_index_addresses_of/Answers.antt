@@ -1,0 +1,27 @@
+use Rattle.std.proofs.Common.{ℕ, List, length, ap, sym, subst, ◌∙◌, arith}
+use Rattle.gimli_index.specs.Lines.{addresses_left, addresses_of}
+use Rattle.gimli_index.specs.Meaning.{starts_of}
+use Rattle.gimli_index.specs.Views.{index_of}
+use Rattle.gimli_lookup.specs.Statements.{IsFirstLine}
+use Rattle.gimli_c.proofs.LineCounts.{few_of_line}
+use Rattle.gimli_c.proofs.index.lines.gimli_line_proved_index_addresses_of.Goals as goal
+
+pub put_addresses-requires : goal.put_addresses-requires
+put_addresses-requires c =
+    let starts = starts_of (index_of c.in-Ok.index) in
+    let count = ap (λ (xs : List ℕ). length xs) c.in-Some.ensures.1 in
+    omega (arith, count, few_of_line c.args.path.now starts c.in-Some.found.line, c.len.ensures)
+
+pub returns-clause-found : goal.returns-clause-found
+returns-clause-found c = λ _.
+    let found = addresses_of c.args.path.now (starts_of (index_of c.in-Ok.index)) in (
+      addresses_left c.in-Some.found,
+      record {
+        index = index_of c.in-Ok.index;
+        is = c.in-Ok.ensures.stored;
+        is_first = subst (λ (line : ℕ). IsFirstLine found c.args.line line) (sym c.line.ensures) c.in-Some.ensures.0;
+        addresses_are = c.in-Some.ensures.1 ∙ ap (λ (line : ℕ). found line) (sym c.line.ensures);
+      },
+      c.put_addresses.ensures.put,
+      c.put_addresses.ensures.count,
+    )

@@ -1,0 +1,122 @@
+-- The index that is made of a program (docs/INDEX.md).
+use Rattle.std.specs.Prelude.{◌≡◌, ◌≤◌, ◌<◌, ◌^◌, ℕ, Bool, Option, None, List, [], length, map, All}
+use Rattle.gimli_core.specs.Notation.{notation_of}
+use Rattle.gimli_compilation.specs.Directories.{TellsDirectories}
+use Rattle.gimli_compilation.specs.Sections.{Sections}
+use Rattle.gimli_index.specs.Found.{Given, IsIndexAppended}
+use Rattle.gimli_line.specs.Units.{AreUnits}
+use Rattle.gimli_line.specs.header.Header.{UnitEntry}
+use Rattle.gimli_line.specs.run.Unread.{Unread}
+use Rattle.gimli_lookup.specs.Section.{KeptUnit}
+use Rattle.gimli_lookup.specs.SectionUnits.{IsUnitOf}
+use Rattle.gimli_index.specs.declared.error.MakeError.{MakeError}
+use Rattle.gimli_index.specs.declared.error.MakeError.TheVariants.{NotAscending, TooManyEntries}
+use Rattle.gimli_index.specs.declared.error.MakeError.TheVariants.{TooManySources, PathsTooLarge}
+use Rattle.gimli_index.specs.declared.error.MakeError.TheVariants.{IdentityTooLarge, LineTooLarge}
+use Rattle.gimli_index.specs.declared.error.MakeError.TheVariants.{ColumnTooLarge, OutOfMemory}
+use Rattle.gimli_c.specs.Written.{slots_with}
+
+-- ---- what an index is made of
+
+-- the sections of a program, its order of bytes, the size of its addresses up to version 4, and the
+-- address below which there is no code
+pub record Program : Type 0 where
+  pub section : List ℕ
+  pub big : Bool
+  pub address_size : ℕ
+  pub lowest : ℕ
+  pub line_strings : List ℕ
+  pub strings : List ℕ
+
+abbrev pub program : List ℕ → Bool → ℕ → ℕ → List ℕ → List ℕ → Program
+program section big address_size lowest line_strings strings = record {
+  section = section;
+  big = big;
+  address_size = address_size;
+  lowest = lowest;
+  line_strings = line_strings;
+  strings = strings;
+}
+
+-- a program, the sections that tell the directories of its compilations, and the name of what the
+-- map is made of
+pub record IndexSource : Type 0 where
+  pub program : Program
+  pub compilations : Sections
+  pub identity : List ℕ
+
+abbrev pub index_source : Program → Sections → List ℕ → IndexSource
+index_source program compilations identity =
+    record { program = program; compilations = compilations; identity = identity }
+
+-- offsets have 64 bits, and no directory and no name is handed in with a unit
+abbrev pub section_read : List ℕ → Bool → Unread
+section_read section big = record { bytes = section; notation = notation_of big (2 ^ 64) }
+
+abbrev pub entry_of : ℕ → UnitEntry
+entry_of address_size = record { address_size = address_size; directory = None; name = None }
+
+-- these are all units of a program, each with its header and the sequences that are kept of it
+pub record AreAllUnitsOf (p : Program) (units : List KeptUnit) : Type 0 where
+  pub offsets : AreUnits (notation_of p.big (2 ^ 64)) 0 p.section
+      (map (λ u. u.unit.offset) units)
+  pub each : All (IsUnitOf (section_read p.section p.big) (entry_of p.address_size) p.lowest) units
+
+-- ---- the index
+
+-- an index is made of these: the strings of the program, the directories of its compilations, its
+-- units, the size of its addresses, and the name
+abbrev pub given_of : IndexSource → (ℕ → Option (List ℕ)) → List KeptUnit → Given
+given_of m directory units = record {
+  texts = record {
+    strings = record {
+      debug_line_str = m.program.line_strings;
+      debug_str = m.program.strings;
+    };
+    directory = directory;
+  };
+  units = units;
+  size = m.program.address_size;
+  name = m.identity;
+}
+
+-- bytes, whatever follows them, are an index that says of every address what a lookup over all
+-- units finds there, with the whole path over the directory of the compilation
+pub record IsIndexBytesOf (m : IndexSource) (bytes : List ℕ) : Type 0 where
+  pub units : List KeptUnit
+  pub are_units : AreAllUnitsOf m.program units
+  pub directory : ℕ → Option (List ℕ)
+  pub tells : TellsDirectories m.compilations directory
+  pub index : IsIndexAppended (given_of m directory units) [] bytes
+
+-- the index stands at the front of the room
+pub record GivesIndexOf (m : IndexSource) (old new : List ℕ) (size : ℕ) : Type 0 where
+  pub bytes : List ℕ
+  pub is_index : IsIndexBytesOf m bytes
+  pub fits : length bytes ≤ length old
+  pub written_is : new ≡ slots_with bytes old
+  pub size_is : size ≡ length bytes
+
+-- the index is longer than the room
+pub record NeedsIndexRoom (m : IndexSource) (old : List ℕ) (size : ℕ) : Type 0 where
+  pub bytes : List ℕ
+  pub is_index : IsIndexBytesOf m bytes
+  pub passes : length old < length bytes
+  pub size_is : size ≡ length bytes
+
+-- ---- refusals
+
+-- the number of a refusal
+abbrev pub make_status : MakeError → ℕ
+make_status NotAscending = 38
+make_status TooManyEntries = 47
+make_status TooManySources = 47
+make_status PathsTooLarge = 47
+make_status IdentityTooLarge = 47
+make_status LineTooLarge = 48
+make_status ColumnTooLarge = 48
+make_status OutOfMemory = 17
+
+-- why none is made of sections that can be read: memory, or what 32 bits don't count
+abbrev pub IsIndexRefusal : ℕ → Type 0
+IsIndexRefusal status = (error : MakeError) × (status ≡ make_status error)

@@ -1,0 +1,17 @@
+//! Indexes: an index of lines that is bytes (`docs/INDEX.md`), made once and asked as it lies
+//! there.
+//!
+//! No call that asks takes memory, and none writes but its answer: so any number of threads may ask
+//! one index at once, and so may a signal handler.
+
+mod ask;
+mod header;
+mod lines;
+mod place;
+mod write;
+
+pub use ask::{gimli_line_index_find, gimli_line_proved_index_find_all};
+pub use header::{GimliIndex, gimli_line_index_check, gimli_line_index_open};
+pub use lines::gimli_line_proved_index_addresses_of;
+pub use place::{GimliPlace, NO_PATH_OUTSIDE};
+pub use write::{GimliIndexOptions, OPTIONS_SIZE, gimli_line_proved_index_write};

@@ -1,0 +1,86 @@
+//! Asking an index.
+
+ghost use Rattle.std.specs.Prelude.{◌≡◌, ◌≢◌, ◌<◌, ◌^◌, MatchOption};
+ghost use Rattle.gimli_index.specs.Spans.{identity_begin, StandsIn};
+ghost use Rattle.gimli_index.specs.Views.{index_of};
+ghost use Rattle.gimli_c.specs.Indexed.{HasNoPlace, IsIndex, IsIndexAnswer, IsNoIndex, SeesPlaceAt};
+ghost use Rattle.gimli_c.specs.Indexed.{WritesIndexAnswers};
+
+use crate::index::header::index_in;
+use crate::index::place::{GimliPlace, no_place, place_seen};
+use crate::status::{NO_ROW, OK};
+use gimli_index::LineIndex;
+
+/// The place of an address; none where the index says nothing of it.
+fn place_in(stored: &[u8], index: &LineIndex<'_>, address: u64) -> Option<GimliPlace>
+    requires stored { IsIndex stored.now (index_of index.now) }
+    requires stands { StandsIn stored.now (index_of index.now) }
+    ensures { MatchOption result (HasNoPlace stored.now address) (SeesPlaceAt stored.now address) }
+{
+    let place = index.find_span(address)?;
+    Some(place_seen(index, address, place))
+}
+
+/// Tells where the code at an address comes from, by an index. `NO_ROW` where the index says
+/// nothing of it; the number of the refusal where the bytes begin with no index. Where another
+/// number than 0 is returned, nothing is written. Takes no memory, and looks at as many ranges as
+/// their number has binary digits.
+#[unsafe(no_mangle)]
+pub extern "C" fn gimli_line_index_find(stored: &[u8], address: u64, place: &mut GimliPlace) -> u32
+    ensures found { result ≡ OK → SeesPlaceAt stored.now address place.new }
+    ensures none { result ≡ NO_ROW → HasNoPlace stored.now address }
+    ensures refused { result ≢ OK → result ≢ NO_ROW → IsNoIndex stored.now result }
+    ensures kept { result ≢ OK → place.new ≡ place.old }
+{
+    let index = match index_in(stored) {
+        Ok(index) => index,
+        Err(status) => return status,
+    };
+    match place_in(stored, &index, address) {
+        Some(found) => {
+            *place = found;
+            OK
+        }
+        None => NO_ROW,
+    }
+}
+
+/// What is answered to an address.
+fn answer_in(stored: &[u8], index: &LineIndex<'_>, address: u64) -> GimliPlace
+    requires stored { IsIndex stored.now (index_of index.now) }
+    requires stands { StandsIn stored.now (index_of index.now) }
+    ensures { IsIndexAnswer stored.now address result }
+{
+    match place_in(stored, index, address) {
+        Some(place) => place,
+        None => no_place(address),
+    }
+}
+
+/// Answers each of these.
+fn answer_all(stored: &[u8], index: &LineIndex<'_>, places: &mut [GimliPlace])
+    requires stored { IsIndex stored.now (index_of index.now) }
+    requires stands { StandsIn stored.now (index_of index.now) }
+    ensures { WritesIndexAnswers stored.now places.old places.new }
+{
+    for slot in 0..places.len() {
+        places[slot] = answer_in(stored, index, places[slot].address);
+    }
+}
+
+/// Asks for many addresses, each as `gimli_line_index_find` does: that of `places[0]` and so on.
+/// Where the index says nothing of an address, `known` and all other numbers of its place are 0.
+/// Where another number than 0 is returned, nothing is written. Takes no memory.
+#[unsafe(no_mangle)]
+pub extern "C" fn gimli_line_proved_index_find_all(stored: &[u8], places: &mut [GimliPlace]) -> u32
+    ensures found { result ≡ OK → WritesIndexAnswers stored.now places.old places.new }
+    ensures refused { result ≢ OK → IsNoIndex stored.now result }
+    ensures kept { result ≢ OK → places.new ≡ places.old }
+{
+    let index = match index_in(stored) {
+        Ok(index) => index,
+        Err(status) => return status,
+    };
+    answer_all(stored, &index, places);
+    OK
+}

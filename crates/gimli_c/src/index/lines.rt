@@ -1,0 +1,72 @@
+//! From a line of a path to addresses, by an index.
+
+ghost use Rattle.std.specs.Prelude.{◌≡◌, ◌≢◌, ◌≤◌, ◌+◌, ℕ, List, Some, length, slice_get, take};
+ghost use Rattle.gimli_index.specs.Lines.{addresses_left};
+ghost use Rattle.gimli_c.specs.IndexLines.{HasNoIndexAddress, WritesIndexAddresses};
+ghost use Rattle.gimli_c.specs.Indexed.{IsNoIndex};
+ghost use Rattle.gimli_c.specs.Written.{slots_with};
+
+use crate::index::header::index_in;
+use crate::status::{NO_CODE, OK};
+use gimli_index::Addresses;
+
+/// Puts an address into a slot, if there is one.
+fn put_address(address: u64, slot: usize, room: &mut [u64])
+    ensures { (xs old : List ℕ) → slice_get xs slot ≡ Some address
+        → room.old ≡ slots_with (take slot xs) old
+        → room.new ≡ slots_with (take (slot + 1) xs) old }
+{
+    if slot < room.len() {
+        room[slot] = address;
+    }
+}
+
+/// Puts addresses into an array, as far as there is room, and tells how many there are. Requires at
+/// most so many.
+fn put_addresses(found: Addresses<'_, '_>, most: usize, room: &mut [u64]) -> usize
+    requires { length (addresses_left found) ≤ most }
+    ensures put { room.new ≡ slots_with (addresses_left found.entry) room.old }
+    ensures count { result ≡ length (addresses_left found.entry) }
+{
+    let mut left = found;
+    for slot in 0..most {
+        let Some(address) = left.next() else {
+            return slot;
+        };
+        put_address(address, slot, room);
+    }
+    most
+}
+
+/// Tells the addresses for a breakpoint at a line of the files that a path names, by an index. A
+/// path names a file by its last components (`stl_map.h`, `bits/stl_map.h`), and one from the root
+/// is a whole one; `.` and `..` are resolved by text. `NO_CODE` where no line from it on has any;
+/// the number of the refusal where the bytes begin with no index. Where another number than 0 is
+/// returned, nothing is written. Takes no memory, and looks at each range twice.
+#[unsafe(no_mangle)]
+pub extern "C" fn gimli_line_proved_index_addresses_of(
+    stored: &[u8],
+    path: &[u8],
+    line: u64,
+    found_line: &mut u64,
+    addresses: &mut [u64],
+    count: &mut usize,
+) -> u32
+    ensures found { result ≡ OK → WritesIndexAddresses stored.now path.now line found_line.new
+        addresses.old addresses.new count.new }
+    ensures none { result ≡ NO_CODE → HasNoIndexAddress stored.now path.now line }
+    ensures refused { result ≢ OK → result ≢ NO_CODE → IsNoIndex stored.now result }
+    ensures kept { result ≢ OK → (found_line.new ≡ found_line.old) × (addresses.new ≡ addresses.old)
+        × (count.new ≡ count.old) }
+{
+    let index = match index_in(stored) {
+        Ok(index) => index,
+        Err(status) => return status,
+    };
+    let Some(found) = index.addresses_of(path, line) else {
+        return NO_CODE;
+    };
+    *found_line = found.line();
+    *count = put_addresses(found, index.len(), addresses);
+    OK
+}

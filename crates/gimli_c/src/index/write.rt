@@ -1,0 +1,189 @@
+//! Making an index.
+
+ghost use Rattle.std.specs.Prelude.{◌≡◌, ◌≢◌, ◌⊎◌, ◌^◌, ℕ, true, false, IfErr, IfOk, List};
+ghost use Rattle.gimli_core.specs.Numbers.{is_address_size};
+ghost use Rattle.gimli_core.specs.Order.{is_big};
+ghost use Rattle.gimli_compilation.specs.Sections.{sections_of};
+ghost use Rattle.gimli_c.specs.CompDir.{sections_handed};
+ghost use Rattle.gimli_c.specs.MadeIndex.{make_status, index_source, program, AreAllUnitsOf};
+ghost use Rattle.gimli_c.specs.MadeIndex.{GivesIndexOf, IsIndexBytesOf, IsIndexRefusal};
+ghost use Rattle.gimli_c.specs.MadeIndex.{NeedsIndexRoom};
+
+use crate::comp_dir::sections_in;
+use crate::file::copy_bytes;
+use crate::location::{is_address_size, order};
+use crate::status::{
+    INDEX_DISORDERED, INDEX_TOO_LARGE, NO_ROOM, OK, OUT_OF_MEMORY, PLACE_TOO_LARGE,
+    UNKNOWN_OPTIONS, UNSUPPORTED_ADDRESS_SIZE,
+};
+use gimli_compilation::{CompilationSections, Compilations};
+use gimli_core::{EndianSlice, RunTimeEndian};
+use gimli_index::{MakeError, write_index};
+use gimli_line::DebugLine;
+use gimli_lookup::{SectionLookup, StringSections};
+use std::alloc::Global;
+
+/// A reader of a section that is handed over.
+type Slice<'s> = EndianSlice<'s, RunTimeEndian>;
+
+/// How an index is made.
+#[repr(C)]
+#[derive(Clone, Copy)]
+pub struct GimliIndexOptions {
+    /// `OPTIONS_SIZE`: the number of bytes of this struct, by which a later library knows it.
+    pub size: usize,
+    /// The address below which there is no code; 0 leaves no rows out.
+    pub lowest: u64,
+    /// The number of bytes of an address up to version 4: 1, 2, 4 or 8.
+    pub address_size: u8,
+    /// Whether the most significant byte of a number comes first.
+    pub big: bool,
+}
+
+/// The number of bytes of `GimliIndexOptions`.
+pub const OPTIONS_SIZE: usize = 24;
+
+/// The number of a refusal.
+fn make_status(error: MakeError) -> u32
+    ensures { result ≡ make_status error }
+{
+    match error {
+        MakeError::NotAscending => INDEX_DISORDERED,
+        MakeError::TooManyEntries => INDEX_TOO_LARGE,
+        MakeError::TooManySources => INDEX_TOO_LARGE,
+        MakeError::PathsTooLarge => INDEX_TOO_LARGE,
+        MakeError::IdentityTooLarge => INDEX_TOO_LARGE,
+        MakeError::LineTooLarge => PLACE_TOO_LARGE,
+        MakeError::ColumnTooLarge => PLACE_TOO_LARGE,
+        MakeError::OutOfMemory => OUT_OF_MEMORY,
+    }
+}
+
+/// The units of a section, with their headers. Refused by `OUT_OF_MEMORY` alone.
+fn units_of<'s>(
+    alloc: Global,
+    section: &'s [u8],
+    options: &GimliIndexOptions,
+) -> Result<SectionLookup<Slice<'s>>, u32>
+    requires { is_address_size options.now.address_size ≡ true }
+    ensures ok { (line_strings strings : List ℕ) → IfOk result (AreAllUnitsOf (program section.now
+        options.now.big options.now.address_size options.now.lowest line_strings strings)) }
+    ensures err { IfErr result (λ s. s ≡ OUT_OF_MEMORY) }
+{
+    let section = DebugLine::new(section, order(options.big));
+    match SectionLookup::new(&section, alloc, options.address_size, options.lowest) {
+        Ok(units) => Ok(units),
+        Err(_) => Err(OUT_OF_MEMORY),
+    }
+}
+
+/// The bytes of an index. Requires a size that addresses can have.
+fn made_index<'s>(
+    alloc: Global,
+    section: &'s [u8],
+    texts: &StringSections<Slice<'s>>,
+    sections: &CompilationSections<Slice<'s>>,
+    options: &GimliIndexOptions,
+    identity: &[u8],
+) -> Result<Vec<u8>, u32>
+    requires { is_address_size options.now.address_size ≡ true }
+    ensures ok { IfOk result (λ bytes. IsIndexBytesOf (index_source
+        (program section.now options.now.big options.now.address_size options.now.lowest
+        texts.now.debug_line_str.slice.now texts.now.debug_str.slice.now)
+        (sections_of (λ s. s.slice.now) (λ s. is_big s.endian) (2 ^ 64) sections.now) identity.now)
+        bytes.items) }
+    ensures err { IfErr result IsIndexRefusal }
+{
+    let units = units_of(alloc, section, options)?;
+    let Ok(compilations) = Compilations::new(alloc, sections) else {
+        return Err(OUT_OF_MEMORY);
+    };
+    let mut bytes = Vec::new(alloc);
+    let size = u16::from(options.address_size);
+    match write_index(
+        alloc,
+        &units,
+        texts,
+        &compilations,
+        size,
+        identity,
+        &mut bytes,
+    ) {
+        Ok(()) => Ok(bytes),
+        Err(e) => Err(make_status(e)),
+    }
+}
+
+/// Makes the index of a program (`docs/INDEX.md`), at the front of `stored`; `size` is how many
+/// bytes it has. The sections are `.debug_line`, `.debug_line_str`, `.debug_str`, `.debug_info`,
+/// `.debug_abbrev` and `.debug_str_offsets`, or no bytes. The index says of every address what a
+/// lookup over all units finds there, with the whole path over the directory of the compilation;
+/// `identity` names what it is made of. `NO_ROOM` where there are fewer bytes in `stored`: then
+/// `size` says how many it takes, and nothing is written. Where another number than these is
+/// returned, `size` is 0 and nothing is written: `UNKNOWN_OPTIONS` where the options have another
+/// size, `UNSUPPORTED_ADDRESS_SIZE`, `OUT_OF_MEMORY`, `INDEX_TOO_LARGE` or `PLACE_TOO_LARGE`. All
+/// units are read for each call.
+#[unsafe(no_mangle)]
+pub extern "C" fn gimli_line_proved_index_write(
+    alloc: Global,
+    section: &[u8],
+    line_strings: &[u8],
+    strings: &[u8],
+    info: &[u8],
+    abbreviations: &[u8],
+    string_offsets: &[u8],
+    options: &GimliIndexOptions,
+    identity: &[u8],
+    stored: &mut [u8],
+    size: &mut usize,
+) -> u32
+    ensures ok { result ≡ OK → GivesIndexOf (index_source (program section.now options.now.big
+        options.now.address_size options.now.lowest line_strings.now strings.now)
+        (sections_handed info.now abbreviations.now line_strings.now strings.now
+        string_offsets.now options.now.big) identity.now) stored.old stored.new size.new }
+    ensures room { result ≡ NO_ROOM
+        → NeedsIndexRoom (index_source (program section.now options.now.big
+        options.now.address_size options.now.lowest line_strings.now strings.now)
+        (sections_handed info.now abbreviations.now line_strings.now strings.now
+        string_offsets.now options.now.big) identity.now) stored.old size.new }
+    ensures options { options.now.size ≢ OPTIONS_SIZE → result ≡ UNKNOWN_OPTIONS }
+    ensures size { options.now.size ≡ OPTIONS_SIZE →
+        is_address_size options.now.address_size ≡ false → result ≡ UNSUPPORTED_ADDRESS_SIZE }
+    ensures refused { result ≢ OK → result ≢ NO_ROOM → IsIndexRefusal result
+        ⊎ ((result ≡ UNSUPPORTED_ADDRESS_SIZE) × (is_address_size options.now.address_size ≡ false))
+        ⊎ ((result ≡ UNKNOWN_OPTIONS) × (options.now.size ≢ OPTIONS_SIZE)) }
+    ensures kept { result ≢ OK → stored.new ≡ stored.old }
+    ensures none { result ≢ OK → result ≢ NO_ROOM → size.new ≡ 0 }
+{
+    *size = 0;
+    if options.size != OPTIONS_SIZE {
+        return UNKNOWN_OPTIONS;
+    }
+    if !is_address_size(options.address_size) {
+        return UNSUPPORTED_ADDRESS_SIZE;
+    }
+    let order = order(options.big);
+    let texts = StringSections {
+        debug_line_str: EndianSlice::new(line_strings, order),
+        debug_str: EndianSlice::new(strings, order),
+    };
+    let sections = sections_in(
+        info,
+        abbreviations,
+        line_strings,
+        strings,
+        string_offsets,
+        options.big,
+    );
+    let made = match made_index(alloc, section, &texts, &sections, options, identity) {
+        Ok(made) => made,
+        Err(status) => return status,
+    };
+    let bytes = made.as_slice();
+    *size = bytes.len();
+    if bytes.len() > stored.len() {
+        return NO_ROOM;
+    }
+    copy_bytes(bytes, stored);
+    OK
+}
