@@ -317,7 +317,11 @@ fn print_sequence(sequence: Option<ConvertLineSequence>, lines: &mut Lines) -> b
     let Some(sequence) = sequence else {
         return false;
     };
-    lines.print("sequence %\n", &[sequence.start.map_or(Word("-"), Number)]);
+    let start = match sequence.start {
+        Some(start) => Number(start),
+        None => Word("-"),
+    };
+    lines.print("sequence %\n", &[start]);
     for row in sequence.rows.as_slice() {
         print_row(*row, lines);
     }
