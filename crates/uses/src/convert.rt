@@ -6,27 +6,38 @@ use anyhow::{Result, bail};
 use gimli_core::{DebugLineOffset, Encoding, EndianSlice, LittleEndian, Reader};
 use gimli_line::{DebugLine, IncompleteLineProgram};
 use gimli_write::{
-    Address, ConvertError, ConvertResult, EndianVec, Error, LineStringTable, RoundTrip,
-    StringTable, convert_program, round_trip,
+    Address, ConvertError, ConvertResult, EndianVec, Error, LineProgram, LineStringTable,
+    RoundTrip, StringTable, convert_program, round_trip,
 };
 use std::alloc::Global;
 use std::fs;
 
 /// Reads a section from a file, and prints the rows that are read of a unit after it was converted.
-/// The directory is `DW_AT_comp_dir` of its entry in `.debug_info`, and the name `DW_AT_name`. Up
-/// to version 4 all texts of a unit stand in its header, so the sections of texts have no bytes.
+/// The directory is `DW_AT_comp_dir` of its entry in `.debug_info`, and the name `DW_AT_name`.
 pub fn start(rt: &HostRuntime, words: &[String], text: &mut String) -> Result<()> {
     let [lines, offset, known @ ..] = words else {
         bail!("usage: convert LINES OFFSET [DIRECTORY [NAME]]");
     };
     let offset = offset.parse::<usize>()?;
     let section = fs::read(rt, lines.as_str())?;
-    let directory = known.first().map(reader_of);
-    let name = known.get(1).map(reader_of);
-    let section = DebugLine::new(&section, LittleEndian);
-    let source = section.program(rt.alloc(), DebugLineOffset(offset), 8, directory, None)?;
+    Ok(print_converted(rt.alloc(), &section, offset, known, text)?)
+}
+
+/// Adds a line for each row that is read of the unit at an offset after it was converted. Up to
+/// version 4 all texts of a unit stand in its header, so the sections of texts have no bytes.
+fn print_converted<'i>(
+    alloc: Global,
+    section: &'i [u8],
+    offset: usize,
+    known: &'i [String],
+    text: &mut String,
+) -> ConvertResult<()> {
+    let directory = reader_of(known.first());
+    let name = reader_of(known.get(1));
+    let section = DebugLine::new(section, LittleEndian);
+    let source = section.program(alloc, DebugLineOffset(offset), 8, directory, None)?;
     let empty = EndianSlice::new(b"", LittleEndian);
-    let converted = convert(rt.alloc(), source, name, empty)?;
+    let converted = convert(alloc, source, name, empty)?;
     for row in &converted.rows {
         print_row(row, text)?;
     }
@@ -34,8 +45,9 @@ pub fn start(rt: &HostRuntime, words: &[String], text: &mut String) -> Result<()
 }
 
 /// A reader of a word.
-fn reader_of(word: &String) -> EndianSlice<'_, LittleEndian> {
-    EndianSlice::new(word.as_bytes(), LittleEndian)
+fn reader_of(word: Option<&String>) -> Option<EndianSlice<'_, LittleEndian>> {
+    let word = word?;
+    Some(EndianSlice::new(word.as_bytes(), LittleEndian))
 }
 
 /// What is read of a unit after it was converted and written, each address as it is. Refused
@@ -73,9 +85,20 @@ fn convert_with<R: Reader>(
         strings,
         |address| Some(Address::Constant(address)),
     )?;
+    read_back(alloc, &program, line_strings, strings)
+}
+
+/// What is read of a program after it was written.
+fn read_back(
+    alloc: Global,
+    program: &LineProgram,
+    line_strings: &mut LineStringTable,
+    strings: &mut StringTable,
+) -> ConvertResult<RoundTrip> {
     if !program.can_write(line_strings, strings) {
         return Err(ConvertError::Write(Error::InvalidRange));
     }
     let mut lines = gimli_write::DebugLine::from(EndianVec::new(alloc, LittleEndian));
-    round_trip(&program, &mut lines, encoding, line_strings, strings)
+    let of = program.encoding();
+    round_trip(program, &mut lines, of, line_strings, strings)
 }

@@ -1,9 +1,8 @@
 //! The index of the lines of a program: made, opened, checked, and asked.
 #![tactic(auto)]
 
-use crate::where_is::{Program, program_of};
+use crate::where_is::program_of;
 use anyhow::{Result, bail};
-use gimli_core::Reader;
 use gimli_index::{LineIndex, Place, write_index};
 use std::alloc::Global;
 use std::fmt::Write;
@@ -25,14 +24,9 @@ pub fn start(rt: &HostRuntime, words: &[String], text: &mut String) -> Result<()
     print_place(rt.alloc(), index.find(address), text)
 }
 
-/// The bytes of the index of an ELF file.
+/// The bytes of the index of an ELF file whose addresses have 8 bytes.
 fn map_of(alloc: Global, file: &[u8]) -> Result<Vec<u8>> {
     let program = program_of(alloc, file)?;
-    bytes_of(alloc, &program)
-}
-
-/// The bytes of the index of a program whose addresses have 8 bytes.
-fn bytes_of<R: Reader>(alloc: Global, program: &Program<R>) -> Result<Vec<u8>> {
     let mut bytes = Vec::new(alloc);
     write_index(
         alloc,
@@ -49,8 +43,7 @@ fn bytes_of<R: Reader>(alloc: Global, program: &Program<R>) -> Result<Vec<u8>> {
 /// Adds the addresses at which the code of a line begins, or of the next line that has any.
 fn print_line(index: LineIndex<'_>, path: &str, line: u64, text: &mut String) -> Result<()> {
     let Some(found) = index.addresses_of(path.as_bytes(), line) else {
-        writeln!(text, "no code from line {line} on")?;
-        return Ok(());
+        return Ok(writeln!(text, "no code from line {line} on")?);
     };
     let line = found.line();
     for address in found {
@@ -62,13 +55,11 @@ fn print_line(index: LineIndex<'_>, path: &str, line: u64, text: &mut String) ->
 /// Adds a place, and whether it is a statement.
 fn print_place(alloc: Global, place: Option<Place<'_>>, text: &mut String) -> Result<()> {
     let Some(place) = place else {
-        writeln!(text, "??")?;
-        return Ok(());
+        return Ok(writeln!(text, "??")?);
     };
     let path = String::from_utf8_lossy(alloc, place.path.unwrap_or(b"?"))?;
     let line = place.line;
     let column = place.column;
     let statement = if place.is_stmt { " statement" } else { "" };
-    writeln!(text, "{path}:{line}:{column}{statement}")?;
-    Ok(())
+    Ok(writeln!(text, "{path}:{line}:{column}{statement}")?)
 }

@@ -25,8 +25,7 @@ pub fn print_bytes(name: &str, bytes: &[u8], text: &mut String) -> Result<()> {
     for byte in bytes {
         write!(text, "{byte:02x}")?;
     }
-    writeln!(text)?;
-    Ok(())
+    Ok(writeln!(text)?)
 }
 
 /// Two functions of six bytes, one after the other.

@@ -19,8 +19,7 @@ pub fn start(alloc: Global, text: &mut String) -> anyhow::Result<()> {
     let mut texts = DebugLineStr::from(EndianVec::new(alloc, LittleEndian));
     write_unit(alloc, AT_0X1000, &mut lines, &mut texts)?;
     let slice = &lines.0.bytes[..lines.0.len];
-    print_units(alloc, OwnReader { slice }, text)?;
-    Ok(())
+    Ok(print_units(alloc, OwnReader { slice }, text)?)
 }
 
 /// Bytes that are read from the front, and their least significant byte first.
@@ -176,14 +175,8 @@ impl Writer for ArraySection {
         self.write_udata(val as u64, size)
     }
 
-    fn write_offset_at(
-        &mut self,
-        offset: usize,
-        val: usize,
-        _section: SectionId,
-        size: u8,
-    ) -> Result<()> {
-        self.write_udata_at(offset, val as u64, size)
+    fn write_offset_at(&mut self, at: usize, val: usize, _of: SectionId, size: u8) -> Result<()> {
+        self.write_udata_at(at, val as u64, size)
     }
 
     fn write_reference(&mut self, _symbol: usize, _size: u8) -> Result<()> {

@@ -3,7 +3,7 @@
 
 use anyhow::bail;
 use gimli_core::{EndianSlice, Error, LittleEndian, Reader, ReaderOffset, Result};
-use gimli_line::{DebugLine, LineRow, OneShotLineRows};
+use gimli_line::{DebugLine, LineRow, LineUnit, OneShotLineRows};
 use std::alloc::{AllocError, Global};
 use std::fmt::Write;
 use std::fs;
@@ -15,8 +15,7 @@ pub fn start(rt: &HostRuntime, words: &[String], text: &mut String) -> anyhow::R
     };
     let section = fs::read(rt, lines.as_str())?;
     let reader = EndianSlice::new(&section, LittleEndian);
-    print_units(rt.alloc(), reader, text)?;
-    Ok(())
+    Ok(print_units(rt.alloc(), reader, text)?)
 }
 
 /// Adds a line for each unit of a section, and one for each of its rows. A unit that can't be read
@@ -25,17 +24,22 @@ pub fn start(rt: &HostRuntime, words: &[String], text: &mut String) -> anyhow::R
 pub fn print_units<R: Reader>(alloc: Global, section: R, text: &mut String) -> Result<()> {
     let mut units = DebugLine::from(section).units(alloc, 8);
     'units: while let Some(unit) = units.next()? {
-        let offset = unit.offset.0.into_u64();
-        match unit.program {
-            Ok(program) => {
-                let version = program.header().version();
-                told(writeln!(text, "unit {offset}, version {version}"))?;
-                print_rows(program.rows(), text)?;
-            }
-            Err(refusal) => told(writeln!(text, "unit {offset}: {refusal}"))?,
-        }
+        print_unit(unit, text)?;
     }
     Ok(())
+}
+
+/// Adds the lines of a unit.
+fn print_unit<R: Reader>(unit: LineUnit<R>, text: &mut String) -> Result<()> {
+    let offset = unit.offset.0.into_u64();
+    match unit.program {
+        Ok(program) => {
+            let version = program.header().version();
+            told(writeln!(text, "unit {offset}, version {version}"))?;
+            print_rows(program.rows(), text)
+        }
+        Err(refusal) => told(writeln!(text, "unit {offset}: {refusal}")),
+    }
 }
 
 /// Adds a line for each row of a run. Refused by its first fault, and where memory is missing.

@@ -120,8 +120,7 @@ fn print_place<R: Reader>(
     text: &mut String,
 ) -> Result<(), PathError> {
     let Some((path, row)) = source_at(alloc, program, address)? else {
-        writeln!(text, "{address:#x} ??")?;
-        return Ok(());
+        return Ok(writeln!(text, "{address:#x} ??")?);
     };
     let path = String::from_utf8_lossy(alloc, &path)?;
     let line = row.line().map_or(0, |line| line.get());
@@ -129,8 +128,7 @@ fn print_place<R: Reader>(
         ColumnType::LeftEdge => 0,
         ColumnType::Column(column) => column.get(),
     };
-    writeln!(text, "{address:#x} {path}:{line}:{column}")?;
-    Ok(())
+    Ok(writeln!(text, "{address:#x} {path}:{line}:{column}")?)
 }
 
 /// Where the code at an address comes from: the row that covers it, and the whole path of its file.
