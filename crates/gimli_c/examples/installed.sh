@@ -13,8 +13,11 @@ have() { command -v "$1" >/dev/null || { echo "gimli_c: $1 is missing: $2 isn't 
 make -C "$crate" -s install DESTDIR="$work/root" PREFIX=/opt/gimli
 installed=$work/root/opt/gimli
 
-# Each symbol that is seen from outside is a call of the header.
-declared() { grep -oE '^(uint32_t) gimli_[a-z_]+' "$crate/include/gimli_line.h" | cut -d' ' -f2 | sort -u; }
+# Each symbol that is seen from outside is a call of the header, or a proved one that it hands on to.
+declared() {
+    grep -ohE '^(gimli_line_status |uint32_t |void |const char \*)gimli_line_[a-z_]+' "$crate/include/gimli_line.h" "$crate/make/proved.h" |
+        grep -oE '[a-z_]+$' | sort -u
+}
 nm -D --defined-only "$installed/lib/libgimli_line.so" | awk '$2 == "T" {print $3}' | sort -u >"$work/versions"
 # Each has the version of its symbols.
 ! grep -vE '@@GIMLI_LINE_0\.1$' "$work/versions"
@@ -24,7 +27,7 @@ declared | cmp - "$work/shared"
 declared | cmp - "$work/static"
 
 # The header, alone, without a warning.
-printf '#include <gimli_line.h>\nconst char *name(void);\nconst char *name(void) { return gimli_line_status_name(GIMLI_LINE_OK); }\n' >"$work/header.c"
+printf '#include <gimli_line.h>\nconst char *name(void);\nconst char *name(void) { return gimli_line_status_sentence(GIMLI_LINE_OK); }\n' >"$work/header.c"
 cp "$work/header.c" "$work/header.cc"
 read_header() {
     local compiler=$1 file=$2
@@ -84,6 +87,8 @@ done
         "$work/other/opt/gimli/lib/libgimli_line.a" -o "$work/other_where_is_cpp"
 )
 cmp "$installed/lib/libgimli_line.a" "$work/other/opt/gimli/lib/libgimli_line.a"
+cc -std=c11 -O1 -I "$work/other/opt/gimli/include" -I "$here/c" "$here/tests/directories.c" "$work/other/opt/gimli/lib/libgimli_line.a" \
+    -lpthread -o "$work/other_directories"
 [ "$("$work/other_directories")" -gt 0 ]
 
 # No memory is lost or misused.
