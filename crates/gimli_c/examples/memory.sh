@@ -57,20 +57,20 @@ fi
 
 # Some machines have the compiler's word, and no library for it.
 if build sanitised_where_is where_is -fsanitize=address,undefined 2>/dev/null; then
-    for example in addr2line directories index make_index compiler; do
+    for example in addr2line directories ask_index make_index compiler; do
         build "sanitised_$example" "$example" -fsanitize=address,undefined
     done
-    build sanitised_maps indexes -fsanitize=address,undefined -DSANITISED
+    build sanitised_indexes indexes -fsanitize=address,undefined -DSANITISED
     "$work/sanitised_directories" >/dev/null
-    "$work/sanitised_maps" >/dev/null
+    "$work/sanitised_indexes" >/dev/null
     "$work/indexes" "$work/small.index"
     "$work/sanitised_ask_index" "$work/small.index" 400000 400015 400020 0.c:1 0.c:2 >/dev/null
     for version in 2 3 4 5; do
         # shellcheck disable=SC2086
         "$work/sanitised_where_is" "$work/built$version" $addresses >/dev/null
-        "$work/sanitised_addr2line" "$work/line$version" >/dev/null
+        "$work/sanitised_addr2line" "$work/built$version" >/dev/null
         # shellcheck disable=SC2086
-        "$work/sanitised_addr2line" "$work/line$version" $addresses >/dev/null
+        "$work/sanitised_addr2line" "$work/built$version" $addresses >/dev/null
         "$work/sanitised_make_index" "$work/built$version" "$work/made.index" >/dev/null
         # shellcheck disable=SC2086
         "$work/sanitised_ask_index" "$work/made.index" $addresses main.c:1 sums.c:1 >/dev/null
@@ -88,7 +88,7 @@ if have valgrind "memory by it"; then
     for version in 2 5; do
         # shellcheck disable=SC2086
         checked "$work/where_is" "$work/built$version" $addresses
-        checked "$work/addr2line" "$work/line$version"
+        checked "$work/addr2line" "$work/built$version"
         checked "$work/make_index" "$work/built$version" "$work/made.index"
         checked "$work/compiler" "$version"
     done
