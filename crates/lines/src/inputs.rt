@@ -190,7 +190,7 @@ fn read_named(rt: &HostRuntime, name: Option<&str>) -> io::Result<Option<Vec<u8>
 
 /// Prints how the program that the request names differs from a new one, and returns the status: 0,
 /// or 1 where they differ, or something was refused. Fails as `perform` does.
-pub(crate) fn compare(run: Run<'_>, new_name: &str) -> io::Result<u8>
+pub(crate) fn compare<'r>(run: Run<'r>, new_name: &'r str) -> io::Result<u8>
     ensures { IfOk result (λ status. status ≤ 1) }
 {
     let Some(old) = inputs_of(run, run.request.file)? else {
