@@ -341,12 +341,12 @@ huge "a section at 2^60" whole $((table + 24)) "the file ends before the section
 huge "a section table at 2^60" whole 40 "the file ends before its section table does"
 huge "names of 2^60 bytes" whole $(($(header_of whole .shstrtab) + 32)) "the file does not hold the names of its sections"
 if [ -e packed_zlib ]; then
-    huge "2^60 bytes, compressed" packed_zlib $(($(offset_of packed_zlib .debug_line) + 8)) "holds fewer bytes than stated"
+    huge "2^60 bytes, compressed" packed_zlib $(($(offset_of packed_zlib .debug_line) + 8)) "which is more than the limit"
 fi
 if [ -e packed_zlib ]; then
     cp packed_zlib changed.program
-    put $((1 << 33)) changed.program $(($(offset_of packed_zlib .debug_line) + 8))
-    refused "2^33 bytes, compressed" changed.program "holds fewer bytes than stated"
+    put $((1 << 26)) changed.program $(($(offset_of packed_zlib .debug_line) + 8))
+    refused "2^26 bytes, compressed" changed.program "holds fewer bytes than stated"
 fi
 # The sections of line programs and of texts are the same bytes: the faults are those of its units.
 cp whole changed.program
