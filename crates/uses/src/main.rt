@@ -2,7 +2,6 @@
 //! After the word `then` another command may follow; the next one is run where one is refused too.
 #![tactic(auto)]
 
-mod convert;
 mod line_index;
 mod make_object;
 mod make_unit;
@@ -40,7 +39,6 @@ fn run(rt: &HostRuntime, command: &[String], text: &mut String) -> Result<()> {
         "line_index" => line_index::start(rt, words, text),
         "make_unit" => Ok(make_unit::start(rt.alloc(), text)?),
         "make_object" => Ok(make_object::start(rt.alloc(), text)?),
-        "convert" => convert::start(rt, words, text),
         "own" => own::start(rt.alloc(), text),
         _ => bail!("no command {program}"),
     }

@@ -55,7 +55,7 @@ fn print_rows<R: Reader>(rows: OneShotLineRows<R>, text: &mut String) -> Result<
 }
 
 /// Adds the line of a row.
-pub fn print_row(row: &LineRow, text: &mut String) -> std::result::Result<(), AllocError> {
+fn print_row(row: &LineRow, text: &mut String) -> std::result::Result<(), AllocError> {
     let address = row.address();
     let file = row.file_index();
     let line = row.line().map_or(0, |line| line.get());

@@ -1,15 +1,15 @@
 //! A unit up to version 4, written in version 5.
 #![tactic(auto)]
 
-use crate::rows::print_row;
 use anyhow::{Result, bail};
 use gimli_core::{DebugLineOffset, Encoding, EndianSlice, LittleEndian, Reader};
-use gimli_line::{DebugLine, IncompleteLineProgram};
+use gimli_line::{DebugLine, IncompleteLineProgram, LineRow};
 use gimli_write::{
     Address, ConvertError, ConvertResult, EndianVec, Error, LineProgram, LineStringTable,
     RoundTrip, StringTable, convert_program, round_trip,
 };
-use std::alloc::Global;
+use std::alloc::{AllocError, Global};
+use std::fmt::Write;
 use std::fs;
 
 /// Reads a section from a file, and prints the rows that are read of a unit after it was converted.
@@ -42,6 +42,15 @@ fn print_converted<'i>(
         print_row(row, text)?;
     }
     Ok(())
+}
+
+/// Adds the line of a row.
+fn print_row(row: &LineRow, text: &mut String) -> std::result::Result<(), AllocError> {
+    let address = row.address();
+    let file = row.file_index();
+    let line = row.line().map_or(0, |line| line.get());
+    let end = if row.end_sequence() { " end" } else { "" };
+    writeln!(text, "{address:#x} file {file} line {line}{end}")
 }
 
 /// A reader of a word.
