@@ -173,7 +173,7 @@ impl<R: Reader> Abbreviations<R> {
                 Ok(Some(input))
             }
             Ok(None) => Ok(None),
-            Err(error) => Err(error),
+            Err(refusal) => Err(refusal),
         };
         Ok(())
     }
