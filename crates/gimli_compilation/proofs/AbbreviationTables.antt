@@ -23,7 +23,8 @@ module _ {R : Type 0} (view : R → List ℕ) where
   -- ---- one answer
 
   module _ (code : ℕ) (input : R) where
-    more_answers : (kept : Option R) (declared : ℕ) (part rest : R) → declared ≢ 0 → (Ok (declared, listed (view part)), view rest) ≡ declaration_at (view input)
+    more_answers : (kept : Option R) (declared : ℕ) (part rest : R) → declared ≢ 0
+        → (Ok (declared, listed (view part)), view rest) ≡ declaration_at (view input)
         → answer_to view code (first_of kept (directory_in code (Some (declared, part)))) (Ok (Some rest)) ≡ answer_to view code kept (Ok (Some input))
     more_answers (Some found) declared part rest some read = refl
     more_answers None declared part rest some read = at_test (nat_eq declared code) refl

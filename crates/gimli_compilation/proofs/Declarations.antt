@@ -52,12 +52,14 @@ answer_put d (Err e, rest) = refl
 module _ (code : ℕ) (bytes left : List ℕ) where
   pub search_refused : (e : Error) → (Err e, left) ≡ declaration_at bytes → abbreviation_at code bytes ≡ (Err e, left)
   unfolding abbreviation_at
-  search_refused e is = ap answer (until_refused (ends_search code) declaration_production declaration_at reads_declaration declaration_takes bytes e left (sym is))
+  search_refused e is =
+      ap answer (until_refused (ends_search code) declaration_production declaration_at reads_declaration declaration_takes bytes e left (sym is))
 
   module _ (d : Declaration) (read : (Ok d, left) ≡ declaration_at bytes) where
     pub search_last : ends_search code d ≡ true → abbreviation_at code bytes ≡ (Ok (if nat_eq d.0 0 then None else Some d.1), left)
     unfolding abbreviation_at
-    search_last is = ap answer (until_last (ends_search code) declaration_production declaration_at reads_declaration declaration_takes bytes d left (sym read) is)
+    search_last is =
+        ap answer (until_last (ends_search code) declaration_production declaration_at reads_declaration declaration_takes bytes d left (sym read) is)
 
     pub search_more : ends_search code d ≡ false → abbreviation_at code bytes ≡ abbreviation_at code left
     unfolding abbreviation_at
