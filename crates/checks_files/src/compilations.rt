@@ -29,11 +29,11 @@ const ABBREVIATIONS: &[u8] = b"\x01\x11\0\x10\x06\x1b\x08\x03\x0e\0\0\0\
     \x01\x41\0\x10\x17\x1b\x1f\0\0\0\
     \x01\x11\0\x1b\x02\0\0\0";
 
-/// The declarations, units, and `.debug_str_offsets`, the least significant byte first. Up to version 4 a unit is
-/// unit_length, version, debug_abbrev_offset, address_size, the code of its entry, and the values;
-/// in version 5 unit_length, version, unit_type, address_size, debug_abbrev_offset, for a type its
-/// signature and offset, the code and the values. The offsets have unit_length 12, version 5 and
-/// padding, and at 8 the offsets 1 and 4.
+/// The declarations, units, and `.debug_str_offsets`, the least significant byte first. Up to
+/// version 4 a unit is unit_length, version, debug_abbrev_offset, address_size, the code of its
+/// entry, and the values; in version 5 unit_length, version, unit_type, address_size,
+/// debug_abbrev_offset, for a type its signature and offset, the code and the values. The offsets
+/// have unit_length 12, version 5 and padding, and at 8 the offsets 1 and 4.
 const LITTLE: [&[u8]; 3] = [
     ABBREVIATIONS,
     b"\x13\0\0\0\x02\0\0\0\0\0\x04\x01\x2a\0\0\0/u\0\x04\0\0\0\
