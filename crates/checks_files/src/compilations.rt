@@ -108,8 +108,10 @@ const TABLES: [&[u8]; 3] = [
     b"",
 ];
 
-/// Of two declarations of one code the first counts. A table that is cut refuses each code that
-/// doesn't stand before the cut, where no byte is left.
+/// A table that is cut refuses each code that doesn't stand before the cut, where no byte is left.
+const CUT: Said = Err(Refusal::Bytes(Error::UnexpectedEof(ReaderOffsetId(0))));
+
+/// Of two declarations of one code the first counts.
 const SAID_TABLES: [(u64, Said); 11] = [
     (0, Ok((4, None, Some(b"/d"), Some(b"n")))),
     (17, Ok((4, None, Some(b"/e"), None))),
@@ -117,14 +119,8 @@ const SAID_TABLES: [(u64, Said); 11] = [
     (46, Ok((4, None, Some(b"/f"), None))),
     (61, Ok((4, None, None, Some(b"o")))),
     (75, Ok((4, None, None, Some(b"p")))),
-    (
-        89,
-        Err(Refusal::Bytes(Error::UnexpectedEof(ReaderOffsetId(0)))),
-    ),
-    (
-        103,
-        Err(Refusal::Bytes(Error::UnexpectedEof(ReaderOffsetId(0)))),
-    ),
+    (89, CUT),
+    (103, CUT),
     (117, Ok((4, None, Some(b"/g"), None))),
     (132, Err(Refusal::MissingAbbreviation(4))),
     (144, Ok((4, None, Some(b"/h"), None))),
