@@ -2,17 +2,16 @@
 //! has one file.
 
 use crate::Found;
-use Mark::{Discriminator, EpilogueBegin, InitialFile, Isa, Plain, PrologueEnd};
-use Step::{At, End, Row};
+use Mark::{Discriminator, EpilogueBegin, InitialFile, Isa, PrologueEnd};
+use Step::{At, End, Row, With};
 use gimli_core::{Encoding, Format, LineEncoding};
 use gimli_write::Trap::{AddressOverflow, LaterOpcode, MissingFile, OpenSequence, UnsetAddress};
 use gimli_write::{Address, Error, LineProgram, LineString, Result, Trap};
 use std::alloc::Global;
 
-/// What a row has beside its offset. The initial file has the number 1: in version 5 it isn't there.
+/// What a row has. The initial file, number 1, isn't there in version 5.
 #[derive(Clone, Copy, PartialEq, Eq)]
 enum Mark {
-    Plain,
     InitialFile,
     PrologueEnd,
     EpilogueBegin,
@@ -20,70 +19,95 @@ enum Mark {
     Discriminator,
 }
 
-/// What is built: a set address, a row at an offset, and an end at one.
+/// What is built: a set address, a row at an offset, one at the start with a mark, and an end.
 #[derive(Clone, Copy)]
 enum Step {
     At(u64),
-    Row(u64, Mark),
+    Row(u64),
+    With(Mark),
     End(u64),
 }
 
-/// An item and its trap, if there is one.
-type Told = Option<(usize, Trap)>;
+/// A version, an address size, what is built, and all its traps.
+type Case = (u16, u8, &'static [Step], &'static [(usize, Trap)]);
 
-/// A version, an address size, what is built, its first trap, and the first one from an index on.
-type Case = (u16, u8, &'static [Step], Told, (usize, Told));
-
-const CASES: [Case; 18] = [
-    (5, 4, &[At(16), Row(0, Plain), Row(4, Plain), End(8)], None, (2, None)),
+const CASES: [Case; 20] = [
+    (5, 4, &[At(16), Row(0), Row(4), End(8)], &[]),
+    (5, 4, &[At(16), Row(0)], &[(1, OpenSequence)]),
     (
         5,
         4,
-        &[At(16), Row(0, Plain), End(4), At(32), Row(0, Plain), Row(4, Plain)],
-        Some((5, OpenSequence)),
-        (6, None),
+        &[At(16), Row(0), Row(4), At(32)],
+        &[(2, OpenSequence)],
     ),
-    (5, 4, &[At(16), Row(0, Plain), At(32)], Some((1, OpenSequence)), (2, None)),
-    (5, 2, &[At(0xfff0), Row(15, Plain), End(15)], None, (1, None)),
+    (5, 2, &[At(0xfff0), Row(15), End(15)], &[]),
     (
         5,
         2,
-        &[At(0xfff0), Row(15, Plain), Row(16, Plain), End(16)],
-        Some((2, AddressOverflow)),
-        (3, Some((3, AddressOverflow))),
+        &[At(0xfff0), Row(16), Row(17), End(18)],
+        &[
+            (1, AddressOverflow),
+            (2, AddressOverflow),
+            (3, AddressOverflow),
+        ],
     ),
-    (5, 8, &[At(u64::MAX), Row(0, Plain), End(1)], Some((2, AddressOverflow)), (3, None)),
-    (5, 4, &[At(16), Row(0, InitialFile), End(4)], Some((1, MissingFile)), (2, None)),
-    (4, 4, &[At(16), Row(0, InitialFile), End(4)], None, (1, None)),
-    (2, 4, &[At(16), Row(0, Plain), Row(4, PrologueEnd), End(8)], Some((2, LaterOpcode)), (3, None)),
-    (2, 4, &[At(16), Row(0, EpilogueBegin), End(4)], Some((1, LaterOpcode)), (2, None)),
-    (2, 4, &[At(16), Row(0, Isa), End(4)], Some((1, LaterOpcode)), (2, None)),
+    (
+        5,
+        8,
+        &[At(u64::MAX), Row(0), End(1)],
+        &[(2, AddressOverflow)],
+    ),
+    (
+        5,
+        4,
+        &[At(16), With(InitialFile), End(4)],
+        &[(1, MissingFile)],
+    ),
+    (4, 4, &[At(16), With(InitialFile), End(4)], &[]),
+    (
+        2,
+        4,
+        &[At(16), With(PrologueEnd), End(4)],
+        &[(1, LaterOpcode)],
+    ),
+    (
+        2,
+        4,
+        &[At(16), With(EpilogueBegin), End(4)],
+        &[(1, LaterOpcode)],
+    ),
+    (2, 4, &[At(16), With(Isa), End(4)], &[(1, LaterOpcode)]),
     (
         3,
         4,
-        &[At(16), Row(0, PrologueEnd), Row(4, Isa), Row(8, Discriminator), End(12)],
-        Some((3, LaterOpcode)),
-        (4, None),
+        &[
+            At(16),
+            With(PrologueEnd),
+            With(EpilogueBegin),
+            With(Isa),
+            End(4),
+        ],
+        &[],
     ),
-    (4, 4, &[At(16), Row(0, Discriminator), End(4)], None, (1, None)),
-    (5, 4, &[Row(0, Plain), Row(4, Plain), End(8)], Some((0, UnsetAddress)), (1, None)),
+    (
+        3,
+        4,
+        &[At(16), With(Discriminator), End(4)],
+        &[(1, LaterOpcode)],
+    ),
+    (4, 4, &[At(16), With(Discriminator), End(4)], &[]),
+    (5, 4, &[Row(0), Row(4), End(8)], &[(0, UnsetAddress)]),
     (
         5,
         4,
-        &[At(16), Row(0, Plain), End(4), Row(8, Plain), End(12)],
-        Some((3, UnsetAddress)),
-        (4, None),
+        &[At(16), Row(0), End(4), Row(0), End(8)],
+        &[(3, UnsetAddress)],
     ),
     // Of several traps of one item the first counts.
-    (5, 1, &[Row(256, InitialFile)], Some((0, OpenSequence)), (1, None)),
-    (
-        5,
-        1,
-        &[Row(256, InitialFile), End(256)],
-        Some((0, AddressOverflow)),
-        (1, Some((1, AddressOverflow))),
-    ),
-    (5, 4, &[Row(0, InitialFile), End(4)], Some((0, MissingFile)), (1, None)),
+    (5, 1, &[Row(256)], &[(0, OpenSequence)]),
+    (5, 1, &[Row(256), At(0), End(0)], &[(0, AddressOverflow)]),
+    (5, 4, &[With(InitialFile), End(4)], &[(0, MissingFile)]),
+    (2, 4, &[With(Isa), End(4)], &[(0, LaterOpcode)]),
 ];
 
 /// The number of the first case that isn't told as it should be.
@@ -117,7 +141,7 @@ fn one_file(alloc: Global, version: u16, address_size: u8) -> Result<LineProgram
     Ok(program)
 }
 
-/// Whether a case is told as it should be.
+/// Whether each trap of a case is told from the item after the one before it on, and no other.
 fn is_told(program: &mut LineProgram, case: &Case) -> Result<bool> {
     for step in case.2 {
         build(program, *step)?;
@@ -125,7 +149,14 @@ fn is_told(program: &mut LineProgram, case: &Case) -> Result<bool> {
     if program.is_none() {
         return Err(Error::InvalidRange);
     }
-    Ok(program.next_trap(0) == case.3 && program.next_trap(case.4.0) == case.4.1)
+    let mut from = 0;
+    for (index, trap) in case.3 {
+        if program.next_trap(from) != Some((*index, *trap)) {
+            return Ok(false);
+        }
+        from = index.wrapping_add(1);
+    }
+    Ok(program.next_trap(from).is_none())
 }
 
 /// Builds an item.
@@ -135,22 +166,23 @@ fn build(program: &mut LineProgram, step: Step) -> Result<()> {
     }
     match step {
         At(address) => program.set_address(Address::Constant(address)),
-        Row(offset, mark) => add_row(program, offset, mark),
+        Row(offset) => add_row(program, offset, None),
+        With(mark) => add_row(program, 0, Some(mark)),
         End(offset) if program.can_end_sequence(offset) => program.end_sequence(offset),
         End(_) => Err(Error::InvalidRange),
     }
 }
 
 /// Adds a row.
-fn add_row(program: &mut LineProgram, offset: u64, mark: Mark) -> Result<()> {
+fn add_row(program: &mut LineProgram, offset: u64, mark: Option<Mark>) -> Result<()> {
     let file = program.default_file();
     let row = program.row();
     row.address_offset = offset;
-    row.isa = u64::from(mark == Isa);
-    row.discriminator = u64::from(mark == Discriminator);
-    row.prologue_end = mark == PrologueEnd;
-    row.epilogue_begin = mark == EpilogueBegin;
-    if mark != InitialFile {
+    row.isa = u64::from(mark == Some(Isa));
+    row.discriminator = u64::from(mark == Some(Discriminator));
+    row.prologue_end = mark == Some(PrologueEnd);
+    row.epilogue_begin = mark == Some(EpilogueBegin);
+    if mark != Some(InitialFile) {
         row.file = file;
     }
     if program.is_none() || !program.can_generate_row() {

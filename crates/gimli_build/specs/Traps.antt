@@ -39,8 +39,8 @@ has_later_opcode version r =
     (nat_lt version 3 && (r.prologue_end || r.epilogue_begin || not (nat_eq r.isa 0)))
     || (nat_lt version 4 && not (nat_eq r.discriminator 0))
 
--- the first trap of an item that offsets of count from `base`, before the others; `begins` says
--- that a row there begins a sequence whose address wasn't set
+-- the first trap of an item whose offset counts from `base`, before the others; `begins` says that
+-- a row there begins a sequence whose address wasn't set
 abbrev pub item_trap : Built → ℕ → Bool → BuiltItem → List BuiltItem → Option Trap
 item_trap p base begins (SetAddress a) others = None
 item_trap p base begins (Row r) others =

@@ -2,7 +2,8 @@
 //! 13 to 20).
 
 ghost use Rattle.std.specs.Prelude.{◌≡◌, ℕ, ◌<◌, List, [], length, map, replicate, option_map};
-ghost use Rattle.std.specs.Prelude.{IfOk, IfErr, OnOk, OnErr, IfSome, Some, None, slice_get, nat_lt};
+ghost use Rattle.std.specs.Prelude.{IfOk, IfErr, OnOk, OnErr, IfSome, Some, None, slice_get};
+ghost use Rattle.std.specs.Prelude.{nat_lt};
 ghost use Rattle.gimli_build.specs.FileNumber.{file_number, initial_file};
 
 use crate::built::line_string::LineString;

@@ -207,8 +207,8 @@ impl LineProgram {
         DirectoryId::working()
     }
 
-    /// The id of the source file, 0, from version 5 on; up to version 4 the first file that is added
-    /// has it.
+    /// The id of the source file, 0, from version 5 on; up to version 4 that of the first file that
+    /// is added.
     pub fn default_file(&self) -> FileId
         ensures id { result ≡ 0 }
         ensures there { self.now.is_none ≡ false → 5 ≤ self.now.encoding.version →

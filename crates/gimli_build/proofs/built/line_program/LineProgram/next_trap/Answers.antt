@@ -1,9 +1,8 @@
-use Rattle.std.proofs.Common.{◌≡◌, ℕ, ◌+◌, ◌<◌, ◌≤◌, Bool, Option, None, List, [], ◌∷◌, length, get_or, take, drop, reverse, sym, ◌∙◌, arith, below_more}
+use Rattle.std.proofs.Common.{◌≡◌, ℕ, ◌+◌, ◌<◌, ◌≤◌, Bool, None, List, [], ◌∷◌, length, get_or, take, drop, reverse, sym, ◌∙◌, arith, below_more}
 use Rattle.std.proofs.lemmas.List.{reverse-append, take_rest}
 use Rattle.gimli_build.specs.Built.{Built, base_of}
 use Rattle.gimli_build.specs.Traps.{begins_unset, item_trap, trap_at, HaveNoTrap}
 use Rattle.gimli_build.specs.declared.built.items.BuiltItem.{BuiltItem}
-use Rattle.gimli_build.specs.declared.built.trap.Trap.{Trap}
 use Rattle.gimli_build.proofs.writing.ItemsWritten.{taken_next}
 use Rattle.gimli_build.proofs.writing.Joined.{next_left}
 use Rattle.gimli_build.proofs.built.line_program.LineProgram.next_trap.Goals as goal
