@@ -68,7 +68,18 @@ fn index_of<R: Reader>(alloc: Global, lookup: &SectionLookup<R>, none: R) -> Opt
     };
     let compilations = Compilations::new(alloc, &sections).ok()?;
     let mut bytes = Vec::new(alloc);
-    write_index(alloc, lookup, &strings, &compilations, 8, b"", &mut bytes).ok()?;
+    let limit = usize::MAX;
+    write_index(
+        alloc,
+        lookup,
+        &strings,
+        &compilations,
+        8,
+        b"",
+        limit,
+        &mut bytes,
+    )
+    .ok()?;
     Some(bytes)
 }
 

@@ -11,6 +11,7 @@ mod lookups;
 mod many;
 mod readers;
 mod relocations;
+mod traps;
 mod units;
 
 use gimli_write::ConvertResult;
@@ -26,7 +27,7 @@ fn first_false(found: &[bool]) -> Option<usize> {
 }
 
 /// Each check, and what it finds.
-fn checks(alloc: Global) -> [(&'static str, Found); 10] {
+fn checks(alloc: Global) -> [(&'static str, Found); 11] {
     [
         ("readers::skipped", readers::skipped()),
         ("lookups::narrow_unit", lookups::narrow_unit(alloc)),
@@ -37,6 +38,7 @@ fn checks(alloc: Global) -> [(&'static str, Found); 10] {
         ("converted::refused", converted::refused(alloc)),
         ("many::writers_and_tables", many::writers_and_tables(alloc)),
         ("many::conversions", many::conversions(alloc)),
+        ("traps::told", traps::told(alloc)),
         ("errors::turned", errors::turned()),
     ]
 }

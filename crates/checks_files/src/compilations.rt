@@ -4,7 +4,7 @@
 
 use crate::Found;
 use gimli_compilation::{Compilation, CompilationSections, Compilations, Refusal};
-use gimli_core::{BigEndian, DwForm, EndianSlice, Endianity, Error, LittleEndian};
+use gimli_core::{BigEndian, DwForm, EndianSlice, Endianity, Error, LittleEndian, ReaderOffsetId};
 use std::alloc::Global;
 
 /// What a unit says: its version, the offset of its line program, its directory and its name; or
@@ -29,12 +29,13 @@ const ABBREVIATIONS: &[u8] = b"\x01\x11\0\x10\x06\x1b\x08\x03\x0e\0\0\0\
     \x01\x41\0\x10\x17\x1b\x1f\0\0\0\
     \x01\x11\0\x1b\x02\0\0\0";
 
-/// Units, and `.debug_str_offsets`, the least significant byte first. Up to version 4 a unit is
-/// unit_length, version, debug_abbrev_offset, address_size, the code of its entry, and the values;
-/// in version 5 unit_length, version, unit_type, address_size, debug_abbrev_offset, for a type its
-/// signature and offset, the code and the values. The offsets have unit_length 12, version 5 and
-/// padding, and at 8 the offsets 1 and 4.
-const LITTLE: [&[u8]; 2] = [
+/// The declarations, units, and `.debug_str_offsets`, the least significant byte first. Up to
+/// version 4 a unit is unit_length, version, debug_abbrev_offset, address_size, the code of its
+/// entry, and the values; in version 5 unit_length, version, unit_type, address_size,
+/// debug_abbrev_offset, for a type its signature and offset, the code and the values. The offsets
+/// have unit_length 12, version 5 and padding, and at 8 the offsets 1 and 4.
+const LITTLE: [&[u8]; 3] = [
+    ABBREVIATIONS,
     b"\x13\0\0\0\x02\0\0\0\0\0\x04\x01\x2a\0\0\0/u\0\x04\0\0\0\
     \x02\0\0\0\x06\0\
     \x1d\0\0\0\x05\0\x02\x08\x56\0\0\0abcdefgh\x20\0\0\0\x01\x2a\0\0\0\0\0\0\0\
@@ -52,7 +53,7 @@ const LITTLE: [&[u8]; 2] = [
 /// Their offsets and what they say. DW_FORM_data4 is an offset up to version 3 alone; a type has
 /// the line program of the first unit; a partial unit has no base, so its indexes say nothing; the
 /// last three have an unknown type, a code without a declaration, and an unknown form.
-const SAID_LITTLE: [(usize, Said); 11] = [
+const SAID_LITTLE: [(u64, Said); 11] = [
     (0, Ok((2, Some(0x2a), Some(b"/u"), Some(b"a.c")))),
     (23, Err(Refusal::Bytes(Error::UnknownVersion(6)))),
     (29, Ok((5, Some(0x2a), Some(b"/v"), None))),
@@ -67,7 +68,8 @@ const SAID_LITTLE: [(usize, Said); 11] = [
 ];
 
 /// The same, the most significant byte first; the first unit is of the 64-bit format.
-const BIG: [&[u8]; 2] = [
+const BIG: [&[u8]; 3] = [
+    ABBREVIATIONS,
     b"\xff\xff\xff\xff\0\0\0\0\0\0\0\x20\0\x03\0\0\0\0\0\0\0\x0c\x08\x01\
     \0\0\0\x01\0\0\0\x02\0\0\0\0\0\0\0\x01c.c\0\
     \0\0\0\x15\0\x05\x01\x08\0\0\0\x24\x01\0\0\x01\0\0\0\0\0\0\0\0\x03\
@@ -75,21 +77,64 @@ const BIG: [&[u8]; 2] = [
     b"\0\0\0\x0c\0\x05\0\0\0\0\0\x01\0\0\0\x04",
 ];
 
-const SAID_BIG: [(usize, Said); 3] = [
+const SAID_BIG: [(u64, Said); 3] = [
     (0, Ok((3, Some(0x1_0000_0002), Some(b"/w"), Some(b"c.c")))),
     (44, Ok((5, Some(0x100), Some(b"/v"), Some(b"b.c")))),
     (69, Ok((5, Some(9), Some(b"a.c"), Some(b"/w")))),
+];
+
+/// Two tables, whose attributes are all of the form string: at 0 the code 1 with a name, 2 with a
+/// directory, 3 with a name and a directory, and 2 once more with a name; at 31 the code 1 with a
+/// directory, 3 with a name, and 2, cut before the form of its name. Units of version 4 name them.
+const TABLES: [&[u8]; 3] = [
+    b"\x01\x11\0\x03\x08\0\0\
+    \x02\x11\0\x1b\x08\0\0\
+    \x03\x11\0\x03\x08\x1b\x08\0\0\
+    \x02\x11\0\x03\x08\0\0\0\
+    \x01\x11\0\x1b\x08\0\0\
+    \x03\x11\0\x03\x08\0\0\
+    \x02\x11\0\x03",
+    b"\x0d\0\0\0\x04\0\0\0\0\0\x08\x03n\0/d\0\
+    \x0b\0\0\0\x04\0\0\0\0\0\x08\x02/e\0\
+    \x0a\0\0\0\x04\0\0\0\0\0\x08\x01m\0\
+    \x0b\0\0\0\x04\0\x1f\0\0\0\x08\x01/f\0\
+    \x0a\0\0\0\x04\0\0\0\0\0\x08\x01o\0\
+    \x0a\0\0\0\x04\0\x1f\0\0\0\x08\x03p\0\
+    \x0a\0\0\0\x04\0\x1f\0\0\0\x08\x02q\0\
+    \x0a\0\0\0\x04\0\x1f\0\0\0\x08\x04r\0\
+    \x0b\0\0\0\x04\0\x1f\0\0\0\x08\x01/g\0\
+    \x08\0\0\0\x04\0\0\0\0\0\x08\x04\
+    \x0b\0\0\0\x04\0\0\0\0\0\x08\x02/h\0",
+    b"",
+];
+
+/// A table that is cut refuses each code that doesn't stand before the cut, where no byte is left.
+const CUT: Said = Err(Refusal::Bytes(Error::UnexpectedEof(ReaderOffsetId(0))));
+
+/// Of two declarations of one code the first counts.
+const SAID_TABLES: [(u64, Said); 11] = [
+    (0, Ok((4, None, Some(b"/d"), Some(b"n")))),
+    (17, Ok((4, None, Some(b"/e"), None))),
+    (32, Ok((4, None, None, Some(b"m")))),
+    (46, Ok((4, None, Some(b"/f"), None))),
+    (61, Ok((4, None, None, Some(b"o")))),
+    (75, Ok((4, None, None, Some(b"p")))),
+    (89, CUT),
+    (103, CUT),
+    (117, Ok((4, None, Some(b"/g"), None))),
+    (132, Err(Refusal::MissingAbbreviation(4))),
+    (144, Ok((4, None, Some(b"/h"), None))),
 ];
 
 /// The sections of a program: `.debug_str` has /w at 1 and a.c at 4, `.debug_line_str` /v at 0 and
 /// b.c at 3.
 fn sections<E: Endianity>(
     order: E,
-    [info, offsets]: [&'static [u8]; 2],
+    [abbreviations, info, offsets]: [&'static [u8]; 3],
 ) -> CompilationSections<EndianSlice<'static, E>> {
     CompilationSections {
         debug_info: EndianSlice::new(info, order),
-        debug_abbrev: EndianSlice::new(ABBREVIATIONS, order),
+        debug_abbrev: EndianSlice::new(abbreviations, order),
         debug_str: EndianSlice::new(b"\0/w\0a.c\0", order),
         debug_line_str: EndianSlice::new(b"/v\0b.c\0", order),
         debug_str_offsets: EndianSlice::new(offsets, order),
@@ -104,26 +149,28 @@ fn said<E: Endianity>(unit: Result<Compilation<EndianSlice<'static, E>>, Refusal
     Ok((unit.version, unit.stmt_list, directory, name))
 }
 
-/// The first unit that says something else, in a walk or by its offset.
+/// The first unit that says something else.
 fn first_wrong<E: Endianity>(
+    alloc: Global,
     sections: &CompilationSections<EndianSlice<'static, E>>,
-    wanted: &[(usize, Said)],
-) -> Option<usize> {
-    let mut units = sections.units();
-    for (at, (offset, wanted)) in wanted.iter().enumerate() {
-        let found = units.next().map(|it| (it.offset, said(it.compilation)));
-        let alone = said(sections.compilation(*offset));
-        if found != Some((*offset as u64, *wanted)) || alone != *wanted {
-            return Some(at);
+    wanted: &[(u64, Said)],
+) -> Found {
+    let mut units = sections.units(alloc);
+    for (at, wanted) in wanted.iter().enumerate() {
+        let found = units.next()?.map(|it| (it.offset, said(it.compilation)));
+        if found != Some(*wanted) {
+            return Ok(Some(at));
         }
     }
-    units.next().map(|_| wanted.len())
+    Ok(units.next()?.map(|_| wanted.len()))
 }
 
 /// The first unit that says something else. A refused unit ends no walk.
-pub fn units() -> Found {
-    let little = first_wrong(&sections(LittleEndian, LITTLE), &SAID_LITTLE);
-    Ok(little.or(first_wrong(&sections(BigEndian, BIG), &SAID_BIG)))
+pub fn units(alloc: Global) -> Found {
+    let little = first_wrong(alloc, &sections(LittleEndian, LITTLE), &SAID_LITTLE)?;
+    let big = first_wrong(alloc, &sections(BigEndian, BIG), &SAID_BIG)?;
+    let tables = first_wrong(alloc, &sections(LittleEndian, TABLES), &SAID_TABLES)?;
+    Ok(little.or(big).or(tables))
 }
 
 /// Offsets of line programs and their directories: of a unit and of a type after it, of another

@@ -88,35 +88,34 @@ first_left p q f n index x h is fails_q =
 pub first_end : {X : Type 0} (p q : X → Bool) (f : ℕ → X) (n index : ℕ) → n ≤ index → first_from p q f n index ≡ None
 first_end p q f n index h = ap (λ xs. find p (filter q xs)) (values_end f n index h)
 
--- a number of each from an index on that passes p and q
-abbrev pub numbers_from : {X : Type 0} → (X → ℕ) → (X → Bool) → (X → Bool) → (ℕ → X) → ℕ → ℕ → List ℕ
-numbers_from g p q f n index = map g (filter p (filter q (values f n index)))
+-- those from an index on that pass p and q
+abbrev pub kept_from : {X : Type 0} → (X → Bool) → (X → Bool) → (ℕ → X) → ℕ → ℕ → List X
+kept_from p q f n index = filter p (filter q (values f n index))
 
-numbers_step : {X : Type 0} (g : X → ℕ) (p q : X → Bool) (f : ℕ → X) (n index : ℕ) (x : X) → index < n → x ≡ f index
-    → numbers_from g p q f n index ≡ map g (filter p (filter q (x ∷ values f n (index + 1))))
-numbers_step g p q f n index x h is =
-    ap (λ xs. map g (filter p (filter q xs))) (values_step f n index h)
-    ∙ ap (λ y. map g (filter p (filter q (y ∷ values f n (index + 1))))) (sym is)
+kept_step : {X : Type 0} (p q : X → Bool) (f : ℕ → X) (n index : ℕ) (x : X) → index < n → x ≡ f index
+    → kept_from p q f n index ≡ filter p (filter q (x ∷ values f n (index + 1)))
+kept_step p q f n index x h is =
+    ap (λ xs. filter p (filter q xs)) (values_step f n index h) ∙ ap (λ y. filter p (filter q (y ∷ values f n (index + 1)))) (sym is)
 
-pub numbers_kept : {X : Type 0} (g : X → ℕ) (p q : X → Bool) (f : ℕ → X) (n index : ℕ) (x : X) → index < n → x ≡ f index → q x ≡ true → p x ≡ true
-    → numbers_from g p q f n index ≡ g x ∷ numbers_from g p q f n (index + 1)
-numbers_kept g p q f n index x h is passes_q passes_p =
-    numbers_step g p q f n index x h is
-    ∙ ap (λ b. map g (filter p (cond b (x ∷ filter q (values f n (index + 1))) (filter q (values f n (index + 1)))))) passes_q
-    ∙ ap (λ b. map g (cond b (x ∷ filter p (filter q (values f n (index + 1)))) (filter p (filter q (values f n (index + 1)))))) passes_p
+pub kept : {X : Type 0} (p q : X → Bool) (f : ℕ → X) (n index : ℕ) (x : X) → index < n → x ≡ f index → q x ≡ true → p x ≡ true
+    → kept_from p q f n index ≡ x ∷ kept_from p q f n (index + 1)
+kept p q f n index x h is passes_q passes_p =
+    kept_step p q f n index x h is
+    ∙ ap (λ b. filter p (cond b (x ∷ filter q (values f n (index + 1))) (filter q (values f n (index + 1))))) passes_q
+    ∙ ap (λ b. cond b (x ∷ filter p (filter q (values f n (index + 1)))) (filter p (filter q (values f n (index + 1))))) passes_p
 
-pub numbers_passed : {X : Type 0} (g : X → ℕ) (p q : X → Bool) (f : ℕ → X) (n index : ℕ) (x : X) → index < n → x ≡ f index → q x ≡ true → p x ≡ false
-    → numbers_from g p q f n index ≡ numbers_from g p q f n (index + 1)
-numbers_passed g p q f n index x h is passes_q fails_p =
-    numbers_step g p q f n index x h is
-    ∙ ap (λ b. map g (filter p (cond b (x ∷ filter q (values f n (index + 1))) (filter q (values f n (index + 1)))))) passes_q
-    ∙ ap (λ b. map g (cond b (x ∷ filter p (filter q (values f n (index + 1)))) (filter p (filter q (values f n (index + 1)))))) fails_p
+pub passed : {X : Type 0} (p q : X → Bool) (f : ℕ → X) (n index : ℕ) (x : X) → index < n → x ≡ f index → q x ≡ true → p x ≡ false
+    → kept_from p q f n index ≡ kept_from p q f n (index + 1)
+passed p q f n index x h is passes_q fails_p =
+    kept_step p q f n index x h is
+    ∙ ap (λ b. filter p (cond b (x ∷ filter q (values f n (index + 1))) (filter q (values f n (index + 1))))) passes_q
+    ∙ ap (λ b. cond b (x ∷ filter p (filter q (values f n (index + 1)))) (filter p (filter q (values f n (index + 1))))) fails_p
 
-pub numbers_left : {X : Type 0} (g : X → ℕ) (p q : X → Bool) (f : ℕ → X) (n index : ℕ) (x : X) → index < n → x ≡ f index → q x ≡ false
-    → numbers_from g p q f n index ≡ numbers_from g p q f n (index + 1)
-numbers_left g p q f n index x h is fails_q =
-    numbers_step g p q f n index x h is
-    ∙ ap (λ b. map g (filter p (cond b (x ∷ filter q (values f n (index + 1))) (filter q (values f n (index + 1)))))) fails_q
+pub left : {X : Type 0} (p q : X → Bool) (f : ℕ → X) (n index : ℕ) (x : X) → index < n → x ≡ f index → q x ≡ false
+    → kept_from p q f n index ≡ kept_from p q f n (index + 1)
+left p q f n index x h is fails_q =
+    kept_step p q f n index x h is
+    ∙ ap (λ b. filter p (cond b (x ∷ filter q (values f n (index + 1))) (filter q (values f n (index + 1))))) fails_q
 
-pub numbers_end : {X : Type 0} (g : X → ℕ) (p q : X → Bool) (f : ℕ → X) (n index : ℕ) → n ≤ index → numbers_from g p q f n index ≡ []
-numbers_end g p q f n index h = ap (λ xs. map g (filter p (filter q xs))) (values_end f n index h)
+pub kept_end : {X : Type 0} (p q : X → Bool) (f : ℕ → X) (n index : ℕ) → n ≤ index → kept_from p q f n index ≡ []
+kept_end p q f n index h = ap (λ xs. filter p (filter q xs)) (values_end f n index h)

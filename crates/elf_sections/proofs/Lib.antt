@@ -5,7 +5,7 @@ pub mod WorkedRelocations
 mod Headers
 mod StepLaws
 mod Written
-mod Lowest
+mod CodeBounds
 mod TableNames
 mod Checksums
 mod NoteLists

@@ -7,11 +7,11 @@ use Rattle.elf_sections.specs.Steps.{◌>>=◌}
 use Rattle.elf_sections.specs.Gives.{Gives}
 use Rattle.elf_sections.specs.Layout.{layout_at}
 use Rattle.elf_sections.specs.SectionHeader.{has_flag, stored_bytes, section_bytes}
-use Rattle.elf_sections.specs.Compression.{uncompressed, uncompressed_old, data_of, old_data_of, has_old_name, old_name}
+use Rattle.elf_sections.specs.Compression.{uncompressed, uncompressed_old, data_of, has_old_name, old_name}
 use Rattle.elf_sections.specs.File.{File, file_at, some_of, section_named, old_data_in, data_or_old, section_data_at}
 use Rattle.elf_sections.specs.FileRange.{bytes_at, nowhere, range_in, or_refused, stored_range, header_range}
-use Rattle.elf_sections.specs.Seeking.{Listed, header_named, listed, listed_of}
-use Rattle.elf_sections.specs.Stored.{stored_at, stored_form, old_stored, stored_or_old, stored_named, data_by, stored_data, data_there, data_at, data_in}
+use Rattle.elf_sections.specs.Seeking.{Listed, listed, listed_of}
+use Rattle.elf_sections.specs.Stored.{stored_at, stored_form, old_stored, stored_or_old, stored_named, data_by, data_there, data_at, data_in}
 use Rattle.elf_sections.specs.declared.error.ElfError.{ElfError}
 use Rattle.elf_sections.specs.declared.error.ElfError.TheVariants.{SectionCut, OutOfMemory}
 use Rattle.elf_sections.specs.declared.file_range.FileRange.{FileRange}

@@ -2,7 +2,7 @@
 use Rattle.std.proofs.Common.{◌≡◌, ℕ, List, [], ◌∷◌, ◌++◌, Option, Some, None, Result, Ok, Err, take, refl}
 use Rattle.std.specs.Prelude.{codes, replicate, slice_set}
 use Rattle.elf_sections.specs.Steps.{◌>>=◌}
-use Rattle.elf_sections.specs.File.{file_at, section_at, code_addresses}
+use Rattle.elf_sections.specs.File.{file_at, section_at, code_addresses, code_ends}
 use Rattle.elf_sections.specs.declared.error.ElfError.{ElfError}
 use Rattle.elf_sections.specs.declared.error.ElfError.TheVariants.{NotElf, Class, ByteOrder, Version, HeaderCut, SectionHeaderSize, SectionTableCut, NamesCut}
 use Rattle.elf_sections.specs.declared.error.ElfError.TheVariants.{SectionCut, Compressed}
@@ -18,6 +18,10 @@ kind_of bytes = file_at bytes >>= λ file. Ok file.kind
 -- the addresses of its code
 abbrev code_of : List ℕ → Result (List ℕ) ElfError
 code_of bytes = file_at bytes >>= λ file. Ok (code_addresses file)
+
+-- where its code ends
+abbrev ends_of : List ℕ → Result (List ℕ) ElfError
+ends_of bytes = file_at bytes >>= λ file. Ok (code_ends file)
 
 -- ---- 336 bytes: 32 bits, the least significant byte first
 
@@ -77,6 +81,10 @@ inactive = refl
 -- the data is lower, but no code
 pub lowest_code : code_of file_32 ≡ Ok (0x804_9000 ∷ [])
 lowest_code = refl
+
+-- after its four bytes
+pub code_end : ends_of file_32 ≡ Ok (0x804_9004 ∷ [])
+code_end = refl
 
 -- ET_EXEC
 pub linked : kind_of file_32 ≡ Ok 2
@@ -193,3 +201,7 @@ not_in_memory = refl
 
 pub empty_code : code_of (slice_set file_64 0xcf 0) ≡ Ok []
 empty_code = refl
+
+-- code at 0x100_0000_1000_0000 of so many bytes that it would end past 2 ^ 64
+pub end_too_far : ends_of (slice_set (slice_set file_64 0xb8 1) 0xc8 0xff) ≡ Ok (0xffff_ffff_ffff_ffff ∷ [])
+end_too_far = refl

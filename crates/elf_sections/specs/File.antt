@@ -4,7 +4,7 @@ use Rattle.std.specs.Prelude.{Some, None, Result, Ok}
 use Rattle.elf_sections.specs.Steps.{◌>>=◌}
 use Rattle.elf_sections.specs.Layout.{layout_at}
 use Rattle.elf_sections.specs.Header.{header_at}
-use Rattle.elf_sections.specs.SectionHeader.{is_active, is_code, section_bytes}
+use Rattle.elf_sections.specs.SectionHeader.{is_active, is_code, end_of, section_bytes}
 use Rattle.elf_sections.specs.Compression.{data_of, old_data_of, has_old_name, old_name}
 use Rattle.elf_sections.specs.Table.{table_at, names_at, is_name_at}
 use Rattle.elf_sections.specs.declared.error.ElfError.{ElfError}
@@ -79,7 +79,16 @@ section_data_at file limit name = data_or_old file limit name (section_named fil
 abbrev pub code_addresses : File → List ℕ
 code_addresses file = map (λ header. header.address) (filter is_code (sections file))
 
+-- the ends of the sections of code
+abbrev pub code_ends : File → List ℕ
+code_ends file = map end_of (filter is_code (sections file))
+
 -- the least of numbers
 pub record IsLeast (numbers : List ℕ) (n : ℕ) : Type 0 where
   pub is_one : Contains numbers n
   pub is_least : All (λ m. n ≤ m) numbers
+
+-- the greatest of numbers
+pub record IsGreatest (numbers : List ℕ) (n : ℕ) : Type 0 where
+  pub is_one : Contains numbers n
+  pub is_greatest : All (λ m. m ≤ n) numbers

@@ -14,6 +14,7 @@ pub mod Relocation
 pub mod Entries
 pub mod Relocating
 pub mod SectionTable
+pub mod CodeBounds
 pub mod Elf
 pub mod Notes
 pub mod NoteViews

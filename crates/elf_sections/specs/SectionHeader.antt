@@ -1,6 +1,6 @@
 -- Section headers (System V ABI, chapter 4, "Sections"), and the bytes of a section.
-use Rattle.std.specs.Prelude.{ℕ, ◌+◌, ◌*◌, List, [], length, slice_range, bit_and, nat_eq, nat_lt}
-use Rattle.std.specs.Prelude.{Bool, not, ◌&&◌, if◌then◌else◌, Result, Ok, Err}
+use Rattle.std.specs.Prelude.{ℕ, ◌+◌, ◌-◌, ◌*◌, ◌^◌, min, List, [], length, slice_range, bit_and}
+use Rattle.std.specs.Prelude.{nat_eq, nat_lt, Bool, not, ◌&&◌, if◌then◌else◌, Result, Ok, Err}
 use Rattle.elf_sections.specs.ElfNumbers.{SHT_NULL, SHT_NOBITS, SHF_ALLOC, SHF_EXECINSTR}
 use Rattle.elf_sections.specs.ElfNumbers.{SHF_COMPRESSED}
 use Rattle.elf_sections.specs.Layout.{address_size, number_at}
@@ -42,6 +42,14 @@ has_flag header bit = not (nat_eq (bit_and header.flags bit) 0)
 abbrev pub is_code : SectionHeader → Bool
 is_code header =
     has_flag header SHF_ALLOC && has_flag header SHF_EXECINSTR && not (nat_eq header.size 0)
+
+-- the address after a section, or the greatest one where it would end past that
+abbrev pub end_of : SectionHeader → ℕ
+end_of header = min (header.address + header.size) (2 ^ 64 - 1)
+
+-- the same of a section of code; 0 for any other header
+abbrev pub code_end_of : SectionHeader → ℕ
+code_end_of header = if is_active header && is_code header then end_of header else 0
 
 -- the bytes of a section as they stand in its file: none where it has none there
 abbrev pub stored_bytes : List ℕ → SectionHeader → Result (List ℕ) ElfError

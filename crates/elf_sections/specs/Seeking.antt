@@ -6,7 +6,7 @@ use Rattle.elf_sections.specs.Steps.{◌>>=◌}
 use Rattle.elf_sections.specs.Layout.{layout_at}
 use Rattle.elf_sections.specs.Header.{header_at}
 use Rattle.elf_sections.specs.SectionHeader.{section_header_size, section_header, is_active}
-use Rattle.elf_sections.specs.SectionHeader.{is_code}
+use Rattle.elf_sections.specs.SectionHeader.{is_code, end_of}
 use Rattle.elf_sections.specs.Table.{Table, section_headers, count_of, names_index_of, is_name_at}
 use Rattle.elf_sections.specs.File.{File, file_at, section_at}
 use Rattle.elf_sections.specs.FileRange.{bytes_at, nowhere, range_in, or_refused, header_range}
@@ -146,6 +146,9 @@ range_named list name = range_of list.length (header_named list name)
 
 abbrev pub listed_code : Listed → List ℕ
 listed_code list = map (λ header. header.address) (filter is_code (filter is_active list.headers))
+
+abbrev pub listed_ends : Listed → List ℕ
+listed_ends list = map end_of (filter is_code (filter is_active list.headers))
 
 -- ---- all of it: what is known of a file whose parts are read one after the other
 

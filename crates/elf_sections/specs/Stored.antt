@@ -1,6 +1,6 @@
 -- Where the data of a section are in a file that isn't read whole, and what they are once they are
 -- read.
-use Rattle.std.specs.Prelude.{ℕ, List, if◌then◌else◌, Option, Some, None, Result, Ok, Err}
+use Rattle.std.specs.Prelude.{ℕ, List, if◌then◌else◌, Option, Some, None, Result, Ok}
 use Rattle.elf_sections.specs.ElfNumbers.{SHF_COMPRESSED}
 use Rattle.elf_sections.specs.Steps.{◌>>=◌}
 use Rattle.elf_sections.specs.SectionHeader.{has_flag}

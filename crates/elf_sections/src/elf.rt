@@ -1,16 +1,18 @@
 //! A file and its sections.
 
-ghost use Rattle.std.specs.Prelude.{◌≡◌, ◌≢◌, nat_eq, IfOk, IfErr, MatchOption, [], None};
+ghost use Rattle.std.specs.Prelude.{◌≡◌, ◌≢◌, nat_eq, map, IfOk, IfErr, MatchOption, [], None};
 ghost use Rattle.std.specs.Option.{option_copied, option_map};
 ghost use Rattle.gimli_core.specs.Order.{is_big};
 ghost use Rattle.gimli_core.specs.Reading.{result_map};
 ghost use Rattle.elf_sections.specs.Layout.{address_size};
+ghost use Rattle.elf_sections.specs.SectionHeader.{code_end_of};
 ghost use Rattle.elf_sections.specs.Gives.{Gives, RefusesLarge};
 ghost use Rattle.elf_sections.specs.Compression.{data_of, old_data_of, old_name};
 ghost use Rattle.elf_sections.specs.declared.error.ElfError.TheVariants.{OutOfMemory};
 ghost use Rattle.elf_sections.specs.Relocating.{index_of, data_index, applied_at, relocated_at};
 ghost use Rattle.elf_sections.specs.File.{file_at, section_at, section_data_at, section_named};
-ghost use Rattle.elf_sections.specs.File.{old_data_in, code_addresses, IsLeast};
+ghost use Rattle.elf_sections.specs.File.{old_data_in, code_addresses, code_ends};
+ghost use Rattle.elf_sections.specs.File.{IsLeast, IsGreatest};
 
 use crate::compression::{old_name, uncompressed, uncompressed_old};
 use crate::error::ElfError;
@@ -22,7 +24,7 @@ use crate::section_bytes::SectionBytes;
 use crate::section_header::SectionHeader;
 use crate::section_table::SectionTable;
 use gimli_core::Endianity;
-use std::alloc::Global;
+use std::alloc::{AllocError, Global};
 
 /// An object file whose sections aren't linked yet (`ET_REL`).
 const REL: u16 = 1;
@@ -296,6 +298,29 @@ impl<'a> Elf<'a> {
         ensures { let addresses = code_addresses (file_of self.now) in
             MatchOption result (addresses ≡ []) (IsLeast addresses) }
     {
-        self.table.lowest_code_address()
+        match self.table.code_bounds() {
+            Some(bounds) => Some(bounds.lowest),
+            None => None,
+        }
+    }
+
+    /// The end of code: the address after the last of the same sections, or the greatest one where
+    /// that would end past it. None where there is no such section.
+    pub fn code_end(&self) -> Option<u64>
+        ensures { let ends = code_ends (file_of self.now) in
+            MatchOption result (ends ≡ []) (IsGreatest ends) }
+    {
+        match self.table.code_bounds() {
+            Some(bounds) => Some(bounds.end),
+            None => None,
+        }
+    }
+
+    /// The end of each section, by its index, as `code_end` says; 0 where it is none of those.
+    pub fn code_ends(&self, alloc: Global) -> Result<Vec<u64>, AllocError>
+        ensures { IfOk result
+            (λ ends. ends.items ≡ map code_end_of (file_of self.now).headers) }
+    {
+        self.table.code_ends(alloc)
     }
 }

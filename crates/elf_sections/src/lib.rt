@@ -4,6 +4,7 @@
 //! input.
 #![tactic(auto)]
 
+mod code_bounds;
 mod compression;
 mod crc;
 mod debug_file;

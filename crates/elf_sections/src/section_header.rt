@@ -4,6 +4,7 @@ ghost use Rattle.std.specs.Prelude.{◌≡◌, ◌≤◌, length, nat_eq};
 ghost use Rattle.gimli_core.specs.Reading.{result_map};
 ghost use Rattle.elf_sections.specs.SectionHeader.{section_header_size, section_header, is_active};
 ghost use Rattle.elf_sections.specs.SectionHeader.{has_flag, is_code, stored_bytes, section_bytes};
+ghost use Rattle.elf_sections.specs.SectionHeader.{end_of, code_end_of};
 ghost use Rattle.elf_sections.specs.Relocation.{form_of, relocates};
 
 use crate::error::ElfError;
@@ -89,6 +90,24 @@ impl SectionHeader {
         ensures { result ≡ is_code self.now }
     {
         self.has_flag(ALLOC) && self.has_flag(EXECINSTR) && self.size != 0
+    }
+
+    /// The address after the section, or the greatest one where it would end past that.
+    pub(crate) fn end(&self) -> u64
+        ensures { result ≡ end_of self.now }
+    {
+        self.address.saturating_add(self.size)
+    }
+
+    /// The same of a section of code; 0 for any other header.
+    pub(crate) fn code_end(&self) -> u64
+        ensures { result ≡ code_end_of self.now }
+    {
+        if self.is_active() && self.is_code() {
+            self.end()
+        } else {
+            0
+        }
     }
 
     /// Whether the section is in memory when the program runs.

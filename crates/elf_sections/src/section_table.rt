@@ -1,21 +1,22 @@
 //! The section table of a file.
 
-ghost use Rattle.std.specs.Prelude.{◌≡◌, ◌≤◌, ◌<◌, ◌*◌, min, drop, length, ◌&&◌, slice_get, find};
-ghost use Rattle.std.specs.Prelude.{filter, map, MatchOption, []};
-ghost use Rattle.std.specs.Option.{option_map_or};
+ghost use Rattle.std.specs.Prelude.{◌≡◌, ◌≤◌, ◌<◌, ◌*◌, drop, length, ◌&&◌, slice_get, find};
+ghost use Rattle.std.specs.Prelude.{filter, map, MatchOption, [], IfOk};
 ghost use Rattle.std.specs.List.{position_from};
 ghost use Rattle.gimli_core.specs.Reading.{result_map};
 ghost use Rattle.elf_sections.specs.SectionHeader.{section_header_size, section_header, is_active};
-ghost use Rattle.elf_sections.specs.SectionHeader.{is_code};
+ghost use Rattle.elf_sections.specs.SectionHeader.{is_code, end_of, code_end_of};
 ghost use Rattle.elf_sections.specs.Seeking.{names_in_table};
 ghost use Rattle.elf_sections.specs.Table.{section_headers, table_at, names_at, is_name_at};
 ghost use Rattle.elf_sections.specs.Table.{count_of, names_index_of};
 
+use crate::code_bounds::{CodeBounds, widened};
 use crate::error::ElfError;
 use crate::file_range::FileRange;
 use crate::header::Header;
 use crate::layout::Layout;
 use crate::section_header::SectionHeader;
+use std::alloc::{AllocError, Global};
 
 /// An index that stands for no section of names (`SHN_UNDEF`).
 const UNDEF: u64 = 0;
@@ -74,19 +75,9 @@ fn is_name_at(names: &[u8], offset: u32, name: &[u8]) -> bool
     }
 }
 
-/// The lower of an address and the lowest one so far.
-fn lower_of(lowest: Option<u64>, address: u64) -> u64
-    ensures { result ≡ option_map_or (λ least. min least address) lowest address }
-{
-    match lowest {
-        Some(least) => least.min(address),
-        None => address,
-    }
-}
-
 impl<'a> SectionTable<'a> {
     ghost use Rattle.elf_sections.specs.SectionTable.{table_of};
-    ghost use Rattle.elf_sections.specs.File.{IsLeast};
+    ghost use Rattle.elf_sections.specs.File.{IsLeast, IsGreatest};
 
     /// The section table that a file's header names.
     pub(crate) fn parse(
@@ -250,19 +241,33 @@ impl<'a> SectionTable<'a> {
         None
     }
 
-    /// The lowest address of the sections of code.
-    pub(crate) fn lowest_code_address(&self) -> Option<u64>
-        ensures { let addresses = map (λ header. header.address) (filter is_code
+    /// Where the sections of code are.
+    pub(crate) fn code_bounds(&self) -> Option<CodeBounds>
+        ensures lowest { let addresses = map (λ header. header.address) (filter is_code
             (filter is_active (table_of self.now).headers)) in
-            MatchOption result (addresses ≡ []) (IsLeast addresses) }
+            MatchOption result (addresses ≡ []) (λ bounds. IsLeast addresses bounds.lowest) }
+        ensures end { let ends = map end_of (filter is_code
+            (filter is_active (table_of self.now).headers)) in
+            MatchOption result (ends ≡ []) (λ bounds. IsGreatest ends bounds.end) }
     {
-        let mut lowest = None;
+        let mut bounds = None;
         for index in 0..self.count {
             let header = self.header(index);
             if header.is_active() && header.is_code() {
-                lowest = Some(lower_of(lowest, header.address));
+                bounds = Some(widened(bounds, &header));
             }
         }
-        lowest
+        bounds
+    }
+
+    /// The end of each section of code, by its index; 0 for any other section.
+    pub(crate) fn code_ends(&self, alloc: Global) -> Result<Vec<u64>, AllocError>
+        ensures { IfOk result (λ ends. ends.items ≡ map code_end_of (table_of self.now).headers) }
+    {
+        let mut ends = Vec::new(alloc);
+        for index in 0..self.count {
+            ends.push(self.header(index).code_end())?;
+        }
+        Ok(ends)
     }
 }

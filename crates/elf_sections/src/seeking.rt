@@ -6,18 +6,20 @@
 //! it wants.
 
 ghost use Rattle.std.specs.Prelude.{◌≡◌, ◌≤◌, ◌*◌, nat_eq, ℕ, List, MatchOption, []};
+ghost use Rattle.std.specs.Prelude.{map, IfOk};
 ghost use Rattle.std.specs.Option.{option_map, option_copied};
 ghost use Rattle.gimli_core.specs.Order.{is_big};
 ghost use Rattle.gimli_core.specs.Reading.{result_map};
 ghost use Rattle.elf_sections.specs.Layout.{address_size};
-ghost use Rattle.elf_sections.specs.SectionHeader.{section_header_size};
-ghost use Rattle.elf_sections.specs.File.{IsLeast};
+ghost use Rattle.elf_sections.specs.SectionHeader.{section_header_size, code_end_of};
+ghost use Rattle.elf_sections.specs.File.{IsLeast, IsGreatest};
 ghost use Rattle.elf_sections.specs.Notes.{build_id_in};
 ghost use Rattle.elf_sections.specs.DebugFile.{link_of, link_in};
 ghost use Rattle.elf_sections.specs.SectionTable.{table_of};
 ghost use Rattle.elf_sections.specs.FileRange.{range_in};
 ghost use Rattle.elf_sections.specs.Seeking.{header_by, first_range, table_by, no_table, table_in};
 ghost use Rattle.elf_sections.specs.Seeking.{names_range, list_by, range_named, listed_code};
+ghost use Rattle.elf_sections.specs.Seeking.{listed_ends};
 ghost use Rattle.elf_sections.specs.Seeking.{listed, listed_at, section_in, read_at};
 
 use crate::debug_file::{DebugLink, link_in};
@@ -29,6 +31,7 @@ use crate::note::build_id_in;
 use crate::section_header::SectionHeader;
 use crate::section_table::{SectionTable, count_of, names_index_of};
 use gimli_core::Endianity;
+use std::alloc::{AllocError, Global};
 
 /// An object file whose sections aren't linked yet (`ET_REL`).
 const REL: u16 = 1;
@@ -308,7 +311,29 @@ impl<'a> SectionList<'a> {
         ensures { let addresses = listed_code (list_of self.now) in
             MatchOption result (addresses ≡ []) (IsLeast addresses) }
     {
-        self.table.lowest_code_address()
+        match self.table.code_bounds() {
+            Some(bounds) => Some(bounds.lowest),
+            None => None,
+        }
+    }
+
+    /// The end of code, as [`Elf::code_end`](crate::Elf::code_end) answers it.
+    pub fn code_end(&self) -> Option<u64>
+        ensures { let ends = listed_ends (list_of self.now) in
+            MatchOption result (ends ≡ []) (IsGreatest ends) }
+    {
+        match self.table.code_bounds() {
+            Some(bounds) => Some(bounds.end),
+            None => None,
+        }
+    }
+
+    /// The end of each section, as [`Elf::code_ends`](crate::Elf::code_ends) answers them.
+    pub fn code_ends(&self, alloc: Global) -> Result<Vec<u64>, AllocError>
+        ensures { IfOk result
+            (λ ends. ends.items ≡ map code_end_of (list_of self.now).headers) }
+    {
+        self.table.code_ends(alloc)
     }
 
     /// The build id in the bytes of the section `.note.gnu.build-id`, as

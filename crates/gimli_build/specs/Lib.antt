@@ -27,6 +27,7 @@ pub mod Unit
 pub mod Cause
 pub mod Linked
 pub mod NoFiles
+pub mod Traps
 pub mod Stored
 pub mod Texts
 pub mod ReadsBack

@@ -5,3 +5,4 @@ pub(crate) mod items;
 pub(crate) mod line_program;
 pub(crate) mod line_string;
 pub(crate) mod row;
+pub(crate) mod trap;

@@ -1,4 +1,4 @@
--- Looking for the declaration of a code, one by one.
+-- Reading a table of declarations, one by one.
 use Rattle.std.proofs.Common.{◌≡◌, ◌≢◌, ℕ, ◌<◌, true, false, if◌then◌else◌, List, [], ◌∷◌, length, Option, Some, None, Ok, Err, refl, sym, ap, ◌∙◌, eq-eqb}
 use Rattle.std.specs.Prelude.{nat_eq}
 use Rattle.std.proofs.lemmas.Bool.{ne_eqb}
@@ -12,7 +12,7 @@ use Rattle.gimli_compilation.proofs.Until.{shrinks, until_more, until_last, unti
 use Rattle.gimli_compilation.proofs.AbbreviationLaws.{reads_declaration, declaration_takes}
 use Rattle.gimli_compilation.proofs.Specifications.{passed_listed, passed_fault}
 
--- ---- after the code
+-- ---- a declaration
 
 module _ (bytes second third : List ℕ) (tag children : ℕ) (first : (Ok tag, second) ≡ unsigned_at bytes) (next : (Ok children, third) ≡ byte_at second) where
   after_code : declared_at bytes ≡ specifications_at third
@@ -25,7 +25,20 @@ module _ (bytes second third : List ℕ) (tag children : ℕ) (first : (Ok tag, 
   pub declared_fault : (e : Error) (left : List ℕ) → (Err e, left) ≡ specifications_passed third → (Err e, left) ≡ declared_at bytes
   declared_fault e left is = sym (after_code ∙ passed_fault third e left is)
 
--- ---- the table
+module _ (bytes second : List ℕ) (code : ℕ) (first : (Ok code, second) ≡ unsigned_at bytes) (some : code ≢ 0) where
+  pub declaration_done : (specifications : List Specification) (left : List ℕ) → (Ok specifications, left) ≡ declared_at second
+      → (Ok (code, specifications), left) ≡ declaration_at bytes
+  unfolding declaration_at
+  declaration_done specifications left read = rw (← first, ne_eqb code 0 some, ← read) refl
+
+  pub declaration_fault : (e : Error) (left : List ℕ) → (Err e, left) ≡ declared_at second → (Err e, left) ≡ declaration_at bytes
+  unfolding declaration_at
+  declaration_fault e left is = rw (← first, ne_eqb code 0 some, ← is) refl
+
+pub declaration_smaller : (bytes : List ℕ) (d : Declaration) (left : List ℕ) → (Ok d, left) ≡ declaration_at bytes → length left < length bytes
+declaration_smaller bytes d left read = shrinks declaration_production declaration_at reads_declaration declaration_takes bytes d left (sym read)
+
+-- ---- the search for a code
 
 -- what a search found
 abbrev answer : Read (List Declaration × Declaration) → Read (Option (List Specification))
@@ -36,46 +49,20 @@ answer_put : (d : Declaration) (r : Read (List Declaration × Declaration))
 answer_put d (Ok v, rest) = refl
 answer_put d (Err e, rest) = refl
 
-pub search_fault : (code : ℕ) (bytes : List ℕ) (e : Error) (left : List ℕ) → (Err e, left) ≡ unsigned_at bytes → (Err e, left) ≡ abbreviation_at code bytes
-unfolding abbreviation_at declaration_at
-search_fault code bytes e left is =
-    let one : declaration_at bytes ≡ (Err e, left) = rw (← is) refl in
-    sym (ap answer (until_refused (ends_search code) declaration_production declaration_at reads_declaration declaration_takes bytes e left one))
+module _ (code : ℕ) (bytes left : List ℕ) where
+  pub search_refused : (e : Error) → (Err e, left) ≡ declaration_at bytes → abbreviation_at code bytes ≡ (Err e, left)
+  unfolding abbreviation_at
+  search_refused e is =
+      ap answer (until_refused (ends_search code) declaration_production declaration_at reads_declaration declaration_takes bytes e left (sym is))
 
-pub search_ends : (code : ℕ) (bytes : List ℕ) (n : ℕ) (left : List ℕ) → (Ok n, left) ≡ unsigned_at bytes → n ≡ 0 → (Ok None, left) ≡ abbreviation_at code bytes
-unfolding abbreviation_at declaration_at
-search_ends code bytes n left is none =
-    let one : declaration_at bytes ≡ (Ok (0, []), left) = rw (← is, none) refl in
-    sym (ap answer (until_last (ends_search code) declaration_production declaration_at reads_declaration declaration_takes bytes (0, []) left one refl))
-
-module _ (code : ℕ) (bytes : List ℕ) (n : ℕ) (second : List ℕ) (first : (Ok n, second) ≡ unsigned_at bytes) (some : n ≢ 0) where
-  pub search_fault_inside : (e : Error) (left : List ℕ) → (Err e, left) ≡ declared_at second → (Err e, left) ≡ abbreviation_at code bytes
-  unfolding abbreviation_at declaration_at
-  search_fault_inside e left is =
-      let one : declaration_at bytes ≡ (Err e, left) = rw (← first, ne_eqb n 0 some, ← is) refl in
-      sym (ap answer (until_refused (ends_search code) declaration_production declaration_at reads_declaration declaration_takes bytes e left one))
-
-  module _ (specifications : List Specification) (left : List ℕ) (next : (Ok specifications, left) ≡ declared_at second) where
-    whole : declaration_at bytes ≡ (Ok (n, specifications), left)
-    unfolding declaration_at
-    whole = rw (← first, ne_eqb n 0 some, ← next) refl
-
-    pub search_found : n ≡ code → (Ok (Some specifications), left) ≡ abbreviation_at code bytes
+  module _ (d : Declaration) (read : (Ok d, left) ≡ declaration_at bytes) where
+    pub search_last : ends_search code d ≡ true → abbreviation_at code bytes ≡ (Ok (if nat_eq d.0 0 then None else Some d.1), left)
     unfolding abbreviation_at
-    search_found same =
-        let test : ends_search code (n, specifications) ≡ true = rw (ne_eqb n 0 some) (eq-eqb n code same) in
-        let found =
-        until_last (ends_search code) declaration_production declaration_at reads_declaration declaration_takes bytes (n, specifications) left whole test in
-        let shown : answer (Ok ([], (n, specifications)), left) ≡ (Ok (Some specifications), left) = rw (ne_eqb n 0 some) refl in
-        sym (ap answer found ∙ shown)
+    search_last is =
+        ap answer (until_last (ends_search code) declaration_production declaration_at reads_declaration declaration_takes bytes d left (sym read) is)
 
-    pub search_more : n ≢ code → abbreviation_at code bytes ≡ abbreviation_at code left
+    pub search_more : ends_search code d ≡ false → abbreviation_at code bytes ≡ abbreviation_at code left
     unfolding abbreviation_at
-    search_more other =
-        let test : ends_search code (n, specifications) ≡ false = rw (ne_eqb n 0 some) (ne_eqb n code other) in
-        let more =
-        until_more (ends_search code) declaration_production declaration_at reads_declaration declaration_takes bytes (n, specifications) left whole test in
-        ap answer more ∙ answer_put (n, specifications) (until_at (ends_search code) declaration_at left)
-
-    pub search_smaller : length left < length bytes
-    search_smaller = shrinks declaration_production declaration_at reads_declaration declaration_takes bytes (n, specifications) left whole
+    search_more is =
+        ap answer (until_more (ends_search code) declaration_production declaration_at reads_declaration declaration_takes bytes d left (sym read) is)
+        ∙ answer_put d (until_at (ends_search code) declaration_at left)

@@ -6,6 +6,7 @@ pub mod FormLaws
 pub mod AbbreviationLaws
 pub mod Specifications
 pub mod Declarations
+pub mod AbbreviationTables
 pub mod AttributeRuns
 pub mod HeaderLaws
 pub mod UnitLaws

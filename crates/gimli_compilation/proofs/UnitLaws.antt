@@ -23,6 +23,7 @@ use Rattle.gimli_compilation.specs.declared.form.Kind.TheVariants.{SectionOffset
 use Rattle.gimli_compilation.specs.declared.form.Value.{Value}
 use Rattle.gimli_compilation.specs.declared.form.Value.TheVariants.{Number, Text, Passed}
 use Rattle.gimli_compilation.specs.declared.refusal.Refusal.{Refusal}
+use Rattle.gimli_compilation.specs.declared.refusal.Refusal.TheVariants.{Bytes}
 use Rattle.gimli_compilation.specs.declared.sections.Compilation.{Compilation}
 use Rattle.gimli_compilation.specs.declared.sections.Outcome.{Outcome}
 use Rattle.gimli_compilation.specs.declared.sections.Outcome.TheVariants.{Found, UnknownUnitType, MissingAbbreviation}
@@ -189,9 +190,11 @@ module _ (sections : Sections) where
   content_done bytes rest left unit outcome frame content =
       rw (← frame) (ap (λ (r : Read (Outcome (List ℕ))). let s : Read (Outcome (List ℕ)) = (r.0, rest) in s) content)
 
-  pub frame_refused : (bytes : List ℕ) (e : Error) (left : List ℕ) → (Err e, left) ≡ frame_at sections.notation bytes → (Err e, left) ≡ unit_at sections bytes
+  pub frame_refused : (offset : ℕ) (bytes : List ℕ) (e : Error) (left : List ℕ) → bytes ≡ drop offset sections.info
+      → (Err e, left) ≡ frame_at sections.notation bytes → HasRefusalAt sections offset (Bytes e)
   unfolding unit_at
-  frame_refused bytes e left is = rw (← is) refl
+  frame_refused offset bytes e left from is =
+      let refused : (unit_at sections bytes).0 ≡ Err e = rw (← is) refl in rw (← from) (reads_unit.fault bytes e refused)
 
   -- a user has what the unit says
   module _ {R : Type 0} (view : Compilation R → Compilation (List ℕ)) (offset : ℕ) (bytes left : List ℕ) (from : bytes ≡ drop offset sections.info) where

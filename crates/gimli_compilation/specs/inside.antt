@@ -5,5 +5,6 @@ pub mod AbbreviationReading
 pub mod AttributesReading
 pub mod HeaderReading
 pub mod UnitReading
+pub mod AbbreviationTable
 pub mod Seen
 pub mod Directories

@@ -1,14 +1,24 @@
 //! Declarations of `.debug_abbrev` (DWARF 5, section 7.5.3).
 
-ghost use Rattle.std.specs.Prelude.{◌≡◌, IfOk, IfSome, option_map};
+ghost use Rattle.std.specs.Prelude.{◌≡◌, ◌≢◌, ℕ, IfOk, IfSome, OnErr, OnOk, Some};
+ghost use Rattle.std.specs.BTreeMap.{get};
+ghost use Rattle.std.specs.Ordering.{nat_cmp};
 ghost use Rattle.gimli_core.specs.Reading.{result_map};
-ghost use Rattle.gimli_compilation.specs.inside.AbbreviationReading.{IsListed, abbreviation_at};
-ghost use Rattle.gimli_compilation.specs.inside.AbbreviationReading.{constant_at, declared_at};
-ghost use Rattle.gimli_compilation.specs.inside.AbbreviationReading.{listed, specification_at};
+ghost use Rattle.gimli_compilation.specs.Directories.{directory_in, first_of};
+ghost use Rattle.gimli_compilation.specs.inside.AbbreviationReading.{IsListed, constant_at};
+ghost use Rattle.gimli_compilation.specs.inside.AbbreviationReading.{declaration_at};
+ghost use Rattle.gimli_compilation.specs.inside.AbbreviationReading.{declared_at, listed};
+ghost use Rattle.gimli_compilation.specs.inside.AbbreviationReading.{specification_at};
 ghost use Rattle.gimli_compilation.specs.inside.AbbreviationReading.{specifications_passed};
+ghost use Rattle.gimli_compilation.specs.inside.Seen.{declaration_seen};
 
 use crate::constants::{self, DwAt};
-use gimli_core::{DwForm, Reader, Result};
+use gimli_core::{DwForm, Reader, ReaderOffset, Result};
+use std::alloc::{AllocError, Global};
+use std::collections::BTreeMap;
+
+/// What comes of a call that fails only where memory is missing.
+pub(crate) type MemoryResult<T> = std::result::Result<T, AllocError>;
 
 /// The name and the form of an attribute.
 #[derive(Clone, Copy)]
@@ -78,24 +88,123 @@ fn parse_declaration<R: Reader>(input: &mut R) -> Result<R>
     Ok(specifications)
 }
 
-/// Finds the declaration of a code in a table. Returns a reader that begins at its specifications,
-/// or None where the table has no such declaration.
-pub(crate) fn find_abbreviation<R: Reader>(input: &mut R, code: u64) -> Result<Option<R>>
-    ensures read { (
-      result_map (option_map (λ part. listed (R.bytes part))) result,
-      R.bytes input.new,
-    )
-        ≡ abbreviation_at code (R.bytes input.old) }
-    ensures listed { IfOk result (λ found. IfSome found (λ part. IsListed (R.bytes part))) }
+/// Takes a declaration: its code, and a reader that begins at its specifications. None where the
+/// table ends.
+#[tactic(auto, unfolding(crate::specs::inside::AbbreviationReading::declaration_at))]
+fn next_declaration<R: Reader>(input: &mut R) -> Result<Option<(u64, R)>>
+    ensures read { (result_map (declaration_seen R.bytes) result, R.bytes input.new)
+        ≡ declaration_at (R.bytes input.old) }
+    ensures declared { IfOk result
+        (λ found. IfSome found (λ pair. (pair.0 ≢ 0) × IsListed (R.bytes pair.1))) }
 {
-    loop {
-        let declared = input.read_uleb128()?;
-        if declared == 0 {
-            return Ok(None);
+    let code = input.read_uleb128()?;
+    if code == 0 {
+        return Ok(None);
+    }
+    let specifications = parse_declaration(input)?;
+    Ok(Some((code, specifications)))
+}
+
+/// Keeps a value where its key has none yet. Nothing is changed where it fails.
+pub(crate) fn keep_first<R: Reader>(
+    map: &mut BTreeMap<u64, R>,
+    key: u64,
+    value: R,
+) -> MemoryResult<()>
+    ensures ok { OnOk result ((k : ℕ) → get nat_cmp map.new k
+        ≡ first_of (get nat_cmp map.old k) (directory_in k (Some (key, value)))) }
+    ensures err { OnErr result (map.new.entries ≡ map.old.entries) }
+{
+    if !map.contains_key(&key) {
+        map.insert(key, value)?;
+    }
+    Ok(())
+}
+
+/// A table of declarations, as far as it was read.
+#[derive(Drop)]
+pub(crate) struct Abbreviations<R> {
+    alloc: Global,
+    /// Where it begins in `.debug_abbrev`.
+    offset: u64,
+    /// Where the specifications of each code begin, in the first declaration that has it.
+    specifications: BTreeMap<u64, R>,
+    /// Where the next declaration begins; None where the table ended, and the refusal where it
+    /// can't be read on.
+    next: Result<Option<R>>,
+}
+
+impl<R: Reader> Abbreviations<R> {
+    ghost use Rattle.std.specs.Prelude.{◌<◌, ◌≡◌, List, ℕ, IfOk, IfSome, OnOk, option_map};
+    ghost use Rattle.gimli_core.specs.Reading.{result_map};
+    ghost use Rattle.gimli_compilation.specs.inside.AbbreviationReading.{IsListed, listed};
+    ghost use Rattle.gimli_compilation.specs.inside.AbbreviationTable.{IsTable, size_left};
+    ghost use Rattle.gimli_compilation.specs.inside.UnitReading.{table_at};
+
+    /// The table at an offset of a section, of which nothing was read.
+    pub(crate) fn new(alloc: Global, section: &R, offset: R::Offset) -> Self
+        ensures table { IsTable R.bytes (R.bytes section.now) result }
+        ensures offset { result.offset ≡ R.Offset.number offset }
+    {
+        let mut input = *section;
+        Abbreviations {
+            alloc,
+            offset: offset.into_u64(),
+            specifications: BTreeMap::new(alloc),
+            next: match input.split(offset) {
+                Ok(_) => Ok(Some(input)),
+                Err(error) => Err(error),
+            },
         }
-        let specifications = parse_declaration(input)?;
-        if declared == code {
-            return Ok(Some(specifications));
+    }
+
+    /// Reads one more declaration, which begins where reading goes on.
+    fn read_on(&mut self, mut input: R) -> MemoryResult<()>
+        requires { self.old.next ≡ Ok (Some input) }
+        ensures table { (section : List ℕ) → IsTable R.bytes section self.old
+            → IsTable R.bytes section self.new }
+        ensures offset { self.new.offset ≡ self.old.offset }
+        ensures smaller { OnOk result
+            (size_left R.bytes self.new.next < size_left R.bytes self.old.next) }
+    {
+        self.next = match next_declaration(&mut input) {
+            Ok(Some((code, specifications))) => {
+                keep_first(&mut self.specifications, code, specifications)?;
+                Ok(Some(input))
+            }
+            Ok(None) => Ok(None),
+            Err(refusal) => Err(refusal),
+        };
+        Ok(())
+    }
+
+    /// Finds the declaration of a code in the table at an offset. Returns a reader that begins at
+    /// its specifications, or None where the table has no such declaration.
+    pub(crate) fn find(
+        &mut self,
+        section: &R,
+        offset: R::Offset,
+        code: u64,
+    ) -> MemoryResult<Result<Option<R>>>
+        requires { IsTable R.bytes (R.bytes section.now) self.old }
+        ensures table { IsTable R.bytes (R.bytes section.now) self.new }
+        ensures found { IfOk result
+            (λ found. result_map (option_map (λ part. listed (R.bytes part))) found
+            ≡ (table_at (R.Offset.number offset) code (R.bytes section.now)).0) }
+        ensures listed { IfOk result (λ found. IfOk found
+            (λ found. IfSome found (λ part. IsListed (R.bytes part)))) }
+    {
+        if offset.into_u64() != self.offset {
+            *self = Self::new(self.alloc, section, offset);
+        }
+        loop {
+            if let Some(specifications) = self.specifications.get(&code) {
+                return Ok(Ok(Some(*specifications)));
+            }
+            let Ok(Some(input)) = self.next else {
+                return Ok(self.next);
+            };
+            self.read_on(input)?;
         }
     }
 }

@@ -8,6 +8,7 @@ ghost use Rattle.gimli_compilation.specs.Directories.{directory_in, first_of};
 ghost use Rattle.gimli_compilation.specs.inside.Directories.{given_by};
 ghost use Rattle.gimli_compilation.specs.Sections.{sections_of};
 
+use crate::abbreviation::keep_first;
 use crate::sections::CompilationSections;
 use crate::units::CompilationUnit;
 use gimli_core::{Error, Reader, Result};
@@ -58,13 +59,7 @@ fn keep<R: Reader>(directories: &mut BTreeMap<u64, R>, given: Option<(u64, R)>) 
     match given {
         None => Ok(()),
         Some((line, directory)) => {
-            if directories.contains_key(&line) {
-                return Ok(());
-            }
-            match directories.insert(line, directory) {
-                Ok(_) => Ok(()),
-                Err(_) => Err(Error::OutOfMemory),
-            }
+            keep_first(directories, line, directory).map_err(|_| Error::OutOfMemory)
         }
     }
 }
@@ -80,8 +75,8 @@ impl<R: Reader> Compilations<R> {
         ensures err { IfErr result (λ e. e ≡ Error.OutOfMemory) }
     {
         let mut directories = BTreeMap::new(alloc);
-        let mut units = sections.units();
-        while let Some(unit) = units.next() {
+        let mut units = sections.units(alloc);
+        while let Some(unit) = units.next()? {
             keep(&mut directories, unit.line_directory())?;
         }
         Ok(Compilations { directories })

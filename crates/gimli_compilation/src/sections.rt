@@ -5,10 +5,11 @@ ghost use Rattle.gimli_core.specs.Notation.{notation_of};
 ghost use Rattle.gimli_core.specs.Numbers.{is_address_size};
 ghost use Rattle.gimli_core.specs.Reading.{result_map};
 ghost use Rattle.gimli_compilation.specs.inside.AbbreviationReading.{IsListed, listed};
-ghost use Rattle.gimli_compilation.specs.inside.UnitReading.{place_of, string_offset_at, table_at};
+ghost use Rattle.gimli_compilation.specs.inside.AbbreviationTable.{IsTable};
+ghost use Rattle.gimli_compilation.specs.inside.UnitReading.{place_of, string_offset_at};
 ghost use Rattle.gimli_compilation.specs.inside.UnitReading.{text_from_at};
 
-use crate::abbreviation::find_abbreviation;
+use crate::abbreviation::{Abbreviations, MemoryResult};
 use crate::attributes::{Attributes, parse_attributes};
 use crate::form::{Kind, Value};
 use crate::header::{UnitHeader, split_unit};
@@ -133,18 +134,6 @@ fn string_offset<R: Reader>(section: &R, format: Format, base: u64, index: u64) 
     input.read_uint(usize::from(size))
 }
 
-/// The specifications of a code in the table of declarations at an offset.
-#[tactic(auto, unfolding(crate::specs::inside::UnitReading::table_at))]
-fn specifications_of<R: Reader>(section: &R, offset: R::Offset, code: u64) -> Result<Option<R>>
-    ensures found { result_map (option_map (λ found. listed (R.bytes found))) result
-        ≡ (table_at (R.Offset.number offset) code (R.bytes section.now)).0 }
-    ensures listed { IfOk result (λ found. IfSome found (λ part. IsListed (R.bytes part))) }
-{
-    let mut input = *section;
-    input.split(offset)?;
-    find_abbreviation(&mut input, code)
-}
-
 impl<R: Reader> CompilationSections<R> {
     ghost use Rattle.gimli_compilation.specs.Sections.{compilation_seen, sections_of};
     ghost use Rattle.gimli_compilation.specs.Unit.{HasCompilationAt, HasRefusalAt};
@@ -159,16 +148,27 @@ impl<R: Reader> CompilationSections<R> {
     /// end leaves no bytes. Refused as the first part that isn't met says: the header, the table of
     /// declarations up to the code of the first entry, the attributes of this, and the texts that
     /// they refer to.
-    pub fn compilation(&self, offset: R::Offset) -> std::result::Result<Compilation<R>, Refusal>
-        ensures compilation { IfOk result (λ compilation.
+    pub(crate) fn compilation(
+        &self,
+        offset: R::Offset,
+        abbreviations: &mut Abbreviations<R>,
+    ) -> MemoryResult<std::result::Result<Compilation<R>, Refusal>>
+        requires { IsTable R.bytes (R.bytes self.now.debug_abbrev) abbreviations.old }
+        ensures table { IsTable R.bytes (R.bytes self.now.debug_abbrev) abbreviations.new }
+        ensures compilation { IfOk result (λ answer. IfOk answer (λ compilation.
             HasCompilationAt (sections_of R.bytes R.big R.Offset.limit self.now)
-            (R.Offset.number offset) (compilation_seen R.bytes compilation)) }
-        ensures refusal { IfErr result
+            (R.Offset.number offset) (compilation_seen R.bytes compilation))) }
+        ensures refusal { IfOk result (λ answer. IfErr answer
             (HasRefusalAt (sections_of R.bytes R.big R.Offset.limit self.now)
-            (R.Offset.number offset)) }
+            (R.Offset.number offset))) }
     {
         let mut input = self.info_at(offset);
-        Outcome::answer(self.parse_unit(&mut input))
+        let (mut unit, format) = match split_unit(&mut input) {
+            Ok(unit) => unit,
+            Err(error) => return Ok(Err(Refusal::Bytes(error))),
+        };
+        let outcome = self.parse_content(&mut unit, format, abbreviations)?;
+        Ok(Outcome::answer(outcome))
     }
 
     /// The bytes of `.debug_info` from an offset on; none where it is past the end.
@@ -184,46 +184,59 @@ impl<R: Reader> CompilationSections<R> {
         input
     }
 
-    /// Takes a unit, and reads its first entry.
-    fn parse_unit(&self, input: &mut R) -> Result<Outcome<R>>
-        requires { R.big input.old ≡ R.big self.now.debug_info }
-        ensures { (result_map (outcome_seen (compilation_seen R.bytes)) result, R.bytes input.new)
-            ≡ unit_at (sections_of R.bytes R.big R.Offset.limit self.now) (R.bytes input.old) }
-    {
-        let (mut unit, format) = split_unit(input)?;
-        self.parse_content(&mut unit, format)
-    }
-
     /// Takes the content of a unit up to its first entry.
     #[tactic(auto, unfolding(crate::specs::inside::UnitReading::content_at))]
-    fn parse_content(&self, unit: &mut R, format: Format) -> Result<Outcome<R>>
-        requires { R.big unit.old ≡ R.big self.now.debug_info }
-        ensures { (result_map (outcome_seen (compilation_seen R.bytes)) result, R.bytes unit.new)
+    fn parse_content(
+        &self,
+        unit: &mut R,
+        format: Format,
+        abbreviations: &mut Abbreviations<R>,
+    ) -> MemoryResult<Result<Outcome<R>>>
+        requires order { R.big unit.old ≡ R.big self.now.debug_info }
+        requires table { IsTable R.bytes (R.bytes self.now.debug_abbrev) abbreviations.old }
+        ensures table { IsTable R.bytes (R.bytes self.now.debug_abbrev) abbreviations.new }
+        ensures read { IfOk result (λ outcome.
+            (result_map (outcome_seen (compilation_seen R.bytes)) outcome, R.bytes unit.new)
             ≡ content_at (sections_of R.bytes R.big R.Offset.limit self.now) format
-            (R.bytes unit.old) }
+            (R.bytes unit.old)) }
     {
-        let header = UnitHeader::parse(unit, format)?;
+        let header = match UnitHeader::parse(unit, format) {
+            Ok(header) => header,
+            Err(error) => return Ok(Err(error)),
+        };
         if !header.unit_type.is_known() {
-            return Ok(Outcome::UnknownUnitType(header.unit_type.0));
+            return Ok(Ok(Outcome::UnknownUnitType(header.unit_type.0)));
         }
-        self.parse_entry(unit, header)
+        self.parse_entry(unit, header, abbreviations)
     }
 
     /// Takes the first entry of a unit.
     #[tactic(auto, unfolding(crate::specs::inside::UnitReading::entry_at))]
-    fn parse_entry(&self, unit: &mut R, header: UnitHeader<R>) -> Result<Outcome<R>>
+    fn parse_entry(
+        &self,
+        unit: &mut R,
+        header: UnitHeader<R>,
+        abbreviations: &mut Abbreviations<R>,
+    ) -> MemoryResult<Result<Outcome<R>>>
         requires order { R.big unit.old ≡ R.big self.now.debug_info }
         requires size { IsTrue (is_address_size header.encoding.address_size) }
-        ensures { (result_map (outcome_seen (compilation_seen R.bytes)) result, R.bytes unit.new)
+        requires table { IsTable R.bytes (R.bytes self.now.debug_abbrev) abbreviations.old }
+        ensures table { IsTable R.bytes (R.bytes self.now.debug_abbrev) abbreviations.new }
+        ensures read { IfOk result (λ outcome.
+            (result_map (outcome_seen (compilation_seen R.bytes)) outcome, R.bytes unit.new)
             ≡ entry_at (sections_of R.bytes R.big R.Offset.limit self.now)
-            (header_seen R.Offset.number header) (R.bytes unit.old) }
+            (header_seen R.Offset.number header) (R.bytes unit.old)) }
     {
-        let code = unit.read_uleb128()?;
-        let found = specifications_of(&self.debug_abbrev, header.abbreviations, code)?;
-        match found {
-            None => Ok(Outcome::MissingAbbreviation(code)),
-            Some(specifications) => self.parse_found(unit, header.encoding, specifications),
-        }
+        let code = match unit.read_uleb128() {
+            Ok(code) => code,
+            Err(error) => return Ok(Err(error)),
+        };
+        let found = abbreviations.find(&self.debug_abbrev, header.abbreviations, code)?;
+        Ok(match found {
+            Ok(Some(specifications)) => self.parse_found(unit, header.encoding, specifications),
+            Ok(None) => Ok(Outcome::MissingAbbreviation(code)),
+            Err(error) => Err(error),
+        })
     }
 
     /// Takes an entry whose specifications are known.

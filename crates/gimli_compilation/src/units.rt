@@ -4,10 +4,12 @@ ghost use Rattle.std.specs.Prelude.{◌≡◌};
 ghost use Rattle.gimli_core.specs.Notation.{notation_of};
 ghost use Rattle.gimli_compilation.specs.inside.HeaderReading.{after_frame, frame_at};
 
+use crate::abbreviation::Abbreviations;
 use crate::header::split_unit;
 use crate::refusal::Refusal;
 use crate::sections::{Compilation, CompilationSections};
-use gimli_core::{Reader, ReaderOffset};
+use gimli_core::{Error, Reader, ReaderOffset, Result};
+use std::alloc::Global;
 use std::marker::Model;
 
 /// Lets the unit in front go; all bytes where they begin with no unit.
@@ -36,6 +38,8 @@ pub struct CompilationUnits<R: Reader> {
     sections: CompilationSections<R>,
     /// Where the next unit begins.
     offset: R::Offset,
+    /// The table of the last unit that was read, for the next one.
+    abbreviations: Abbreviations<R>,
 }
 
 impl<R: Reader> Model for CompilationUnits<R> {
@@ -48,6 +52,10 @@ impl<R: Reader> Model for CompilationUnits<R> {
       sections = sections_of R.bytes R.big R.Offset.limit a.sections;
       offset = R.Offset.number a.offset;
     } };
+
+    ghost use Rattle.gimli_compilation.specs.inside.AbbreviationTable.{IsTable};
+
+    ghost invariant = { λ a. IsTable R.bytes (R.bytes a.sections.debug_abbrev) a.abbreviations };
 }
 
 impl<R: Reader> CompilationSections<R> {
@@ -55,13 +63,15 @@ impl<R: Reader> CompilationSections<R> {
     ghost use Rattle.gimli_compilation.specs.Sections.{sections_of};
 
     /// The units of `.debug_info`, from its start on.
-    pub fn units(&self) -> CompilationUnits<R>
+    pub fn units(&self, alloc: Global) -> CompilationUnits<R>
         ensures sections { result.sections ≡ sections_of R.bytes R.big R.Offset.limit self.now }
         ensures offset { result.offset ≡ 0 }
     {
+        let offset = R::Offset::from_u8(0);
         CompilationUnits {
             sections: *self,
-            offset: R::Offset::from_u8(0),
+            offset,
+            abbreviations: Abbreviations::new(alloc, &self.debug_abbrev, offset),
         }
     }
 }
@@ -74,33 +84,41 @@ impl<R: Reader> CompilationUnits<R> {
 
     /// The next unit; None where no bytes are left. A unit that is refused is given with its
     /// refusal, and the next one begins after it; where its length can't be read or says more bytes
-    /// than there are, it is the last one.
-    pub fn next(&mut self) -> Option<CompilationUnit<R>>
-        ensures end { IfNone result (drop self.old.offset self.old.sections.info ≡ []) }
-        ensures stays { IfNone result (self.new ≡ self.old) }
+    /// than there are, it is the last one. Fails only with `OutOfMemory`; nothing is changed then,
+    /// so that the call can be made again.
+    pub fn next(&mut self) -> Result<Option<CompilationUnit<R>>>
+        ensures end { IfOk result
+            (λ next. IfNone next (drop self.old.offset self.old.sections.info ≡ [])) }
+        ensures stays { IfOk result (λ next. IfNone next (self.new ≡ self.old)) }
         ensures sections { self.new.sections ≡ self.old.sections }
-        ensures offset { IfSome result (λ unit. unit.offset ≡ self.old.offset) }
-        ensures next { IfSome result
-            (λ unit. IsNextOffset self.old.sections self.old.offset self.new.offset) }
-        ensures onward { IfSome result (λ unit. self.old.offset < self.new.offset) }
-        ensures within { IfSome result (λ unit. self.new.offset ≤ length self.old.sections.info) }
-        ensures compilation { IfSome result (λ unit. IfOk unit.compilation (λ compilation.
-            HasCompilationAt self.old.sections unit.offset
-            (compilation_seen R.bytes compilation))) }
-        ensures refusal { IfSome result (λ unit. IfErr unit.compilation
-            (HasRefusalAt self.old.sections unit.offset)) }
+        ensures offset { IfOk result
+            (λ next. IfSome next (λ unit. unit.offset ≡ self.old.offset)) }
+        ensures next { IfOk result (λ next. IfSome next
+            (λ unit. IsNextOffset self.old.sections self.old.offset self.new.offset)) }
+        ensures onward { IfOk result
+            (λ next. IfSome next (λ unit. self.old.offset < self.new.offset)) }
+        ensures within { IfOk result
+            (λ next. IfSome next (λ unit. self.new.offset ≤ length self.old.sections.info)) }
+        ensures compilation { IfOk result (λ next. IfSome next (λ unit.
+            IfOk unit.compilation (λ compilation. HasCompilationAt self.old.sections unit.offset
+            (compilation_seen R.bytes compilation)))) }
+        ensures refusal { IfOk result (λ next. IfSome next (λ unit.
+            IfErr unit.compilation (HasRefusalAt self.old.sections unit.offset))) }
+        ensures err { IfErr result (λ e. (e ≡ Error.OutOfMemory) × (self.new ≡ self.old)) }
     {
         let offset = self.offset;
         let mut rest = self.sections.info_at(offset);
         if rest.is_empty() {
-            return None;
+            return Ok(None);
         }
-        let compilation = self.sections.compilation(offset);
+        let Ok(compilation) = self.sections.compilation(offset, &mut self.abbreviations) else {
+            return Err(Error::OutOfMemory);
+        };
         skip_unit(&mut rest);
         self.offset = rest.offset_from(&self.sections.debug_info);
-        Some(CompilationUnit {
+        Ok(Some(CompilationUnit {
             offset: offset.into_u64(),
             compilation,
-        })
+        }))
     }
 }

@@ -66,7 +66,7 @@ at_end table a (e ∷ entries) below = by_last (slice_get (e ∷ entries) (lengt
 
 -- ---- entries so far
 
-pub none_entered : (t : Texts) (units : List KeptUnit) (table : Table) → AreSources t units table → Entered t units table [] (Some 0)
+pub none_entered : (t : Texts) (units : List KeptUnit) {limit : ℕ} (table : Table) → AreSources t units limit table → Entered t units limit table [] (Some 0)
 none_entered t units table are = record {
   are = are;
   inside = λ k e there. absurd cc;
@@ -86,9 +86,10 @@ same_starts old new (e ∷ entries) each =
     (same_starts old new entries (λ k x there. each (suc k) x there))
 
 -- the table goes on
-pub still_entered : (t : Texts) (units : List KeptUnit) (old new : Table) (entries : List Entry) (from : Option ℕ) → Entered t units old entries from
-    → Keeps old new → AreSources t units new
-    → Entered t units new entries from
+pub still_entered : (t : Texts) (units : List KeptUnit) {limit : ℕ} (old new : Table) (entries : List Entry) (from : Option ℕ)
+    → Entered t units limit old entries from
+    → Keeps old new → AreSources t units limit new
+    → Entered t units limit new entries from
 still_entered t units old new entries from h keeps are = record {
   are = are;
   inside = λ k e there. inside_stays old new e.place keeps (h.inside k e there);
@@ -149,8 +150,8 @@ short_push starts s is other = record {
     at_next k x y (inr last) (inr also) same = absurd (omega (arith, last.0, also.0))
 
 -- an entry that is pushed for a range
-module _ (t : Texts) (units : List KeptUnit) (table : Table) (entries new : List Entry) (range : CoveredRange) (place : Option SourceLine)
-    (h : Entered t units table entries (Some range.start))
+module _ (t : Texts) (units : List KeptUnit) {limit : ℕ} (table : Table) (entries new : List Entry) (range : CoveredRange) (place : Option SourceLine)
+    (h : Entered t units limit table entries (Some range.start))
     (above : IfSome range.end (λ e. range.start < e)) (found : AreFoundIn units range) (inside : IsInside table place)
     (says : place_in table place ≡ found_place t units range.rows) (column : HasColumn place) where
   abbrev entry : Entry
@@ -170,7 +171,7 @@ module _ (t : Texts) (units : List KeptUnit) (table : Table) (entries new : List
       by_last (Some e) is =
           subst (λ (o : Option Entry). IsInside table (option_and_then (λ (e : Entry). e.place) o)) (sym is) (h.inside (length entries - 1) e is)
 
-  appended : (SayTheSame table.sources (last_said entries) place → ⊥) → Entered t units table (entries ++ entry ∷ []) range.end
+  appended : (SayTheSame table.sources (last_said entries) place → ⊥) → Entered t units limit table (entries ++ entry ∷ []) range.end
   appended other = record {
     are = h.are;
     inside = λ k e there. elim (get_pushed entries entry k e there) [
@@ -203,7 +204,7 @@ module _ (t : Texts) (units : List KeptUnit) (table : Table) (entries new : List
       rises i j x y lt (inr last) (inl other) = absurd (omega (arith, last.0, lt, slice_get_within entries j y other))
       rises i j x y lt (inr last) (inr also) = absurd (omega (arith, last.0, also.0, lt))
 
-  same_said : place_in table (last_said entries) ≡ place_in table place → Entered t units table entries range.end
+  same_said : place_in table (last_said entries) ≡ place_in table place → Entered t units limit table entries range.end
   same_said same = record {
     are = h.are;
     inside = h.inside;
@@ -217,10 +218,10 @@ module _ (t : Texts) (units : List KeptUnit) (table : Table) (entries new : List
     ];
   }
 
-  pub pushed : IsPushed table.sources entries new entry → Entered t units table new range.end
-  pushed (inl is) = subst (λ (es : List Entry). Entered t units table es range.end) (sym is.0) (appended is.1)
+  pub pushed : IsPushed table.sources entries new entry → Entered t units limit table new range.end
+  pushed (inl is) = subst (λ (es : List Entry). Entered t units limit table es range.end) (sym is.0) (appended is.1)
   pushed (inr is) =
-      subst (λ (es : List Entry). Entered t units table es range.end) (sym is.0) (same_said (same_places table (last_said entries) place is.1))
+      subst (λ (es : List Entry). Entered t units limit table es range.end) (sym is.0) (same_said (same_places table (last_said entries) place is.1))
 
 -- what is found in a range stands in a sequence
 pub rows_found : (units : List KeptUnit) (range : CoveredRange) → IfSome range.end (λ e. range.start < e) → AreFoundIn units range

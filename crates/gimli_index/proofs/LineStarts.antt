@@ -1,5 +1,5 @@
 -- The addresses of a line by starts, one start after the other.
-use Rattle.std.proofs.Common.{◌≡◌, ◌∙◌, ℕ, suc, ◌+◌, ◌-◌, ◌<◌, Bool, true, false, not, nat_eq, nat_lt, List, [], ◌∷◌, ◌++◌, length, Option, None, Some, refl}
+use Rattle.std.proofs.Common.{◌≡◌, ◌∙◌, ℕ, suc, ◌+◌, ◌-◌, Bool, true, false, not, nat_eq, nat_lt, List, [], ◌∷◌, ◌++◌, length, Option, None, Some, refl}
 use Rattle.std.proofs.Common.{cond, sym, ap, arith, append_assoc, if◌then◌else◌}
 use Rattle.std.specs.Prelude.{flat_map, map, slice_get, sum_by, ◌&&◌, ◌==◌}
 use Rattle.std.specs.Option.{option_and_then}
@@ -9,10 +9,10 @@ use Rattle.gimli_line.specs.declared.run.row.LineRow.{LineRow}
 use Rattle.gimli_lookup.specs.Section.{KeptUnit, ListedUnit}
 use Rattle.gimli_lookup.specs.Statements.{addresses_in, is_of_line}
 use Rattle.gimli_lookup.proofs.StatementRuns.{addresses_on, at_end, of_first, of_given, of_no_statement, of_none}
-use Rattle.gimli_index.specs.Found.{EndsLast, Texts, lookup_addresses, names_file, row_of_file, row_place, unit_path}
-use Rattle.gimli_index.specs.Lines.{addresses_of, file_number, is_named, row_of, rows_of, start_row}
+use Rattle.gimli_index.specs.Found.{EndsLast, Texts, lookup_addresses, names_file, row_of_file, unit_path}
+use Rattle.gimli_index.specs.Lines.{addresses_of, is_named, row_of, rows_of, start_row}
 use Rattle.gimli_index.specs.Meaning.{Place, Start}
-use Rattle.gimli_index.specs.inside.Turns.{UnitRows, end_start, row_start, rows_in, rows_of_units, starts_of_rows, starts_of_turn}
+use Rattle.gimli_index.specs.inside.Turns.{UnitRows, end_start, row_start, rows_of_units, starts_of_rows, starts_of_turn}
 
 -- ---- a start that says what the one before it says
 

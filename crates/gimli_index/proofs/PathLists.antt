@@ -1,8 +1,8 @@
 -- Paths, each once, and their bytes.
-use Rattle.std.proofs.Common.{◌≡◌, ◌≢◌, ◌⊎◌, ◌∙◌, ℕ, suc, zero, ◌+◌, ◌^◌, ◌<◌, List, [], ◌∷◌, ◌++◌, length, get_or, take, Some, Ok}
+use Rattle.std.proofs.Common.{◌≡◌, ◌≢◌, ◌⊎◌, ◌∙◌, ℕ, suc, zero, ◌+◌, ◌^◌, ◌<◌, ◌≤◌, List, [], ◌∷◌, ◌++◌, length, get_or, take, Some, Ok}
 use Rattle.std.proofs.Common.{refl, sym, ap, subst, inl, inr}
 use Rattle.std.proofs.Common.{arith, append_assoc, append-nil, length-append}
-use Rattle.std.specs.Prelude.{slice_get, All, AllPairs}
+use Rattle.std.specs.Prelude.{min, slice_get, All, AllPairs}
 use Rattle.std.proofs.lemmas.Bool.{cases_order}
 use Rattle.std.proofs.lemmas.List.{take-append-le, take_all}
 use Rattle.std.proofs.lemmas.List.Quantifiers.{all_pairs_push}
@@ -13,9 +13,10 @@ use Rattle.gimli_index.specs.Short.{joined, IsSpanOf}
 use Rattle.gimli_index.specs.inside.Paths.{ArePaths, IsPlaced, PathList, no_paths}
 use Rattle.gimli_index.proofs.Lists.{get_before, get_last, get_pushed, path_appended, path_goes_on_at}
 
-pub none_are : ArePaths no_paths
+pub none_are : {limit : ℕ} → ArePaths limit no_paths
 none_are = record {
   bytes = refl;
+  within = omega arith;
   few = omega arith;
   count = refl;
   firsts = λ k first there. absurd cc;
@@ -40,7 +41,8 @@ around (p ∷ known) (suc k) path there =
     )
 
 -- a path that stands there is read, and isn't longer than all of them
-pub span_read : (p : PathList) (first : ℕ) (path : List ℕ) → ArePaths p → IsSpanOf p.known first path → path_in p.bytes first (length path) ≡ Ok path
+pub span_read : {limit : ℕ} (p : PathList) (first : ℕ) (path : List ℕ) → ArePaths limit p → IsSpanOf p.known first path
+    → path_in p.bytes first (length path) ≡ Ok path
 span_read p first path are span =
     let parts = around p.known span.0 path span.1 in
     let before = joined (take span.0 p.known) in
@@ -49,7 +51,7 @@ span_read p first path are span =
     ∙ path_goes_on_at (before ++ path) parts.0 (length before) (length path) (omega (arith, length-append before path))
     ∙ path_appended before path
 
-pub span_short : (p : PathList) (first : ℕ) (path : List ℕ) → ArePaths p → IsSpanOf p.known first path → length path < 2 ^ 32
+pub span_short : {limit : ℕ} (p : PathList) (first : ℕ) (path : List ℕ) → ArePaths limit p → IsSpanOf p.known first path → length path < 2 ^ 32
 span_short p first path are span =
     let parts = around p.known span.0 path span.1 in
     let before = joined (take span.0 p.known) in
@@ -65,14 +67,15 @@ span_stays known more first path span = (
 
 -- ---- a path that comes last
 
-pub placed_last : (old new : PathList) (path : List ℕ) (first : ℕ) → ArePaths old → All (λ x. x ≢ path) old.known → first ≡ length old.bytes
-    → length old.bytes + length path < 2 ^ 32
-    → new.bytes ≡ old.bytes ++ path → new.known ≡ old.known ++ path ∷ [] → new.firsts ≡ old.firsts ++ first ∷ [] → IsPlaced old new path first
+pub placed_last : {limit : ℕ} (old new : PathList) (path : List ℕ) (first : ℕ) → ArePaths limit old → All (λ x. x ≢ path) old.known → first ≡ length old.bytes
+    → length old.bytes + length path ≤ min limit 0xffff_ffff
+    → new.bytes ≡ old.bytes ++ path → new.known ≡ old.known ++ path ∷ [] → new.firsts ≡ old.firsts ++ first ∷ [] → IsPlaced limit old new path first
 placed_last old new path first are absent first_is fits bytes known firsts = record {
   are = record {
     bytes =
         bytes ∙ ap (λ bs. bs ++ path) are.bytes ∙ sym (joined_push old.known path)
         ∙ ap joined (sym known);
+    within = omega (arith, fits, ap (λ (bs : List ℕ). length bs) bytes, length-append old.bytes path);
     few = omega (arith, fits, ap (λ (bs : List ℕ). length bs) bytes, length-append old.bytes path);
     count = omega (
       arith,

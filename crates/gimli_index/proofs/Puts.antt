@@ -1,5 +1,5 @@
 -- Bytes that are appended one element after the other.
-use Rattle.std.proofs.Common.{◌≡◌, ℕ, ◌+◌, List, [], ◌++◌, ap, ◌∙◌, append_assoc}
+use Rattle.std.proofs.Common.{◌≡◌, ℕ, List, ◌++◌, ap, ◌∙◌, append_assoc}
 
 -- more bytes after some
 pub then_put : (old done more mid new : List ℕ) → mid ≡ old ++ done → new ≡ mid ++ more → new ≡ old ++ (done ++ more)

@@ -1,7 +1,7 @@
 -- The sources of an index in the making: they stay as more are added.
-use Rattle.std.proofs.Common.{◌≡◌, ◌≢◌, ◌⊎◌, ℕ, zero, suc, ◌+◌, ◌^◌, ◌<◌, ◌≤◌, Bool, false, List, [], ◌∷◌, ◌++◌, length, Option, None}
+use Rattle.std.proofs.Common.{◌≡◌, ◌≢◌, ◌⊎◌, ℕ, zero, suc, ◌+◌, ◌<◌, ◌≤◌, Bool, false, List, [], ◌∷◌, ◌++◌, length, Option, None}
 use Rattle.std.proofs.Common.{Some, Result, Ok, Err, refl, sym, ap, subst, ◌∙◌, inl, inr, arith, length-append, if◌then◌else◌}
-use Rattle.std.specs.Prelude.{map, slice_get, slice_index_or, nat_eq, All}
+use Rattle.std.specs.Prelude.{map, min, slice_get, slice_index_or, nat_eq, All}
 use Rattle.std.specs.Option.{option_map}
 use Rattle.std.proofs.lemmas.Bool.Decides.{nat_tests}
 use Rattle.std.proofs.lemmas.List.Elements.{All-push}
@@ -86,11 +86,11 @@ source_stays t units old new path key s bytes known of = record {
 }
 
 -- what paths are after a source was kept
-kept_bytes : (old new : PathList) (path : Result (List ℕ) NoPath) (s : Source) → IsKept old new path s → GoesOn old.bytes new.bytes
-kept_bytes old new (Ok path) s kept = kept.1.bytes
-kept_bytes old new (Err (Reason n)) s kept =
+kept_bytes : (limit : ℕ) (old new : PathList) (path : Result (List ℕ) NoPath) (s : Source) → IsKept limit old new path s → GoesOn old.bytes new.bytes
+kept_bytes limit old new (Ok path) s kept = kept.1.bytes
+kept_bytes limit old new (Err (Reason n)) s kept =
     ([], ap (λ (p : PathList). p.bytes) kept.4 ∙ sym (append_none old.bytes))
-kept_bytes old new (Err Outside) s kept = absurd kept
+kept_bytes limit old new (Err Outside) s kept = absurd kept
 
 -- the path of a row's file is that of the file
 same_file : (t : Texts) (u : ListedUnit) (r s : LineRow) → r.file ≡ s.file → unit_path t u r ≡ unit_path t u s
@@ -98,7 +98,8 @@ same_file t u r s same = ap (λ (n : ℕ). unit_path t u (row_of n)) same
 
 -- ---- one more source
 
-module _ (t : Texts) (units : List KeptUnit) (old : Table) (f : CoveringRows) (is_found : AreFound units f) (are : AreSources t units old) where
+module _ (t : Texts) (units : List KeptUnit) {limit : ℕ} (old : Table) (f : CoveringRows) (is_found : AreFound units f)
+    (are : AreSources t units limit old) where
   abbrev key : SourceKey
   key = key_of f
 
@@ -123,7 +124,7 @@ module _ (t : Texts) (units : List KeptUnit) (old : Table) (f : CoveringRows) (i
     path_found path is = (f, is_found, row_place t u.unit f.row, place_is, is)
 
     pub long_paths : (path : List ℕ) → unit_path t u.unit f.row ≡ Ok path → All (λ x. x ≢ path) old.paths.known
-        → 2 ^ 32 ≤ length old.paths.bytes + length path → HasLongPaths t units
+        → min limit 0xffff_ffff < length old.paths.bytes + length path → HasLongPaths t units limit
     long_paths path is absent long = record {
       paths = old.paths.known ++ path ∷ [];
       found = All-push (IsFoundPath t units) old.paths.known path are.found (path_found path is);
@@ -138,8 +139,8 @@ module _ (t : Texts) (units : List KeptUnit) (old : Table) (f : CoveringRows) (i
     }
 
     -- why a path isn't kept
-    pub path_fault : (path : Result (List ℕ) NoPath) (e : MakeError) → path ≡ unit_path t u.unit f.row → IsSourceFault old.paths path e
-        → IsTableFault t units e
+    pub path_fault : (path : Result (List ℕ) NoPath) (e : MakeError) → path ≡ unit_path t u.unit f.row → IsSourceFault limit old.paths path e
+        → IsTableFault t units limit e
     path_fault (Ok path) PathsTooLarge is fault = long_paths path (sym is) fault.0 fault.1
     path_fault (Ok path) OutOfMemory is fault = tt
     path_fault (Ok path) NotAscending is fault = fault
@@ -155,12 +156,12 @@ module _ (t : Texts) (units : List KeptUnit) (old : Table) (f : CoveringRows) (i
       longer = record { keys = old.keys ++ key ∷ []; sources = old.sources ++ s ∷ []; paths = new }
 
       -- the new paths
-      paths_are : (path : Result (List ℕ) NoPath) → IsKept old.paths new path s → ArePaths new
+      paths_are : (path : Result (List ℕ) NoPath) → IsKept limit old.paths new path s → ArePaths limit new
       paths_are (Ok path) kept = kept.1.are
-      paths_are (Err (Reason n)) kept = subst ArePaths (sym kept.4) are.paths
+      paths_are (Err (Reason n)) kept = subst (ArePaths limit) (sym kept.4) are.paths
       paths_are (Err Outside) kept = absurd kept
 
-      paths_found : (path : Result (List ℕ) NoPath) → path ≡ unit_path t u.unit f.row → IsKept old.paths new path s → All (IsFoundPath t units) new.known
+      paths_found : (path : Result (List ℕ) NoPath) → path ≡ unit_path t u.unit f.row → IsKept limit old.paths new path s → All (IsFoundPath t units) new.known
       paths_found (Ok path) is kept = elim kept.1.known [
         | inl same ↦ subst (All (IsFoundPath t units)) (sym same) are.found
         | inr more ↦
@@ -170,14 +171,14 @@ module _ (t : Texts) (units : List KeptUnit) (old : Table) (f : CoveringRows) (i
       paths_found (Err Outside) is kept = absurd kept
 
       -- the source that was there
-      earlier : (path : Result (List ℕ) NoPath) (key' : SourceKey) (s' : Source) → IsKept old.paths new path s → IsSourceOf t units old.paths key' s'
+      earlier : (path : Result (List ℕ) NoPath) (key' : SourceKey) (s' : Source) → IsKept limit old.paths new path s → IsSourceOf t units old.paths key' s'
           → IsSourceOf t units new key' s'
       earlier (Ok path) key' s' kept of = source_stays t units old.paths new path key' s' kept.1.bytes kept.1.known of
       earlier (Err (Reason n)) key' s' kept of = subst (λ (p : PathList). IsSourceOf t units p key' s') (sym kept.4) of
       earlier (Err Outside) key' s' kept of = absurd kept
 
       -- what the path of the new one is
-      reads : (path : Result (List ℕ) NoPath) → IsKept old.paths new path s → source_path new.bytes s ≡ path
+      reads : (path : Result (List ℕ) NoPath) → IsKept limit old.paths new path s → source_path new.bytes s ≡ path
       reads (Ok path) kept =
           ap (λ (n : ℕ). if nat_eq n 0 then path_in new.bytes s.first s.size else Err (Reason n)) kept.0
           ∙ ap (λ (n : ℕ). path_in new.bytes s.first n) kept.2 ∙ span_read new s.first path kept.1.are kept.1.span
@@ -186,18 +187,18 @@ module _ (t : Texts) (units : List KeptUnit) (old : Table) (f : CoveringRows) (i
           ap (λ (b : Bool). if b then path_in new.bytes s.first s.size else Err (Reason s.reason)) other ∙ ap (λ (m : ℕ). Err (Reason m)) kept.0
       reads (Err Outside) kept = absurd kept
 
-      spans : (path : Result (List ℕ) NoPath) → IsKept old.paths new path s → s.reason ≡ 0
+      spans : (path : Result (List ℕ) NoPath) → IsKept limit old.paths new path s → s.reason ≡ 0
           → (path : List ℕ) × IsSpanOf new.known s.first path × (s.size ≡ length path)
       spans (Ok path) kept is = (path, kept.1.span, kept.2)
       spans (Err (Reason n)) kept is = absurd (kept.1 is)
       spans (Err Outside) kept is = absurd kept
 
-      empties : (path : Result (List ℕ) NoPath) → IsKept old.paths new path s → s.reason ≢ 0 → (s.first ≡ 0) × (s.size ≡ 0)
+      empties : (path : Result (List ℕ) NoPath) → IsKept limit old.paths new path s → s.reason ≢ 0 → (s.first ≡ 0) × (s.size ≡ 0)
       empties (Ok path) kept is = absurd (is kept.0)
       empties (Err (Reason n)) kept is = (kept.2, kept.3)
       empties (Err Outside) kept is = absurd kept
 
-      last : (path : Result (List ℕ) NoPath) → path ≡ unit_path t u.unit f.row → s.unit ≡ u.unit.offset → IsKept old.paths new path s
+      last : (path : Result (List ℕ) NoPath) → path ≡ unit_path t u.unit f.row → s.unit ≡ u.unit.offset → IsKept limit old.paths new path s
           → IsSourceOf t units new key s
       last path is offset kept = record {
         unit = u;
@@ -208,8 +209,8 @@ module _ (t : Texts) (units : List KeptUnit) (old : Table) (f : CoveringRows) (i
         empty = empties path kept;
       }
 
-      pub one_more : (path : Result (List ℕ) NoPath) → path ≡ unit_path t u.unit f.row → s.unit ≡ u.unit.offset → IsKept old.paths new path s
-          → All (λ k. k ≢ key) old.keys → length old.sources < 0xffff_ffff → AreSources t units longer
+      pub one_more : (path : Result (List ℕ) NoPath) → path ≡ unit_path t u.unit f.row → s.unit ≡ u.unit.offset → IsKept limit old.paths new path s
+          → All (λ k. k ≢ key) old.keys → length old.sources < 0xffff_ffff → AreSources t units limit longer
       one_more path is offset kept absent few = record {
         count = omega (arith, are.count, length-append old.keys (key ∷ []), length-append old.sources (s ∷ []));
         few = omega (arith, few, length-append old.sources (s ∷ []));
@@ -229,13 +230,13 @@ module _ (t : Texts) (units : List KeptUnit) (old : Table) (f : CoveringRows) (i
               subst (λ (q : SourceKey). IsSourceOf t units new q s') end.1
               (subst (λ (q : Source). IsSourceOf t units new key q) also.1 (last path is offset kept))
 
-      pub more_kept : (path : Result (List ℕ) NoPath) → IsKept old.paths new path s → Keeps old longer
-      more_kept path kept = record { sources = (s ∷ [], refl); paths = kept_bytes old.paths new path s kept }
+      pub more_kept : (path : Result (List ℕ) NoPath) → IsKept limit old.paths new path s → Keeps old longer
+      more_kept path kept = record { sources = (s ∷ [], refl); paths = kept_bytes limit old.paths new path s kept }
 
       pub number_is : slice_get longer.keys (length old.sources) ≡ Some key
       number_is = ap (slice_get (old.keys ++ key ∷ [])) (sym are.count) ∙ get_last old.keys key
 
-pub none_are_sources : (t : Texts) (units : List KeptUnit) → AreSources t units no_table
+pub none_are_sources : (t : Texts) (units : List KeptUnit) {limit : ℕ} → AreSources t units limit no_table
 none_are_sources t units = record {
   count = refl;
   few = omega arith;
@@ -249,9 +250,10 @@ none_are_sources t units = record {
 -- ---- places
 
 -- the place of a line of a known source
-pub place_known : (t : Texts) (units : List KeptUnit) (table : Table) (number : ℕ) (line column : ℕ) (is_stmt : Bool) (key : SourceKey) (u : KeptUnit)
+pub place_known : (t : Texts) (units : List KeptUnit) {limit : ℕ} (table : Table) (number : ℕ) (line column : ℕ) (is_stmt : Bool) (key : SourceKey)
+    (u : KeptUnit)
     (r : LineRow)
-    → AreSources t units table
+    → AreSources t units limit table
     → slice_get table.keys number ≡ Some key → slice_get units key.unit ≡ Some u → r.file ≡ key.file → line ≡ r.line → column ≡ r.column → is_stmt ≡ r.is_stmt
     → place_in table (let l : SourceLine = record { source = number; line = line; column = column; is_stmt = is_stmt } in Some l)
     ≡ Some (let p : Place = record { path = unit_path t u.unit r; line = r.line; column = r.column; is_stmt = r.is_stmt; unit = u.unit.offset } in p)
@@ -274,7 +276,7 @@ place_known t units table number line column is_stmt key u r are there unit file
     stmts
 
 -- a place stays where a table goes on
-pub place_stays : (t : Texts) (units : List KeptUnit) (old new : Table) (place : Option SourceLine) → AreSources t units old → Keeps old new
+pub place_stays : (t : Texts) (units : List KeptUnit) {limit : ℕ} (old new : Table) (place : Option SourceLine) → AreSources t units limit old → Keeps old new
     → IsInside old place → place_in new place ≡ place_in old place
 place_stays t units old new None are keeps inside = refl
 place_stays t units old new (Some l) are keeps inside =
@@ -299,7 +301,8 @@ inside_stays old new (Some l) keeps inside =
 -- ---- two places
 
 -- sources that say the same are the same
-same_source : (t : Texts) (units : List KeptUnit) (paths : PathList) (key key' : SourceKey) (s s' : Source) → ArePaths paths → IsSourceOf t units paths key s
+same_source : (t : Texts) (units : List KeptUnit) {limit : ℕ} (paths : PathList) (key key' : SourceKey) (s s' : Source) → ArePaths limit paths
+    → IsSourceOf t units paths key s
     → IsSourceOf t units paths key' s' → s.unit ≡ s'.unit → source_path paths.bytes s ≡ source_path paths.bytes s' → s ≡ s'
 same_source t units paths key key' s s' are of of' unit path = by_reasons (cases_zero s.reason) (cases_zero s'.reason)
   where
@@ -349,7 +352,7 @@ same_source t units paths key key' s s' are of of' unit path = by_reasons (cases
         from_parts (one.0 ∙ sym other.0) (one.1 ∙ sym other.1) same
 
 -- places that are the same name the same source
-pub say_the_same : (t : Texts) (units : List KeptUnit) (table : Table) (x y : Option SourceLine) → AreSources t units table → IsInside table x
+pub say_the_same : (t : Texts) (units : List KeptUnit) {limit : ℕ} (table : Table) (x y : Option SourceLine) → AreSources t units limit table → IsInside table x
     → IsInside table y
     → place_in table x ≡ place_in table y → SayTheSame table.sources x y
 say_the_same t units table None None are inside also same = tt
@@ -403,9 +406,9 @@ listed_at (v ∷ units) zero d u there = let same : v ≡ u = cc in ap (λ (w : 
 listed_at (v ∷ units) (suc k) d u there = listed_at units k d u there
 
 -- the table after one more source
-module _ (t : Texts) (units : List KeptUnit) (old inside : Table) (f : CoveringRows) (listed : ListedUnit) (new : PathList) (s : Source)
+module _ (t : Texts) (units : List KeptUnit) {limit : ℕ} (old inside : Table) (f : CoveringRows) (listed : ListedUnit) (new : PathList) (s : Source)
     (path : Result (List ℕ) NoPath) (new_keys : List SourceKey) (new_sources : List Source) (is : inside ≡ old) (is_found : AreFound units f)
-    (are : AreSources t units old) (absent : All (λ k. k ≢ key_of f) old.keys) (within : f.unit < length units)
+    (are : AreSources t units limit old) (absent : All (λ k. k ≢ key_of f) old.keys) (within : f.unit < length units)
     (listed_is : listed ≡ slice_index_or (map (λ (v : KeptUnit). v.unit) units) f.unit listed) (path_is : path ≡ unit_path t listed f.row) where
   abbrev known : (u : KeptUnit) × (slice_get units f.unit ≡ Some u)
   known = get_inside units f.unit within
@@ -416,17 +419,17 @@ module _ (t : Texts) (units : List KeptUnit) (old inside : Table) (f : CoveringR
   path_of_unit : path ≡ unit_path t known.0.unit f.row
   path_of_unit = path_is ∙ ap (λ (v : ListedUnit). unit_path t v f.row) unit_is
 
-  inside_are : AreSources t units inside
-  inside_are = subst (AreSources t units) (sym is) are
+  inside_are : AreSources t units limit inside
+  inside_are = subst (AreSources t units limit) (sym is) are
 
   inside_absent : All (λ k. k ≢ key_of f) inside.keys
   inside_absent = subst (λ (o : Table). All (λ k. k ≢ key_of f) o.keys) (sym is) absent
 
   -- why it isn't taken in
-  pub not_added : (e : MakeError) → IsSourceFault inside.paths path e → IsTableFault t units e
+  pub not_added : (e : MakeError) → IsSourceFault limit inside.paths path e → IsTableFault t units limit e
   not_added e fault = path_fault t units inside f is_found inside_are known.0 known.1 path e path_of_unit fault
 
-  module _ (offset : s.unit ≡ listed.offset) (kept : IsKept inside.paths new path s) (few : length inside.sources < 0xffff_ffff)
+  module _ (offset : s.unit ≡ listed.offset) (kept : IsKept limit inside.paths new path s) (few : length inside.sources < 0xffff_ffff)
       (keys_are : new_keys ≡ inside.keys ++ key_of f ∷ []) (sources_are : new_sources ≡ inside.sources ++ s ∷ []) where
     abbrev added : Table
     added = record { keys = new_keys; sources = new_sources; paths = new }
@@ -439,9 +442,9 @@ module _ (t : Texts) (units : List KeptUnit) (old inside : Table) (f : CoveringR
         ap (λ (ks : List SourceKey). let o : Table = record { keys = ks; sources = new_sources; paths = new } in o) keys_are
         ∙ ap (λ (ss : List Source). let o : Table = record { keys = inside.keys ++ key_of f ∷ []; sources = ss; paths = new } in o) sources_are
 
-    pub added_are : AreSources t units added
+    pub added_are : AreSources t units limit added
     added_are =
-        subst (AreSources t units) (sym added_is)
+        subst (AreSources t units limit) (sym added_is)
         (one_more t units inside f is_found inside_are known.0 known.1 new s path path_of_unit (offset ∙ ap (λ (v : ListedUnit). v.offset) unit_is) kept
         inside_absent few)
 

@@ -1,18 +1,18 @@
 -- The entries of all sequences of a lookup say what is found at each address, and where the code of each line begins.
-use Rattle.std.proofs.Common.{◌≡◌, ◌∙◌, ◌⊎◌, ℕ, zero, suc, ◌+◌, ◌^◌, ◌<◌, ◌≤◌, Bool, true, nat_eq, List, [], ◌∷◌, ◌++◌, length, map, Option, Some, None, refl}
+use Rattle.std.proofs.Common.{◌≡◌, ◌∙◌, ◌⊎◌, ℕ, zero, suc, ◌^◌, ◌<◌, ◌≤◌, true, nat_eq, List, [], ◌∷◌, ◌++◌, length, map, Option, Some, None, refl}
 use Rattle.std.proofs.Common.{sym}
-use Rattle.std.proofs.Common.{ap, subst, inl, inr, arith, append-nil}
-use Rattle.std.specs.Prelude.{flat_map, slice_get, slice_index_or, sum_by, All, Any, IfSome}
+use Rattle.std.proofs.Common.{ap, subst, inl, inr, arith}
+use Rattle.std.specs.Prelude.{flat_map, slice_get, slice_index_or, All, IfSome}
 use Rattle.std.specs.List.{count_by, Contains}
 use Rattle.std.specs.Option.{option_map}
 use Rattle.std.specs.List.Sorted.{IsPermutation, IsNonDecreasingBy}
 use Rattle.std.proofs.lemmas.List.{length-map, map-append}
-use Rattle.std.proofs.lemmas.List.Elements.{All-map, Contains-append_left, Contains-append_right}
+use Rattle.std.proofs.lemmas.List.Elements.{Contains-append_left, Contains-append_right}
 use Rattle.std.proofs.lemmas.List.Sorted.{All-permutation, Contains-permutation, IsPermutation-map, sum_by-IsPermutation}
 use Rattle.std.proofs.lemmas.Option.{get_or_from_slice_get, slice_get_within, slice_get-map}
 use Rattle.gimli_line.specs.declared.run.row.LineRow.{LineRow}
-use Rattle.gimli_lookup.specs.Covering.{last_address, range}
-use Rattle.gimli_lookup.specs.FirstPair.{HasNoPair, IsPairAt}
+use Rattle.gimli_lookup.specs.Covering.{range}
+use Rattle.gimli_lookup.specs.FirstPair.{HasNoPair}
 use Rattle.gimli_lookup.specs.Probes.{never_go_below, never_go_down}
 use Rattle.gimli_lookup.specs.Ranges.{IsFoundAt}
 use Rattle.gimli_lookup.specs.Section.{KeptUnit, all_sequences}
@@ -24,7 +24,7 @@ use Rattle.gimli_index.specs.Meaning.{Start, place_at}
 use Rattle.gimli_index.specs.declared.contents.Entry.{Entry}
 use Rattle.gimli_index.specs.declared.turns.Turn.{Turn}
 use Rattle.gimli_index.specs.inside.Table.{Entered, Table, starts_in}
-use Rattle.gimli_index.specs.inside.Turns.{AreTurns, IsTurn, UnitRows, Walked, end_after, key_of, rows_in, rows_of_turns, rows_of_units, starts_of_turn}
+use Rattle.gimli_index.specs.inside.Turns.{AreTurns, IsTurn, UnitRows, Walked, end_after, rows_in, rows_of_turns, rows_of_units, starts_of_turn}
 use Rattle.gimli_index.specs.inside.Turns.{turn_rows}
 use Rattle.gimli_index.proofs.LineStarts.{count_in, given_by, in_sequences, in_units}
 use Rattle.gimli_index.proofs.Lists.{append_none, get_inside, get_seam}
@@ -208,8 +208,8 @@ module _ (t : Texts) (units : List KeptUnit) (turns : List Turn) (are : AreTurns
             some.1 ∙ ap (λ (y : X). Some y) (sym (get_or_from_slice_get xs k some.0 x some.1) ∙ is)
 
     -- so the entries say what is found
-    pub all_entered : (table : Table) (entries : List Entry) (end : ℕ)
-        → Walked t units table entries (flat_map (starts_of_turn t) ordered) end → Entered t units table entries None
+    pub all_entered : {limit : ℕ} (table : Table) (entries : List Entry) (end : ℕ)
+        → Walked t units limit table entries (flat_map (starts_of_turn t) ordered) end → Entered t units limit table entries None
     all_entered table entries end h = record {
       are = h.are;
       inside = h.inside;
@@ -221,8 +221,8 @@ module _ (t : Texts) (units : List KeptUnit) (turns : List Turn) (are : AreTurns
     }
 
   -- and where the code of a line begins
-  pub all_lines : IsNonDecreasingBy (λ (turn : Turn). turn.key) turns → (table : Table) (entries : List Entry) (end : ℕ)
-      → Walked t units table entries (flat_map (starts_of_turn t) ordered) end → SayWhereLinesBegin t units (starts_in table entries)
+  pub all_lines : {limit : ℕ} → IsNonDecreasingBy (λ (turn : Turn). turn.key) turns → (table : Table) (entries : List Entry) (end : ℕ)
+      → Walked t units limit table entries (flat_map (starts_of_turn t) ordered) end → SayWhereLinesBegin t units (starts_in table entries)
   all_lines order table entries end h apart path line a =
       ap (λ (ss : List Start). count_by (nat_eq a) (addresses_of path ss line)) (sym (append_none (starts_in table entries)))
       ∙ ap (count_by (nat_eq a)) (h.agree.lines path line [])

@@ -1,5 +1,5 @@
 -- What the starts of sequences, one after the other, say of an address.
-use Rattle.std.proofs.Common.{◌≡◌, ◌∙◌, ℕ, zero, suc, ◌+◌, ◌<◌, ◌≤◌, Bool, true, false, leb, List, [], ◌∷◌, ◌++◌, length, Option, None, Some, refl, sym}
+use Rattle.std.proofs.Common.{◌≡◌, ◌∙◌, ℕ, zero, suc, ◌+◌, ◌<◌, ◌≤◌, Bool, true, false, leb, List, [], ◌∷◌, ◌++◌, Option, None, Some, refl}
 use Rattle.std.proofs.Common.{ap, subst, inl, inr, arith, if◌then◌else◌, not, nat_lt}
 use Rattle.std.specs.Prelude.{flat_map, fold, nat_le, slice_get, ◌&&◌}
 use Rattle.std.proofs.lemmas.Bool.{and_parts, cases_lt, cond-false, cond-true, le-leb, lt-leb, ltb-false, ltb-true, not-true}

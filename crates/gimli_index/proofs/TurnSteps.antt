@@ -3,7 +3,7 @@ use Rattle.std.proofs.Common.{◌≡◌, ◌∙◌, ℕ, zero, suc, ◌+◌, ◌
 use Rattle.std.proofs.Common.{sym, ap}
 use Rattle.std.proofs.Common.{subst, arith, append_assoc, if◌then◌else◌, ◌&&◌, not, nat_lt}
 use Rattle.std.specs.Prelude.{flat_map, slice_get, slice_index_or, IfSome, OnOk, Result, Ok, Err, ◌^◌}
-use Rattle.std.specs.Option.{option_and_then, option_map}
+use Rattle.std.specs.Option.{option_map}
 use Rattle.std.proofs.lemmas.Bool.{false≢true}
 use Rattle.std.proofs.lemmas.List.{drop_more, map-append}
 use Rattle.std.proofs.lemmas.Option.{get_or_from_slice_get, same_Some, slice_get_within, slice_get-map}
@@ -12,7 +12,6 @@ use Rattle.gimli_lookup.specs.Covering.{last_address, range}
 use Rattle.gimli_lookup.specs.Probes.{never_go_below, never_go_down}
 use Rattle.gimli_lookup.specs.Section.{KeptUnit, ListedUnit}
 use Rattle.gimli_lookup.specs.SequenceRows.{rows_of}
-use Rattle.gimli_lookup.specs.declared.section_lookup.CoveringRows.{CoveringRows}
 use Rattle.gimli_index.specs.Contents.{HasColumn, entry_start}
 use Rattle.gimli_index.specs.Found.{Texts, found_place, row_place}
 use Rattle.gimli_index.specs.Meaning.{Place, Start}
@@ -23,7 +22,7 @@ use Rattle.gimli_index.specs.inside.Table.{Table, AreSources, IsInside, IsPushed
 use Rattle.gimli_index.specs.inside.Turns.{IsTurn, UnitRows, Walked, code_of, end_after, end_start, key_of, row_start, rows_in, rows_of_turns, rows_of_units}
 use Rattle.gimli_index.specs.inside.Turns.{starts_of_rows, starts_of_turn, turn_rows}
 use Rattle.gimli_index.proofs.Lists.{get_inside}
-use Rattle.gimli_index.proofs.TurnPlaces.{after_first, end_is_above, first_from, split_order}
+use Rattle.gimli_index.proofs.TurnPlaces.{after_first, first_from, split_order}
 use Rattle.gimli_index.proofs.WalkedStarts.{still_walked, walked_push}
 
 -- ---- one more of some
@@ -62,14 +61,14 @@ turn_place t units d turn row next is =
     ap (option_map (λ (u : KeptUnit). row_place t u.unit row)) is.there
     ∙ ap (λ (u : KeptUnit). Some (row_place t u.unit row)) (sym (get_or_from_slice_get units turn.unit is.unit d is.there))
 
-pub row_walked : (t : Texts) (units : List KeptUnit) (old new : Table) (entries after : List Entry) (rows : List LineRow) (k : ℕ) (row : LineRow)
+pub row_walked : (t : Texts) (units : List KeptUnit) {limit : ℕ} (old new : Table) (entries after : List Entry) (rows : List LineRow) (k : ℕ) (row : LineRow)
     (u : ListedUnit)
     (said : List Start) (end : ℕ) (place : Option SourceLine) → slice_get rows k ≡ Some row
-    → Walked t units old entries (said ++ map (row_start t u) (take k rows)) (end_after end (take k rows)) → never_go_below end rows ≡ true
-    → Keeps old new → AreSources t units new → IsInside new place → HasColumn place → place_in new place ≡ Some (row_place t u row)
+    → Walked t units limit old entries (said ++ map (row_start t u) (take k rows)) (end_after end (take k rows)) → never_go_below end rows ≡ true
+    → Keeps old new → AreSources t units limit new → IsInside new place → HasColumn place → place_in new place ≡ Some (row_place t u row)
     → IsPushed new.sources entries after (record { address = row.address; place = place })
-    → Walked t units new after (said ++ map (row_start t u) (take (k + 1) rows)) (end_after end (take (k + 1) rows))
-row_walked t units old new entries after rows k row u said end place there walked order keeps are inside column says pushed =
+    → Walked t units limit new after (said ++ map (row_start t u) (take (k + 1) rows)) (end_after end (take (k + 1) rows))
+row_walked t units {limit = limit} old new entries after rows k row u said end place there walked order keeps are inside column says pushed =
     let so_far = said ++ map (row_start t u) (take k rows) in
     let here : Entry = record { address = row.address; place = place } in
     let start_is : entry_start (with_table new) here ≡ row_start t u row =
@@ -81,8 +80,8 @@ row_walked t units old new entries after rows k row u said end place there walke
     ∙ ap (λ (rs : List LineRow). said ++ map (row_start t u) rs) (sym (next_taken rows k row there)) in
     let end_is : row.address ≡ end_after end (take (k + 1) rows) =
     sym (end_joined end (take k rows) (row ∷ [])) ∙ ap (end_after end) (sym (next_taken rows k row there)) in
-    subst (λ (ss : List Start). Walked t units new after ss (end_after end (take (k + 1) rows))) said_is
-    (subst (λ (n : ℕ). Walked t units new after (so_far ++ entry_start (with_table new) here ∷ []) n) end_is
+    subst (λ (ss : List Start). Walked t units limit new after ss (end_after end (take (k + 1) rows))) said_is
+    (subst (λ (n : ℕ). Walked t units limit new after (so_far ++ entry_start (with_table new) here ∷ []) n) end_is
     (walked_push t units new entries after here so_far (end_after end (take k rows))
     (still_walked t units old new entries so_far (end_after end (take k rows)) walked keeps are)
     (next_above end rows k row order there) inside column pushed))
@@ -112,16 +111,16 @@ end_of : (b : ℕ) (r : LineRow) (rows : List LineRow) → last_address r rows �
 end_of b r [] = refl
 end_of b r (next ∷ rows) = end_of r.address next rows
 
-pub turn_walked : (t : Texts) (units : List KeptUnit) (table : Table) (entries after : List Entry) (s : UnitRows) (said : List Start) (end last : ℕ)
+pub turn_walked : (t : Texts) (units : List KeptUnit) {limit : ℕ} (table : Table) (entries after : List Entry) (s : UnitRows) (said : List Start) (end last : ℕ)
     (first : ℕ) → range s.rows ≡ Some (first, last)
-    → Walked t units table entries (said ++ map (row_start t s.unit) (code_of s.rows)) (end_after end (code_of s.rows)) → never_go_below end s.rows ≡ true
+    → Walked t units limit table entries (said ++ map (row_start t s.unit) (code_of s.rows)) (end_after end (code_of s.rows)) → never_go_below end s.rows ≡ true
     → IsPushed table.sources entries after (record { address = last; place = None })
-    → Walked t units table after (said ++ starts_of_turn t s) (end_after end s.rows)
-turn_walked t units table entries after s said end last first is walked order pushed = by_rows s.rows is walked order
+    → Walked t units limit table after (said ++ starts_of_turn t s) (end_after end s.rows)
+turn_walked t units {limit = limit} table entries after s said end last first is walked order pushed = by_rows s.rows is walked order
   where
     by_rows : (rows : List LineRow) → range rows ≡ Some (first, last)
-        → Walked t units table entries (said ++ map (row_start t s.unit) (code_of rows)) (end_after end (code_of rows)) → never_go_below end rows ≡ true
-        → Walked t units table after (said ++ starts_of_rows t s.unit rows) (end_after end rows)
+        → Walked t units limit table entries (said ++ map (row_start t s.unit) (code_of rows)) (end_after end (code_of rows)) → never_go_below end rows ≡ true
+        → Walked t units limit table after (said ++ starts_of_rows t s.unit rows) (end_after end rows)
     by_rows [] is w order = absurd cc
     by_rows (r ∷ rows) is w order =
         let ends = same_Some (r.address, last_address r rows) (first, last) is in
@@ -133,8 +132,8 @@ turn_walked t units table entries after s said end last first is walked order pu
         ∙ ap (λ (n : ℕ). said ++ (code ++ end_start n ∷ [])) (sym last_is)
         ∙ ap (λ (ss : List Start). said ++ ss) (starts_are t s.unit r rows) in
         let end_is : last ≡ end_after end (r ∷ rows) = sym last_is ∙ end_of end r rows in
-        subst (λ (ss : List Start). Walked t units table after ss (end_after end (r ∷ rows))) said_is
-        (subst (λ (n : ℕ). Walked t units table after ((said ++ code) ++ end_start last ∷ []) n) end_is
+        subst (λ (ss : List Start). Walked t units limit table after ss (end_after end (r ∷ rows))) said_is
+        (subst (λ (n : ℕ). Walked t units limit table after ((said ++ code) ++ end_start last ∷ []) n) end_is
         (walked_push t units table entries after here (said ++ code) (end_after end (code_of (r ∷ rows))) w
         (omega (arith, code_below end (r ∷ rows) order, end_is)) tt tt pushed))
 
@@ -173,14 +172,14 @@ module _ (t : Texts) (units : List KeptUnit) (d : KeptUnit) where
       ap (λ (rs : List LineRow). rows_of x.rows ++ rs) (joined_rows xs turn)
       ∙ sym (append_assoc (rows_of x.rows) (rows_of_turns xs) (rows_of turn.rows))
 
-  pub turns_walked : (old new : Table) (entries after : List Entry) (turns : List Turn) (k : ℕ) (turn : Turn) → slice_get turns k ≡ Some turn
+  pub turns_walked : {limit : ℕ} (old new : Table) (entries after : List Entry) (turns : List Turn) (k : ℕ) (turn : Turn) → slice_get turns k ≡ Some turn
       → never_go_down (rows_of_turns turns) ≡ true
-      → Walked t units old entries (flat_map (starts_of_turn t) (map (turn_rows units d) (take k turns))) (end_after 0 (rows_of_turns (take k turns)))
-      → ((said : List Start) (end : ℕ) → Walked t units old entries said end → never_go_below end (rows_of turn.rows) ≡ true
-      → Walked t units new after (said ++ starts_of_turn t (turn_rows units d turn)) (end_after end (rows_of turn.rows)))
-      → Walked t units new after (flat_map (starts_of_turn t) (map (turn_rows units d) (take (k + 1) turns)))
+      → Walked t units limit old entries (flat_map (starts_of_turn t) (map (turn_rows units d) (take k turns))) (end_after 0 (rows_of_turns (take k turns)))
+      → ((said : List Start) (end : ℕ) → Walked t units limit old entries said end → never_go_below end (rows_of turn.rows) ≡ true
+      → Walked t units limit new after (said ++ starts_of_turn t (turn_rows units d turn)) (end_after end (rows_of turn.rows)))
+      → Walked t units limit new after (flat_map (starts_of_turn t) (map (turn_rows units d) (take (k + 1) turns)))
       (end_after 0 (rows_of_turns (take (k + 1) turns)))
-  turns_walked old new entries after turns k turn there down walked step =
+  turns_walked {limit = limit} old new entries after turns k turn there down walked step =
       let so_far = flat_map (starts_of_turn t) (map (turn_rows units d) (take k turns)) in
       let end = end_after 0 (rows_of_turns (take k turns)) in
       let taken = next_taken turns k turn there in
@@ -191,8 +190,8 @@ module _ (t : Texts) (units : List KeptUnit) (d : KeptUnit) where
       sym (end_joined 0 (rows_of_turns (take k turns)) (rows_of turn.rows))
       ∙ ap (end_after 0) (sym (joined_rows (take k turns) turn))
       ∙ ap (λ (ts : List Turn). end_after 0 (rows_of_turns ts)) (sym taken) in
-      subst (λ (ss : List Start). Walked t units new after ss (end_after 0 (rows_of_turns (take (k + 1) turns)))) said_is
-      (subst (λ (n : ℕ). Walked t units new after (so_far ++ starts_of_turn t (turn_rows units d turn)) n) end_is
+      subst (λ (ss : List Start). Walked t units limit new after ss (end_after 0 (rows_of_turns (take (k + 1) turns)))) said_is
+      (subst (λ (n : ℕ). Walked t units limit new after (so_far ++ starts_of_turn t (turn_rows units d turn)) n) end_is
       (step so_far end walked (turn_order 0 turns k turn down there)))
 
 -- ---- the rows without an end

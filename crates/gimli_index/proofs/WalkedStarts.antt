@@ -1,8 +1,8 @@
 -- The entries of sequences in the making agree with the starts of all rows so far.
-use Rattle.std.proofs.Common.{◌≡◌, ◌∙◌, ◌⊎◌, ℕ, ◌+◌, ◌-◌, ◌<◌, ◌≤◌, leb, List, [], ◌∷◌, ◌++◌, length, Option, None, Some, refl, sym, ap, subst}
+use Rattle.std.proofs.Common.{◌≡◌, ◌∙◌, ◌⊎◌, ℕ, ◌-◌, ◌<◌, ◌≤◌, leb, List, [], ◌∷◌, ◌++◌, length, Option, None, Some, refl, sym, ap, subst}
 use Rattle.std.proofs.Common.{inl, inr, arith, append_assoc}
-use Rattle.std.specs.Prelude.{slice_get, fold, nat_le, if◌then◌else◌}
-use Rattle.std.specs.Option.{option_and_then, option_map}
+use Rattle.std.specs.Prelude.{slice_get, nat_le, if◌then◌else◌}
+use Rattle.std.specs.Option.{option_and_then}
 use Rattle.std.proofs.lemmas.Bool.{cases_lt, cond-false, cond-true, le-leb, lt-leb}
 use Rattle.std.proofs.lemmas.List.{map-append}
 use Rattle.std.proofs.lemmas.List.Elements.{All-push}
@@ -15,16 +15,15 @@ use Rattle.gimli_index.specs.Lines.{addresses_of}
 use Rattle.gimli_index.specs.Meaning.{Place, Start, place_at}
 use Rattle.gimli_index.specs.Short.{IsShort}
 use Rattle.gimli_index.specs.declared.contents.Entry.{Entry}
-use Rattle.gimli_index.specs.declared.contents.SourceLine.{SourceLine}
 use Rattle.gimli_index.specs.inside.Table.{Table, AreSources, IsInside, IsPushed, Keeps, SayTheSame, last_said, place_in, starts_in, with_table}
 use Rattle.gimli_index.specs.inside.Turns.{Agree, Walked}
-use Rattle.gimli_index.proofs.Entered.{at_end, at_pushed, last_place_is, same_starts, short_push}
-use Rattle.gimli_index.proofs.LineStarts.{adds_none, last_place}
+use Rattle.gimli_index.proofs.Entered.{at_end, last_place_is, same_starts, short_push}
+use Rattle.gimli_index.proofs.LineStarts.{adds_none}
 use Rattle.gimli_index.proofs.Lists.{get_pushed}
 use Rattle.gimli_index.proofs.Sources.{inside_stays, place_stays, same_places, say_the_same}
 
 -- nothing so far
-pub none_walked : (t : Texts) (units : List KeptUnit) (table : Table) → AreSources t units table → Walked t units table [] [] 0
+pub none_walked : (t : Texts) (units : List KeptUnit) {limit : ℕ} (table : Table) → AreSources t units limit table → Walked t units limit table [] [] 0
 none_walked t units table are = record {
   are = are;
   inside = λ k e there. absurd cc;
@@ -36,8 +35,8 @@ none_walked t units table are = record {
 }
 
 -- the table goes on
-pub still_walked : (t : Texts) (units : List KeptUnit) (old new : Table) (entries : List Entry) (said : List Start) (end : ℕ)
-    → Walked t units old entries said end → Keeps old new → AreSources t units new → Walked t units new entries said end
+pub still_walked : (t : Texts) (units : List KeptUnit) {limit : ℕ} (old new : Table) (entries : List Entry) (said : List Start) (end : ℕ)
+    → Walked t units limit old entries said end → Keeps old new → AreSources t units limit new → Walked t units limit new entries said end
 still_walked t units old new entries said end h keeps are =
     let same : starts_in new entries ≡ starts_in old entries =
     same_starts old new entries (λ k e there. place_stays t units old new e.place h.are keeps (h.inside k e there)) in
@@ -72,8 +71,8 @@ agree_push starts said s h = record {
       ∙ sym (ap (λ (ss : List Start). addresses_of path ss line) (append_assoc said (s ∷ []) more));
 }
 
-module _ (t : Texts) (units : List KeptUnit) (table : Table) (entries new : List Entry) (e : Entry) (said : List Start) (end : ℕ)
-    (h : Walked t units table entries said end)
+module _ (t : Texts) (units : List KeptUnit) {limit : ℕ} (table : Table) (entries new : List Entry) (e : Entry) (said : List Start) (end : ℕ)
+    (h : Walked t units limit table entries said end)
     (above : end ≤ e.address) (inside : IsInside table e.place) (column : HasColumn e.place) where
   abbrev start : Start
   start = entry_start (with_table table) e
@@ -91,7 +90,7 @@ module _ (t : Texts) (units : List KeptUnit) (table : Table) (entries new : List
   longer : starts_in table (entries ++ e ∷ []) ≡ starts_in table entries ++ start ∷ []
   longer = map-append (entry_start (with_table table)) entries (e ∷ [])
 
-  appended : (SayTheSame table.sources (last_said entries) e.place → ⊥) → Walked t units table (entries ++ e ∷ []) (said ++ start ∷ []) e.address
+  appended : (SayTheSame table.sources (last_said entries) e.place → ⊥) → Walked t units limit table (entries ++ e ∷ []) (said ++ start ∷ []) e.address
   appended other = record {
     are = h.are;
     inside = λ k x there. elim (get_pushed entries e k x there) [
@@ -119,7 +118,7 @@ module _ (t : Texts) (units : List KeptUnit) (table : Table) (entries new : List
       rises i j x y lt (inr last) (inl two) = absurd (omega (arith, last.0, lt, slice_get_within entries j y two))
       rises i j x y lt (inr last) (inr also) = absurd (omega (arith, last.0, also.0, lt))
 
-  same_said : place_in table (last_said entries) ≡ place_in table e.place → Walked t units table entries (said ++ start ∷ []) e.address
+  same_said : place_in table (last_said entries) ≡ place_in table e.place → Walked t units limit table entries (said ++ start ∷ []) e.address
   same_said same = record {
     are = h.are;
     inside = h.inside;
@@ -146,8 +145,8 @@ module _ (t : Texts) (units : List KeptUnit) (table : Table) (entries new : List
           at_end table a entries (λ k x there. omega (arith, h.below k x there, above, high)) ∙ same
           ∙ sym (cond-true (leb e.address a) (place_in table e.place) (place_at a said) (le-leb e.address a high))
 
-  pub walked_push : IsPushed table.sources entries new e → Walked t units table new (said ++ start ∷ []) e.address
-  walked_push (inl is) = subst (λ (es : List Entry). Walked t units table es (said ++ start ∷ []) e.address) (sym is.0) (appended is.1)
+  pub walked_push : IsPushed table.sources entries new e → Walked t units limit table new (said ++ start ∷ []) e.address
+  walked_push (inl is) = subst (λ (es : List Entry). Walked t units limit table es (said ++ start ∷ []) e.address) (sym is.0) (appended is.1)
   walked_push (inr is) =
-      subst (λ (es : List Entry). Walked t units table es (said ++ start ∷ []) e.address) (sym is.0)
+      subst (λ (es : List Entry). Walked t units limit table es (said ++ start ∷ []) e.address) (sym is.0)
       (same_said (same_places table (last_said entries) e.place is.1))

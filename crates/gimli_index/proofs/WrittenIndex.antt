@@ -1,5 +1,5 @@
 -- The index that was written of the entries of a lookup.
-use Rattle.std.proofs.Common.{◌≡◌, ◌∙◌, ℕ, List, [], ◌∷◌, ◌++◌, length, drop, map, None, Some, Result, Ok, Err, refl, sym, ap, subst, arith}
+use Rattle.std.proofs.Common.{◌≡◌, ◌≤◌, ◌∙◌, ℕ, List, [], ◌∷◌, ◌++◌, length, drop, map, None, Some, Result, Ok, Err, refl, sym, ap, subst, arith}
 use Rattle.std.specs.Prelude.{All, IfErr, OnOk, slice_get}
 use Rattle.std.specs.Option.{option_map, option_and_then}
 use Rattle.std.proofs.lemmas.List.{length-map}
@@ -43,7 +43,7 @@ index_of given c rest are =
       identity = read.identity ∙ are.identity;
     }
 
-pub index_appended : (given : Given) (old new : List ℕ) → IsAppended given old new → IsIndexAppended given old new
+pub index_appended : (given : Given) {limit : ℕ} (old new : List ℕ) → IsAppended given limit old new → IsIndexAppended given old new
 index_appended given old new appended rest =
     let left : drop (length old) new ≡ index_bytes appended.contents =
     ap (drop (length old)) appended.bytes ∙ drop_front old (index_bytes appended.contents) in
@@ -58,7 +58,7 @@ start_by sources paths e = record {
   place = option_and_then (λ (l : SourceLine). option_map (line_in paths l) (slice_get sources l.source)) e.place;
 }
 
-module _ (given : Given) (table : Table) (entries : List Entry) (c : Contents) (h : Entered given.texts given.units table entries None)
+module _ (given : Given) {limit : ℕ} (table : Table) (entries : List Entry) (c : Contents) (h : Entered given.texts given.units limit table entries None)
     (lines : SayWhereLinesBegin given.texts given.units (starts_in table entries)) (sources : c.sources ≡ table.sources) (entries_are : c.entries ≡ entries)
     (paths : c.paths ≡ table.paths.bytes) where
   same_starts : map (entry_start c) c.entries ≡ starts_in table entries
@@ -102,8 +102,11 @@ module _ (given : Given) (table : Table) (entries : List Entry) (c : Contents) (
     identity = name;
   }
 
+  pub within : length c.paths ≤ limit
+  within = omega (arith, ap (λ (ps : List ℕ). length ps) paths, h.are.paths.within)
+
   -- why the contents aren't written
-  pub contents_fault : (e : MakeError) → c.identity ≡ given.name → IsMakeFault c e → IsIndexFault given e
+  pub contents_fault : (e : MakeError) → c.identity ≡ given.name → IsMakeFault c e → IsIndexFault given limit e
   contents_fault NotAscending name fault = absurd (fault ascends)
   contents_fault TooManyEntries name fault = record {
     starts = map (entry_start c) c.entries;

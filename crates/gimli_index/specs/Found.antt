@@ -180,9 +180,10 @@ pub record AreContentsOf (given : Given) (c : Contents) : Type 0 where
   pub address_size : c.address_size ≡ given.size
   pub identity : c.identity ≡ given.name
 
--- the bytes of such contents were appended
-pub record IsAppended (given : Given) (old new : List ℕ) : Type 0 where
+-- the bytes of such contents were appended, whose paths have no more bytes than a limit
+pub record IsAppended (given : Given) (limit : ℕ) (old new : List ℕ) : Type 0 where
   pub contents : Contents
+  pub within : length contents.paths ≤ limit
   pub bytes : new ≡ old ++ index_bytes contents
   pub are : AreContentsOf given contents
 

@@ -1,8 +1,7 @@
 -- Where the code of a line begins, by the starts of an index: the rule for breakpoints of DWARF 5,
 -- section 6.2.2, with the starts as the rows of one sequence.
-use Rattle.std.specs.Prelude.{◌≡◌, ℕ, Bool, true, false, List, map, drop, nat_eq, if◌then◌else◌}
-use Rattle.std.specs.Prelude.{Option}
-use Rattle.std.specs.Prelude.{Some, None}
+use Rattle.std.specs.Prelude.{◌≡◌, ℕ, Bool, true, false, List, [], ◌∷◌, map, drop, nat_eq}
+use Rattle.std.specs.Prelude.{if◌then◌else◌, Option, Some, None}
 use Rattle.std.specs.Prelude.{flat_map, Result, Ok, Err}
 use Rattle.std.specs.List.{starts_with}
 use Rattle.std.specs.Str.{bytes_eq}
@@ -15,10 +14,16 @@ use Rattle.gimli_index.specs.Views.{index_of}
 use Rattle.gimli_index.specs.declared.addresses.Addresses.{Addresses}
 use Rattle.gimli_index.specs.declared.place.NoPath.{NoPath}
 
+-- components begin with all of others, of which there is one at least
+abbrev pub begins_with : List (List ℕ) → List (List ℕ) → Bool
+begins_with own [] = false
+begins_with own (c ∷ cs) = starts_with bytes_eq own (c ∷ cs)
+
 -- whether a file is named by a path: the last components of its own path are all those of that one.
--- A path from the root is a whole one. A file whose path isn't known has no name
+-- A path from the root is a whole one, and one without a component names no file. A file whose path
+-- isn't known has no name
 abbrev pub is_named : List ℕ → Result (List ℕ) NoPath → Bool
-is_named path (Ok own) = starts_with bytes_eq (components own) (components path)
+is_named path (Ok own) = begins_with (components own) (components path)
 is_named path (Err e) = false
 
 -- the file number of a row: 1 where the path names its file, and else 0

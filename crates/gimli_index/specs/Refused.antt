@@ -1,6 +1,6 @@
 -- Why no index is made of a lookup, memory aside.
-use Rattle.std.specs.Prelude.{◌≡◌, ◌≢◌, ◌≤◌, ◌^◌, ℕ, List, length, Some, Ok, All, AllPairs}
-use Rattle.std.specs.Prelude.{slice_get}
+use Rattle.std.specs.Prelude.{◌≡◌, ◌≢◌, ◌≤◌, ◌<◌, ◌^◌, ℕ, List, length, min, Some, Ok, All}
+use Rattle.std.specs.Prelude.{slice_get, AllPairs}
 use Rattle.gimli_line.specs.declared.run.row.LineRow.{LineRow}
 use Rattle.gimli_lookup.specs.Section.{KeptUnit}
 use Rattle.gimli_lookup.specs.declared.section_lookup.CoveringRows.{CoveringRows}
@@ -46,12 +46,13 @@ pub record HasManyFiles (units : List KeptUnit) : Type 0 where
   pub distinct : AllPairs (λ x y. x ≢ y) files
   pub many : 2 ^ 32 ≤ length files
 
--- there are paths of rows, no two of them the same, of more bytes than 32 bits count
-pub record HasLongPaths (t : Texts) (units : List KeptUnit) : Type 0 where
+-- there are paths of rows, no two of them the same, of more bytes than a limit, or than 32 bits
+-- count
+pub record HasLongPaths (t : Texts) (units : List KeptUnit) (limit : ℕ) : Type 0 where
   pub paths : List (List ℕ)
   pub found : All (IsFoundPath t units) paths
   pub distinct : AllPairs (λ x y. x ≢ y) paths
-  pub long : 2 ^ 32 ≤ length (joined paths)
+  pub long : min limit 0xffff_ffff < length (joined paths)
 
 -- starts that say what is found, and where the code of lines begins, and no two side by side the
 -- same, are more than 32 bits count
@@ -63,15 +64,15 @@ pub record HasManyStarts (t : Texts) (units : List KeptUnit) : Type 0 where
   pub short : IsShort starts
   pub many : 2 ^ 32 ≤ length starts
 
--- why an index isn't made
-abbrev pub IsIndexFault : Given → MakeError → Type 0
-IsIndexFault given LineTooLarge =
+-- why an index isn't made, whose paths may have so many bytes in all
+abbrev pub IsIndexFault : Given → ℕ → MakeError → Type 0
+IsIndexFault given limit LineTooLarge =
     (r : LineRow) × IsFoundRow given.units r × (2 ^ 32 ≤ r.line)
-IsIndexFault given ColumnTooLarge =
+IsIndexFault given limit ColumnTooLarge =
     (r : LineRow) × IsFoundRow given.units r × (2 ^ 31 ≤ r.column)
-IsIndexFault given TooManySources = HasManyFiles given.units
-IsIndexFault given PathsTooLarge = HasLongPaths given.texts given.units
-IsIndexFault given TooManyEntries = HasManyStarts given.texts given.units
-IsIndexFault given IdentityTooLarge = 2 ^ 32 ≤ length given.name
-IsIndexFault given NotAscending = ⊥
-IsIndexFault given OutOfMemory = Unit {0}
+IsIndexFault given limit TooManySources = HasManyFiles given.units
+IsIndexFault given limit PathsTooLarge = HasLongPaths given.texts given.units limit
+IsIndexFault given limit TooManyEntries = HasManyStarts given.texts given.units
+IsIndexFault given limit IdentityTooLarge = 2 ^ 32 ≤ length given.name
+IsIndexFault given limit NotAscending = ⊥
+IsIndexFault given limit OutOfMemory = Unit {0}

@@ -2,6 +2,7 @@
 
 ghost use Rattle.std.specs.Prelude.{◌≡◌, ◌<◌, ◌||◌, ◌∷◌, [], ℕ, Bool, true, false, nat_eq};
 ghost use Rattle.std.specs.Prelude.{◌+◌, drop, IfSome, MatchOption};
+ghost use Rattle.gimli_lookup.specs.Components.{components};
 ghost use Rattle.gimli_lookup.specs.Ranges.{IsBefore};
 ghost use Rattle.gimli_lookup.specs.Statements.{is_of_line};
 ghost use Rattle.gimli_lookup.specs.inside.StatementLines.{
@@ -9,12 +10,14 @@ ghost use Rattle.gimli_lookup.specs.inside.StatementLines.{
   is_statement,
   IsFirstWith,
 };
-ghost use Rattle.gimli_index.specs.Lines.{addresses_of, AreAddressesFrom, is_named, place_row};
+ghost use Rattle.gimli_index.specs.Lines.{addresses_of, AreAddressesFrom, begins_with, is_named};
+ghost use Rattle.gimli_index.specs.Lines.{place_row};
 ghost use Rattle.gimli_index.specs.Lines.{row_of, rows_of};
 ghost use Rattle.gimli_index.specs.Meaning.{start_at, starts_of};
 ghost use Rattle.gimli_index.specs.Lines.{addresses_left, addresses_on};
 ghost use Rattle.gimli_index.specs.Views.{index_of, place_of};
 
+use crate::components::Components;
 use crate::line_index::LineIndex;
 use crate::path_ends::ends_with;
 use crate::place::Place;
@@ -39,12 +42,23 @@ pub struct Addresses<'a, 'p> {
     given: bool,
 }
 
+/// Whether the last components of a path are all those of another, which has one at least.
+fn ends_in(path: &[u8], end: &[u8]) -> bool
+    ensures { result ≡ begins_with (components path.now) (components end.now) }
+{
+    let mut asked = Components::new(end);
+    match asked.next_component() {
+        Some(_) => ends_with(path, end),
+        None => false,
+    }
+}
+
 /// Whether the file of a place is named by a path.
 fn is_named(place: Place<'_>, path: &[u8]) -> bool
     ensures { result ≡ is_named path.now (place_of place.entry).path }
 {
     match place.path {
-        Ok(own) => ends_with(own, path),
+        Ok(own) => ends_in(own, path),
         Err(_) => false,
     }
 }
@@ -153,10 +167,11 @@ impl<'a> LineIndex<'a> {
     /// where no line from it on has any.
     ///
     /// A path names a file where the file's path ends with its components (`stl_map.h`,
-    /// `bits/stl_map.h`); one from the root is a whole one. `/` and backslashes part components,
-    /// and `.`, `..` and doubled separators are resolved by text. Takes no memory, and looks at
-    /// each start once for the line, and once for its addresses. The starts that
-    /// [`write_index`](crate::write_index) makes have the addresses that its lookup has.
+    /// `bits/stl_map.h`); one from the root is a whole one, and one without a component names none.
+    /// `/` and backslashes part components, and `.`, `..` and doubled separators are resolved by
+    /// text. Takes no memory, and looks at each start once for the line, and once for its
+    /// addresses. The starts that [`write_index`](crate::write_index) makes have the addresses that
+    /// its lookup has.
     pub fn addresses_of<'p>(&self, path: &'p [u8], line: u64) -> Option<Addresses<'a, 'p>>
         ensures { AreAddressesFrom
             (addresses_of path.now (starts_of (index_of self.now))) line result }

@@ -1,7 +1,7 @@
 //! What an index is made of.
 
-ghost use Rattle.std.specs.Prelude.{◌≡◌, ◌≤◌, ◌<◌, ◌+◌, ◌^◌, ◌++◌, true, false, flat_map, length};
-ghost use Rattle.std.specs.Prelude.{◌↔◌, All, IfErr, IsTrue, OnOk};
+ghost use Rattle.std.specs.Prelude.{◌≡◌, ◌≢◌, ◌≤◌, ◌<◌, ◌+◌, ◌^◌, ◌++◌, true, false, length};
+ghost use Rattle.std.specs.Prelude.{◌↔◌, flat_map, All, IfErr, IsTrue, OnOk};
 ghost use Rattle.gimli_core.specs.Numbers.{is_address_size};
 ghost use Rattle.gimli_index.specs.Contents.{entry_bytes, header_bytes, index_bytes, le_bytes};
 ghost use Rattle.gimli_index.specs.Contents.{line_bytes, place_bytes, source_bytes, start_bytes};
@@ -10,6 +10,7 @@ ghost use Rattle.gimli_index.specs.Contents.{IsNear, HasColumn, column_word};
 ghost use Rattle.gimli_index.specs.Header.{magic, size_of};
 ghost use Rattle.gimli_index.specs.Made.{base_for, first_address, last_address, size_for};
 ghost use Rattle.gimli_index.specs.Made.{EntriesAscend, IsMakeFault};
+ghost use Rattle.gimli_index.specs.declared.error.MakeError.TheVariants.{OutOfMemory};
 ghost use Rattle.gimli_index.specs.declared.header.StartSize.TheVariants.{Four};
 
 use crate::error::MakeError;
@@ -337,6 +338,7 @@ impl Contents<'_> {
         ensures fits { OnOk result (Fits (contents_of self.now)) }
         ensures ascending { OnOk result (EntriesAscend self.now.entries.now) }
         ensures err { IfErr result (IsMakeFault (contents_of self.now)) }
+        ensures kept { IfErr result (λ e. e ≢ OutOfMemory → out.new.items ≡ out.old.items) }
     {
         self.check_sizes()?;
         if !entries_ascend(self.entries) {

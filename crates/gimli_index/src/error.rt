@@ -58,7 +58,7 @@ pub enum MakeError {
     TooManyEntries,
     /// There are `2^32` sources or more.
     TooManySources,
-    /// The paths have `2^32` bytes or more.
+    /// The paths have more bytes than the limit for them, or `2^32` or more.
     PathsTooLarge,
     /// The identity has `2^32` bytes or more.
     IdentityTooLarge,
@@ -92,7 +92,7 @@ impl fmt::Display for MakeError {
             MakeError::NotAscending => "the entries do not ascend",
             MakeError::TooManyEntries => "there are too many entries for an index",
             MakeError::TooManySources => "there are too many sources for an index",
-            MakeError::PathsTooLarge => "the paths are too large for an index",
+            MakeError::PathsTooLarge => "the paths are larger than an index may have",
             MakeError::IdentityTooLarge => "the identity is too large for an index",
             MakeError::LineTooLarge => "a line is too large for an index",
             MakeError::ColumnTooLarge => "a column is too large for an index",

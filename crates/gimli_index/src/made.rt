@@ -1,7 +1,7 @@
 //! The index of a lookup.
 
-ghost use Rattle.std.specs.Prelude.{◌≡◌, ◌≤◌, ◌++◌, ℕ, List, [], true, false, flat_map, length};
-ghost use Rattle.std.specs.Prelude.{map};
+ghost use Rattle.std.specs.Prelude.{◌≡◌, ◌≢◌, ◌≤◌, ◌++◌, ℕ, List, [], true, false, length};
+ghost use Rattle.std.specs.Prelude.{flat_map, map};
 ghost use Rattle.std.specs.Prelude.{slice_get, take, All, IfErr, IfOk, IsTrue, None, OnOk};
 ghost use Rattle.gimli_core.specs.Numbers.{is_address_size};
 ghost use Rattle.gimli_index.specs.Found.{texts_of, IsAppended, IsIndexAppended};
@@ -88,13 +88,13 @@ fn take_ranges<R: Reader>(
     requires units { ranges.old.units ≡ origin.now.lookup.now }
     requires entered { Entered
         (texts_of R.bytes origin.now.strings.now origin.now.compilations.now)
-        origin.now.lookup.now table.old entries.old.items ranges.old.from }
+        origin.now.lookup.now origin.now.limit table.old entries.old.items ranges.old.from }
     ensures entered { OnOk result (Entered
         (texts_of R.bytes origin.now.strings.now origin.now.compilations.now)
-        origin.now.lookup.now table.new entries.new.items None) }
+        origin.now.lookup.now origin.now.limit table.new entries.new.items None) }
     ensures err { IfErr result (IsTableFault
         (texts_of R.bytes origin.now.strings.now origin.now.compilations.now)
-        origin.now.lookup.now) }
+        origin.now.lookup.now origin.now.limit) }
 {
     'ranges: while let Some(range) = ranges.next_range() {
         let place = table.place_of(origin, range.rows)?;
@@ -132,23 +132,23 @@ fn take_rows<R: Reader>(
     requires turn { IsTurn origin.now.lookup.now turn }
     requires are { AreSources
         (texts_of R.bytes origin.now.strings.now origin.now.compilations.now)
-        origin.now.lookup.now table.old }
+        origin.now.lookup.now origin.now.limit table.old }
     ensures are { OnOk result (AreSources
         (texts_of R.bytes origin.now.strings.now origin.now.compilations.now)
-        origin.now.lookup.now table.new) }
+        origin.now.lookup.now origin.now.limit table.new) }
     ensures walked { OnOk result ((d : KeptUnit) (said : List Start) (end : ℕ) → Walked
         (texts_of R.bytes origin.now.strings.now origin.now.compilations.now)
-        origin.now.lookup.now table.old entries.old.items said end
+        origin.now.lookup.now origin.now.limit table.old entries.old.items said end
         → never_go_below end (rows_of turn.entry.rows) ≡ true → Walked
         (texts_of R.bytes origin.now.strings.now origin.now.compilations.now)
-        origin.now.lookup.now table.new entries.new.items
+        origin.now.lookup.now origin.now.limit table.new entries.new.items
         (said
         ++ map (row_start (texts_of R.bytes origin.now.strings.now origin.now.compilations.now)
         (turn_rows origin.now.lookup.now d turn.entry).unit) (code_of (rows_of turn.entry.rows)))
         (end_after end (code_of (rows_of turn.entry.rows)))) }
     ensures err { IfErr result (IsTableFault
         (texts_of R.bytes origin.now.strings.now origin.now.compilations.now)
-        origin.now.lookup.now) }
+        origin.now.lookup.now origin.now.limit) }
 {
     for index in 0..count_of_code(turn.rows) {
         let row = turn.rows.row(index);
@@ -177,23 +177,23 @@ fn take_turn<R: Reader>(
     requires turn { IsTurn origin.now.lookup.now turn }
     requires are { AreSources
         (texts_of R.bytes origin.now.strings.now origin.now.compilations.now)
-        origin.now.lookup.now table.old }
+        origin.now.lookup.now origin.now.limit table.old }
     ensures are { OnOk result (AreSources
         (texts_of R.bytes origin.now.strings.now origin.now.compilations.now)
-        origin.now.lookup.now table.new) }
+        origin.now.lookup.now origin.now.limit table.new) }
     ensures walked { OnOk result ((d : KeptUnit) (said : List Start) (end : ℕ) → Walked
         (texts_of R.bytes origin.now.strings.now origin.now.compilations.now)
-        origin.now.lookup.now table.old entries.old.items said end
+        origin.now.lookup.now origin.now.limit table.old entries.old.items said end
         → never_go_below end (rows_of turn.entry.rows) ≡ true → Walked
         (texts_of R.bytes origin.now.strings.now origin.now.compilations.now)
-        origin.now.lookup.now table.new entries.new.items
+        origin.now.lookup.now origin.now.limit table.new entries.new.items
         (said
         ++ starts_of_turn (texts_of R.bytes origin.now.strings.now origin.now.compilations.now)
         (turn_rows origin.now.lookup.now d turn.entry))
         (end_after end (rows_of turn.entry.rows))) }
     ensures err { IfErr result (IsTableFault
         (texts_of R.bytes origin.now.strings.now origin.now.compilations.now)
-        origin.now.lookup.now) }
+        origin.now.lookup.now origin.now.limit) }
 {
     let Some((_, last)) = turn.rows.range() else {
         return Ok(());
@@ -216,20 +216,20 @@ fn take_turns<R: Reader>(
     requires turns { All (IsTurn origin.now.lookup.now) turns.now }
     requires are { AreSources
         (texts_of R.bytes origin.now.strings.now origin.now.compilations.now)
-        origin.now.lookup.now table.old }
+        origin.now.lookup.now origin.now.limit table.old }
     ensures walked { OnOk result ((d : KeptUnit) → Walked
         (texts_of R.bytes origin.now.strings.now origin.now.compilations.now)
-        origin.now.lookup.now table.old entries.old.items [] 0
+        origin.now.lookup.now origin.now.limit table.old entries.old.items [] 0
         → never_go_down (rows_of_turns turns.now) ≡ true → Walked
         (texts_of R.bytes origin.now.strings.now origin.now.compilations.now)
-        origin.now.lookup.now table.new entries.new.items
+        origin.now.lookup.now origin.now.limit table.new entries.new.items
         (flat_map
         (starts_of_turn (texts_of R.bytes origin.now.strings.now origin.now.compilations.now))
         (map (turn_rows origin.now.lookup.now d) turns.now))
         (end_after 0 (rows_of_turns turns.now))) }
     ensures err { IfErr result (IsTableFault
         (texts_of R.bytes origin.now.strings.now origin.now.compilations.now)
-        origin.now.lookup.now) }
+        origin.now.lookup.now origin.now.limit) }
 {
     for turn in turns {
         take_turn(origin, *turn, table, entries)?;
@@ -243,16 +243,16 @@ fn entries_of<R: Reader>(
     table: &mut SourceTable,
 ) -> Result<Vec<Entry>, MakeError>
     requires { AreSources (texts_of R.bytes origin.now.strings.now origin.now.compilations.now)
-        origin.now.lookup.now table.old }
+        origin.now.lookup.now origin.now.limit table.old }
     ensures entered { IfOk result (λ entries. Entered
         (texts_of R.bytes origin.now.strings.now origin.now.compilations.now)
-        origin.now.lookup.now table.new entries.items None) }
+        origin.now.lookup.now origin.now.limit table.new entries.items None) }
     ensures lines { IfOk result (λ entries. SayWhereLinesBegin
         (texts_of R.bytes origin.now.strings.now origin.now.compilations.now)
         origin.now.lookup.now (starts_in table.new entries.items)) }
     ensures err { IfErr result (IsTableFault
         (texts_of R.bytes origin.now.strings.now origin.now.compilations.now)
-        origin.now.lookup.now) }
+        origin.now.lookup.now origin.now.limit) }
 {
     let mut entries = Vec::new(origin.alloc);
     let turns = turns_of(origin.alloc, origin.lookup)?;
@@ -276,19 +276,20 @@ fn write_entries<R: Reader>(
     requires size { IsTrue (is_address_size address_size) }
     requires sources { AreSources
         (texts_of R.bytes origin.now.strings.now origin.now.compilations.now)
-        origin.now.lookup.now table.old }
+        origin.now.lookup.now origin.now.limit table.old }
     ensures bytes { OnOk result (IsAppended (record {
       texts = texts_of R.bytes origin.now.strings.now origin.now.compilations.now;
       units = origin.now.lookup.now;
       size = address_size;
       name = identity.now;
-    }) out.old.items out.new.items) }
+    }) origin.now.limit out.old.items out.new.items) }
     ensures err { IfErr result (IsIndexFault (record {
       texts = texts_of R.bytes origin.now.strings.now origin.now.compilations.now;
       units = origin.now.lookup.now;
       size = address_size;
       name = identity.now;
-    })) }
+    }) origin.now.limit) }
+    ensures kept { IfErr result (λ e. e ≢ OutOfMemory → out.new.items ≡ out.old.items) }
 {
     let entries = entries_of(origin, table)?;
     Contents {
@@ -313,9 +314,13 @@ fn write_entries<R: Reader>(
 ///
 /// Adjacent starts of one place are one. A path that can't be told is a source with the number of
 /// its reason (`docs/INDEX.md`, "Sources"). Refuses lines, columns, and more entries, sources or
-/// bytes of paths or of the identity than 32 bits count, by name; else it fails only with
-/// `OutOfMemory`. Where it fails, a part of the bytes may be appended. Requires an address size of
-/// 1, 2, 4 or 8 bytes.
+/// bytes of paths or of the identity than 32 bits count, by name, and appends nothing then; else it
+/// fails only with `OutOfMemory`, where a part of the bytes may be appended. Requires an address
+/// size of 1, 2, 4 or 8 bytes.
+///
+/// `limit` is the most bytes that all paths may have, of which each counts once: more are refused
+/// (`PathsTooLarge`) before there is memory for them. A directory stands in the path of each of its
+/// files, so the paths of a small section may be long. `usize::MAX` leaves the limit of 32 bits.
 pub fn write_index<R: Reader>(
     alloc: Global,
     lookup: &SectionLookup<R>,
@@ -323,6 +328,7 @@ pub fn write_index<R: Reader>(
     compilations: &Compilations<R>,
     address_size: u16,
     identity: &[u8],
+    limit: usize,
     out: &mut Vec<u8>,
 ) -> Result<(), MakeError>
     requires { IsTrue (is_address_size address_size) }
@@ -331,7 +337,7 @@ pub fn write_index<R: Reader>(
       units = lookup.now;
       size = address_size;
       name = identity.now;
-    }) out.old.items out.new.items) }
+    }) limit out.old.items out.new.items) }
     ensures index { OnOk result (IsIndexAppended (record {
       texts = texts_of R.bytes strings.now compilations.now;
       units = lookup.now;
@@ -343,13 +349,15 @@ pub fn write_index<R: Reader>(
       units = lookup.now;
       size = address_size;
       name = identity.now;
-    })) }
+    }) limit) }
+    ensures kept { IfErr result (λ e. e ≢ OutOfMemory → out.new.items ≡ out.old.items) }
 {
     let origin = Origin {
         alloc,
         lookup,
         strings,
         compilations,
+        limit,
     };
     let mut table = SourceTable::new(alloc, lookup)?;
     write_entries(&origin, &mut table, address_size, identity, out)

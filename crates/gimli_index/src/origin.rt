@@ -25,6 +25,8 @@ pub(crate) struct Origin<'a, R: Reader> {
     pub(crate) lookup: &'a SectionLookup<R>,
     pub(crate) strings: &'a StringSections<R>,
     pub(crate) compilations: &'a Compilations<R>,
+    /// The most bytes that all paths may have.
+    pub(crate) limit: usize,
 }
 
 /// The number of the reason why a path can't be told; None where memory is missing.

@@ -1,6 +1,7 @@
 //! The bytes of the paths of an index in the making: each path once.
 
 ghost use Rattle.std.specs.Prelude.{◌≡◌, ◌≢◌, All, IfErr, IfOk};
+ghost use Rattle.gimli_index.specs.declared.error.MakeError.TheVariants.{PathsTooLarge};
 ghost use Rattle.gimli_index.specs.inside.Paths.{ArePaths, IsKept, IsPathFault, IsPlaced};
 ghost use Rattle.gimli_index.specs.inside.Paths.{IsSourceFault, made_path, no_paths};
 
@@ -51,15 +52,17 @@ impl PathBytes {
         self.bytes.as_slice()
     }
 
-    /// Appends a path that isn't known, and returns where it begins.
-    fn add(&mut self, alloc: Global, path: &[u8]) -> Result<u32, MakeError>
-        requires are { ArePaths self.old }
+    /// Appends a path that isn't known, and returns where it begins. The limit is the most bytes of
+    /// all paths.
+    fn add(&mut self, alloc: Global, limit: usize, path: &[u8]) -> Result<u32, MakeError>
+        requires are { ArePaths limit self.old }
         requires absent { All (λ p. p ≢ path.now) self.old.known }
-        ensures placed { IfOk result (IsPlaced self.old self.new path.now) }
-        ensures err { IfErr result (IsPathFault self.old path.now) }
+        ensures placed { IfOk result (IsPlaced limit self.old self.new path.now) }
+        ensures err { IfErr result (IsPathFault limit self.old path.now) }
+        ensures kept { IfErr result (λ e. e ≡ PathsTooLarge → self.new ≡ self.old) }
     {
         let first = self.bytes.len();
-        if MOST - first < path.len() {
+        if limit.min(MOST) - first < path.len() {
             return Err(MakeError::PathsTooLarge);
         }
         self.bytes.extend_from_slice(path)?;
@@ -69,14 +72,14 @@ impl PathBytes {
     }
 
     /// Where a path begins: it is appended where it isn't known.
-    pub(crate) fn place(&mut self, alloc: Global, path: &[u8]) -> Result<u32, MakeError>
-        requires are { ArePaths self.old }
-        ensures placed { IfOk result (IsPlaced self.old self.new path.now) }
-        ensures err { IfErr result (IsPathFault self.old path.now) }
+    fn place(&mut self, alloc: Global, limit: usize, path: &[u8]) -> Result<u32, MakeError>
+        requires are { ArePaths limit self.old }
+        ensures placed { IfOk result (IsPlaced limit self.old self.new path.now) }
+        ensures err { IfErr result (IsPathFault limit self.old path.now) }
     {
         match self.paths.find(path) {
             Some(index) => Ok(self.firsts[index]),
-            None => self.add(alloc, path),
+            None => self.add(alloc, limit, path),
         }
     }
 
@@ -85,18 +88,19 @@ impl PathBytes {
     pub(crate) fn source(
         &mut self,
         alloc: Global,
+        limit: usize,
         unit: u64,
         path: Result<Vec<u8>, u32>,
     ) -> Result<Source, MakeError>
-        requires are { ArePaths self.old }
+        requires are { ArePaths limit self.old }
         requires reason { IfErr path (λ reason. reason ≢ 0) }
         ensures unit { IfOk result (λ source. source.unit ≡ unit) }
-        ensures kept { IfOk result (IsKept self.old self.new (made_path path)) }
-        ensures err { IfErr result (IsSourceFault self.old (made_path path)) }
+        ensures kept { IfOk result (IsKept limit self.old self.new (made_path path)) }
+        ensures err { IfErr result (IsSourceFault limit self.old (made_path path)) }
     {
         match path {
             Ok(path) => {
-                let first = self.place(alloc, path.as_slice())?;
+                let first = self.place(alloc, limit, path.as_slice())?;
                 Ok(Source {
                     unit,
                     first,

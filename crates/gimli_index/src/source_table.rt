@@ -155,16 +155,16 @@ impl SourceTable {
         requires absent { All (λ k. k ≢ key_of rows.now) self.old.keys }
         requires are { AreSources
             (texts_of R.bytes origin.now.strings.now origin.now.compilations.now)
-            origin.now.lookup.now self.old }
+            origin.now.lookup.now origin.now.limit self.old }
         ensures are { OnOk result (AreSources
             (texts_of R.bytes origin.now.strings.now origin.now.compilations.now)
-            origin.now.lookup.now self.new) }
+            origin.now.lookup.now origin.now.limit self.new) }
         ensures keeps { OnOk result (Keeps self.old self.new) }
         ensures number { IfOk result
             (λ number. slice_get self.new.keys number ≡ Some (key_of rows.now)) }
         ensures err { IfErr result (IsTableFault
             (texts_of R.bytes origin.now.strings.now origin.now.compilations.now)
-            origin.now.lookup.now) }
+            origin.now.lookup.now origin.now.limit) }
     {
         let number = self.sources.len();
         if number >= MOST {
@@ -173,7 +173,7 @@ impl SourceTable {
         let unit = &origin.lookup.units()[rows.unit];
         let path = origin.path_of(unit, &rows.row)?;
         let offset = unit.offset().0.into_u64();
-        let source = self.paths.source(origin.alloc, offset, path)?;
+        let source = self.paths.source(origin.alloc, origin.limit, offset, path)?;
         let key = key_of(rows);
         self.sources.push(source)?;
         self.keys.add(key)?;
@@ -193,16 +193,16 @@ impl SourceTable {
         requires found { AreFound origin.now.lookup.now rows.now }
         requires are { AreSources
             (texts_of R.bytes origin.now.strings.now origin.now.compilations.now)
-            origin.now.lookup.now self.old }
+            origin.now.lookup.now origin.now.limit self.old }
         ensures are { OnOk result (AreSources
             (texts_of R.bytes origin.now.strings.now origin.now.compilations.now)
-            origin.now.lookup.now self.new) }
+            origin.now.lookup.now origin.now.limit self.new) }
         ensures keeps { OnOk result (Keeps self.old self.new) }
         ensures number { IfOk result
             (λ number. slice_get self.new.keys number ≡ Some (key_of rows.now)) }
         ensures err { IfErr result (IsTableFault
             (texts_of R.bytes origin.now.strings.now origin.now.compilations.now)
-            origin.now.lookup.now) }
+            origin.now.lookup.now origin.now.limit) }
     {
         match self.number_of(key_of(rows)) {
             Some(number) => Ok(number),
@@ -221,10 +221,10 @@ impl SourceTable {
         requires found { IfSome found (AreFound origin.now.lookup.now) }
         requires are { AreSources
             (texts_of R.bytes origin.now.strings.now origin.now.compilations.now)
-            origin.now.lookup.now self.old }
+            origin.now.lookup.now origin.now.limit self.old }
         ensures are { OnOk result (AreSources
             (texts_of R.bytes origin.now.strings.now origin.now.compilations.now)
-            origin.now.lookup.now self.new) }
+            origin.now.lookup.now origin.now.limit self.new) }
         ensures keeps { OnOk result (Keeps self.old self.new) }
         ensures inside { IfOk result (IsInside self.new) }
         ensures place { IfOk result (λ place. place_in self.new place ≡ found_place
@@ -233,7 +233,7 @@ impl SourceTable {
         ensures column { IfOk result HasColumn }
         ensures err { IfErr result (IsTableFault
             (texts_of R.bytes origin.now.strings.now origin.now.compilations.now)
-            origin.now.lookup.now) }
+            origin.now.lookup.now origin.now.limit) }
     {
         let Some(rows) = found else {
             return Ok(None);

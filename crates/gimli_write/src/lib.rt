@@ -15,7 +15,7 @@ pub use convert::rows::{ConvertLineRow, ConvertLineSequence, ConvertLineSequence
 pub use convert_error::{ConvertError, ConvertResult};
 pub use gimli_build::{
     BuiltItem, BuiltItems, DirectoryId, FileId, FileInfo, Files, LineProgram, LineRow, LineString,
-    laws,
+    Trap, laws,
 };
 pub use gimli_bytes::{
     Addends, Address, DebugLine, DebugLineStr, DebugStr, EndianVec, Error, InitialLengthOffset,

@@ -4,7 +4,7 @@ ghost use Rattle.std.specs.Prelude.{◌≡◌, IfOk, IfSome};
 ghost use Rattle.lines_answers.specs.MadeIndexes.{IsMade};
 
 use crate::opened_index::identity_of;
-use elf_sections::{Elf, ElfError};
+use elf_sections::{Elf, ElfError, usual_limit};
 use gimli_core::Reader;
 use gimli_index::{MakeError, write_index};
 use lines_inputs::{Input, InputError, NOT_LINKED, PathSources, Program, look_up};
@@ -44,8 +44,9 @@ fn own_build_id<'i>(kind: Kind, files: Files<'i>, build_id: Option<&'i [u8]>) ->
 }
 
 /// The bytes of the index of a program, which is named by the build id where there is one, or else
-/// by the SHA-256 of the line programs. None where there is none, which is reported. A fault of a
-/// unit is reported; what stands before it is in the index all the same.
+/// by the SHA-256 of the line programs. Its paths have at most as many bytes as a compressed
+/// section of the file may have. None where there is none, which is reported. A fault of a unit is
+/// reported; what stands before it is in the index all the same.
 pub fn index_of_program(
     alloc: Global,
     program: &Program<'_>,
@@ -61,14 +62,17 @@ pub fn index_of_program(
     }
     let build_id = own_build_id(kind, files, build_id);
     let identity = identity_of(alloc, build_id, program.lines())?;
-    index_of_input(alloc, &input, &identity, output)
+    let limit = usual_limit(files.file.len() as u64).max(files.limit);
+    index_of_input(alloc, &input, &identity, limit as usize, output)
 }
 
-/// The bytes of the index of what is read. None where there is none, which is reported.
+/// The bytes of the index of what is read, whose paths have at most `limit` bytes. None where there
+/// is none, which is reported.
 fn index_of_input<R: Reader>(
     alloc: Global,
     input: &Input<R>,
     identity: &[u8],
+    limit: usize,
     output: &mut Output<'_>,
 ) -> Result<Option<Vec<u8>>>
     ensures { IfOk result (λ made. IfSome made (λ made.
@@ -81,7 +85,16 @@ fn index_of_input<R: Reader>(
     let strings = sources.strings();
     let compilations = sources.compilations();
     let out = &mut bytes;
-    match write_index(alloc, &lookup, strings, compilations, size, identity, out) {
+    match write_index(
+        alloc,
+        &lookup,
+        strings,
+        compilations,
+        size,
+        identity,
+        limit,
+        out,
+    ) {
         Ok(()) => Ok(Some(bytes)),
         Err(MakeError::OutOfMemory) => Err(AllocError),
         Err(refusal) => {

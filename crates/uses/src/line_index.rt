@@ -35,6 +35,7 @@ fn map_of(alloc: Global, file: &[u8]) -> Result<Vec<u8>> {
         &program.compilations,
         8,
         b"",
+        usize::MAX,
         &mut bytes,
     )?;
     Ok(bytes)

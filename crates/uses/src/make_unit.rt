@@ -64,9 +64,7 @@ fn write_program<W: Writer, T: Writer>(
     texts: &mut DebugLineStr<T>,
     line_strings: &mut LineStringTable,
 ) -> Result<()> {
-    let Some((source, _, _)) = program.files().next() else {
-        return Err(Error::InvalidRange);
-    };
+    let source = program.default_file();
     let header = add_header(program, line_strings)?;
     add_function(program, source, functions[0], [3, 4])?;
     add_function(program, header, functions[1], [8, 9])?;

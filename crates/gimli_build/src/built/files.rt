@@ -3,6 +3,7 @@
 
 ghost use Rattle.std.specs.Prelude.{◌≡◌, ℕ, ◌<◌, List, [], length, map, replicate, option_map};
 ghost use Rattle.std.specs.Prelude.{IfOk, IfErr, OnOk, OnErr, IfSome, Some, None, slice_get};
+ghost use Rattle.std.specs.Prelude.{nat_lt};
 ghost use Rattle.gimli_build.specs.FileNumber.{file_number, initial_file};
 
 use crate::built::line_string::LineString;
@@ -65,6 +66,13 @@ impl FileId {
         ensures { result ≡ initial_file version }
     {
         FileId(if version == 5 { 1 } else { 0 })
+    }
+
+    /// The id of the source file, from version 5 on.
+    pub(crate) fn source() -> FileId
+        ensures { result ≡ 0 }
+    {
+        FileId(0)
     }
 
     /// The file's number in the rows of a program of this version: from 1 on up to version 4, and
@@ -320,6 +328,13 @@ impl FileTable {
         ensures tables { AreTables self.now.directories (keys_of self.now.files) }
     {
         self.files.len()
+    }
+
+    /// Whether there is a file of an id.
+    pub(crate) fn contains(&self, id: FileId) -> bool
+        ensures { result ≡ nat_lt id (length self.now.files) }
+    {
+        id.0 < self.files.len()
     }
 
     /// The path and the directory of the file of an index, and what else is known of it.

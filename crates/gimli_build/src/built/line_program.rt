@@ -207,6 +207,19 @@ impl LineProgram {
         DirectoryId::working()
     }
 
+    /// The id of the source file, 0, from version 5 on; up to version 4 that of the first file that
+    /// is added.
+    pub fn default_file(&self) -> FileId
+        ensures id { result ≡ 0 }
+        ensures there { self.now.is_none ≡ false → 5 ≤ self.now.encoding.version →
+            0 < length self.now.files }
+    {
+        // For the prover alone: what is true of every program is known once a field is read
+        // (`there`).
+        let _items = &self.items;
+        FileId::source()
+    }
+
     /// Appends a directory, and returns its id; one that is there has its old id, and nothing
     /// changes. Requires a program that isn't a placeholder, a text without a zero byte, and up to
     /// version 4 one that isn't empty. Fails only with `OutOfMemory`; then nothing changes either.

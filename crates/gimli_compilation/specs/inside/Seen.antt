@@ -1,8 +1,10 @@
 -- What private calls return, their readers seen by bytes and their offsets by numbers.
-use Rattle.std.specs.Prelude.{ℕ, List}
+use Rattle.std.specs.Prelude.{ℕ, List, [], Option, Some, None}
 use Rattle.gimli_core.specs.declared.common.Format.{Format}
+use Rattle.gimli_compilation.specs.Abbreviation.{Declaration}
 use Rattle.gimli_compilation.specs.Header.{Header}
 use Rattle.gimli_compilation.specs.declared.header.UnitHeader.{UnitHeader}
+use Rattle.gimli_compilation.specs.inside.AbbreviationReading.{listed}
 
 abbrev pub frame_seen : {R : Type 0} → (R → List ℕ) → R × Format → List ℕ × Format
 frame_seen bytes unit = (bytes unit.0, unit.1)
@@ -14,3 +16,7 @@ header_seen number header = record {
   unit_type = header.unit_type.0;
   abbreviations = number header.abbreviations;
 }
+
+abbrev pub declaration_seen : {R : Type 0} → (R → List ℕ) → Option (ℕ × R) → Declaration
+declaration_seen bytes (Some found) = (found.0, listed (bytes found.1))
+declaration_seen bytes None = (0, [])

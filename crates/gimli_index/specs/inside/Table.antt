@@ -50,15 +50,17 @@ pub record IsSourceOf (t : Texts) (units : List KeptUnit) (paths : PathList) (ke
       × (s.size ≡ length path)
   pub empty : s.reason ≢ 0 → (s.first ≡ 0) × (s.size ≡ 0)
 
--- the sources of files that are found, each once, and their paths, each once
-pub record AreSources (t : Texts) (units : List KeptUnit) (table : Table) : Type 0 where
+-- the sources of files that are found, each once, and their paths, each once, with no more bytes
+-- than a limit
+pub record AreSources (t : Texts) (units : List KeptUnit) (limit : ℕ) (table : Table)
+    : Type 0 where
   pub count : length table.keys ≡ length table.sources
   pub few : length table.sources < 2 ^ 32
   pub each : (k : ℕ) (key : SourceKey) (s : Source) → slice_get table.keys k ≡ Some key
       → slice_get table.sources k ≡ Some s → IsSourceOf t units table.paths key s
   pub distinct : AllPairs (λ x y. x ≢ y) table.keys
   pub files : All (IsFoundFile units) table.keys
-  pub paths : ArePaths table.paths
+  pub paths : ArePaths limit table.paths
   pub found : All (IsFoundPath t units) table.paths.known
 
 -- a table keeps what it has
@@ -67,15 +69,15 @@ pub record Keeps (old new : Table) : Type 0 where
   pub paths : GoesOn old.paths.bytes new.paths.bytes
 
 -- why no more of what is found is taken in
-abbrev pub IsTableFault : Texts → List KeptUnit → MakeError → Type 0
-IsTableFault t units LineTooLarge = (r : LineRow) × IsFoundRow units r × (2 ^ 32 ≤ r.line)
-IsTableFault t units ColumnTooLarge = (r : LineRow) × IsFoundRow units r × (2 ^ 31 ≤ r.column)
-IsTableFault t units TooManySources = HasManyFiles units
-IsTableFault t units PathsTooLarge = HasLongPaths t units
-IsTableFault t units OutOfMemory = Unit {0}
-IsTableFault t units TooManyEntries = ⊥
-IsTableFault t units IdentityTooLarge = ⊥
-IsTableFault t units NotAscending = ⊥
+abbrev pub IsTableFault : Texts → List KeptUnit → ℕ → MakeError → Type 0
+IsTableFault t units limit LineTooLarge = (r : LineRow) × IsFoundRow units r × (2 ^ 32 ≤ r.line)
+IsTableFault t units limit ColumnTooLarge = (r : LineRow) × IsFoundRow units r × (2 ^ 31 ≤ r.column)
+IsTableFault t units limit TooManySources = HasManyFiles units
+IsTableFault t units limit PathsTooLarge = HasLongPaths t units limit
+IsTableFault t units limit OutOfMemory = Unit {0}
+IsTableFault t units limit TooManyEntries = ⊥
+IsTableFault t units limit IdentityTooLarge = ⊥
+IsTableFault t units limit NotAscending = ⊥
 
 -- the places of lines by these sources and paths
 abbrev pub with_table : Table → Contents
@@ -120,9 +122,9 @@ IsPushed sources old new entry =
     ⊎ ((new ≡ old) × SayTheSame sources (last_said old) entry.place)
 
 -- entries below an address, or all of them, say what is found at each address so far
-pub record Entered (t : Texts) (units : List KeptUnit) (table : Table) (entries : List Entry)
-    (from : Option ℕ) : Type 0 where
-  pub are : AreSources t units table
+pub record Entered (t : Texts) (units : List KeptUnit) (limit : ℕ) (table : Table)
+    (entries : List Entry) (from : Option ℕ) : Type 0 where
+  pub are : AreSources t units limit table
   pub inside : (k : ℕ) (e : Entry) → slice_get entries k ≡ Some e → IsInside table e.place
   pub below : (k : ℕ) (e : Entry) → slice_get entries k ≡ Some e → IsBefore e.address from
   pub ascending : EntriesAscend entries

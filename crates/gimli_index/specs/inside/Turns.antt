@@ -90,9 +90,9 @@ pub record Agree (starts said : List Start) : Type 0 where
       → addresses_of path (starts ++ more) line ≡ addresses_of path (said ++ more) line
 
 -- entries say what some starts say, up to an address
-pub record Walked (t : Texts) (units : List KeptUnit) (table : Table) (entries : List Entry)
-    (said : List Start) (end : ℕ) : Type 0 where
-  pub are : AreSources t units table
+pub record Walked (t : Texts) (units : List KeptUnit) (limit : ℕ) (table : Table)
+    (entries : List Entry) (said : List Start) (end : ℕ) : Type 0 where
+  pub are : AreSources t units limit table
   pub inside : (k : ℕ) (e : Entry) → slice_get entries k ≡ Some e → IsInside table e.place
   pub below : (k : ℕ) (e : Entry) → slice_get entries k ≡ Some e → e.address ≤ end
   pub ascending : EntriesAscend entries

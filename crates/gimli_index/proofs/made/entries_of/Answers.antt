@@ -1,9 +1,9 @@
-use Rattle.std.proofs.Common.{◌≡◌, ◌∙◌, ℕ, true, false, List, [], ap, map, subst, sym}
+use Rattle.std.proofs.Common.{◌≡◌, ◌∙◌, true, List, [], ap, map, subst, sym}
 use Rattle.std.specs.Prelude.{flat_map}
 use Rattle.std.proofs.lemmas.Bool.{false≢true}
 use Rattle.gimli_lookup.specs.Probes.{never_go_down}
 use Rattle.gimli_lookup.specs.Section.{KeptUnit}
-use Rattle.gimli_index.specs.Found.{Texts, texts_of}
+use Rattle.gimli_index.specs.Found.{texts_of}
 use Rattle.gimli_index.specs.declared.contents.Entry.{Entry}
 use Rattle.gimli_index.specs.declared.turns.Turn.{Turn}
 use Rattle.gimli_index.specs.inside.Turns.{Walked, end_after, rows_of_turns, starts_of_turn, turn_rows}
@@ -21,13 +21,14 @@ pub returns-then-are_in_turn-clause-entered : goal.returns-then-are_in_turn-clau
 returns-then-are_in_turn-clause-entered g c =
     let t = texts_of g.R.Reader.bytes c.args.origin.now.strings.now c.args.origin.now.compilations.now in
     let units : List KeptUnit = c.args.origin.now.lookup.now in
+    let limit = c.args.origin.now.limit in
     let turns : List Turn = c.in_ok-turns.turns.items in
     let down : never_go_down (rows_of_turns turns) ≡ true =
     ap (λ (ts : List Turn). never_go_down (rows_of_turns ts)) (sym c.deref.ensures.value) ∙ sym c.are_in_turn.ensures ∙ c.if-are_in_turn.true in
-    let start = subst (λ (es : List Entry). Walked t units c.args.table.now es [] 0) (sym c.new-entries.ensures.items)
+    let start = subst (λ (es : List Entry). Walked t units limit c.args.table.now es [] 0) (sym c.new-entries.ensures.items)
     (none_walked t units c.args.table.now c.requires) in
     let lent = c.deref-then-are_in_turn.ensures.value in
-    let walked = subst (λ (ts : List Turn). never_go_down (rows_of_turns ts) ≡ true → Walked t units c.take_turns.new.table c.take_turns.new.entries.items
+    let walked = subst (λ (ts : List Turn). never_go_down (rows_of_turns ts) ≡ true → Walked t units limit c.take_turns.new.table c.take_turns.new.entries.items
     (flat_map (starts_of_turn t) (map (turn_rows units some_unit) ts)) (end_after 0 (rows_of_turns ts))) lent
     (c.in_ok-take_turns.ensures.walked some_unit start) in
     all_entered t units turns c.in_ok-turns.ensures.turns down c.take_turns.new.table c.take_turns.new.entries.items (end_after 0 (rows_of_turns turns))
@@ -37,13 +38,14 @@ pub returns-then-are_in_turn-clause-lines : goal.returns-then-are_in_turn-clause
 returns-then-are_in_turn-clause-lines g c =
     let t = texts_of g.R.Reader.bytes c.args.origin.now.strings.now c.args.origin.now.compilations.now in
     let units : List KeptUnit = c.args.origin.now.lookup.now in
+    let limit = c.args.origin.now.limit in
     let turns : List Turn = c.in_ok-turns.turns.items in
     let down : never_go_down (rows_of_turns turns) ≡ true =
     ap (λ (ts : List Turn). never_go_down (rows_of_turns ts)) (sym c.deref.ensures.value) ∙ sym c.are_in_turn.ensures ∙ c.if-are_in_turn.true in
-    let start = subst (λ (es : List Entry). Walked t units c.args.table.now es [] 0) (sym c.new-entries.ensures.items)
+    let start = subst (λ (es : List Entry). Walked t units limit c.args.table.now es [] 0) (sym c.new-entries.ensures.items)
     (none_walked t units c.args.table.now c.requires) in
     let lent = c.deref-then-are_in_turn.ensures.value in
-    let walked = subst (λ (ts : List Turn). never_go_down (rows_of_turns ts) ≡ true → Walked t units c.take_turns.new.table c.take_turns.new.entries.items
+    let walked = subst (λ (ts : List Turn). never_go_down (rows_of_turns ts) ≡ true → Walked t units limit c.take_turns.new.table c.take_turns.new.entries.items
     (flat_map (starts_of_turn t) (map (turn_rows units some_unit) ts)) (end_after 0 (rows_of_turns ts))) lent
     (c.in_ok-take_turns.ensures.walked some_unit start) in
     all_lines t units turns c.in_ok-turns.ensures.turns c.in_ok-turns.ensures.order c.take_turns.new.table c.take_turns.new.entries.items

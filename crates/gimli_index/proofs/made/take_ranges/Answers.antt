@@ -21,14 +21,15 @@ ranges-2-preserved g c =
     let placed = c.in_ok-place.ensures in
     let place = c.in_ok-place.place in
     let entry : Entry = record { address = range.start; place = place } in
-    let so_far : Entered t units old before (Some range.start) =
-    subst (λ (o : Option ℕ). Entered t units old before o) said.start c.ranges-2.invariant.entered in
+    let limit = c.args.origin.now.limit in
+    let so_far : Entered t units limit old before (Some range.start) =
+    subst (λ (o : Option ℕ). Entered t units limit old before o) said.start c.ranges-2.invariant.entered in
     let found : AreFoundIn units range = subst (λ (us : List KeptUnit). AreFoundIn us range) c.ranges-2.invariant.units said.found in
     let is_pushed : IsPushed new.sources before after entry =
     subst (λ (ss : List Source). IsPushed ss before after entry) c.sources.ensures c.in_ok-push.ensures.pushed in
     record {
       units = said.units ∙ c.ranges-2.invariant.units;
-      entered = subst (λ (o : Option ℕ). Entered t units new after o) (sym said.left)
+      entered = subst (λ (o : Option ℕ). Entered t units limit new after o) (sym said.left)
           (pushed t units new before after range place (still_entered t units old new before (Some range.start) so_far placed.keeps placed.are) said.end found
           placed.inside placed.place placed.column is_pushed);
     }

@@ -1,6 +1,5 @@
-use Rattle.std.proofs.Common.{◌≡◌, ◌∙◌, ◌++◌, ℕ, List, Option, Some, ap, arith, map, subst, sym, take}
+use Rattle.std.proofs.Common.{◌≡◌, ◌∙◌, ◌++◌, ℕ, List, ap, arith, map, subst, take}
 use Rattle.gimli_line.specs.declared.run.row.LineRow.{LineRow}
-use Rattle.gimli_lookup.specs.Section.{KeptUnit}
 use Rattle.gimli_lookup.specs.SequenceRows.{rows_of}
 use Rattle.gimli_index.specs.Found.{texts_of}
 use Rattle.gimli_index.specs.declared.contents.Entry.{Entry}
@@ -41,10 +40,11 @@ pub returns-clause-walked : goal.returns-clause-walked
 returns-clause-walked g c =
     let t = texts_of g.R.Reader.bytes c.args.origin.now.strings.now c.args.origin.now.compilations.now in
     let units = c.args.origin.now.lookup.now in
+    let limit = c.args.origin.now.limit in
     let rows = rows_of c.args.turn.rows in
     let all : c.loop-index.index ≡ c.count_of_code-index-end.result = omega arith in
     let code_is : take c.loop-index.index rows ≡ code_of rows = ap (λ (n : ℕ). take n rows) all ∙ c.count_of_code-index-end.ensures.code in
     λ d said end walked order.
     subst (λ (rs : List LineRow).
-    Walked t units c.loop-index.table c.loop-index.entries.items (said ++ map (row_start t (turn_rows units d c.args.turn).unit) rs) (end_after end rs))
+    Walked t units limit c.loop-index.table c.loop-index.entries.items (said ++ map (row_start t (turn_rows units d c.args.turn).unit) rs) (end_after end rs))
     code_is (c.loop-index.invariant.walked d said end walked order)

@@ -12,11 +12,12 @@ abbrev pub invariant-loop-index : goal.invariant-loop-index
 invariant-loop-index g l =
     let t = texts_of g.R.Reader.bytes l.origin.strings.now l.origin.compilations.now in
     let units = l.origin.lookup.now in
+    let limit = l.origin.limit in
     let rows = rows_of l.turn.rows in
     record {
-      are : AreSources t units l.table;
-      walked : (d : KeptUnit) (said : List Start) (end : ℕ) → Walked t units l.initial.table l.initial.entries.items said end
+      are : AreSources t units limit l.table;
+      walked : (d : KeptUnit) (said : List Start) (end : ℕ) → Walked t units limit l.initial.table l.initial.entries.items said end
           → never_go_below end rows ≡ true
-          → Walked t units l.table l.entries.items (said ++ map (row_start t (turn_rows units d l.turn).unit) (take l.index rows))
+          → Walked t units limit l.table l.entries.items (said ++ map (row_start t (turn_rows units d l.turn).unit) (take l.index rows))
           (end_after end (take l.index rows));
     }

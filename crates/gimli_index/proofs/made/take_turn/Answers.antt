@@ -1,10 +1,9 @@
-use Rattle.std.proofs.Common.{◌≡◌, ◌∙◌, ◌++◌, List, None, subst, sym}
-use Rattle.gimli_lookup.specs.SequenceRows.{rows_of}
+use Rattle.std.proofs.Common.{◌∙◌, List, None, subst, sym}
 use Rattle.gimli_index.specs.Found.{texts_of}
 use Rattle.gimli_index.specs.declared.contents.Entry.{Entry}
 use Rattle.gimli_index.specs.declared.contents.Source.{Source}
 use Rattle.gimli_index.specs.inside.Table.{IsPushed}
-use Rattle.gimli_index.specs.inside.Turns.{Walked, end_after, starts_of_turn, turn_rows}
+use Rattle.gimli_index.specs.inside.Turns.{turn_rows}
 use Rattle.gimli_index.proofs.TurnSteps.{on_ok, turn_walked}
 use Rattle.gimli_index.proofs.made.take_turn.Goals as goal
 

@@ -1,4 +1,4 @@
-use Rattle.std.proofs.Common.{◌≡◌, ◌∙◌, List, Some, ap, arith, map, subst, sym, take}
+use Rattle.std.proofs.Common.{◌∙◌, List, Some, ap, map, subst, sym}
 use Rattle.std.specs.Prelude.{flat_map}
 use Rattle.std.proofs.lemmas.List.{take_all}
 use Rattle.gimli_index.specs.Found.{texts_of}
@@ -26,8 +26,10 @@ pub returns-clause-walked : goal.returns-clause-walked
 returns-clause-walked g c =
     let t = texts_of g.R.Reader.bytes c.args.origin.now.strings.now c.args.origin.now.compilations.now in
     let units = c.args.origin.now.lookup.now in
+    let limit = c.args.origin.now.limit in
     let turns = c.args.turns.now in
     λ d start down.
     subst (λ (ts : List Turn).
-    Walked t units c.loop-turn.table c.loop-turn.entries.items (flat_map (starts_of_turn t) (map (turn_rows units d) ts)) (end_after 0 (rows_of_turns ts)))
+    Walked t units limit c.loop-turn.table c.loop-turn.entries.items (flat_map (starts_of_turn t) (map (turn_rows units d) ts))
+    (end_after 0 (rows_of_turns ts)))
     (take_all c.loop-turn.turn-index turns c.loop-turn-test.false) (c.loop-turn.invariant.walked d start down)

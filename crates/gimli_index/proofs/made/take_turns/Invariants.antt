@@ -11,9 +11,10 @@ abbrev pub invariant-loop-turn : goal.invariant-loop-turn
 invariant-loop-turn g l =
     let t = texts_of g.R.Reader.bytes l.origin.strings.now l.origin.compilations.now in
     let units = l.origin.lookup.now in
+    let limit = l.origin.limit in
     record {
-      are : AreSources t units l.table;
-      walked : (d : KeptUnit) → Walked t units l.initial.table l.initial.entries.items [] 0 → never_go_down (rows_of_turns l.turns) ≡ true
-          → Walked t units l.table l.entries.items (flat_map (starts_of_turn t) (map (turn_rows units d) (take l.turn-index l.turns)))
+      are : AreSources t units limit l.table;
+      walked : (d : KeptUnit) → Walked t units limit l.initial.table l.initial.entries.items [] 0 → never_go_down (rows_of_turns l.turns) ≡ true
+          → Walked t units limit l.table l.entries.items (flat_map (starts_of_turn t) (map (turn_rows units d) (take l.turn-index l.turns)))
           (end_after 0 (rows_of_turns (take l.turn-index l.turns)));
     }

@@ -4,7 +4,7 @@ use Rattle.gimli_index.specs.Found.{Given, texts_of, IsAppended}
 use Rattle.gimli_index.specs.Made.{EntriesAscend, IsMakeFault, contents_of}
 use Rattle.gimli_index.specs.Refused.{IsIndexFault}
 use Rattle.gimli_index.specs.declared.contents.Contents.{Contents as Parts}
-use Rattle.gimli_index.proofs.WrittenIndex.{contents_are, contents_fault, on_fault, with_ok}
+use Rattle.gimli_index.proofs.WrittenIndex.{contents_are, contents_fault, on_fault, with_ok, within}
 use Rattle.gimli_index.proofs.made.write_entries.Goals as goal
 
 pub returns-clause-bytes : goal.returns-clause-bytes
@@ -22,10 +22,13 @@ returns-clause-bytes g c =
     let contents = contents_of parts in
     let old = c.args.out.now.items in
     let new = c.write.new.out.items in
-    with_ok c.write.result (new ≡ old ++ index_bytes contents) (Fits contents) (EntriesAscend contents.entries) (IsAppended given old new)
+    with_ok c.write.result (new ≡ old ++ index_bytes contents) (Fits contents) (EntriesAscend contents.entries)
+    (IsAppended given c.args.origin.now.limit old new)
     c.write.ensures.bytes c.write.ensures.fits c.write.ensures.ascending
     (λ bytes fits ascending. record {
       contents = contents;
+      within = within given c.entries_of.new.table c.in_ok-entries.entries.items contents c.in_ok-entries.ensures.entered c.in_ok-entries.ensures.lines
+          c.sources.ensures c.as_slice.ensures.value c.paths.ensures;
       bytes = bytes;
       are =
           contents_are given c.entries_of.new.table c.in_ok-entries.entries.items contents c.in_ok-entries.ensures.entered c.in_ok-entries.ensures.lines
@@ -46,7 +49,7 @@ returns-clause-err g c =
       identity = c.args.identity;
     } in
     let contents = contents_of parts in
-    on_fault c.write.result (IsMakeFault contents) (IsIndexFault given) (λ e fault.
+    on_fault c.write.result (IsMakeFault contents) (IsIndexFault given c.args.origin.now.limit) (λ e fault.
     contents_fault given c.entries_of.new.table c.in_ok-entries.entries.items contents c.in_ok-entries.ensures.entered c.in_ok-entries.ensures.lines
     c.sources.ensures
     c.as_slice.ensures.value c.paths.ensures e refl fault) c.write.ensures.err

@@ -1,6 +1,5 @@
 use Rattle.std.proofs.Common.{◌∙◌, ◌+◌, ℕ, Some, ap, drop, sym}
 use Rattle.gimli_lookup.specs.Probes.{never_go_below}
-use Rattle.gimli_lookup.specs.SequenceRows.{rows_of}
 use Rattle.gimli_index.specs.declared.turns.Turn.{Turn}
 use Rattle.gimli_index.specs.inside.Turns.{rows_of_turns}
 use Rattle.gimli_index.proofs.TurnSteps.{begins_below, goes_down, goes_on, here_at, none_go, turn_here}

@@ -6,13 +6,13 @@ use Rattle.gimli_compilation.specs.Sections.{Sections, sections_of}
 use Rattle.gimli_compilation.proofs.DirectoryRuns.{Kept}
 use Rattle.gimli_compilation.proofs.compilations.Compilations.new.Given as goal
 
-abbrev pub invariant-loop-unit : goal.invariant-loop-unit
-invariant-loop-unit g l =
+abbrev pub invariant-loop-units : goal.invariant-loop-units
+invariant-loop-units g l =
     let sections : Sections = sections_of g.R.Reader.bytes g.R.Reader.big g.R.Offset.ReaderOffset.limit l.sections in
     record {
       walks : l.units.sections ≡ sections;
       kept : Kept sections l.units.offset (λ line. option_map g.R.Reader.bytes (get nat_cmp l.directories line));
     }
 
-abbrev pub decreases-loop-unit : goal.decreases-loop-unit
-decreases-loop-unit g l = length l.units.sections.info - l.units.offset
+abbrev pub decreases-loop-units : goal.decreases-loop-units
+decreases-loop-units g l = length l.units.sections.info - l.units.offset

@@ -27,7 +27,7 @@ returns-clause-within g c =
     c.offset_from-self-inside.ensures).inside
 
 pub returns-clause-compilation : goal.returns-clause-compilation
-returns-clause-compilation g c = rw (← c.self.view_is, c.into_u64.ensures) c.compilation-compilation.ensures.compilation
+returns-clause-compilation g c = rw (← c.self.view_is, c.into_u64.ensures) c.in-Ok.ensures.compilation
 
 pub returns-clause-refusal : goal.returns-clause-refusal
-returns-clause-refusal g c = rw (← c.self.view_is, c.into_u64.ensures) c.compilation-compilation.ensures.refusal
+returns-clause-refusal g c = rw (← c.self.view_is, c.into_u64.ensures) c.in-Ok.ensures.refusal

@@ -11,12 +11,12 @@ returns-clause-placed c =
       known = c.self.inside.paths;
       firsts = c.self.inside.firsts.items;
     } in
-    let are : ArePaths old = subst ArePaths (sym c.self.view_is) c.requires.are in
+    let are : ArePaths c.args.limit old = subst (ArePaths c.args.limit) (sym c.self.view_is) c.requires.are in
     let absent : All (λ x. x ≢ c.args.path.now) old.known =
     subst (λ (p : PathList). All (λ x. x ≢ c.args.path.now) p.known) (sym c.self.view_is) c.requires.absent in
     let counted : c.len-first.result ≡ length old.bytes = omega (arith, c.len-first.ensures, c.self.inside.bytes.ok.0) in
     rw (← c.self.view_is)
     (placed_last old
     (record { bytes = c.extend_from_slice.new.self.items; known = c.add.new.self; firsts = c.push.new.self.items })
-    c.args.path.now c.len-first.result are absent counted (omega (arith, are.few, counted, c.if-first-path.false))
+    c.args.path.now c.len-first.result are absent counted (omega (arith, are.few, are.within, counted, c.min.ensures, c.if-min-first.false))
     c.in_ok-extend_from_slice.ensures.items c.in_ok-add.ensures c.in_ok-push.ensures.items)

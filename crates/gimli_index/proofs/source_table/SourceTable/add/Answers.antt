@@ -14,9 +14,10 @@ pub returns-then-number-ge-MOST-clause-err : goal.returns-then-number-ge-MOST-cl
 returns-then-number-ge-MOST-clause-err g c =
     let t = texts_of g.R.Reader.bytes c.args.origin.now.strings.now c.args.origin.now.compilations.now in
     let units = c.args.origin.now.lookup.now in
+    let limit = c.args.origin.now.limit in
     let f = c.args.rows.now in
     let inside : Table = record { keys = c.self.inside.keys; sources = c.self.inside.sources.items; paths = c.self.inside.paths } in
-    many_files t units inside f c.requires.found (subst (AreSources t units) (sym c.self.view_is) c.requires.are)
+    many_files t units inside f c.requires.found (subst (AreSources t units limit) (sym c.self.view_is) c.requires.are)
     (subst (λ (o : Table). All (λ k. k ≢ key_of f) o.keys) (sym c.self.view_is) c.requires.absent)
     (omega (arith, c.if-number-ge-MOST.true, c.len-number.ensures, c.self.inside.sources.ok.0))
 

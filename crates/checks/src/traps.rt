@@ -1,0 +1,192 @@
+//! What `next_trap` tells, worked out by hand from DWARF 5, section 6.2: of programs whose table
+//! has one file.
+
+use crate::Found;
+use Mark::{Discriminator, EpilogueBegin, InitialFile, Isa, PrologueEnd};
+use Step::{At, End, Row, With};
+use gimli_core::{Encoding, Format, LineEncoding};
+use gimli_write::Trap::{AddressOverflow, LaterOpcode, MissingFile, OpenSequence, UnsetAddress};
+use gimli_write::{Address, Error, LineProgram, LineString, Result, Trap};
+use std::alloc::Global;
+
+/// What a row has. The initial file, number 1, isn't there in version 5.
+#[derive(Clone, Copy, PartialEq, Eq)]
+enum Mark {
+    InitialFile,
+    PrologueEnd,
+    EpilogueBegin,
+    Isa,
+    Discriminator,
+}
+
+/// What is built: a set address, a row at an offset, one at the start with a mark, and an end.
+#[derive(Clone, Copy)]
+enum Step {
+    At(u64),
+    Row(u64),
+    With(Mark),
+    End(u64),
+}
+
+/// A version, an address size, what is built, and all its traps.
+type Case = (u16, u8, &'static [Step], &'static [(usize, Trap)]);
+
+const CASES: [Case; 20] = [
+    (5, 4, &[At(16), Row(0), Row(4), End(8)], &[]),
+    (5, 4, &[At(16), Row(0)], &[(1, OpenSequence)]),
+    (
+        5,
+        4,
+        &[At(16), Row(0), Row(4), At(32)],
+        &[(2, OpenSequence)],
+    ),
+    (5, 2, &[At(0xfff0), Row(15), End(15)], &[]),
+    (
+        5,
+        2,
+        &[At(0xfff0), Row(16), Row(17), End(18)],
+        &[
+            (1, AddressOverflow),
+            (2, AddressOverflow),
+            (3, AddressOverflow),
+        ],
+    ),
+    (
+        5,
+        8,
+        &[At(u64::MAX), Row(0), End(1)],
+        &[(2, AddressOverflow)],
+    ),
+    (
+        5,
+        4,
+        &[At(16), With(InitialFile), End(4)],
+        &[(1, MissingFile)],
+    ),
+    (4, 4, &[At(16), With(InitialFile), End(4)], &[]),
+    (
+        2,
+        4,
+        &[At(16), With(PrologueEnd), End(4)],
+        &[(1, LaterOpcode)],
+    ),
+    (
+        2,
+        4,
+        &[At(16), With(EpilogueBegin), End(4)],
+        &[(1, LaterOpcode)],
+    ),
+    (2, 4, &[At(16), With(Isa), End(4)], &[(1, LaterOpcode)]),
+    (
+        3,
+        4,
+        &[
+            At(16),
+            With(PrologueEnd),
+            With(EpilogueBegin),
+            With(Isa),
+            End(4),
+        ],
+        &[],
+    ),
+    (
+        3,
+        4,
+        &[At(16), With(Discriminator), End(4)],
+        &[(1, LaterOpcode)],
+    ),
+    (4, 4, &[At(16), With(Discriminator), End(4)], &[]),
+    (5, 4, &[Row(0), Row(4), End(8)], &[(0, UnsetAddress)]),
+    (
+        5,
+        4,
+        &[At(16), Row(0), End(4), Row(0), End(8)],
+        &[(3, UnsetAddress)],
+    ),
+    // Of several traps of one item the first counts.
+    (5, 1, &[Row(256)], &[(0, OpenSequence)]),
+    (5, 1, &[Row(256), At(0), End(0)], &[(0, AddressOverflow)]),
+    (5, 4, &[With(InitialFile), End(4)], &[(0, MissingFile)]),
+    (2, 4, &[With(Isa), End(4)], &[(0, LaterOpcode)]),
+];
+
+/// The number of the first case that isn't told as it should be.
+pub fn told(alloc: Global) -> Found {
+    for (number, case) in CASES.iter().enumerate() {
+        let mut program = one_file(alloc, case.0, case.1)?;
+        if !is_told(&mut program, case)? {
+            return Ok(Some(number));
+        }
+    }
+    Ok(None)
+}
+
+/// A program whose one file is `a.c`, with nothing built.
+fn one_file(alloc: Global, version: u16, address_size: u8) -> Result<LineProgram> {
+    let encoding = Encoding {
+        address_size,
+        format: Format::Dwarf32,
+        version,
+    };
+    let lines = LineEncoding::default();
+    if !LineProgram::accepts(encoding, lines) {
+        return Err(Error::InvalidRange);
+    }
+    let directory = LineString::String(b"/w".to_vec(alloc)?);
+    let source = LineString::String(b"a.c".to_vec(alloc)?);
+    let file = LineString::String(b"a.c".to_vec(alloc)?);
+    let mut program = LineProgram::new(alloc, encoding, lines, directory, None, source, None)?;
+    let directory = program.default_directory();
+    program.add_file(file, directory, None)?;
+    Ok(program)
+}
+
+/// Whether each trap of a case is told from the item after the one before it on, and no other.
+fn is_told(program: &mut LineProgram, case: &Case) -> Result<bool> {
+    for step in case.2 {
+        build(program, *step)?;
+    }
+    if program.is_none() {
+        return Err(Error::InvalidRange);
+    }
+    let mut from = 0;
+    for (index, trap) in case.3 {
+        if program.next_trap(from) != Some((*index, *trap)) {
+            return Ok(false);
+        }
+        from = index.wrapping_add(1);
+    }
+    Ok(program.next_trap(from).is_none())
+}
+
+/// Builds an item.
+fn build(program: &mut LineProgram, step: Step) -> Result<()> {
+    if program.is_none() {
+        return Err(Error::InvalidRange);
+    }
+    match step {
+        At(address) => program.set_address(Address::Constant(address)),
+        Row(offset) => add_row(program, offset, None),
+        With(mark) => add_row(program, 0, Some(mark)),
+        End(offset) if program.can_end_sequence(offset) => program.end_sequence(offset),
+        End(_) => Err(Error::InvalidRange),
+    }
+}
+
+/// Adds a row.
+fn add_row(program: &mut LineProgram, offset: u64, mark: Option<Mark>) -> Result<()> {
+    let file = program.default_file();
+    let row = program.row();
+    row.address_offset = offset;
+    row.isa = u64::from(mark == Some(Isa));
+    row.discriminator = u64::from(mark == Some(Discriminator));
+    row.prologue_end = mark == Some(PrologueEnd);
+    row.epilogue_begin = mark == Some(EpilogueBegin);
+    if mark != Some(InitialFile) {
+        row.file = file;
+    }
+    if program.is_none() || !program.can_generate_row() {
+        return Err(Error::InvalidRange);
+    }
+    program.generate_row()
+}

@@ -1,0 +1,11 @@
+use Rattle.std.proofs.Common.{◌≡◌, take, reverse}
+use Rattle.gimli_build.specs.Built.{base_of}
+use Rattle.gimli_build.specs.Traps.{begins_unset, HaveNoTrap}
+use Rattle.gimli_build.proofs.built.line_program.LineProgram.next_trap.Given as goal
+
+abbrev pub invariant-loop-index : goal.invariant-loop-index
+invariant-loop-index l = record {
+  base : l.base ≡ base_of (reverse (take l.index l.items));
+  begins : l.begins ≡ begins_unset (reverse (take l.index l.items));
+  none : HaveNoTrap l.self l.from l.index;
+}

@@ -1,0 +1,68 @@
+-- What readers drop or misread of a program that `write` takes.
+use Rattle.std.specs.Prelude.{◌≡◌, ℕ, ◌+◌, ◌*◌, ◌^◌, ◌<◌, ◌≤◌, nat_eq, nat_le, nat_lt, Bool, true}
+use Rattle.std.specs.Prelude.{false, not, ◌&&◌, ◌||◌, if◌then◌else◌, List, [], ◌∷◌, length, take}
+use Rattle.std.specs.Prelude.{drop, reverse, Option, Some, None}
+use Rattle.std.specs.List.{list_all}
+use Rattle.gimli_build.specs.Built.{Built, base_of}
+use Rattle.gimli_build.specs.declared.built.row.LineRow.{LineRow}
+use Rattle.gimli_build.specs.declared.built.items.BuiltItem.{BuiltItem}
+use Rattle.gimli_build.specs.declared.built.items.BuiltItem.TheVariants.{SetAddress, Row, End}
+use Rattle.gimli_build.specs.declared.built.trap.Trap.{Trap}
+use Rattle.gimli_build.specs.declared.built.trap.Trap.TheVariants.{
+  OpenSequence,
+  AddressOverflow,
+  MissingFile,
+  LaterOpcode,
+  UnsetAddress,
+}
+
+abbrev pub is_set_address : BuiltItem → Bool
+is_set_address (SetAddress a) = true
+is_set_address (Row r) = false
+is_set_address (End offset op_index) = false
+
+-- a row after these items, the nearest first, begins a sequence whose address wasn't set
+abbrev pub begins_unset : List BuiltItem → Bool
+begins_unset [] = true
+begins_unset (SetAddress a ∷ past) = false
+begins_unset (Row r ∷ past) = false
+begins_unset (End offset op_index ∷ past) = true
+
+-- past the greatest address of the size
+abbrev pub is_past_greatest : Built → ℕ → Bool
+is_past_greatest p address = nat_le (2 ^ (8 * p.encoding.address_size)) address
+
+-- what no opcode of the version says: prologue_end, epilogue_begin and isa came with version 3,
+-- discriminators with version 4 (DWARF 3 and 4, sections 6.2.5.2 and 6.2.5.3)
+abbrev pub has_later_opcode : ℕ → LineRow → Bool
+has_later_opcode version r =
+    (nat_lt version 3 && (r.prologue_end || r.epilogue_begin || not (nat_eq r.isa 0)))
+    || (nat_lt version 4 && not (nat_eq r.discriminator 0))
+
+-- the first trap of an item whose offset counts from `base`, before the others; `begins` says that
+-- a row there begins a sequence whose address wasn't set
+abbrev pub item_trap : Built → ℕ → Bool → BuiltItem → List BuiltItem → Option Trap
+item_trap p base begins (SetAddress a) others = None
+item_trap p base begins (Row r) others =
+    if list_all is_set_address others then Some OpenSequence
+    else if is_past_greatest p (base + r.address_offset) then Some AddressOverflow
+    else if not (nat_lt r.file (length p.files)) then Some MissingFile
+    else if has_later_opcode p.encoding.version r then Some LaterOpcode
+    else if begins then Some UnsetAddress
+    else None
+item_trap p base begins (End offset op_index) others =
+    if is_past_greatest p (base + offset) then Some AddressOverflow else None
+
+-- that of the first of these items, after others, the nearest first
+abbrev pub first_trap : Built → List BuiltItem → List BuiltItem → Option Trap
+first_trap p past [] = None
+first_trap p past (item ∷ others) =
+    item_trap p (base_of past) (begins_unset past) item others
+
+-- that of the item at an index
+abbrev pub trap_at : Built → ℕ → Option Trap
+trap_at p i = first_trap p (reverse (take i p.items)) (drop i p.items)
+
+-- the items from one index up to another have none
+abbrev pub HaveNoTrap : Built → ℕ → ℕ → Type 0
+HaveNoTrap p from to = (i : ℕ) → from ≤ i → i < to → trap_at p i ≡ None

@@ -1,0 +1,150 @@
+//! What readers drop or misread of a program that `write` takes.
+
+ghost use Rattle.std.specs.Prelude.{◌≡◌, ◌+◌, ◌≤◌, false, List, ◌∷◌, length, nat_lt};
+ghost use Rattle.std.specs.Prelude.{IfSome, IfNone, Some, None};
+ghost use Rattle.std.specs.List.{list_all};
+ghost use Rattle.gimli_build.specs.Built.{base_of};
+ghost use Rattle.gimli_build.specs.Traps.{is_set_address, begins_unset, is_past_greatest};
+ghost use Rattle.gimli_build.specs.Traps.{has_later_opcode, item_trap, trap_at, HaveNoTrap};
+ghost use Rattle.gimli_build.specs.declared.built.items.BuiltItem.{BuiltItem};
+
+use crate::built::items::BuiltItem;
+use crate::built::line_program::LineProgram;
+use crate::built::row::LineRow;
+use gimli_bytes::Address;
+use gimli_core::ReaderAddress;
+
+/// What readers drop or misread of a program that `write` takes. Where an item has several, the
+/// first of these counts.
+#[derive(Clone, Copy, Debug, PartialEq, Eq)]
+pub enum Trap {
+    /// The last row, if no end is after it: rows up to the next end are one sequence, and readers
+    /// drop those of none (DWARF 5, section 6.2.5.3, DW_LNE_end_sequence).
+    OpenSequence,
+    /// A row or an end past the greatest address of the address size: the register can't hold it,
+    /// and readers stop there, or wrap (section 6.2.2, address). A symbol counts as 0.
+    AddressOverflow,
+    /// A row of a file that isn't in the program's table: readers find no path for it (section
+    /// 6.2.2, file).
+    MissingFile,
+    /// A row of what a later version brought: in version 2 `prologue_end`, `epilogue_begin` or an
+    /// `isa`, and below version 4 a discriminator. Readers of the version skip such opcodes
+    /// (section 6.2.4, standard_opcode_lengths, and section 6.2.5.3).
+    LaterOpcode,
+    /// The first row of a sequence, if no address was set before it: offsets count from 0 then
+    /// (section 6.2.2, the registers at the start of a sequence).
+    UnsetAddress,
+}
+
+impl LineProgram {
+    /// The first item at or after an index that has a trap, by its own index in `items`, with its
+    /// first trap. Requires a program that isn't a placeholder. It reads the items from the first
+    /// one on.
+    pub fn next_trap(&self, from: usize) -> Option<(usize, Trap)>
+        requires { self.now.is_none ≡ false }
+        ensures trap { IfSome result (λ found. trap_at self.now found.0 ≡ Some found.1) }
+        ensures after { IfSome result (λ found. from ≤ found.0) }
+        ensures first { IfSome result (λ found. HaveNoTrap self.now from found.0) }
+        ensures none { IfNone result (HaveNoTrap self.now from (length self.now.items)) }
+    {
+        let items = self.built_items();
+        let mut base = 0;
+        let mut begins = true;
+        for (index, item) in items.iter().enumerate() {
+            let trap = trap_of(self, base, begins, item, &items[index + 1..]);
+            if let Some(trap) = trap {
+                if index >= from {
+                    return Some((index, trap));
+                }
+            }
+            base = base_after(base, item);
+            begins = begins_after(item);
+        }
+        None
+    }
+}
+
+/// The address that offsets count from after an item.
+fn base_after(base: u64, item: &BuiltItem) -> u64
+    ensures { (past : List BuiltItem) → base ≡ base_of past → result ≡ base_of (item.now ∷ past) }
+{
+    match item {
+        BuiltItem::SetAddress(Address::Constant(address)) => *address,
+        BuiltItem::SetAddress(Address::Symbol { .. }) => 0,
+        BuiltItem::Row(_) => base,
+        BuiltItem::End { .. } => 0,
+    }
+}
+
+/// Whether a row after an item begins a sequence whose address wasn't set.
+fn begins_after(item: &BuiltItem) -> bool
+    ensures { (past : List BuiltItem) → result ≡ begins_unset (item.now ∷ past) }
+{
+    matches!(item, BuiltItem::End { .. })
+}
+
+/// The first trap of an item before others, where offsets count from `base`; `begins` says that a
+/// row there begins a sequence whose address wasn't set.
+fn trap_of(
+    program: &LineProgram,
+    base: u64,
+    begins: bool,
+    item: &BuiltItem,
+    others: &[BuiltItem],
+) -> Option<Trap>
+    requires { program.now.is_none ≡ false }
+    ensures { result ≡ item_trap program.now base begins item.now others.now }
+{
+    match item {
+        BuiltItem::SetAddress(_) => None,
+        BuiltItem::Row(row) => {
+            if are_set_addresses(others) {
+                return Some(Trap::OpenSequence);
+            }
+            if is_past_greatest(program, base, row.address_offset) {
+                return Some(Trap::AddressOverflow);
+            }
+            if !program.tables().contains(row.file) {
+                return Some(Trap::MissingFile);
+            }
+            if has_later_opcode(program.version(), row) {
+                return Some(Trap::LaterOpcode);
+            }
+            begins.then_some(Trap::UnsetAddress)
+        }
+        BuiltItem::End { address_offset, .. } => {
+            is_past_greatest(program, base, *address_offset).then_some(Trap::AddressOverflow)
+        }
+    }
+}
+
+/// Whether each item sets an address.
+fn are_set_addresses(items: &[BuiltItem]) -> bool
+    ensures { result ≡ list_all is_set_address items.now }
+{
+    items.iter().all(|item| is_set_address(item))
+}
+
+/// Whether an item sets an address.
+fn is_set_address(item: &BuiltItem) -> bool
+    ensures { result ≡ is_set_address item.now }
+{
+    matches!(item, BuiltItem::SetAddress(_))
+}
+
+/// Whether an address is past the greatest one of the address size.
+fn is_past_greatest(program: &LineProgram, base: u64, offset: u64) -> bool
+    requires { program.now.is_none ≡ false }
+    ensures { result ≡ is_past_greatest program.now (base + offset) }
+{
+    let encoding = program.encoding();
+    base.add_sized(offset, encoding.address_size).is_err()
+}
+
+/// Whether a row says what no opcode of the version does.
+fn has_later_opcode(version: u16, row: &LineRow) -> bool
+    ensures { result ≡ has_later_opcode version row.now }
+{
+    let is_later = row.prologue_end || row.epilogue_begin || row.isa != 0;
+    version < 3 && is_later || version < 4 && row.discriminator != 0
+}

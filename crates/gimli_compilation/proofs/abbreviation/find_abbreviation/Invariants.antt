@@ -1,9 +1,0 @@
-use Rattle.std.proofs.Common.{◌≡◌, length}
-use Rattle.gimli_compilation.specs.inside.AbbreviationReading.{abbreviation_at}
-use Rattle.gimli_compilation.proofs.abbreviation.find_abbreviation.Given as goal
-
-abbrev pub invariant-loop-declared : goal.invariant-loop-declared
-invariant-loop-declared g l = abbreviation_at l.code (g.R.Reader.bytes l.input) ≡ abbreviation_at l.code (g.R.Reader.bytes l.initial.input)
-
-abbrev pub decreases-loop-declared : goal.decreases-loop-declared
-decreases-loop-declared g l = length (g.R.Reader.bytes l.input)

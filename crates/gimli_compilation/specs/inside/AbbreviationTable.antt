@@ -1,0 +1,34 @@
+-- A table of declarations, as far as it was read.
+use Rattle.std.specs.Prelude.{◌≡◌, ℕ, suc, List, length, Option, Some, None, Result, Ok, Err}
+use Rattle.std.specs.Prelude.{IfSome, option_map}
+use Rattle.std.specs.BTreeMap.{get}
+use Rattle.std.specs.Ordering.{nat_cmp}
+use Rattle.gimli_core.specs.Reading.{result_map}
+use Rattle.gimli_core.specs.declared.error.Error.{Error}
+use Rattle.gimli_compilation.specs.declared.abbreviation.Abbreviations.{Abbreviations}
+use Rattle.gimli_compilation.specs.declared.abbreviation.Specification.{Specification}
+use Rattle.gimli_compilation.specs.inside.AbbreviationReading.{IsListed, listed, abbreviation_at}
+use Rattle.gimli_compilation.specs.inside.UnitReading.{table_at}
+
+module _ {R : Type 0} (bytes : R → List ℕ) where
+  -- the answer to a code: what is kept of it, else what comes where reading goes on
+  abbrev pub answer_to : ℕ → Option R → Result (Option R) Error
+      → Result (Option (List Specification)) Error
+  answer_to code (Some part) next = Ok (Some (listed (bytes part)))
+  answer_to code None (Ok (Some rest)) = (abbreviation_at code (bytes rest)).0
+  answer_to code None (Ok None) = Ok None
+  answer_to code None (Err e) = Err e
+
+  -- the table at its offset: it gives each answer, and all that is kept was read whole
+  pub record IsTable (section : List ℕ) (table : Abbreviations R) : Type 0 where
+    pub answers : (code : ℕ)
+        → answer_to code (get nat_cmp table.specifications code) table.next
+        ≡ (table_at table.offset code section).0
+    pub whole : (code : ℕ)
+        → IfSome (get nat_cmp table.specifications code) (λ part. IsListed (bytes part))
+
+  -- how much may still be read
+  abbrev pub size_left : Result (Option R) Error → ℕ
+  size_left (Ok (Some rest)) = suc (length (bytes rest))
+  size_left (Ok None) = 0
+  size_left (Err e) = 0
