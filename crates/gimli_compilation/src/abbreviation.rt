@@ -115,9 +115,7 @@ pub(crate) fn keep_first<R: Reader>(
         ≡ first_of (get nat_cmp map.old k) (directory_in k (Some (key, value)))) }
     ensures err { OnErr result (map.new.entries ≡ map.old.entries) }
 {
-    if !map.contains_key(&key) {
-        map.insert(key, value)?;
-    }
+    map.entry(key)?.or_insert(value);
     Ok(())
 }
 
