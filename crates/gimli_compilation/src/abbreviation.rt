@@ -6,9 +6,8 @@ ghost use Rattle.std.specs.Ordering.{nat_cmp};
 ghost use Rattle.gimli_core.specs.Reading.{result_map};
 ghost use Rattle.gimli_compilation.specs.Directories.{directory_in, first_of};
 ghost use Rattle.gimli_compilation.specs.inside.AbbreviationReading.{IsListed, constant_at};
-ghost use Rattle.gimli_compilation.specs.inside.AbbreviationReading.{declaration_at};
-ghost use Rattle.gimli_compilation.specs.inside.AbbreviationReading.{declared_at, listed};
-ghost use Rattle.gimli_compilation.specs.inside.AbbreviationReading.{specification_at};
+ghost use Rattle.gimli_compilation.specs.inside.AbbreviationReading.{declaration_at, declared_at};
+ghost use Rattle.gimli_compilation.specs.inside.AbbreviationReading.{listed, specification_at};
 ghost use Rattle.gimli_compilation.specs.inside.AbbreviationReading.{specifications_passed};
 ghost use Rattle.gimli_compilation.specs.inside.Seen.{declaration_seen};
 
