@@ -62,12 +62,12 @@ module _ {R : Type 0} (view : R → List ℕ) where
   -- of which nothing was read
   module _ (section : List ℕ) (alloc : Global) (offset : ℕ) (kept : BTreeMap ℕ R) (none : kept.entries ≡ []) where
     pub table_new : (part : List ℕ) (rest : R) → (Ok part, view rest) ≡ split_at offset section
-        → IsTable view section (record { alloc = alloc; offset = offset; specifications = kept; next = Ok (Some rest) })
+        → IsTable view section (record { alloc = alloc; offset = offset; asked = 0; specifications = kept; next = Ok (Some rest) })
     unfolding table_at
     table_new part rest read = record { answers = λ code. rw (none, ← read) refl; whole = λ code. rw none tt }
 
     pub table_outside : (e : Error) (left : List ℕ) → (Err e, left) ≡ split_at offset section
-        → IsTable view section (record { alloc = alloc; offset = offset; specifications = kept; next = Err e })
+        → IsTable view section (record { alloc = alloc; offset = offset; asked = 0; specifications = kept; next = Err e })
     unfolding table_at
     table_outside e left read = record { answers = λ code. rw (none, ← read) refl; whole = λ code. rw none tt }
 
@@ -105,6 +105,11 @@ module _ {R : Type 0} (view : R → List ℕ) where
       answers = next_answers table.specifications (Err e) (λ code. refusal_answers code input _ e left read) is;
       whole = is.whole;
     }
+
+  -- the same one, which was asked once more
+  pub table_asked : (section : List ℕ) (table : Abbreviations R) (asked : ℕ) → IsTable view section table
+      → IsTable view section (record table { asked = asked })
+  table_asked section table asked is = record { answers = is.answers; whole = is.whole }
 
   pub smaller_more : (next : Result (Option R) Error) (input rest : R) (d : Declaration) → next ≡ Ok (Some input)
       → (Ok d, view rest) ≡ declaration_at (view input)

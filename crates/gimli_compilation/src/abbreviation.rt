@@ -1,14 +1,14 @@
 //! Declarations of `.debug_abbrev` (DWARF 5, section 7.5.3).
 
-ghost use Rattle.std.specs.Prelude.{◌≡◌, ◌≢◌, ℕ, IfOk, IfSome, OnErr, OnOk, Some};
+ghost use Rattle.std.specs.Prelude.{◌≡◌, ◌≢◌, ℕ, IfOk, IfSome, OnErr, OnOk, Some, option_map};
 ghost use Rattle.std.specs.BTreeMap.{get};
 ghost use Rattle.std.specs.Ordering.{nat_cmp};
 ghost use Rattle.gimli_core.specs.Reading.{result_map};
 ghost use Rattle.gimli_compilation.specs.Directories.{directory_in, first_of};
-ghost use Rattle.gimli_compilation.specs.inside.AbbreviationReading.{IsListed, constant_at};
-ghost use Rattle.gimli_compilation.specs.inside.AbbreviationReading.{declaration_at};
-ghost use Rattle.gimli_compilation.specs.inside.AbbreviationReading.{declared_at, listed};
-ghost use Rattle.gimli_compilation.specs.inside.AbbreviationReading.{specification_at};
+ghost use Rattle.gimli_compilation.specs.inside.AbbreviationReading.{IsListed, abbreviation_at};
+ghost use Rattle.gimli_compilation.specs.inside.AbbreviationReading.{constant_at};
+ghost use Rattle.gimli_compilation.specs.inside.AbbreviationReading.{declaration_at, declared_at};
+ghost use Rattle.gimli_compilation.specs.inside.AbbreviationReading.{listed, specification_at};
 ghost use Rattle.gimli_compilation.specs.inside.AbbreviationReading.{specifications_passed};
 ghost use Rattle.gimli_compilation.specs.inside.Seen.{declaration_seen};
 
@@ -105,6 +105,28 @@ fn next_declaration<R: Reader>(input: &mut R) -> Result<Option<(u64, R)>>
     Ok(Some((code, specifications)))
 }
 
+/// Finds the declaration of a code in a table. Returns a reader that begins at its specifications,
+/// or None where the table has no such declaration.
+fn find_abbreviation<R: Reader>(input: &mut R, code: u64) -> Result<Option<R>>
+    ensures read { (
+      result_map (option_map (λ part. listed (R.bytes part))) result,
+      R.bytes input.new,
+    )
+        ≡ abbreviation_at code (R.bytes input.old) }
+    ensures listed { IfOk result (λ found. IfSome found (λ part. IsListed (R.bytes part))) }
+{
+    loop {
+        match next_declaration(input)? {
+            None => return Ok(None),
+            Some(found) => {
+                if found.0 == code {
+                    return Ok(Some(found.1));
+                }
+            }
+        }
+    }
+}
+
 /// Keeps a value where its key has none yet. Nothing is changed where it fails.
 pub(crate) fn keep_first<R: Reader>(
     map: &mut BTreeMap<u64, R>,
@@ -115,11 +137,13 @@ pub(crate) fn keep_first<R: Reader>(
         ≡ first_of (get nat_cmp map.old k) (directory_in k (Some (key, value)))) }
     ensures err { OnErr result (map.new.entries ≡ map.old.entries) }
 {
-    if !map.contains_key(&key) {
-        map.insert(key, value)?;
-    }
+    map.entry(key)?.or_insert(value);
     Ok(())
 }
+
+/// How often a table is read from its start before it is kept: to keep a declaration takes about as
+/// long as to read so many.
+const ASKED_BEFORE_KEPT: u8 = 30;
 
 /// A table of declarations, as far as it was read.
 #[derive(Drop)]
@@ -127,6 +151,8 @@ pub(crate) struct Abbreviations<R> {
     alloc: Global,
     /// Where it begins in `.debug_abbrev`.
     offset: u64,
+    /// How often it was asked before it is kept.
+    asked: u8,
     /// Where the specifications of each code begin, in the first declaration that has it.
     specifications: BTreeMap<u64, R>,
     /// Where the next declaration begins; None where the table ended, and the refusal where it
@@ -135,10 +161,13 @@ pub(crate) struct Abbreviations<R> {
 }
 
 impl<R: Reader> Abbreviations<R> {
+    ghost use Rattle.std.specs.BTreeMap.{get};
+    ghost use Rattle.std.specs.Ordering.{nat_cmp};
     ghost use Rattle.std.specs.Prelude.{◌<◌, ◌≡◌, List, ℕ, IfOk, IfSome, OnOk, option_map};
     ghost use Rattle.gimli_core.specs.Reading.{result_map};
     ghost use Rattle.gimli_compilation.specs.inside.AbbreviationReading.{IsListed, listed};
-    ghost use Rattle.gimli_compilation.specs.inside.AbbreviationTable.{IsTable, size_left};
+    ghost use Rattle.gimli_compilation.specs.inside.AbbreviationTable.{IsTable, answer_to};
+    ghost use Rattle.gimli_compilation.specs.inside.AbbreviationTable.{size_left};
     ghost use Rattle.gimli_compilation.specs.inside.UnitReading.{table_at};
 
     /// The table at an offset of a section, of which nothing was read.
@@ -150,6 +179,7 @@ impl<R: Reader> Abbreviations<R> {
         Abbreviations {
             alloc,
             offset: offset.into_u64(),
+            asked: 0,
             specifications: BTreeMap::new(alloc),
             next: match input.split(offset) {
                 Ok(_) => Ok(Some(input)),
@@ -178,8 +208,37 @@ impl<R: Reader> Abbreviations<R> {
         Ok(())
     }
 
+    /// Reads all declarations that are left.
+    fn read_whole(&mut self) -> MemoryResult<()>
+        ensures table { (section : List ℕ) → IsTable R.bytes section self.old
+            → IsTable R.bytes section self.new }
+        ensures offset { self.new.offset ≡ self.old.offset }
+    {
+        while let Ok(Some(input)) = self.next {
+            self.read_on(input)?;
+        }
+        Ok(())
+    }
+
+    /// Finds the declaration of a code: what is kept of it, else what comes where reading goes on.
+    fn answer(&self, code: u64) -> Result<Option<R>>
+        ensures found { result_map (option_map (λ part. listed (R.bytes part))) result
+            ≡ answer_to R.bytes code (get nat_cmp self.now.specifications code) self.now.next }
+        ensures listed { (section : List ℕ) → IsTable R.bytes section self.now
+            → IfOk result (λ found. IfSome found (λ part. IsListed (R.bytes part))) }
+    {
+        if let Some(specifications) = self.specifications.get(&code) {
+            return Ok(Some(*specifications));
+        }
+        match self.next {
+            Ok(Some(mut input)) => find_abbreviation(&mut input, code),
+            answer => answer,
+        }
+    }
+
     /// Finds the declaration of a code in the table at an offset. Returns a reader that begins at
-    /// its specifications, or None where the table has no such declaration.
+    /// its specifications, or None where the table has no such declaration. The table is kept once
+    /// it was asked so often that keeping it takes no longer than what was read so far.
     pub(crate) fn find(
         &mut self,
         section: &R,
@@ -197,14 +256,11 @@ impl<R: Reader> Abbreviations<R> {
         if offset.into_u64() != self.offset {
             *self = Self::new(self.alloc, section, offset);
         }
-        loop {
-            if let Some(specifications) = self.specifications.get(&code) {
-                return Ok(Ok(Some(*specifications)));
-            }
-            let Ok(Some(input)) = self.next else {
-                return Ok(self.next);
-            };
-            self.read_on(input)?;
+        if self.asked < ASKED_BEFORE_KEPT {
+            self.asked += 1;
+        } else {
+            self.read_whole()?;
         }
+        Ok(self.answer(code))
     }
 }

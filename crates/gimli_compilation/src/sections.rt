@@ -1,6 +1,6 @@
 //! The sections from which compilations are read, and what a unit says of its own.
 
-ghost use Rattle.std.specs.Prelude.{◌≡◌, ℕ, List, IfErr, IfOk, IfSome, IsTrue, drop, option_map};
+ghost use Rattle.std.specs.Prelude.{◌≡◌, ℕ, List, IfErr, IfOk, IsTrue, drop, option_map};
 ghost use Rattle.gimli_core.specs.Notation.{notation_of};
 ghost use Rattle.gimli_core.specs.Numbers.{is_address_size};
 ghost use Rattle.gimli_core.specs.Reading.{result_map};
@@ -142,7 +142,7 @@ impl<R: Reader> CompilationSections<R> {
     ghost use Rattle.gimli_compilation.specs.inside.UnitReading.{compilation_at, content_at};
     ghost use Rattle.gimli_compilation.specs.inside.UnitReading.{entry_at, found_entry_at};
     ghost use Rattle.gimli_compilation.specs.inside.UnitReading.{outcome_seen, text_by_at};
-    ghost use Rattle.gimli_compilation.specs.inside.UnitReading.{text_of_at, unit_at};
+    ghost use Rattle.gimli_compilation.specs.inside.UnitReading.{text_of_at};
 
     /// The compilation of the unit that begins at an offset of `.debug_info`; an offset past the
     /// end leaves no bytes. Refused as the first part that isn't met says: the header, the table of

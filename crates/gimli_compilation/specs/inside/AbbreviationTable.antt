@@ -1,9 +1,8 @@
 -- A table of declarations, as far as it was read.
 use Rattle.std.specs.Prelude.{◌≡◌, ℕ, suc, List, length, Option, Some, None, Result, Ok, Err}
-use Rattle.std.specs.Prelude.{IfSome, option_map}
+use Rattle.std.specs.Prelude.{IfSome}
 use Rattle.std.specs.BTreeMap.{get}
 use Rattle.std.specs.Ordering.{nat_cmp}
-use Rattle.gimli_core.specs.Reading.{result_map}
 use Rattle.gimli_core.specs.declared.error.Error.{Error}
 use Rattle.gimli_compilation.specs.declared.abbreviation.Abbreviations.{Abbreviations}
 use Rattle.gimli_compilation.specs.declared.abbreviation.Specification.{Specification}
