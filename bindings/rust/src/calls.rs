@@ -37,8 +37,7 @@ macro_rules! call {
 }
 pub(crate) use call;
 
-/// What a call gives that puts it into an array, and tells how much there is: it is made again where the array was too small, which it
-/// answers by `NO_ROOM`, or not at all.
+/// What a call gives that puts it into an array, and tells how much there is: it is made again where it answers `NO_ROOM`.
 pub fn whole<T: Clone + Default>(
     first: usize,
     mut call: impl FnMut(&mut [T], &mut usize) -> Result<(), Error>,
@@ -50,12 +49,17 @@ pub fn whole<T: Clone + Default>(
         if answer != Err(Error::NO_ROOM) {
             answer?;
         }
-        let is_whole = answer.is_ok() && count <= array.len();
         array.resize(count, T::default());
-        if is_whole {
+        if answer.is_ok() {
             return Ok(array);
         }
     }
+}
+
+/// The most bytes that a section or the paths of an index may have, where a file or sections have so many: a small file may state that
+/// many are compressed in it, or have long paths.
+pub fn most_of(bytes: usize) -> usize {
+    bytes.saturating_mul(256).saturating_add(64 << 20)
 }
 
 /// What a call gives, or None where it answers this status.
@@ -109,15 +113,17 @@ pub struct IndexOptions {
     pub lowest: u64,
     pub address_size: u8,
     pub big: bool,
+    pub limit: usize,
 }
 
 impl IndexOptions {
-    pub fn new(sections: &Sections<'_>, lowest: u64) -> IndexOptions {
+    pub fn new(sections: &Sections<'_>, lowest: u64, limit: usize) -> IndexOptions {
         IndexOptions {
             size: size_of::<IndexOptions>(),
             lowest,
             address_size: sections.address_size,
             big: sections.big_endian,
+            limit,
         }
     }
 }

@@ -1,6 +1,6 @@
 //! ELF files, from which sections are taken.
 
-use crate::calls::{self, call, unless, whole};
+use crate::calls::{self, call, most_of, unless, whole};
 use crate::error::Error;
 
 /// An ELF file.
@@ -47,13 +47,18 @@ impl<'a> Elf<'a> {
     /// [`Error::BAD_SECTION`] where it can't be read, or is compressed and states more bytes than 256 times the file's and 64 MiB, and
     /// [`Error::OUT_OF_MEMORY`].
     pub fn section(&self, name: &str) -> Result<Option<Vec<u8>>, Error> {
-        let most = self.bytes.len().saturating_mul(256).saturating_add(64 << 20);
+        let most = self.most();
         let bytes = whole(0, |room, size| {
             // The pointers are those of slices and of a local.
             let status = unsafe { call!(gimli_line_proved_elf_section([self.bytes], [name.as_bytes()], [mut room], size)) };
             Error::of(if *size > most { Error::BAD_SECTION.number() } else { status })
         });
         unless(Error::NO_SECTION, bytes)
+    }
+
+    /// The most bytes that a section may have that is made whole, and the paths of an index.
+    pub(crate) fn most(&self) -> usize {
+        most_of(self.bytes.len())
     }
 
     /// The build id. None where there is none.

@@ -95,7 +95,7 @@ impl Error {
     pub const NO_SECTION: Error = Error(45);
     /// A section of an ELF file can't be read.
     pub const BAD_SECTION: Error = Error(46);
-    /// An index would have ranges, files, or bytes of paths or of the identity that 32 bits don't count.
+    /// An index would have ranges, files, or bytes of paths or of the identity that 32 bits don't count, or longer paths than its limit.
     pub const INDEX_TOO_LARGE: Error = Error(47);
     /// A line or a column that an index would have is one that 32 bits don't hold.
     pub const PLACE_TOO_LARGE: Error = Error(48);
@@ -176,7 +176,7 @@ const SENTENCES: [&str; 49] = [
     "the bytes are no ELF file that can be read",
     "the ELF file has no section of this name",
     "a section is cut, or its compression or relocations are unknown",
-    "an index would have more ranges, files or bytes than 32 bits count",
+    "an index would have more ranges, files or bytes than 32 bits count, or longer paths than its limit",
     "a line or a column is more than 32 bits hold",
 ];
 

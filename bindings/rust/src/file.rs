@@ -74,15 +74,14 @@ impl Sections<'_> {
         let mut directory = vec![0; 256];
         let path = whole(256, |path, size| {
             // The pointers are those of slices, of vectors and of a local.
-            Error::of(unsafe {
+            let answer = Error::of(unsafe {
                 call!(gimli_line_proved_read_file(
                     [self.debug_line], self.big_endian, self.address_size, offset, number, &mut file, [mut path], [mut directory]
                 ))
-            })?;
+            });
             *size = file.path.size as usize;
-            let is_whole = file.directory.size as usize <= directory.len();
             directory.resize(file.directory.size as usize, 0);
-            if is_whole { Ok(()) } else { Err(Error::NO_ROOM) }
+            answer
         })?;
         Ok(File::new(&file, path, directory))
     }
@@ -96,13 +95,13 @@ impl Sections<'_> {
         let mut text = calls::Text::default();
         let bytes = whole(256, |room, size| {
             // The pointers are those of slices, of a vector and of a local.
-            Error::of(unsafe {
+            let answer = Error::of(unsafe {
                 call!(gimli_line_proved_read_directory(
                     [self.debug_line], self.big_endian, self.address_size, offset, number, &mut text, [mut room]
                 ))
-            })?;
+            });
             *size = text.size as usize;
-            Ok(())
+            answer
         })?;
         Ok(Text::new(&text, bytes))
     }

@@ -1,6 +1,6 @@
 //! Indexes: an index of lines that is bytes.
 
-use crate::calls::{self, call, unless, whole};
+use crate::calls::{self, call, most_of, unless, whole};
 use crate::error::Error;
 use crate::{CompilationSections, Elf, Sections};
 
@@ -71,13 +71,28 @@ impl<'a> Index<'a> {
     ///
     /// [`Error::OUT_OF_MEMORY`], [`Error::UNSUPPORTED_ADDRESS_SIZE`] where that of the sections is none of 1, 2, 4 and 8, and
     /// [`Error::INDEX_TOO_LARGE`] and [`Error::PLACE_TOO_LARGE`] where 32 bits don't count what the index would have.
+    /// [`Error::INDEX_TOO_LARGE`] also where its paths, each once, have more bytes than 256 times those of the sections and 64 MiB: a
+    /// directory stands in the path of each of its files.
     pub fn write(
         sections: &Sections<'_>,
         compilations: &CompilationSections<'_>,
         lowest: u64,
         identity: &[u8],
     ) -> Result<Vec<u8>, Error> {
-        let options = calls::IndexOptions::new(sections, lowest);
+        let lines = sections.debug_line.len() + sections.debug_line_str.len() + sections.debug_str.len();
+        let others = compilations.debug_info.len() + compilations.debug_abbrev.len() + compilations.debug_str_offsets.len();
+        Index::write_within(sections, compilations, lowest, identity, most_of(lines + others))
+    }
+
+    /// The bytes of the index of a program whose paths have at most so many bytes.
+    fn write_within(
+        sections: &Sections<'_>,
+        compilations: &CompilationSections<'_>,
+        lowest: u64,
+        identity: &[u8],
+        limit: usize,
+    ) -> Result<Vec<u8>, Error> {
+        let options = calls::IndexOptions::new(sections, lowest, limit);
         // All units are read for each call: so there is more room than most indexes take, which costs no memory until it is written.
         let mut index = whole(1024 + 16 * sections.debug_line.len(), |room, size| {
             // The pointers are those of slices and of locals.
@@ -92,7 +107,8 @@ impl<'a> Index<'a> {
         Ok(index)
     }
 
-    /// The bytes of the index of an ELF file, of its sections, each made whole; it is named by the build id.
+    /// The bytes of the index of an ELF file, of its sections, each made whole; it is named by the build id. The bytes of the file take
+    /// the place of those of the sections for what its paths may have.
     ///
     /// # Errors
     ///
@@ -118,7 +134,7 @@ impl<'a> Index<'a> {
             debug_str_offsets: &section(".debug_str_offsets")?,
             big_endian: elf.is_big_endian(),
         };
-        Index::write(&sections, &compilations, elf.lowest(), &elf.build_id()?.unwrap_or_default())
+        Index::write_within(&sections, &compilations, elf.lowest(), &elf.build_id()?.unwrap_or_default(), elf.most())
     }
 
     /// The index that bytes begin with. It looks at the header and the length alone.
@@ -188,9 +204,9 @@ impl<'a> Index<'a> {
     }
 
     /// The addresses for a breakpoint at a line of the files that a path names, ascending, or at the next line that has any. None
-    /// where no line from it on has code. A path names a file by its last components (`stl_map.h`, `bits/stl_map.h`), and one from the
-    /// root is a whole one; `.` and `..` are resolved by text. These are the addresses that the rows of the program give, if no two of
-    /// its sequences overlap.
+    /// where no line from it on has code. A path names a file by its last components (`stl_map.h`, `bits/stl_map.h`), one from the
+    /// root is a whole one, and one without a component names none; `.` and `..` are resolved by text. These are the addresses that the
+    /// rows of the program give, if no two of its sequences overlap.
     pub fn addresses_of(&self, path: &[u8], line: u64) -> Option<Addresses> {
         let mut found_line = 0;
         let addresses = whole(16, |room, count| {

@@ -53,8 +53,10 @@ fn addresses_of_a_line_are_those_of_the_index() {
     let first = Some(Addresses { line: 5, addresses: vec![0x1000] });
     assert_eq!(index.addresses_of(b"a.c", 0), first);
     assert_eq!(index.addresses_of(b"/x/../a.c", 5), first);
-    // No line after it, no file of this name, and one from the root that has other components.
-    assert_eq!([&b"a.c"[..], b"b.c", b"/x/a.c"].map(|path| index.addresses_of(path, 5 + u64::from(path == b"a.c"))), [None, None, None]);
+    // No line after it, no file of this name, one from the root that has other components, and paths without a component.
+    for path in [&b"a.c"[..], b"b.c", b"/x/a.c", b"", b"./"] {
+        assert_eq!(index.addresses_of(path, 5 + u64::from(path == b"a.c")), None);
+    }
 }
 
 #[test]

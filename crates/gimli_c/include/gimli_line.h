@@ -27,6 +27,8 @@
  * - A pointer is null only where its length is 0. What a call answers into is never null, nor is an index.
  * - What a call writes to overlaps neither what it reads nor anything else that it writes to.
  * - No call but those that ask indexes is made from a signal handler, or in the forked child of a process with threads.
+ * Where the room for an answer is too small, a call answers GIMLI_LINE_NO_ROOM, says how much it takes, and writes nothing else: ask with
+ * no room first, or once more. What is answered stands at the front of its room, and the rest of the room stays as it was.
  * Nothing of the caller is kept after a call, and no call has a thread of its own, an order or an end: any may run in several threads at
  * once. Addresses are those of the file: of an address of a process take off the base at which the program was loaded.
  *
@@ -111,7 +113,7 @@ uint32_t gimli_line_version(void);
     X(NO_ELF, 44, "the bytes are no ELF file that can be read") \
     X(NO_SECTION, 45, "the ELF file has no section of this name") \
     X(BAD_SECTION, 46, "a section is cut, or its compression or relocations are unknown") \
-    X(INDEX_TOO_LARGE, 47, "an index would have more ranges, files or bytes than 32 bits count") \
+    X(INDEX_TOO_LARGE, 47, "an index would have more ranges, files or bytes than 32 bits count, or longer paths than its limit") \
     X(PLACE_TOO_LARGE, 48, "a line or a column is more than 32 bits hold")
 
 typedef enum gimli_line_status {
@@ -231,7 +233,8 @@ typedef struct gimli_line_file {
 gimli_line_status gimli_line_read_unit(const gimli_line_sections *sections, size_t offset, gimli_line_unit *unit) GIMLI_LINE_CALL;
 
 /* Runs the program of the unit at an offset. Its rows from the skip-th on, from 0, go into rows[0] and so on, as far as
- * there is room; *count is how many rows it has in all. A unit has at most as many rows as bytes, so an array of unit->length rows
+ * there is room: a window, so too little room is no refusal. *count is how many rows it has in all. A unit has at most as many rows as
+ * bytes, so an array of unit->length rows
  * has room for all of them (and one of length - offset rows for those of any unit at the offset). The first fault ends the run: its
  * number is answered, and the rows before it are there. Where no unit can be read *count is 0. Where memory is missing, *count is 0,
  * and the first rows may have been written. The program is run from its start for each call, so take all rows at once if you can. */
@@ -240,26 +243,27 @@ gimli_line_status gimli_line_read_rows(const gimli_line_sections *sections, size
 
 /* Reads the file of a number, as rows have it: up to version 4 from 1 on, in version 5 from 0 on. Where the unit's table has no
  * such file, the program is run to its end, past its faults, for the files that it defines. The bytes of the path and of the
- * directory go into `path` and `directory`, as far as they stand in the section itself and there is room; file->path.size and
- * file->directory.size say how many there are. Too little room is no refusal, and no zero byte is added. GIMLI_LINE_NO_SUCH_FILE where
- * there is no such file. Where another number than 0 is answered, nothing is written. */
+ * directory go to the front of `path` and `directory`, as far as they stand in the section itself; file->path.size and
+ * file->directory.size say how many there are. No zero byte is added. GIMLI_LINE_NO_ROOM where one of the two is too short: *file is
+ * written then, and nothing else. GIMLI_LINE_NO_SUCH_FILE where there is no such file. Where another number than these is answered,
+ * nothing is written. */
 gimli_line_status gimli_line_read_file(const gimli_line_sections *sections, size_t offset, uint64_t number, gimli_line_file *file,
                                        char *path, size_t path_room, char *directory, size_t directory_room) GIMLI_LINE_CALL;
 
-/* Reads the directory of a number, as files have it: up to version 4 from 1 on, in version 5 from 0 on. Its bytes go into
- * `bytes`, as far as they stand in the section itself and there is room; directory->size says how many there are.
- * GIMLI_LINE_NO_SUCH_DIRECTORY where there is no such directory, as there is none of number 0 up to version 4. Where another number than
- * 0 is answered, nothing is written. */
+/* Reads the directory of a number, as files have it: up to version 4 from 1 on, in version 5 from 0 on. Its bytes go to the front of
+ * `bytes`, as far as they stand in the section itself; directory->size says how many there are. GIMLI_LINE_NO_ROOM where `room` is less:
+ * *directory is written then, and nothing else. GIMLI_LINE_NO_SUCH_DIRECTORY where there is no such directory, as there is none of
+ * number 0 up to version 4. Where another number than these is answered, nothing is written. */
 gimli_line_status gimli_line_read_directory(const gimli_line_sections *sections, size_t offset, uint64_t number, gimli_line_text *directory,
                                             char *bytes, size_t room) GIMLI_LINE_CALL;
 
 /* Tells the whole path of the file of a number: a relative one goes on from its directory, and that one from the directory of the
  * compilation, `comp_dir`, which gimli_line_comp_dir tells. In version 5 the unit has that one too, as its directory 0: where that is
  * absolute, `comp_dir` isn't looked at; where it is relative, each other relative directory goes on from `comp_dir`, and directory 0
- * too if `comp_dir` is absolute. Where `comp_dir` has no bytes, such a path stays relative. The bytes go into path[0] and so on, as far as
- * there is room; *size is how many there are. No zero byte is added. GIMLI_LINE_NO_SUCH_FILE where there is no such file, as
- * gimli_line_read_file has it; GIMLI_LINE_UNKNOWN_PATH where a string of the path can't be told. Where another number than 0 is answered,
- * nothing is written. */
+ * too if `comp_dir` is absolute. Where `comp_dir` has no bytes, such a path stays relative. The bytes go into path[0] and so on; *size is
+ * how many there are. No zero byte is added. GIMLI_LINE_NO_ROOM where `room` is less: *size is written then, and nothing else.
+ * GIMLI_LINE_NO_SUCH_FILE where there is no such file, as gimli_line_read_file has it; GIMLI_LINE_UNKNOWN_PATH where a string of the path
+ * can't be told. Where another number than these is answered, nothing is written. */
 gimli_line_status gimli_line_read_path(const gimli_line_sections *sections, size_t offset, uint64_t number, const char *comp_dir,
                                        size_t comp_dir_length, char *path, size_t room, size_t *size) GIMLI_LINE_CALL;
 
@@ -325,12 +329,13 @@ gimli_line_status gimli_line_index_find(const void *index, size_t length, uint64
 gimli_line_status gimli_line_index_find_all(const void *index, size_t length, gimli_line_place *places, size_t count) GIMLI_LINE_CALL;
 
 /* Tells the addresses for a breakpoint at a line of the files that a path names: by its last components (stl_map.h, bits/stl_map.h), or
- * whole where it begins with a separator; `.` and `..` are resolved by text. Of each run of ranges of that line that stand side by side
- * the address of the first that is a statement. Where the line has none, those of the next line that has; *found_line is that line. They
- * go into addresses[0] and so on, ascending, as far as there is room; *count is how many there are. GIMLI_LINE_NO_CODE where no line from
- * it on has any; one of GIMLI_LINE_NO_INDEX to GIMLI_LINE_INDEX_HEADER where the bytes begin with no index. Where another number than 0 is
- * answered, nothing is written. Looks at each range twice. In an index that this library made these are the addresses that the rows of the
- * program give, if no two of its sequences overlap (docs/INDEX.md). */
+ * whole where it begins with a separator; one without a component names none; `.` and `..` are resolved by text. Of each run of ranges of
+ * that line that stand side by side the address of the first that is a statement. Where the line has none, those of the next line that
+ * has; *found_line is that line. They go into addresses[0] and so on, ascending; *count is how many there are. GIMLI_LINE_NO_ROOM where
+ * `room` is less: *count is written then, and nothing else. GIMLI_LINE_NO_CODE where no line from it on has any; one of
+ * GIMLI_LINE_NO_INDEX to GIMLI_LINE_INDEX_HEADER where the bytes begin with no index. Where another number than these is answered, nothing
+ * is written. Looks at each range three times, twice for GIMLI_LINE_NO_ROOM. In an index that this library made these are the addresses
+ * that the rows of the program give, if no two of its sequences overlap (docs/INDEX.md). */
 gimli_line_status gimli_line_index_addresses_of(const void *index, size_t length, const char *path, size_t path_length, uint64_t line,
                                                 uint64_t *found_line, uint64_t *addresses, size_t room, size_t *count) GIMLI_LINE_CALL;
 
@@ -344,25 +349,29 @@ static inline const char *gimli_line_place_path(const void *index, const gimli_l
  * of the compilation; of a path that can't be told it has the reason. A unit that can't be read has no rows; of one whose run has a fault
  * the sequences that end before that count. Rows that no end row follows are in no sequence, and that is no fault. So it is
  * GIMLI_LINE_OK for any bytes of these sections but for GIMLI_LINE_UNSUPPORTED_ADDRESS_SIZE, GIMLI_LINE_OUT_OF_MEMORY,
- * GIMLI_LINE_INDEX_TOO_LARGE and GIMLI_LINE_PLACE_TOO_LARGE. Where another number than 0 is answered, *index is null and *size is 0. */
+ * GIMLI_LINE_INDEX_TOO_LARGE and GIMLI_LINE_PLACE_TOO_LARGE. A directory stands in the path of each of its files, so a few sections may
+ * have long paths: GIMLI_LINE_INDEX_TOO_LARGE where all of them, each once, have more bytes than 256 times those of the sections and
+ * 64 MiB. Where another number than 0 is answered, *index is null and *size is 0. */
 gimli_line_status gimli_line_index_of_sections(const gimli_line_sections *sections, const void *identity, size_t identity_length,
                                                uint8_t **index, size_t *size) GIMLI_LINE_CALL;
 
-/* Makes the index of an ELF file: that of its sections, named by its build id where it has one. GIMLI_LINE_NO_SECTION where it has no
- * .debug_line; else it answers as gimli_line_sections_of_elf and gimli_line_index_of_sections do. */
+/* Makes the index of an ELF file: that of its sections, named by its build id where it has one of at most 64 bytes. `length` takes the
+ * place of the bytes of the sections for what its paths may have. GIMLI_LINE_NO_SECTION where it has no .debug_line; else it answers as
+ * gimli_line_sections_of_elf and gimli_line_index_of_sections do. */
 gimli_line_status gimli_line_index_of_elf(const void *file, size_t length, uint8_t **index, size_t *size) GIMLI_LINE_CALL;
 
-/* Puts the build id of an ELF file (NT_GNU_BUILD_ID, mostly 20 bytes) into id[0] and so on, as far as there is room; *size is how many
- * bytes it has. GIMLI_LINE_NO_SECTION where the file has none, GIMLI_LINE_BAD_SECTION where the section of it can't be read,
- * GIMLI_LINE_NO_ELF where the file is none. Where another number than 0 is answered, nothing is written. Takes no memory. */
+/* Puts the build id of an ELF file (NT_GNU_BUILD_ID, mostly 20 bytes) into id[0] and so on; *size is how many bytes it has.
+ * GIMLI_LINE_NO_ROOM where `room` is less: *size is written then, and nothing else. GIMLI_LINE_NO_SECTION where the file has none,
+ * GIMLI_LINE_BAD_SECTION where the section of it can't be read, GIMLI_LINE_NO_ELF where the file is none. Where another number than these
+ * is answered, nothing is written. Takes no memory. */
 gimli_line_status gimli_line_build_id(const void *file, size_t length, uint8_t *id, size_t room, size_t *size) GIMLI_LINE_CALL;
 
 /* Tells the directory in which the compilation ran (DW_AT_comp_dir) whose line program begins at an offset: that of the first unit of
- * .debug_info that names this line program and has a directory. The bytes go into directory[0] and so on, as far as there is room, without
- * a zero byte; *size is how many there are. A unit that can't be read has no directory, and the next one counts; what comes after a unit
- * whose length can't be read, or passes the end of the section, isn't read. GIMLI_LINE_NO_COMP_DIR where no unit has one. Where another
- * number than 0 is answered, that or GIMLI_LINE_OUT_OF_MEMORY, nothing is written. The first entry of each unit is read for each call: ask
- * once for each unit. */
+ * .debug_info that names this line program and has a directory. The bytes go into directory[0] and so on, without a zero byte; *size is
+ * how many there are. GIMLI_LINE_NO_ROOM where `room` is less: *size is written then, and nothing else. A unit that can't be read has no
+ * directory, and the next one counts; what comes after a unit whose length can't be read, or passes the end of the section, isn't read.
+ * GIMLI_LINE_NO_COMP_DIR where no unit has one. Where another number than these is answered, that or GIMLI_LINE_OUT_OF_MEMORY, nothing is
+ * written. The first entry of each unit is read for each call: ask once for each unit. */
 gimli_line_status gimli_line_comp_dir(const gimli_line_sections *sections, uint64_t offset, char *directory, size_t room,
                                       size_t *size) GIMLI_LINE_CALL;
 

@@ -83,15 +83,19 @@ gimli_line_status gimli_line_index_addresses_of(const void *index, size_t length
         gimli_line_proved_index_addresses_of(READ(index), length, READ(path), path_length, line, found_line, AT(addresses), room, count));
 }
 
+/* The most bytes that a section or the paths of an index may have, where a file or sections have so many: a small file may state that
+ * many are compressed in it, or have long paths. */
+static size_t most_of(size_t length) { return length < SIZE_MAX / 512 ? 256 * length + (64 << 20) : SIZE_MAX; }
+
 /* The bytes of a section of an ELF file, in memory of their own; none where the file has no such section. One that is compressed says how
- * many they are: a small file may say that they are many. */
+ * many they are. */
 static uint32_t take_section(const uint8_t *file, size_t length, const char *name, const void **section, size_t *size) {
-    const size_t most = length < SIZE_MAX / 512 ? 256 * length + (64 << 20) : SIZE_MAX, name_length = strlen(name);
+    const size_t name_length = strlen(name);
     uint8_t *bytes = NULL;
     size_t room = 0;
     uint32_t status = gimli_line_proved_elf_section(file, length, (const uint8_t *)name, name_length, AT((void *)bytes), room, &room);
     if (status == GIMLI_LINE_NO_ROOM) {
-        if (room > most) return GIMLI_LINE_BAD_SECTION;
+        if (room > most_of(length)) return GIMLI_LINE_BAD_SECTION;
         bytes = malloc(room);
         if (bytes == NULL) return GIMLI_LINE_OUT_OF_MEMORY;
         status = gimli_line_proved_elf_section(file, length, (const uint8_t *)name, name_length, bytes, room, &room);
@@ -144,25 +148,23 @@ void gimli_line_sections_free(gimli_line_sections *sections) {
     *sections = none;
 }
 
-/* Writes the index of sections into room for it. */
-static uint32_t write_index(const gimli_line_sections *in, const void *identity, size_t identity_length, uint8_t *index, size_t room,
-                            size_t *size) {
-    const gimli_line_proved_options by = {sizeof by, in->lowest, in->address_size, in->big};
+/* Writes the index of sections into room for it. Its paths have at most `limit` bytes. */
+static uint32_t write_index(const gimli_line_sections *in, size_t limit, const void *identity, size_t identity_length, uint8_t *index,
+                            size_t room, size_t *size) {
+    const gimli_line_proved_options by = {sizeof by, in->lowest, in->address_size, in->big, limit};
     return gimli_line_proved_index_write(READ(in->line), in->line_size, READ(in->line_strings), in->line_strings_size, READ(in->strings),
                                          in->strings_size, READ(in->info), in->info_size, READ(in->abbreviations), in->abbreviations_size,
                                          READ(in->string_offsets), in->string_offsets_size, &by, READ(identity), identity_length, index,
                                          room, size);
 }
 
-gimli_line_status gimli_line_index_of_sections(const gimli_line_sections *sections, const void *identity, size_t identity_length,
-                                               uint8_t **index, size_t *size) {
+/* Makes the index of sections that are known, whose paths have at most `limit` bytes. */
+static gimli_line_status index_within(const gimli_line_sections *sections, size_t limit, const void *identity, size_t identity_length,
+                                      uint8_t **index, size_t *size) {
     uint32_t status = GIMLI_LINE_NO_ROOM;
     /* 16 bytes for each byte of .debug_line are mostly more than it takes; all units are read for each try. */
     size_t room = sections->line_size <= SIZE_MAX / 32 ? 1024 + 16 * sections->line_size : 1024;
     uint8_t *made = NULL, *fitted;
-    *index = NULL;
-    *size = 0;
-    if (!is_known(sections)) return GIMLI_LINE_UNKNOWN_OPTIONS;
     for (; status == GIMLI_LINE_NO_ROOM; room = *size) {
         free(made);
         made = malloc(room);
@@ -170,7 +172,7 @@ gimli_line_status gimli_line_index_of_sections(const gimli_line_sections *sectio
             *size = 0;
             return GIMLI_LINE_OUT_OF_MEMORY;
         }
-        status = write_index(sections, identity, identity_length, made, room, size);
+        status = write_index(sections, limit, identity, identity_length, made, room, size);
     }
     if (status != GIMLI_LINE_OK) {
         free(made);
@@ -179,6 +181,17 @@ gimli_line_status gimli_line_index_of_sections(const gimli_line_sections *sectio
     fitted = realloc(made, *size); /* what the index doesn't take of the room is given back */
     *index = fitted != NULL ? fitted : made;
     return GIMLI_LINE_OK;
+}
+
+gimli_line_status gimli_line_index_of_sections(const gimli_line_sections *in, const void *identity, size_t identity_length, uint8_t **index,
+                                               size_t *size) {
+    *index = NULL;
+    *size = 0;
+    if (!is_known(in)) return GIMLI_LINE_UNKNOWN_OPTIONS;
+    return index_within(in,
+                        most_of(in->line_size + in->line_strings_size + in->strings_size + in->info_size + in->abbreviations_size +
+                                in->string_offsets_size),
+                        identity, identity_length, index, size);
 }
 
 gimli_line_status gimli_line_index_of_elf(const void *file, size_t length, uint8_t **index, size_t *size) {
@@ -192,9 +205,9 @@ gimli_line_status gimli_line_index_of_elf(const void *file, size_t length, uint8
     if (status == GIMLI_LINE_OK) {
         gimli_line_status has = gimli_line_build_id(file, length, id, sizeof id, &id_size);
         if (has == GIMLI_LINE_BAD_SECTION) status = has;
-        if (has != GIMLI_LINE_OK || id_size > sizeof id) id_size = 0;
+        if (has != GIMLI_LINE_OK) id_size = 0;
     }
-    if (status == GIMLI_LINE_OK) status = gimli_line_index_of_sections(&sections, id, id_size, index, size);
+    if (status == GIMLI_LINE_OK) status = index_within(&sections, most_of(length), id, id_size, index, size);
     gimli_line_sections_free(&sections);
     return status;
 }

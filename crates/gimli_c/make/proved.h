@@ -11,6 +11,7 @@ typedef struct gimli_line_proved_options {
     uint64_t lowest;
     uint8_t address_size;
     bool big;
+    size_t limit;
 } gimli_line_proved_options;
 typedef struct gimli_line_proved_elf {
     uint64_t lowest;

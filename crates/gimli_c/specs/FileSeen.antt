@@ -1,5 +1,6 @@
 -- What C sees of a file, and of a directory.
-use Rattle.std.specs.Prelude.{◌≡◌, ◌+◌, ◌||◌, ℕ, true, List, [], Option, Some, None, length, nat_le}
+use Rattle.std.specs.Prelude.{◌≡◌, ◌<◌, ◌⊎◌, ◌+◌, ◌||◌, ℕ, true, List, [], Option, Some, None}
+use Rattle.std.specs.Prelude.{length, nat_le}
 use Rattle.std.specs.Prelude.{unwrap_or}
 use Rattle.gimli_core.specs.Values.{Value}
 use Rattle.gimli_core.specs.declared.attribute_value.AttributeValue.TheVariants.{
@@ -18,7 +19,7 @@ use Rattle.gimli_c.specs.declared.file.GimliText.{GimliText}
 use Rattle.gimli_c.specs.declared.file.GimliFile.{GimliFile}
 use Rattle.gimli_c.specs.Location.{Location, notation_at, HasUnit}
 use Rattle.gimli_c.specs.Seen.{flag}
-use Rattle.gimli_c.specs.Written.{slots_with}
+use Rattle.gimli_c.specs.Written.{IsPut}
 
 abbrev pub text_at : ℕ → ℕ → ℕ → GimliText
 text_at kind first size = record { kind = kind; first = first; size = size }
@@ -75,16 +76,27 @@ pub record HasFiles (p : Location) (complete : Header) : Type 0 where
 
 -- the file of an index of the unit at the location, and the bytes of its path and directory where
 -- they stand there
-pub record GivesFile (p : Location) (index : ℕ) (seen : GimliFile)
-    (path_old path_new directory_old directory_new : List ℕ) : Type 0 where
+pub record GivesFile (p : Location) (index : ℕ) (seen : GimliFile) (path directory : List ℕ)
+    : Type 0 where
   pub header : Header
   pub unit : HasFiles p header
   pub file : File
   pub is_file : file_of header index ≡ Some file
   pub seen_is : seen ≡ file_seen_by_c header file
-  pub path_is : path_new ≡ slots_with (bytes_here (Some file.path_name)) path_old
-  pub directory_is : directory_new
-      ≡ slots_with (bytes_here (directory_of header file.directory_index)) directory_old
+  pub path_is : path ≡ bytes_here (Some file.path_name)
+  pub directory_is : directory ≡ bytes_here (directory_of header file.directory_index)
+
+-- that file, and those bytes at the front of two arrays of the caller
+abbrev pub WritesFile : Location → ℕ → GimliFile → List ℕ → List ℕ → List ℕ → List ℕ → Type 0
+WritesFile p index seen path_old path_new directory_old directory_new =
+    (path : List ℕ) × (directory : List ℕ) × GivesFile p index seen path directory
+    × IsPut path path_old path_new × IsPut directory directory_old directory_new
+
+-- that file, of which there are more bytes than one of the arrays has room for
+abbrev pub NeedsFileRoom : Location → ℕ → GimliFile → List ℕ → List ℕ → Type 0
+NeedsFileRoom p index seen path_old directory_old =
+    (path : List ℕ) × (directory : List ℕ) × GivesFile p index seen path directory
+    × ((length path_old < length path) ⊎ (length directory_old < length directory))
 
 -- the unit at the location has no file of the index
 pub record GivesNoFile (p : Location) (index : ℕ) : Type 0 where
@@ -93,14 +105,24 @@ pub record GivesNoFile (p : Location) (index : ℕ) : Type 0 where
   pub none : file_of header index ≡ None
 
 -- the directory of an index of the unit at the location, and its bytes where they stand there
-pub record GivesDirectory (p : Location) (index : ℕ) (seen : GimliText)
-    (bytes_old bytes_new : List ℕ) : Type 0 where
+pub record GivesDirectory (p : Location) (index : ℕ) (seen : GimliText) (bytes : List ℕ)
+    : Type 0 where
   pub header : Header
   pub unit : HasUnit p header
   pub directory : Value
   pub is_directory : directory_of header index ≡ Some directory
   pub seen_is : seen ≡ text_seen directory
-  pub bytes_is : bytes_new ≡ slots_with (bytes_here (Some directory)) bytes_old
+  pub bytes_are : bytes ≡ bytes_here (Some directory)
+
+-- that directory, and those bytes at the front of an array of the caller
+abbrev pub WritesDirectoryText : Location → ℕ → GimliText → List ℕ → List ℕ → Type 0
+WritesDirectoryText p index seen old new =
+    (bytes : List ℕ) × GivesDirectory p index seen bytes × IsPut bytes old new
+
+-- that directory, of which there are more bytes than the array has room for
+abbrev pub NeedsTextRoom : Location → ℕ → GimliText → List ℕ → Type 0
+NeedsTextRoom p index seen old =
+    (bytes : List ℕ) × GivesDirectory p index seen bytes × (length old < length bytes)
 
 -- the unit at the location has no directory of the index
 pub record GivesNoDirectory (p : Location) (index : ℕ) : Type 0 where

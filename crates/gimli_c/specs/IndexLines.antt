@@ -1,12 +1,12 @@
 -- From a line of a path to addresses, by an index: the rule for breakpoints of DWARF 5, section
 -- 6.2.2.
-use Rattle.std.specs.Prelude.{◌≡◌, ℕ, List, length}
+use Rattle.std.specs.Prelude.{◌≡◌, ◌<◌, ℕ, List, length}
 use Rattle.gimli_index.specs.Lines.{addresses_of}
 use Rattle.gimli_index.specs.Meaning.{starts_of}
 use Rattle.gimli_index.specs.Parts.{Index}
 use Rattle.gimli_lookup.specs.Statements.{HasNoLine, IsFirstLine}
 use Rattle.gimli_c.specs.Indexed.{IsIndex}
-use Rattle.gimli_c.specs.Written.{slots_with}
+use Rattle.gimli_c.specs.Written.{IsPut}
 
 -- the addresses of the first line from the asked one on that has any, of the files that a path
 -- names
@@ -17,11 +17,17 @@ pub record GivesIndexAddresses (bytes path : List ℕ) (asked line : ℕ) (addre
   pub is_first : IsFirstLine (addresses_of path (starts_of index)) asked line
   pub addresses_are : addresses ≡ addresses_of path (starts_of index) line
 
--- those addresses in an array of the caller, and how many there are
+-- those addresses at the front of an array of the caller, and how many there are
 abbrev pub WritesIndexAddresses : List ℕ → List ℕ → ℕ → ℕ → List ℕ → List ℕ → ℕ → Type 0
 WritesIndexAddresses bytes path asked line old new count =
     (addresses : List ℕ) × GivesIndexAddresses bytes path asked line addresses
-    × (new ≡ slots_with addresses old) × (count ≡ length addresses)
+    × IsPut addresses old new × (count ≡ length addresses)
+
+-- they are more than the array has room for
+abbrev pub NeedsAddressRoom : List ℕ → List ℕ → ℕ → List ℕ → ℕ → Type 0
+NeedsAddressRoom bytes path asked old count =
+    (line : ℕ) × (addresses : List ℕ) × GivesIndexAddresses bytes path asked line addresses
+    × (length old < length addresses) × (count ≡ length addresses)
 
 -- no line from the asked one on has an address in the files that a path names
 pub record HasNoIndexAddress (bytes path : List ℕ) (asked : ℕ) : Type 0 where

@@ -117,6 +117,7 @@ make_status LineTooLarge = 48
 make_status ColumnTooLarge = 48
 make_status OutOfMemory = 17
 
--- why none is made of sections that can be read: memory, or what 32 bits don't count
+-- why none is made of sections that can be read: memory, what 32 bits don't count, or longer paths
+-- than their limit
 abbrev pub IsIndexRefusal : ℕ → Type 0
 IsIndexRefusal status = (error : MakeError) × (status ≡ make_status error)

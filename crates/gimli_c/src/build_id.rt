@@ -1,17 +1,18 @@
 //! The build id of an ELF file.
 
 ghost use Rattle.std.specs.Prelude.{◌≡◌, ◌≢◌, ◌⊎◌};
-ghost use Rattle.gimli_c.specs.BuildId.{CantReadBuildId, HasNoBuildId, WritesBuildId};
+ghost use Rattle.gimli_c.specs.BuildId.{CantReadBuildId, HasNoBuildId, NeedsBuildIdRoom};
+ghost use Rattle.gimli_c.specs.BuildId.{WritesBuildId};
 ghost use Rattle.gimli_c.specs.ElfSeen.{IsNoElf};
 
 use crate::elf::elf_in;
-use crate::file::copy_bytes;
-use crate::status::{BAD_SECTION, NO_ELF, NO_SECTION, OK};
+use crate::file::put_bytes;
+use crate::status::{BAD_SECTION, NO_ELF, NO_ROOM, NO_SECTION, OK};
 
-/// Puts the build id of an ELF file into `id`, as far as there is room; `size` is how many bytes it
-/// has. `NO_SECTION` where the file has none, `BAD_SECTION` where the section of it can't be read,
-/// and `NO_ELF` where the file is none. Where another number than 0 is returned, nothing is
-/// written. Takes no memory.
+/// Puts the build id of an ELF file to the front of `id`; `size` is how many bytes it has.
+/// `NO_ROOM` where `id` is shorter: then `size` alone is written. `NO_SECTION` where the file has
+/// none, `BAD_SECTION` where the section of it can't be read, and `NO_ELF` where the file is none.
+/// Where another number than these is returned, nothing is written. Takes no memory.
 #[unsafe(no_mangle)]
 pub extern "C" fn gimli_line_proved_elf_build_id(
     file: &[u8],
@@ -19,10 +20,13 @@ pub extern "C" fn gimli_line_proved_elf_build_id(
     size: &mut usize,
 ) -> u32
     ensures found { result ≡ OK → WritesBuildId file.now id.old id.new size.new }
+    ensures larger { result ≡ NO_ROOM → NeedsBuildIdRoom file.now id.old size.new }
     ensures none { result ≡ NO_SECTION → HasNoBuildId file.now }
-    ensures refused { result ≢ OK → result ≢ NO_SECTION → ((result ≡ NO_ELF) × IsNoElf file.now)
+    ensures refused { result ≢ OK → result ≢ NO_ROOM → result ≢ NO_SECTION
+        → ((result ≡ NO_ELF) × IsNoElf file.now)
         ⊎ ((result ≡ BAD_SECTION) × CantReadBuildId file.now) }
-    ensures kept { result ≢ OK → (id.new ≡ id.old) × (size.new ≡ size.old) }
+    ensures kept { result ≢ OK → id.new ≡ id.old }
+    ensures no_size { result ≢ OK → result ≢ NO_ROOM → size.new ≡ size.old }
 {
     let elf = match elf_in(file) {
         Ok(elf) => elf,
@@ -31,8 +35,7 @@ pub extern "C" fn gimli_line_proved_elf_build_id(
     match elf.build_id() {
         Ok(Some(found)) => {
             *size = found.len();
-            copy_bytes(found, id);
-            OK
+            put_bytes(found, id)
         }
         Ok(None) => NO_SECTION,
         Err(_) => BAD_SECTION,

@@ -3,11 +3,12 @@
 ghost use Rattle.std.specs.Prelude.{◌≡◌, ◌≢◌, ◌⊎◌, ◌^◌, None};
 ghost use Rattle.gimli_core.specs.Order.{is_big};
 ghost use Rattle.gimli_compilation.specs.Sections.{sections_of};
-ghost use Rattle.gimli_c.specs.CompDir.{sections_handed, TellsDirectory, WritesDirectory};
+ghost use Rattle.gimli_c.specs.CompDir.{sections_handed, NeedsDirectoryRoom, TellsDirectory};
+ghost use Rattle.gimli_c.specs.CompDir.{WritesDirectory};
 
-use crate::file::copy_bytes;
+use crate::file::put_bytes;
 use crate::location::order;
-use crate::status::{NO_COMP_DIR, OK, OUT_OF_MEMORY};
+use crate::status::{NO_COMP_DIR, NO_ROOM, OK, OUT_OF_MEMORY};
 use gimli_compilation::{CompilationSections, Compilations};
 use gimli_core::{EndianSlice, RunTimeEndian};
 use std::alloc::Global;
@@ -37,9 +38,10 @@ pub(crate) fn sections_in<'s>(
 
 /// Tells the directory of the compilation (`DW_AT_comp_dir`) whose line program begins at an offset
 /// of `.debug_line`: that of the first unit of `.debug_info` that names this line program and has a
-/// directory. The bytes go into `directory`, as far as there is room; `size` is how many there are.
-/// `NO_COMP_DIR` where no unit that can be read has one. Where another number than 0 is returned,
-/// nothing is written. The first entry of each unit is read for each call.
+/// directory. The bytes go to the front of `directory`; `size` is how many there are. `NO_ROOM`
+/// where `directory` is shorter: then `size` alone is written. `NO_COMP_DIR` where no unit that can
+/// be read has one. Where another number than these is returned, nothing is written. The first
+/// entry of each unit is read for each call.
 #[unsafe(no_mangle)]
 pub extern "C" fn gimli_line_proved_comp_dir(
     alloc: Global,
@@ -56,11 +58,16 @@ pub extern "C" fn gimli_line_proved_comp_dir(
     ensures found { let sections = sections_handed info.now abbreviations.now
         line_strings.now strings.now string_offsets.now big in
         result ≡ OK → WritesDirectory sections offset directory.old directory.new size.new }
+    ensures larger { let sections = sections_handed info.now abbreviations.now
+        line_strings.now strings.now string_offsets.now big in
+        result ≡ NO_ROOM → NeedsDirectoryRoom sections offset directory.old size.new }
     ensures none { let sections = sections_handed info.now abbreviations.now
         line_strings.now strings.now string_offsets.now big in
         result ≡ NO_COMP_DIR → TellsDirectory sections offset None }
-    ensures refused { result ≢ OK → (result ≡ NO_COMP_DIR) ⊎ (result ≡ OUT_OF_MEMORY) }
-    ensures kept { result ≢ OK → (directory.new ≡ directory.old) × (size.new ≡ size.old) }
+    ensures refused { result ≢ OK → result ≢ NO_ROOM
+        → (result ≡ NO_COMP_DIR) ⊎ (result ≡ OUT_OF_MEMORY) }
+    ensures kept { result ≢ OK → directory.new ≡ directory.old }
+    ensures no_size { result ≢ OK → result ≢ NO_ROOM → size.new ≡ size.old }
 {
     let sections = sections_in(
         info,
@@ -76,7 +83,7 @@ pub extern "C" fn gimli_line_proved_comp_dir(
     let Some(text) = compilations.directory_of(offset) else {
         return NO_COMP_DIR;
     };
-    *size = text.slice().len();
-    copy_bytes(text.slice(), directory);
-    OK
+    let bytes = text.slice();
+    *size = bytes.len();
+    put_bytes(bytes, directory)
 }

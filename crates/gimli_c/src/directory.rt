@@ -3,22 +3,23 @@
 ghost use Rattle.std.specs.Prelude.{◌≡◌, ◌≢◌, IfNone, IfSome, None, false, option_map};
 ghost use Rattle.gimli_core.specs.Numbers.{is_address_size};
 ghost use Rattle.gimli_line.specs.header.Header.{directory_of};
-ghost use Rattle.gimli_c.specs.FileSeen.{GivesDirectory, GivesNoDirectory};
+ghost use Rattle.gimli_c.specs.FileSeen.{GivesNoDirectory, NeedsTextRoom, WritesDirectoryText};
 ghost use Rattle.gimli_c.specs.inside.Told.{TellsDirectory};
 ghost use Rattle.gimli_c.specs.Location.{location, HasNoUnit};
 
-use crate::file::{GimliText, copy_text, text_here};
+use crate::file::{GimliText, bytes_of, put_bytes, text_here};
 use crate::location::program_at;
-use crate::status::{NO_SUCH_DIRECTORY, OK, OUT_OF_MEMORY, UNSUPPORTED_ADDRESS_SIZE};
+use crate::status::{NO_ROOM, NO_SUCH_DIRECTORY, OK, OUT_OF_MEMORY, UNSUPPORTED_ADDRESS_SIZE};
 use gimli_core::Reader;
 use gimli_line::LineProgramHeader;
 use std::alloc::Global;
 
 /// Reads the directory of a number, as files have it: up to version 4 from 1 on, in version 5 from
-/// 0 on. Its bytes go into `bytes`, as far as they stand in the section itself, and there is room.
-/// `NO_SUCH_DIRECTORY` where there is no such directory, as there is none of number 0 up to
-/// version 4. Where another number than 0 is returned, nothing is written. For `address_size` and
-/// the order see `gimli_line_proved_read_unit`.
+/// 0 on. Its bytes go to the front of `bytes`, as far as they stand in the section itself.
+/// `NO_ROOM` where `bytes` is shorter: then `directory` alone is written. `NO_SUCH_DIRECTORY` where
+/// there is no such directory, as there is none of number 0 up to version 4. Where another number
+/// than these is returned, nothing is written. For `address_size` and the order see
+/// `gimli_line_proved_read_unit`.
 #[unsafe(no_mangle)]
 pub extern "C" fn gimli_line_proved_read_directory(
     alloc: Global,
@@ -30,14 +31,17 @@ pub extern "C" fn gimli_line_proved_read_directory(
     directory: &mut GimliText,
     bytes: &mut [u8],
 ) -> u32
-    ensures found { result ≡ OK → GivesDirectory (location section.now big address_size offset)
-        number directory.new bytes.old bytes.new }
+    ensures found { result ≡ OK → WritesDirectoryText
+        (location section.now big address_size offset) number directory.new bytes.old bytes.new }
+    ensures larger { result ≡ NO_ROOM → NeedsTextRoom
+        (location section.now big address_size offset) number directory.new bytes.old }
     ensures none { result ≡ NO_SUCH_DIRECTORY →
         GivesNoDirectory (location section.now big address_size offset) number }
-    ensures refused { result ≢ OK → result ≢ NO_SUCH_DIRECTORY → result ≢ OUT_OF_MEMORY →
-        HasNoUnit (location section.now big address_size offset) result }
+    ensures refused { result ≢ OK → result ≢ NO_ROOM → result ≢ NO_SUCH_DIRECTORY
+        → result ≢ OUT_OF_MEMORY → HasNoUnit (location section.now big address_size offset) result }
     ensures size { is_address_size address_size ≡ false → result ≡ UNSUPPORTED_ADDRESS_SIZE }
-    ensures kept { result ≢ OK → (directory.new ≡ directory.old) × (bytes.new ≡ bytes.old) }
+    ensures kept { result ≢ OK → bytes.new ≡ bytes.old }
+    ensures no_text { result ≢ OK → result ≢ NO_ROOM → directory.new ≡ directory.old }
 {
     let program = match program_at(alloc, section, big, address_size, offset) {
         Ok(program) => program,
@@ -48,8 +52,7 @@ pub extern "C" fn gimli_line_proved_read_directory(
         None => return NO_SUCH_DIRECTORY,
     };
     *directory = told;
-    copy_text(text, bytes);
-    OK
+    put_bytes(bytes_of(text), bytes)
 }
 
 /// Where the directory of a number of a header stands, and its text where that is the section

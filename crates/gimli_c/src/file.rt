@@ -1,21 +1,24 @@
 //! The files of a unit.
 
-ghost use Rattle.std.specs.Prelude.{◌≡◌, ◌≢◌, [], IfNone, IfSome, None, false, option_map};
+ghost use Rattle.std.specs.Prelude.{◌≡◌, ◌≢◌, ◌<◌, [], length, IfNone, IfSome, None, false};
+ghost use Rattle.std.specs.Prelude.{option_map};
 ghost use Rattle.std.specs.Prelude.{unwrap_or};
 ghost use Rattle.gimli_core.specs.Numbers.{is_address_size};
 ghost use Rattle.gimli_core.specs.Values.{value_seen};
 ghost use Rattle.gimli_line.specs.header.File.{file_seen};
 ghost use Rattle.gimli_c.specs.FileSeen.{details_of, file_seen_by_c, optional_text_seen, text_here};
 ghost use Rattle.gimli_line.specs.header.Header.{file_of};
-ghost use Rattle.gimli_c.specs.FileSeen.{GivesFile, GivesNoFile};
+ghost use Rattle.gimli_c.specs.FileSeen.{GivesNoFile, NeedsFileRoom, WritesFile};
 ghost use Rattle.gimli_c.specs.inside.Told.{TellsFile};
 ghost use Rattle.gimli_c.specs.Location.{location, HasNoUnit};
-ghost use Rattle.gimli_c.specs.Written.{slots_with};
+ghost use Rattle.gimli_c.specs.Written.{slots_with, IsPut};
 
 use crate::location::program_at;
 use crate::row::flag;
 use crate::run::run_to_file;
-use crate::status::{NO_SUCH_FILE, OK, OUT_OF_MEMORY, UNSUPPORTED_ADDRESS_SIZE, error_status};
+use crate::status::{
+    NO_ROOM, NO_SUCH_FILE, OK, OUT_OF_MEMORY, UNSUPPORTED_ADDRESS_SIZE, error_status,
+};
 use gimli_core::{AttributeValue, EndianSlice, Reader, ReaderOffset, RunTimeEndian};
 use gimli_line::{FileEntry, LineProgramHeader};
 use std::alloc::Global;
@@ -81,10 +84,11 @@ pub const HAS_SOURCE: u64 = 8;
 
 /// Reads the file of a number, as rows have it: up to version 4 from 1 on, in version 5 from 0 on.
 /// Where the unit's table has no such file, the program is run to its end, past its faults, for the
-/// files that it defines. The bytes of the path and of the directory go into `path` and
-/// `directory`, as far as they stand in the section itself, and there is room. `NO_SUCH_FILE` where
-/// there is no such file. Where another number than 0 is returned, nothing is written. For
-/// `address_size` and the order see `gimli_line_proved_read_unit`.
+/// files that it defines. The bytes of the path and of the directory go to the front of `path` and
+/// of `directory`, as far as they stand in the section itself. `NO_ROOM` where one of these is
+/// shorter: then `file` alone is written. `NO_SUCH_FILE` where there is no such file. Where another
+/// number than these is returned, nothing is written. For `address_size` and the order see
+/// `gimli_line_proved_read_unit`.
 #[unsafe(no_mangle)]
 pub extern "C" fn gimli_line_proved_read_file(
     alloc: Global,
@@ -97,15 +101,17 @@ pub extern "C" fn gimli_line_proved_read_file(
     path: &mut [u8],
     directory: &mut [u8],
 ) -> u32
-    ensures found { result ≡ OK → GivesFile (location section.now big address_size offset)
+    ensures found { result ≡ OK → WritesFile (location section.now big address_size offset)
         number file.new path.old path.new directory.old directory.new }
+    ensures larger { result ≡ NO_ROOM → NeedsFileRoom (location section.now big address_size offset)
+        number file.new path.old directory.old }
     ensures none { result ≡ NO_SUCH_FILE →
         GivesNoFile (location section.now big address_size offset) number }
-    ensures refused { result ≢ OK → result ≢ NO_SUCH_FILE → result ≢ OUT_OF_MEMORY →
-        HasNoUnit (location section.now big address_size offset) result }
+    ensures refused { result ≢ OK → result ≢ NO_ROOM → result ≢ NO_SUCH_FILE
+        → result ≢ OUT_OF_MEMORY → HasNoUnit (location section.now big address_size offset) result }
     ensures size { is_address_size address_size ≡ false → result ≡ UNSUPPORTED_ADDRESS_SIZE }
-    ensures kept { result ≢ OK →
-        (file.new ≡ file.old) × (path.new ≡ path.old) × (directory.new ≡ directory.old) }
+    ensures kept { result ≢ OK → (path.new ≡ path.old) × (directory.new ≡ directory.old) }
+    ensures no_file { result ≢ OK → result ≢ NO_ROOM → file.new ≡ file.old }
 {
     let program = match program_at(alloc, section, big, address_size, offset) {
         Ok(program) => program,
@@ -121,8 +127,13 @@ pub extern "C" fn gimli_line_proved_read_file(
         None => return NO_SUCH_FILE,
     };
     *file = told;
-    copy_text(path_text, path);
-    copy_text(directory_text, directory);
+    let path_bytes = bytes_of(path_text);
+    let directory_bytes = bytes_of(directory_text);
+    if path_bytes.len() > path.len() || directory_bytes.len() > directory.len() {
+        return NO_ROOM;
+    }
+    copy_bytes(path_bytes, path);
+    copy_bytes(directory_bytes, directory);
     OK
 }
 
@@ -210,16 +221,28 @@ pub(crate) fn text_here<R: Reader>(value: Option<AttributeValue<R>>) -> Option<R
     }
 }
 
-/// Puts a text, if there is one, into an array, as far as there is room.
-#[tactic(auto, using(crate::proofs::Arrays::written_none))]
-pub(crate) fn copy_text(text: Option<EndianSlice<'_, RunTimeEndian>>, room: &mut [u8])
-    ensures { room.new
-        ≡ slots_with (unwrap_or (option_map (λ s. s.slice.now) text.entry) []) room.old }
+/// The bytes of a text; none where there is no text.
+pub(crate) fn bytes_of<'s>(text: Option<EndianSlice<'s, RunTimeEndian>>) -> &'s [u8]
+    ensures { result.now ≡ unwrap_or (option_map (λ s. s.slice.now) text.entry) [] }
 {
     match text {
-        Some(text) => copy_bytes(text.slice(), room),
-        None => {}
+        Some(text) => text.slice(),
+        None => &[],
     }
+}
+
+/// Puts bytes to the front of an array. `NO_ROOM` where that is shorter: then none is written.
+pub(crate) fn put_bytes(bytes: &[u8], room: &mut [u8]) -> u32
+    ensures put { result ≡ OK → IsPut bytes.now room.old room.new }
+    ensures larger { result ≡ NO_ROOM → length room.old < length bytes.now }
+    ensures number { result ≢ OK → result ≡ NO_ROOM }
+    ensures kept { result ≢ OK → room.new ≡ room.old }
+{
+    if bytes.len() > room.len() {
+        return NO_ROOM;
+    }
+    copy_bytes(bytes, room);
+    OK
 }
 
 /// Puts bytes into an array, as far as there is room.

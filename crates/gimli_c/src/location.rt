@@ -5,7 +5,7 @@ ghost use Rattle.gimli_core.specs.Numbers.{is_address_size};
 ghost use Rattle.std.specs.Prelude.{◌≡◌, ◌≢◌, Err, IfErr, IfOk, false};
 ghost use Rattle.gimli_c.specs.Location.{location, notation_at, HasUnit, HasNoUnit};
 
-use crate::status::{OUT_OF_MEMORY, UNSUPPORTED_ADDRESS_SIZE, error_status};
+use crate::status::{NO_ROOM, OK, OUT_OF_MEMORY, UNSUPPORTED_ADDRESS_SIZE, error_status};
 use gimli_core::{DebugLineOffset, EndianSlice, RunTimeEndian};
 use gimli_line::{DebugLine, IncompleteLineProgram};
 use std::alloc::Global;
@@ -25,6 +25,7 @@ pub(crate) fn program_at<'s>(
         program.notation ≡ notation_at (location section.now big address_size offset)) }
     ensures refused { IfErr result (λ status. status ≢ OUT_OF_MEMORY →
         HasNoUnit (location section.now big address_size offset) status) }
+    ensures other { IfErr result (λ status. (status ≢ OK) × (status ≢ NO_ROOM)) }
     ensures size { is_address_size address_size ≡ false → result ≡ Err UNSUPPORTED_ADDRESS_SIZE }
 {
     if !is_address_size(address_size) {

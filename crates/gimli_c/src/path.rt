@@ -8,13 +8,14 @@ ghost use Rattle.gimli_lookup.specs.Strings.{strings};
 ghost use Rattle.gimli_lookup.specs.declared.path_error.PathError.{PathError};
 ghost use Rattle.gimli_lookup.specs.declared.path_error.PathError.TheVariants.{OutOfMemory};
 ghost use Rattle.gimli_c.specs.Location.{location};
-ghost use Rattle.gimli_c.specs.Path.{paths_handed, texts_handed, GivesPath, HasNoPath, WritesPath};
+ghost use Rattle.gimli_c.specs.Path.{paths_handed, texts_handed, GivesPath, HasNoPath};
+ghost use Rattle.gimli_c.specs.Path.{NeedsPathRoom, WritesPath};
 
-use crate::file::copy_bytes;
+use crate::file::put_bytes;
 use crate::location::{order, program_at};
 use crate::run::run_to_file;
 use crate::status::{
-    NO_SUCH_FILE, OK, OUT_OF_MEMORY, UNKNOWN_PATH, UNSUPPORTED_ADDRESS_SIZE, error_status,
+    NO_ROOM, NO_SUCH_FILE, OK, OUT_OF_MEMORY, UNKNOWN_PATH, UNSUPPORTED_ADDRESS_SIZE, error_status,
 };
 use gimli_core::{EndianSlice, RunTimeEndian};
 use gimli_line::{FileEntry, LineProgramHeader};
@@ -27,7 +28,7 @@ type Slice<'s> = EndianSlice<'s, RunTimeEndian>;
 /// The number of a refusal: `OUT_OF_MEMORY` or `UNKNOWN_PATH`.
 fn path_status(error: PathError) -> u32
     ensures number { result ≢ OUT_OF_MEMORY → (result ≡ UNKNOWN_PATH) × (error ≢ OutOfMemory) }
-    ensures bad { result ≢ OK }
+    ensures other { (result ≢ OK) × (result ≢ NO_ROOM) }
 {
     match error {
         PathError::OutOfMemory => OUT_OF_MEMORY,
@@ -50,7 +51,7 @@ fn path_in_header<'s>(
         × (file_path
         (paths_handed (strings (λ s. s.slice.now) texts.entry) header.now.meaning comp_dir.now)
         (file_seen (λ s. s.slice.now) (λ n. n) file.now) ≡ Err e))) }
-    ensures bad { IfErr result (λ s. s ≢ OK) }
+    ensures other { IfErr result (λ s. (s ≢ OK) × (s ≢ NO_ROOM)) }
 {
     match Paths::new(header, texts, Some(comp_dir)).of_file(alloc, file) {
         Ok(path) => Ok(path),
@@ -75,6 +76,7 @@ fn path_of<'s>(
         (location section.now big address_size offset) (strings (λ s. s.slice.now) texts.entry)
         number
         comp_dir.now s) }
+    ensures other { IfErr result (λ s. (s ≢ OK) × (s ≢ NO_ROOM)) }
     ensures size { is_address_size address_size ≡ false → result ≡ Err UNSUPPORTED_ADDRESS_SIZE }
 {
     let program = match program_at(alloc, section, big, address_size, offset) {
@@ -100,10 +102,11 @@ fn path_of<'s>(
 /// `comp_dir` counts where it is relative. Where `comp_dir` has no bytes, such a path stays
 /// relative. `line_strings` and `strings` are the sections `.debug_line_str` and `.debug_str`, or
 /// no bytes. Where the unit's table has no such file, the program is run to its end, past its
-/// faults, for the files that it defines. The bytes go into `path`, as far as there is room; `size`
-/// is how many there are. `NO_SUCH_FILE` where there is no such file, and `UNKNOWN_PATH` where a
-/// string of the path can't be told. Where another number than 0 is returned, nothing is written.
-/// For `address_size` and the order see `gimli_line_proved_read_unit`.
+/// faults, for the files that it defines. The bytes go to the front of `path`; `size` is how many
+/// there are. `NO_ROOM` where `path` is shorter: then `size` alone is written. `NO_SUCH_FILE` where
+/// there is no such file, and `UNKNOWN_PATH` where a string of the path can't be told. Where
+/// another number than these is returned, nothing is written. For `address_size` and the order see
+/// `gimli_line_proved_read_unit`.
 #[unsafe(no_mangle)]
 pub extern "C" fn gimli_line_proved_read_path(
     alloc: Global,
@@ -120,11 +123,14 @@ pub extern "C" fn gimli_line_proved_read_path(
 ) -> u32
     ensures found { result ≡ OK → WritesPath (location section.now big address_size offset)
         (texts_handed line_strings.now strings.now) number comp_dir.now path.old path.new size.new }
-    ensures refused { result ≢ OK → result ≢ OUT_OF_MEMORY → HasNoPath
+    ensures larger { result ≡ NO_ROOM → NeedsPathRoom (location section.now big address_size offset)
+        (texts_handed line_strings.now strings.now) number comp_dir.now path.old size.new }
+    ensures refused { result ≢ OK → result ≢ NO_ROOM → result ≢ OUT_OF_MEMORY → HasNoPath
         (location section.now big address_size offset)
         (texts_handed line_strings.now strings.now) number comp_dir.now result }
     ensures bad_size { is_address_size address_size ≡ false → result ≡ UNSUPPORTED_ADDRESS_SIZE }
-    ensures kept { result ≢ OK → (path.new ≡ path.old) × (size.new ≡ size.old) }
+    ensures kept { result ≢ OK → path.new ≡ path.old }
+    ensures no_size { result ≢ OK → result ≢ NO_ROOM → size.new ≡ size.old }
 {
     let order = order(big);
     let texts = StringSections {
@@ -144,8 +150,7 @@ pub extern "C" fn gimli_line_proved_read_path(
         Ok(whole) => {
             let bytes = whole.as_slice();
             *size = bytes.len();
-            copy_bytes(bytes, path);
-            OK
+            put_bytes(bytes, path)
         }
         Err(status) => status,
     }

@@ -1,6 +1,6 @@
 //! The numbers that calls return.
 
-ghost use Rattle.std.specs.Prelude.{◌≡◌};
+ghost use Rattle.std.specs.Prelude.{◌≡◌, ◌≢◌};
 ghost use Rattle.gimli_c.specs.Status.{error_status};
 
 use gimli_core::Error;
@@ -71,7 +71,7 @@ pub const NEED_VERSION_4: u32 = 29;
 /// A length that offsets of this size can't say, or the first address of a sequence is wider than
 /// addresses are.
 pub const UNIT_TOO_LONG: u32 = 30;
-/// The unit is longer than the room for it.
+/// What is written is longer than the room for it.
 pub const NO_ROOM: u32 = 31;
 
 /// A string of a path can't be told: it is given by an index, stands in the supplementary file or
@@ -105,14 +105,15 @@ pub const NO_SECTION: u32 = 45;
 /// relocations are.
 pub const BAD_SECTION: u32 = 46;
 /// An index would have ranges, files, bytes of paths or bytes of its identity that 32 bits don't
-/// count.
+/// count, or more bytes of paths than the limit for them.
 pub const INDEX_TOO_LARGE: u32 = 47;
 /// A line that an index would have is one that 32 bits don't hold, or a column one that 31 don't.
 pub const PLACE_TOO_LARGE: u32 = 48;
 
 /// The number of a refusal.
 pub(crate) fn error_status(error: Error) -> u32
-    ensures { result ≡ error_status error }
+    ensures number { result ≡ error_status error }
+    ensures other { (result ≢ OK) × (result ≢ NO_ROOM) }
 {
     match error {
         Error::UnexpectedEof(_) => UNEXPECTED_EOF,

@@ -13,17 +13,20 @@
 
 /* The addresses of a line, or of the next that has any: this line and an address on each line of output. */
 static void print_line(const uint8_t *index, size_t length, const char *path, const char *colon) {
-    uint64_t addresses[64], line;
-    size_t count;
-    gimli_line_status status = gimli_line_index_addresses_of(index, length, path, (size_t)(colon - path), strtoull(colon + 1, NULL, 10),
-                                                             &line, addresses, 64, &count);
+    uint64_t asked = strtoull(colon + 1, NULL, 10), line = 0;
+    size_t path_length = (size_t)(colon - path), count = 0;
+    /* With no room it tells how many there are. */
+    gimli_line_status status = gimli_line_index_addresses_of(index, length, path, path_length, asked, &line, NULL, 0, &count);
     if (status == GIMLI_LINE_NO_CODE) {
         puts("none");
         return;
     }
-    stop_if(status);
-    for (size_t i = 0; i < count && i < 64; i++) printf("%" PRIu64 " %" PRIx64 "\n", line, addresses[i]);
-    if (count > 64) printf("and %zu more\n", count - 64);
+    if (status != GIMLI_LINE_NO_ROOM) stop_if(status);
+    uint64_t *addresses = malloc((count + 1) * sizeof *addresses);
+    stop_if(addresses == NULL ? GIMLI_LINE_OUT_OF_MEMORY
+                              : gimli_line_index_addresses_of(index, length, path, path_length, asked, &line, addresses, count, &count));
+    for (size_t i = 0; i < count; i++) printf("%" PRIu64 " %" PRIx64 "\n", line, addresses[i]);
+    free(addresses);
 }
 
 int main(int argc, char **argv) {

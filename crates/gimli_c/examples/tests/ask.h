@@ -51,7 +51,7 @@ static inline bool is_untouched(const void *room, size_t size) {
     return true;
 }
 
-/* A call that puts elements into an array, as far as there is room, and says beside it how many there are. */
+/* A call that puts elements into an array, and says beside it how many there are. */
 typedef uint32_t call(size_t offset, uint64_t number, void *array, size_t room, void *beside);
 
 /* What such a call answers. */
@@ -66,12 +66,14 @@ static inline uint32_t rows_in(size_t offset, uint64_t skip, void *rows, size_t 
     return gimli_line_read_rows(&in, offset, skip, (gimli_line_row *)rows, room, (uint64_t *)count);
 }
 
+static _Thread_local char other[LARGEST]; /* the text of a file that isn't looked at */
+
 static inline uint32_t file_path_in(size_t offset, uint64_t number, void *path, size_t room, void *file) {
-    return gimli_line_read_file(&in, offset, number, (gimli_line_file *)file, (char *)path, room, NULL, 0);
+    return gimli_line_read_file(&in, offset, number, (gimli_line_file *)file, (char *)path, room, other, sizeof other);
 }
 
 static inline uint32_t file_directory_in(size_t offset, uint64_t number, void *directory, size_t room, void *file) {
-    return gimli_line_read_file(&in, offset, number, (gimli_line_file *)file, NULL, 0, (char *)directory, room);
+    return gimli_line_read_file(&in, offset, number, (gimli_line_file *)file, other, sizeof other, (char *)directory, room);
 }
 
 static inline uint32_t directory_in(size_t offset, uint64_t number, void *directory, size_t room, void *text) {
@@ -91,25 +93,30 @@ static inline uint32_t path_in(size_t offset, uint64_t number, void *path, size_
     return gimli_line_read_path(&in, offset, number, from, comp_dir_size, (char *)path, room, (size_t *)size);
 }
 
-/* Makes a call with each room, from none to more than enough, or with two alone where that takes too long. It always answers the same, and
- * writes nothing else: nothing at all where it refuses, but for rows, which come before a fault. */
+/* Makes a call with each room, from none to more than enough, or with two alone where that takes too long. It always says the same beside
+ * it, and writes nothing else: nothing to the array where there is too little room, and nothing at all where it refuses. But rows are a
+ * window, as far as there is room, and come before a fault. */
 static bool is_quick;
 
 static inline uint32_t try_rooms(call *made, size_t offset, uint64_t number, size_t element, size_t beside_size, size_t count_at,
                                  told *told) {
     uint8_t *beside = (uint8_t *)room_in(BESIDE, beside_size);
     told->status = made(offset, number, room_in(ARRAY, 0), 0, beside);
+    bool is_window = made == rows_in, is_told = told->status == GIMLI_LINE_OK || told->status == GIMLI_LINE_NO_ROOM;
     told->count = 0;
-    if (told->status == GIMLI_LINE_OK || made == rows_in) memcpy(&told->count, beside + count_at, sizeof told->count);
-    is(told->status == GIMLI_LINE_OK || made == rows_in || is_untouched(beside, beside_size), "nothing is written at a refusal");
+    if (is_told || is_window) memcpy(&told->count, beside + count_at, sizeof told->count);
+    is(is_told || is_window || is_untouched(beside, beside_size), "nothing is written at a refusal");
+    is((told->status == GIMLI_LINE_NO_ROOM) == (!is_window && told->count != 0), "no room");
+    if (told->status == GIMLI_LINE_NO_ROOM) told->status = GIMLI_LINE_OK;
     memcpy(told->beside, beside, beside_size);
     is(told->count * element <= LARGEST, "an array isn't too large");
     size_t most = told->count + 3;
     for (size_t step = 0; step <= most; step += is_quick ? most / 2 + 1 : 1) {
-        size_t room = most - step, written = (room < told->count ? room : told->count) * element;
+        size_t room = most - step, part = is_window ? room : 0, written = (room < told->count ? part : told->count) * element;
+        uint32_t wanted = !is_window && room < told->count ? (uint32_t)GIMLI_LINE_NO_ROOM : told->status;
         uint8_t *array = (uint8_t *)room_in(ARRAY, room * element);
         beside = (uint8_t *)room_in(BESIDE, beside_size);
-        is(made(offset, number, array, room, beside) == told->status && memcmp(beside, told->beside, beside_size) == 0,
+        is(made(offset, number, array, room, beside) == wanted && memcmp(beside, told->beside, beside_size) == 0,
            "an answer by another room");
         if (step == 0) memcpy(told->array, array, written);
         is(memcmp(array, told->array, written) == 0 && is_untouched(array + written, room * element - written), "an array by another room");
@@ -214,8 +221,9 @@ static inline uint32_t ask_index(const uint8_t *index, size_t length, uint64_t a
         is(checked != GIMLI_LINE_OK || place.no_path != GIMLI_LINE_NO_PATH_OUTSIDE, "a path of an index that was checked");
     }
     uint32_t told = gimli_line_index_addresses_of(index, length, "0.c", 3, 1, &line, addresses, 4, &count);
-    is(opened == GIMLI_LINE_OK ? told == GIMLI_LINE_NO_CODE || (told == GIMLI_LINE_OK && count != 0 && count <= about.ranges)
-                               : told == opened,
+    is(opened != GIMLI_LINE_OK ? told == opened
+       : count == 0            ? told == GIMLI_LINE_NO_CODE
+                               : told == (count <= 4 ? GIMLI_LINE_OK : GIMLI_LINE_NO_ROOM) && count <= about.ranges,
        "a line");
     SEEN(13, checked);
     SEEN(14, told);

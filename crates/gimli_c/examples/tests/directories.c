@@ -5,6 +5,7 @@
 #include <pthread.h>
 
 #include "ask.h"
+#include "../../make/proved.h"
 
 enum { THREADS = 8 };
 
@@ -154,19 +155,29 @@ static void units(const uint8_t *lines, size_t size, gimli_line_unit wanted) {
 }
 
 /* An index of sections has the whole paths where .debug_info is there. It tells the addresses of a line of a path, or of the next line that
- * has any: none of a file that no row has, nor of one without statements from the line on. indexes.c has more paths. */
+ * has any: none of a file that no row has, nor of one without statements from the line on, nor by a path without a component. indexes.c has
+ * more paths. */
 static void lines_of_paths(void) {
     static const struct {
         int has_info;
         const char *path;
         uint64_t line, found, addresses[2];
-    } wanted[] = {{1, "a.c", 3, 3, {0x1000, 0x1008}}, {1, "/w/a.c", 1, 3, {0x1000, 0x1008}},
-                  {1, "x/../b.h", 4, 5, {0x1004, 0}}, {1, "/w/./inc//b.h/", 5, 5, {0x1004, 0}},
-                  {1, "", 4, 5, {0x1004, 0}},         {1, "a.c", 4, 0, {0, 0}},
-                  {1, "b.h", 6, 0, {0, 0}},           {1, "d.c", 1, 0, {0, 0}},
-                  {1, "/inc/b.h", 1, 0, {0, 0}},      {1, "v/a.c", 1, 0, {0, 0}},
-                  {1, "x/w/a.c", 1, 0, {0, 0}},       {0, "a.c", 3, 3, {0x1000, 0x1008}},
-                  {0, "inc/b.h", 3, 5, {0x1004, 0}},  {0, "/w/a.c", 1, 0, {0, 0}}};
+    } wanted[] = {{1, "a.c", 3, 3, {0x1000, 0x1008}},
+                  {1, "/w/a.c", 1, 3, {0x1000, 0x1008}},
+                  {1, "x/../b.h", 4, 5, {0x1004, 0}},
+                  {1, "/w/./inc//b.h/", 5, 5, {0x1004, 0}},
+                  {1, "", 4, 0, {0, 0}},
+                  {1, "a.c", 4, 0, {0, 0}},
+                  {1, "b.h", 6, 0, {0, 0}},
+                  {1, "d.c", 1, 0, {0, 0}},
+                  {1, "/inc/b.h", 1, 0, {0, 0}},
+                  {1, "v/a.c", 1, 0, {0, 0}},
+                  {1, "x/w/a.c", 1, 0, {0, 0}},
+                  {0, "a.c", 3, 3, {0x1000, 0x1008}},
+                  {0, "inc/b.h", 3, 5, {0x1004, 0}},
+                  {0, "/w/a.c", 1, 0, {0, 0}},
+                  {1, "./", 3, 0, {0, 0}},
+                  {1, "a.c", 3, 3, {0x1000, 0x1008}}};
     for (size_t i = 0; i < sizeof wanted / sizeof wanted[0]; i++) {
         uint64_t found = 77, addresses[3] = {77, 77, 77}, room = i % 4;
         size_t size, count = 77, all = (wanted[i].addresses[0] != 0) + (wanted[i].addresses[1] != 0);
@@ -175,13 +186,80 @@ static void lines_of_paths(void) {
         is(gimli_line_index_of_sections(&in, NULL, 0, &index, &size) == GIMLI_LINE_OK, "an index of sections");
         uint32_t status = gimli_line_index_addresses_of(index, size, wanted[i].path, strlen(wanted[i].path), wanted[i].line, &found,
                                                         addresses, room, &count);
-        is(status == (all == 0 ? GIMLI_LINE_NO_CODE : GIMLI_LINE_OK), wanted[i].path);
-        is(found == (all == 0 ? 77 : wanted[i].found) && count == (all == 0 ? 77 : all), wanted[i].path);
-        for (size_t k = 0; k < 3; k++) is(addresses[k] == (k < all && k < room ? wanted[i].addresses[k] : 77), wanted[i].path);
+        bool fits = all != 0 && all <= room;
+        is(status == (fits ? GIMLI_LINE_OK : all == 0 ? GIMLI_LINE_NO_CODE : GIMLI_LINE_NO_ROOM), wanted[i].path);
+        is(found == (fits ? wanted[i].found : 77) && count == (all == 0 ? 77 : all), wanted[i].path);
+        for (size_t k = 0; k < 3; k++) is(addresses[k] == (fits && k < all ? wanted[i].addresses[k] : 77), wanted[i].path);
         gimli_line_place place;
         is(gimli_line_index_find(index, size, 0x100c, &place) == GIMLI_LINE_OK && place.line == 9 && !place.is_stmt, "line 9");
         free(index);
     }
+}
+
+/* A file of a path and a directory of three bytes each, by rooms for both. */
+static void two_rooms(void) {
+    take_version(4);
+    for (size_t i = 0; i < 25; i++) {
+        size_t path_room = i % 5, directory_room = i / 5;
+        bool fits = path_room >= 3 && directory_room >= 3;
+        gimli_line_file *file = room_in(BESIDE, sizeof *file);
+        char *path = room_in(ARRAY, path_room), *directory = room_in(ANOTHER, directory_room);
+        is(gimli_line_read_file(&in, 0, 2, file, path, path_room, directory, directory_room) == (fits ? GIMLI_LINE_OK : GIMLI_LINE_NO_ROOM),
+           "rooms of a file");
+        is(file->path.size == 3 && file->directory.size == 3 && file->directory_number == 1, "a file");
+        is(fits ? memcmp(path, "b.h", 3) == 0 && memcmp(directory, "inc", 3) == 0
+                : is_untouched(path, path_room) && is_untouched(directory, directory_room),
+           "its texts");
+        is(!fits || (is_untouched(path + 3, path_room - 3) && is_untouched(directory + 3, directory_room - 3)), "the rest of the rooms");
+    }
+}
+
+/* The paths of an index, /w/a.c and /w/inc/b.h, have 16 bytes. */
+static void limit_of_paths(void) {
+    static const uint8_t none = 0;
+    uint8_t index[512];
+    size_t size;
+    take_version(4);
+    for (size_t limit = 0; limit < 20; limit++) {
+        const gimli_line_proved_options by = {sizeof by, 1, 8, false, limit};
+        is(gimli_line_proved_index_write(in.line, in.line_size, &none, 0, &none, 0, in.info, in.info_size, in.abbreviations,
+                                         in.abbreviations_size, &none, 0, &by, &none, 0, index, sizeof index,
+                                         &size) == (limit < 16 ? (uint32_t)GIMLI_LINE_INDEX_TOO_LARGE : (uint32_t)GIMLI_LINE_OK) &&
+               (size == 0) == (limit < 16),
+           "the limit of paths");
+    }
+}
+
+/* A directory of 60,000 bytes, and 8,000 files in it, each with a row: their paths have 480 MB, and the section 156 KB. */
+static void long_paths(void) {
+    enum { DIRECTORY = 60000, FILES = 8000, SIZE = 200000 };
+    static const uint8_t head[] = {4, 0, 0, 0, 0, 0, 1, 1, 1, 0xfb, 14, 13, 0, 1, 1, 1, 1, 0, 0, 0, 1, 0, 0, 1},
+                         start[] = {0, 9, 2, 0, 0x10, 0, 0, 0, 0, 0, 0}, end[] = {2, 1, 0, 1, 1};
+    uint8_t *lines = malloc(SIZE), *at = memcpy(lines + 4, head, sizeof head), *index;
+    at = (uint8_t *)memset(at + sizeof head, 'd', DIRECTORY) + DIRECTORY;
+    *at++ = 0;
+    *at++ = 0;
+    for (int i = 0; i < FILES; i++, at += 8) snprintf((char *)at, 5, "%04d", i), at[5] = 1, at[6] = at[7] = 0;
+    *at++ = 0;
+    uint32_t header = (uint32_t)(at - lines - 10), whole;
+    memcpy(lines + 6, &header, 4);
+    at = (uint8_t *)memcpy(at, start, sizeof start) + sizeof start;
+    for (int i = 1; i <= FILES; i++) {
+        const uint8_t row[] = {4, (uint8_t)(i | 0x80), (uint8_t)(i >> 7), 0x21};
+        at = (uint8_t *)memcpy(at, row, sizeof row) + sizeof row;
+    }
+    at = (uint8_t *)memcpy(at, end, sizeof end) + sizeof end;
+    whole = (uint32_t)(at - lines - 4);
+    memcpy(lines, &whole, 4);
+    in = (gimli_line_sections)GIMLI_LINE_SECTIONS;
+    in.line = lines;
+    in.line_size = (size_t)(at - lines);
+    gimli_line_unit unit;
+    size_t size;
+    is(gimli_line_read_unit(&in, 0, &unit) == GIMLI_LINE_OK && unit.rows == FILES + 1 && unit.files == FILES && unit.fault == 0,
+       "many files");
+    is(gimli_line_index_of_sections(&in, NULL, 0, &index, &size) == GIMLI_LINE_INDEX_TOO_LARGE && index == NULL && size == 0, "long paths");
+    free(lines);
 }
 
 /* The directory of a compilation; none of another line program, nor where a section is cut, a unit can't be read, or a text has no end. */
@@ -216,11 +294,12 @@ static void structs(void) {
     take_version(4);
     in.strings = in.line_strings = in.string_offsets = NULL;
     is(gimli_line_read_rows(&in, 0, 0, NULL, 0, &count) == GIMLI_LINE_OK && count == 5, "no room for rows");
-    is(gimli_line_read_path(&in, 0, 1, NULL, 0, NULL, 0, &size) == GIMLI_LINE_OK && size == 3, "no room for a path");
-    is(gimli_line_comp_dir(&in, 0, NULL, 0, &size) == GIMLI_LINE_OK && size == 2, "no room for a directory");
+    is(gimli_line_read_path(&in, 0, 1, NULL, 0, NULL, 0, &size) == GIMLI_LINE_NO_ROOM && size == 3, "no room for a path");
+    is(gimli_line_comp_dir(&in, 0, NULL, 0, &size) == GIMLI_LINE_NO_ROOM && size == 2, "no room for a directory");
     is(gimli_line_index_of_sections(&in, NULL, 0, &index, &size) == GIMLI_LINE_OK, "an index without an identity");
     is(gimli_line_index_find_all(index, size, NULL, 0) == GIMLI_LINE_OK, "no places");
-    is(gimli_line_index_addresses_of(index, size, NULL, 0, 3, &line, NULL, 0, &many) == GIMLI_LINE_OK && line == 3 && many == 2, "no path");
+    is(gimli_line_index_addresses_of(index, size, NULL, 0, 3, &line, NULL, 0, &many) == GIMLI_LINE_NO_CODE && line == 77 && many == 77,
+       "no path");
     free(index);
     in.struct_size--;
     gimli_line_unit *unit = room_in(ANOTHER, sizeof *unit);
@@ -243,11 +322,14 @@ static void *all(void *nothing) {
     units(lines_4, sizeof lines_4, (gimli_line_unit){sizeof lines_4 - 4, 0, 1, 3, 5, 4, 8, 4, 0});
     units(lines_5, sizeof lines_5, (gimli_line_unit){sizeof lines_5 - 4, 0, 3, 3, 0, 5, 8, 4, 0});
     lines_of_paths();
+    two_rooms();
+    limit_of_paths();
     return nothing;
 }
 
 int main(void) {
     all(NULL);
+    long_paths();
     printf("%lu\n", atomic_load(&answers));
     pthread_t threads[THREADS];
     for (int i = 0; i < THREADS; i++) is(pthread_create(&threads[i], NULL, all, NULL) == 0, "a thread");

@@ -96,19 +96,18 @@ static void ask_address(const uint8_t *index, size_t length, uint64_t address) {
     size_t count;
     found = gimli_line_index_addresses_of(index, length, gimli_line_place_path(index, there), there->path_size, row.line, line, addresses,
                                           2, &count);
-    is(found == GIMLI_LINE_OK ? *line >= row.line && (!there->is_stmt || *line == row.line)
-                              : found == GIMLI_LINE_NO_CODE && !there->is_stmt,
+    is(found == GIMLI_LINE_OK        ? *line >= row.line && (!there->is_stmt || *line == row.line)
+       : found == GIMLI_LINE_NO_ROOM ? count > 2 && is_untouched(line, sizeof *line)
+                                     : found == GIMLI_LINE_NO_CODE && !there->is_stmt,
        "a line");
-    is(is_untouched(addresses + (found == GIMLI_LINE_OK ? count : 0), found != GIMLI_LINE_OK ? 16
-                                                                      : count < 2            ? 8
-                                                                                             : 0),
-       "the addresses of a line");
+    size_t written = found == GIMLI_LINE_OK ? count : 0;
+    is(is_untouched(addresses + written, (2 - written) * sizeof *addresses), "the addresses of a line");
 }
 
 /* The index of the program, and what it says of each address near a row. */
 static void make_index(void) {
     size_t whole;
-    gimli_line_proved_options by = {sizeof by, in.lowest, 8, false};
+    gimli_line_proved_options by = {sizeof by, in.lowest, 8, false, SIZE_MAX};
     uint8_t *index = made_by(index_of, &by, &whole);
     gimli_line_index *found = room_in(ANOTHER, sizeof *found);
     is(gimli_line_index_open(index, whole, found) == GIMLI_LINE_OK && found->identity_size == 4 && found->address_size == 8 &&
@@ -124,6 +123,8 @@ static void make_index(void) {
             for (uint64_t address = row.address - 1; address != row.address + 2; address++) ask_address(index, whole, address);
         }
     }
+    by.limit = 0;
+    is(index_of(&by, index, whole, &whole) == GIMLI_LINE_INDEX_TOO_LARGE && whole == 0, "the limit of paths");
     by.address_size = 3;
     is(index_of(&by, index, whole, &whole) == GIMLI_LINE_UNSUPPORTED_ADDRESS_SIZE && whole == 0, "the size of addresses");
     by.size--;
@@ -153,7 +154,7 @@ static void write_unit(size_t offset, const gimli_line_unit *unit) {
     texts[0] = 'd';
     for (uint64_t i = 0; i < unit->files; i++) {
         gimli_line_file file;
-        is(file_path_in(offset, i + first, texts, 0, &file) == GIMLI_LINE_OK, "a file");
+        is(file_path_in(offset, i + first, room_in(ARRAY, AREA), AREA, &file) == GIMLI_LINE_OK, "a file");
         snprintf(texts + 1 + 3 * i, 3, "%02d", (int)i);
         files[i] = (gimli_line_file_name){{1 + 3 * i, 2}, first, file.timestamp, file.size, {0}};
         memcpy(files[i].md5, file.md5, sizeof file.md5);

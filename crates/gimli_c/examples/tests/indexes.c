@@ -106,17 +106,21 @@ static void ask_lines(bytes index) {
                   {"./0.c", 7, 7, 96}, {"source\\0.c", 1, 1, 0}, {"0.c", 8, 0, 0},
                   {"/0.c", 1, 0, 0},   {"1.c", 1, 0, 0},         {"c", 1, 0, 0},
                   {".c", 1, 0, 0},     {"0.c/../c.h", 1, 0, 0},  {"00.c", 1, 0, 0},
-                  {"0.cc", 1, 0, 0},   {"../0.c", 1, 0, 0}};
+                  {"0.cc", 1, 0, 0},   {"../0.c", 1, 0, 0},      {"", 1, 0, 0},
+                  {".", 1, 0, 0}};
     for (size_t i = 0; i < sizeof wanted / sizeof wanted[0]; i++)
         for (size_t room = 0; room < 3; room++) {
             uint64_t line = 77, addresses[2] = {77, 77};
             size_t count = 77;
             uint32_t status = gimli_line_index_addresses_of(index.at, index.length, wanted[i].path, strlen(wanted[i].path), wanted[i].line,
                                                             &line, addresses, room, &count);
-            bool has = wanted[i].found != 0;
-            is(status == (has ? GIMLI_LINE_OK : GIMLI_LINE_NO_CODE), "the status of gimli_line_index_addresses_of");
-            is(line == (has ? wanted[i].found : 77) && count == (has ? 1 : 77), "the line of gimli_line_index_addresses_of");
-            is(addresses[0] == (has && room != 0 ? base + wanted[i].address : 77) && addresses[1] == 77, "the addresses of a line");
+            bool has = wanted[i].found != 0, fits = has && room != 0;
+            is(status == (fits  ? GIMLI_LINE_OK
+                          : has ? GIMLI_LINE_NO_ROOM
+                                : GIMLI_LINE_NO_CODE),
+               "the status of gimli_line_index_addresses_of");
+            is(line == (fits ? wanted[i].found : 77) && count == (has ? 1 : 77), "the line of gimli_line_index_addresses_of");
+            is(addresses[0] == (fits ? base + wanted[i].address : 77) && addresses[1] == 77, "the addresses of a line");
         }
 }
 

@@ -9,7 +9,7 @@ ghost use Rattle.gimli_c.specs.Indexed.{IsUnsoundIndex};
 ghost use Rattle.gimli_c.specs.Indexed.{SeesIndex};
 
 use crate::status::{
-    INDEX_CUT, INDEX_DISORDERED, INDEX_HEADER, INDEX_PATH_OUTSIDE, NO_INDEX, OK,
+    INDEX_CUT, INDEX_DISORDERED, INDEX_HEADER, INDEX_PATH_OUTSIDE, NO_INDEX, NO_ROOM, OK,
     UNKNOWN_INDEX_VERSION,
 };
 use gimli_index::{IndexError, LineIndex};
@@ -31,7 +31,7 @@ pub struct GimliIndex {
 /// The number of a refusal.
 fn index_status(error: IndexError) -> u32
     ensures number { result ≡ index_status error }
-    ensures bad { result ≢ OK }
+    ensures other { (result ≢ OK) × (result ≢ NO_ROOM) }
 {
     match error {
         IndexError::NotIndex => NO_INDEX,
@@ -52,7 +52,7 @@ pub(crate) fn index_in(stored: &[u8]) -> Result<LineIndex<'_>, u32>
     ensures stored { IfOk result (λ i. IsIndex stored.now (index_of i)) }
     ensures stands { IfOk result (λ i. StandsIn stored.now (index_of i)) }
     ensures refused { IfErr result (IsNoIndex stored.now) }
-    ensures number { IfErr result (λ s. s ≢ OK) }
+    ensures other { IfErr result (λ s. (s ≢ OK) × (s ≢ NO_ROOM)) }
 {
     match LineIndex::open(stored) {
         Ok(index) => Ok(index),

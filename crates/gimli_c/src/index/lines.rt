@@ -2,12 +2,13 @@
 
 ghost use Rattle.std.specs.Prelude.{◌≡◌, ◌≢◌, ◌≤◌, ◌+◌, ℕ, List, Some, length, slice_get, take};
 ghost use Rattle.gimli_index.specs.Lines.{addresses_left};
-ghost use Rattle.gimli_c.specs.IndexLines.{HasNoIndexAddress, WritesIndexAddresses};
+ghost use Rattle.gimli_c.specs.IndexLines.{HasNoIndexAddress, NeedsAddressRoom};
+ghost use Rattle.gimli_c.specs.IndexLines.{WritesIndexAddresses};
 ghost use Rattle.gimli_c.specs.Indexed.{IsNoIndex};
 ghost use Rattle.gimli_c.specs.Written.{slots_with};
 
 use crate::index::header::index_in;
-use crate::status::{NO_CODE, OK};
+use crate::status::{NO_CODE, NO_ROOM, OK};
 use gimli_index::Addresses;
 
 /// Puts an address into a slot, if there is one.
@@ -40,9 +41,11 @@ fn put_addresses(found: Addresses<'_, '_>, most: usize, room: &mut [u64]) -> usi
 
 /// Tells the addresses for a breakpoint at a line of the files that a path names, by an index. A
 /// path names a file by its last components (`stl_map.h`, `bits/stl_map.h`), and one from the root
-/// is a whole one; `.` and `..` are resolved by text. `NO_CODE` where no line from it on has any;
-/// the number of the refusal where the bytes begin with no index. Where another number than 0 is
-/// returned, nothing is written. Takes no memory, and looks at each range twice.
+/// is a whole one; one without a component names none; `.` and `..` are resolved by text. `NO_ROOM`
+/// where `addresses` has fewer places than there are: then `count` alone is written. `NO_CODE`
+/// where no line from it on has any; the number of the refusal where the bytes begin with no index.
+/// Where another number than these is returned, nothing is written. Takes no memory, and looks at
+/// each range three times, and twice for `NO_ROOM`.
 #[unsafe(no_mangle)]
 pub extern "C" fn gimli_line_proved_index_addresses_of(
     stored: &[u8],
@@ -54,10 +57,14 @@ pub extern "C" fn gimli_line_proved_index_addresses_of(
 ) -> u32
     ensures found { result ≡ OK → WritesIndexAddresses stored.now path.now line found_line.new
         addresses.old addresses.new count.new }
+    ensures larger { result ≡ NO_ROOM → NeedsAddressRoom stored.now path.now line
+        addresses.old count.new }
     ensures none { result ≡ NO_CODE → HasNoIndexAddress stored.now path.now line }
-    ensures refused { result ≢ OK → result ≢ NO_CODE → IsNoIndex stored.now result }
-    ensures kept { result ≢ OK → (found_line.new ≡ found_line.old) × (addresses.new ≡ addresses.old)
-        × (count.new ≡ count.old) }
+    ensures refused { result ≢ OK → result ≢ NO_ROOM → result ≢ NO_CODE
+        → IsNoIndex stored.now result }
+    ensures kept { result ≢ OK
+        → (found_line.new ≡ found_line.old) × (addresses.new ≡ addresses.old) }
+    ensures no_count { result ≢ OK → result ≢ NO_ROOM → count.new ≡ count.old }
 {
     let index = match index_in(stored) {
         Ok(index) => index,
@@ -66,7 +73,11 @@ pub extern "C" fn gimli_line_proved_index_addresses_of(
     let Some(found) = index.addresses_of(path, line) else {
         return NO_CODE;
     };
+    *count = put_addresses(found, index.len(), &mut []);
+    if *count > addresses.len() {
+        return NO_ROOM;
+    }
     *found_line = found.line();
-    *count = put_addresses(found, index.len(), addresses);
+    put_addresses(found, index.len(), addresses);
     OK
 }

@@ -38,10 +38,12 @@ pub struct GimliIndexOptions {
     pub address_size: u8,
     /// Whether the most significant byte of a number comes first.
     pub big: bool,
+    /// The most bytes that all paths of the index may have, of which each stands once.
+    pub limit: usize,
 }
 
 /// The number of bytes of `GimliIndexOptions`.
-pub const OPTIONS_SIZE: usize = 24;
+pub const OPTIONS_SIZE: usize = 32;
 
 /// The number of a refusal.
 fn make_status(error: MakeError) -> u32
@@ -107,6 +109,7 @@ fn made_index<'s>(
         &compilations,
         size,
         identity,
+        options.limit,
         &mut bytes,
     ) {
         Ok(()) => Ok(bytes),

@@ -1,7 +1,6 @@
 use Rattle.std.proofs.Common.{◌∙◌, [], ap, sym}
 use Rattle.std.specs.Prelude.{unwrap_or}
 use Rattle.gimli_line.specs.header.Header.{directory_of}
-use Rattle.gimli_c.specs.Written.{slots_with}
 use Rattle.gimli_c.proofs.directory.gimli_line_proved_read_directory.Goals as goal
 
 pub returns-in-None-clause-none : goal.returns-in-None-clause-none
@@ -13,13 +12,31 @@ returns-in-None-clause-none c = λ _.
     }
 
 pub returns-clause-found : goal.returns-clause-found
-returns-clause-found c = λ _.
-    let told = c.in-Some.ensures.some in
-    record {
-      header = c.in-Ok.program.meaning;
-      unit = c.in-Ok.ensures.unit;
-      directory = told.directory;
-      is_directory = ap (λ p. directory_of p.meaning c.args.number) (sym c.header.ensures) ∙ told.is_directory;
-      seen_is = told.seen_is;
-      bytes_is = c.copy_text.ensures ∙ ap (λ text. slots_with (unwrap_or text []) c.args.bytes.now) told.bytes_are;
-    }
+returns-clause-found c = λ ok.
+    let told = c.in-Some.ensures.some in (
+      c.bytes_of.result.now,
+      record {
+        header = c.in-Ok.program.meaning;
+        unit = c.in-Ok.ensures.unit;
+        directory = told.directory;
+        is_directory = ap (λ p. directory_of p.meaning c.args.number) (sym c.header.ensures) ∙ told.is_directory;
+        seen_is = told.seen_is;
+        bytes_are = c.bytes_of.ensures ∙ ap (λ text. unwrap_or text []) told.bytes_are;
+      },
+      c.put_bytes.ensures.put ok,
+    )
+
+pub returns-clause-larger : goal.returns-clause-larger
+returns-clause-larger c = λ no_room.
+    let told = c.in-Some.ensures.some in (
+      c.bytes_of.result.now,
+      record {
+        header = c.in-Ok.program.meaning;
+        unit = c.in-Ok.ensures.unit;
+        directory = told.directory;
+        is_directory = ap (λ p. directory_of p.meaning c.args.number) (sym c.header.ensures) ∙ told.is_directory;
+        seen_is = told.seen_is;
+        bytes_are = c.bytes_of.ensures ∙ ap (λ text. unwrap_or text []) told.bytes_are;
+      },
+      c.put_bytes.ensures.larger no_room,
+    )

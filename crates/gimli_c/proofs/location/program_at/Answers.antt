@@ -14,7 +14,7 @@ returns-in-Ok-clause-unit c =
 pub returns-in-Err-clause-refused : goal.returns-in-Err-clause-refused
 returns-in-Err-clause-refused c = λ not_memory.
     let size = sym c.if-not-is_address_size.ensures in
-    let fault = c.in-Err.ensures.refusal (λ is. not_memory (c.error_status.ensures ∙ ap error_status is)) in
+    let fault = c.in-Err.ensures.refusal (λ is. not_memory (c.error_status.ensures.number ∙ ap error_status is)) in
     let at =
     same_fault _ _ _ _ c.args.address_size c.args.offset c.in-Err.e c.new-section.ensures.bytes (c.new-section.ensures.order ∙ c.order.ensures) fault in
-    inr (size, c.in-Err.e, at.is, c.error_status.ensures)
+    inr (size, c.in-Err.e, at.is, c.error_status.ensures.number)

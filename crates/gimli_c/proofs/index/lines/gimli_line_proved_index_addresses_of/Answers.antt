@@ -12,6 +12,12 @@ put_addresses-requires c =
     let count = ap (λ (xs : List ℕ). length xs) c.in-Some.ensures.1 in
     omega (arith, count, few_of_line c.args.path.now starts c.in-Some.found.line, c.len.ensures)
 
+pub put_addresses-requires-2 : goal.put_addresses-requires-2
+put_addresses-requires-2 c =
+    let starts = starts_of (index_of c.in-Ok.index) in
+    let count = ap (λ (xs : List ℕ). length xs) c.in-Some.ensures.1 in
+    omega (arith, count, few_of_line c.args.path.now starts c.in-Some.found.line, c.len-2.ensures)
+
 pub returns-clause-found : goal.returns-clause-found
 returns-clause-found c = λ _.
     let found = addresses_of c.args.path.now (starts_of (index_of c.in-Ok.index)) in (
@@ -22,6 +28,21 @@ returns-clause-found c = λ _.
         is_first = subst (λ (line : ℕ). IsFirstLine found c.args.line line) (sym c.line.ensures) c.in-Some.ensures.0;
         addresses_are = c.in-Some.ensures.1 ∙ ap (λ (line : ℕ). found line) (sym c.line.ensures);
       },
-      c.put_addresses.ensures.put,
+      (omega (arith, c.put_addresses.ensures.count), c.put_addresses-2.ensures.put),
+      c.put_addresses.ensures.count,
+    )
+
+pub returns-then-count-addresses-clause-larger : goal.returns-then-count-addresses-clause-larger
+returns-then-count-addresses-clause-larger c = λ _.
+    let found = addresses_of c.args.path.now (starts_of (index_of c.in-Ok.index)) in (
+      c.in-Some.found.line,
+      addresses_left c.in-Some.found,
+      record {
+        index = index_of c.in-Ok.index;
+        is = c.in-Ok.ensures.stored;
+        is_first = c.in-Some.ensures.0;
+        addresses_are = c.in-Some.ensures.1;
+      },
+      omega (arith, c.put_addresses.ensures.count),
       c.put_addresses.ensures.count,
     )
