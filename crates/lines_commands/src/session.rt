@@ -13,11 +13,13 @@ use std::{env, io};
 /// The status where something was refused.
 pub const REFUSED: u8 = 1;
 
-/// The most bytes that are kept for a byte of `.debug_line`, by what was measured.
-const MOST_OF_A_BYTE: u64 = 384;
+/// The most bytes that are kept for a byte of `.debug_line`: 234 were measured, of a table of files
+/// of a byte each, and up to 132 of rows.
+const MOST_OF_A_BYTE: u64 = 256;
 
-/// How many times the usual limit of a compressed section may be kept for its rows.
-const USUAL_TIMES: u64 = 8;
+/// How many times the usual limit of a compressed section may be kept, since compilers' sections
+/// take less: a section may have four times the bytes of its file.
+const USUAL_TIMES: u64 = 4;
 
 /// What a command runs with.
 #[derive(Clone, Copy)]
@@ -70,9 +72,9 @@ impl<'r> Session<'r> {
         Ok(())
     }
 
-    /// Whether the rows of a section of so many bytes may be kept; that they may not is reported. The
-    /// limit is that of compressed sections, or where it is the usual one, several times that. Tells
-    /// at a terminal that a whole section is read, where that is long.
+    /// Whether the rows of a section of so many bytes may be kept; that they may not is reported.
+    /// The limit is that of compressed sections, or where it is the usual one, several times that.
+    /// Tells at a terminal that a whole section is read, where that is long.
     pub fn begin_lookup(&mut self, length: u64, limit: u64) -> io::Result<bool> {
         let limit = self
             .run
