@@ -1,7 +1,7 @@
 # Completion of `lines` for bash.
 _lines() {
     local word=${COMP_WORDS[COMP_CWORD]} before=${COMP_WORDS[COMP_CWORD-1]} command=${COMP_WORDS[1]}
-    local kinds="fault lost odd usual header program no-path no-file goes-down below-code no-end same-path overlap file-0 merged dropped"
+    local kinds="fault lost odd usual header program no-path no-file goes-down below-code past-code no-end same-path overlap file-0 merged dropped"
     local of_file="--raw --address-size --line-str --str --memory-limit --help" options
     COMPREPLY=()
     if [ "$COMP_CWORD" = 1 ]; then

@@ -12,9 +12,9 @@ use std::rt::Files;
 
 /// The sections of a program by its path. Where its own file has no line programs, its debug file
 /// is looked for: by the build id, and then by the name in the program's link. A file there with
-/// another build id, or another checksum, is passed over. The lowest address of code is that of the
-/// file with the line programs, or else the program's. An object file is read whole. A compressed
-/// section that would have more bytes than the limit is refused; without a limit,
+/// another build id, or another checksum, is passed over. Where code begins and ends is known of
+/// the file with the line programs, or else of the program. An object file is read whole. A
+/// compressed section that would have more bytes than the limit is refused; without a limit,
 /// [`elf_sections::usual_limit`] of the size of its file holds.
 pub fn source_of<R: Files + AllocGlobal>(
     rt: &R,
@@ -33,6 +33,7 @@ pub fn source_of<R: Files + AllocGlobal>(
     let mut source = find_apart(rt, path, &mut program, wanted, limit)?;
     if source.lowest == 0 {
         source.lowest = program.lowest()?;
+        source.code_end = program.code_end()?;
     }
     Ok(Found::Sections(source))
 }

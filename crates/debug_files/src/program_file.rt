@@ -43,6 +43,12 @@ impl<F: Read + Seek> ProgramFile<F> {
         Ok(sections.lowest_code_address().unwrap_or(0))
     }
 
+    /// The end of code, the greatest address where none is known.
+    pub(crate) fn code_end(&self) -> Result<u64, Missing> {
+        let sections = self.outline.sections()?;
+        Ok(sections.code_end().unwrap_or(u64::MAX))
+    }
+
     /// All its bytes.
     pub(crate) fn whole(&mut self, alloc: Global) -> Result<Vec<u8>, Missing> {
         let bytes = whole(alloc, &mut self.file)?;
@@ -71,15 +77,23 @@ impl<F: Read + Seek> ProgramFile<F> {
             _ => (Vec::new(alloc), Vec::new(alloc)),
         };
         let lowest = self.lowest()?;
+        let code_end = self.code_end()?;
         let sections = self.outline.sections()?;
+        let code_ends = match wanted {
+            Wanted::Symbols => sections.code_ends(alloc)?,
+            _ => Vec::new(alloc),
+        };
         Ok(Some(Source {
             is_big_endian: sections.is_big_endian(),
             address_size: sections.address_size(),
             lowest,
+            code_end,
+            limit: self.limit,
             lines,
             paths,
             symbols,
             symbol_names,
+            code_ends,
         }))
     }
 

@@ -50,7 +50,8 @@ pub enum Found {
 /// <!-- part of crates/lines/src/inputs.rt -->
 /// ```rust
 /// fn notation_of(source: &Source) -> Notation {
-///     Notation::new(source.is_big_endian, source.address_size, source.lowest)
+///     let (lowest, code_end) = (source.lowest, source.code_end);
+///     Notation::new(source.is_big_endian, source.address_size, lowest, code_end)
 /// }
 /// ```
 #[derive(Drop)]
@@ -61,6 +62,10 @@ pub struct Source {
     pub address_size: u8,
     /// The lowest address of code, 0 where none is known.
     pub lowest: u64,
+    /// The end of code, the greatest address where none is known.
+    pub code_end: u64,
+    /// The most bytes that a section may have, once it is made whole.
+    pub limit: u64,
     /// The line programs (`.debug_line`).
     pub lines: Vec<u8>,
     /// The sections that whole paths need.
@@ -69,6 +74,8 @@ pub struct Source {
     pub symbols: Vec<u8>,
     /// The names of these (`.strtab`, `.dynstr`).
     pub symbol_names: Vec<u8>,
+    /// The end of the code of each section, by the index that symbols have; 0 of one without code.
+    pub code_ends: Vec<u64>,
 }
 
 /// The sections that whole paths need; no bytes where there is none. Those of units aren't read

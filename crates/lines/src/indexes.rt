@@ -175,7 +175,10 @@ fn index_program(
     inputs: &Inputs,
     id: Option<&[u8]>,
 ) -> io::Result<Option<Vec<u8>>> {
-    session.begin_reading(program.lines().len() as u64)?;
+    let length = program.lines().len() as u64;
+    if !session.begin_lookup(length, inputs.files().limit)? {
+        return Ok(None);
+    }
     let alloc = session.run.rt.alloc();
     let output = &mut session.output;
     let made = index_of_program(alloc, program, inputs.kind, inputs.files(), id, output)?;

@@ -13,6 +13,9 @@ use std::{fmt, fs, io};
 /// The name that stands for standard input.
 pub(crate) const STANDARD_INPUT: &str = "-";
 
+/// The bytes that an ELF file begins with (System V ABI, chapter 4).
+const ELF: &[u8] = b"\x7fELF";
+
 /// The bytes of the files that a request names, and how they are read.
 #[derive(Drop)]
 pub(crate) struct Inputs {
@@ -28,8 +31,9 @@ pub(crate) struct Inputs {
 pub(crate) fn inputs_of(run: Run<'_>, name: &str) -> io::Result<Option<Inputs>> {
     let Run { rt, request } = run;
     let found = match request.kind {
-        Kind::Elf if name != STANDARD_INPUT => sections_of(run, name)?,
-        _ => read(rt, name)?.map(Found::Whole),
+        Kind::Elf if name == STANDARD_INPUT => Some(Found::Whole(read_elf(rt)?)),
+        Kind::Elf => sections_of(run, name)?,
+        Kind::Raw(_) => read(rt, name)?.map(Found::Whole),
     };
     let line_str = read_named(rt, request.line_str)?;
     let strings = read_named(rt, request.strings)?;
@@ -76,7 +80,8 @@ fn sections_of(run: Run<'_>, name: &str) -> io::Result<Option<Found>> {
 
 /// How the numbers of a program's sections are read.
 fn notation_of(source: &Source) -> Notation {
-    Notation::new(source.is_big_endian, source.address_size, source.lowest)
+    let (lowest, code_end) = (source.lowest, source.code_end);
+    Notation::new(source.is_big_endian, source.address_size, lowest, code_end)
 }
 
 /// The sections of units.
@@ -107,7 +112,8 @@ impl Inputs {
                 units: units_of(&source.paths),
                 symbols: &source.symbols,
                 symbol_names: &source.symbol_names,
-                limit: 0,
+                code_ends: &source.code_ends,
+                limit: source.limit,
             },
         }
     }
@@ -178,6 +184,16 @@ pub(crate) fn read(rt: &HostRuntime, name: &str) -> io::Result<Option<Vec<u8>>> 
             Ok(None)
         }
     }
+}
+
+/// The bytes of standard input; the first ones alone where these aren't an ELF file's.
+fn read_elf(rt: &HostRuntime) -> io::Result<Vec<u8>> {
+    let mut bytes = Vec::new(rt.alloc());
+    rt.stdin().take(ELF.len() as u64).read_to_end(&mut bytes)?;
+    if bytes.as_slice() == ELF {
+        rt.stdin().read_to_end(&mut bytes)?;
+    }
+    Ok(bytes)
 }
 
 /// The bytes of a file that may be named; none where it isn't.

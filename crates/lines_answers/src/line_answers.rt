@@ -57,12 +57,14 @@ impl<'n> LineAnswers<'n> {
         }
         self.printer.print(None, None, None, output);
         if !line.is_empty() {
-            let wanted = match self.names {
-                LineNames::BuildIds(_) => "a build id and an address",
-                LineNames::Files => "a file and an address",
+            let text = match self.names {
+                LineNames::BuildIds(_) => "'%' is not a build id and an address",
+                LineNames::Files if str::from_utf8(line).is_err() => {
+                    "'%': a name that isn't UTF-8 can't be opened"
+                }
+                LineNames::Files => "'%' is not a file and an address",
             };
-            let pieces = [Piece::Path(Some(line)), Piece::Word(wanted)];
-            tell("'%' is not %", &pieces, output);
+            tell(text, &[Piece::Path(Some(line))], output);
         }
         None
     }

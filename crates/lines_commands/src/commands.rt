@@ -8,7 +8,7 @@ use crate::session::{Questions, REFUSED, Run, Session};
 use elf_sections::ElfError;
 use gimli_core::Reader;
 use lines_answers::{SourceRows, print_addresses};
-use lines_inputs::{Functions, Input, InputError, NOT_LINKED, Program, tell_refusal};
+use lines_inputs::{Input, InputError, NOT_LINKED, Program, tell_refusal};
 use lines_places::{Answered, Asked, PlacePrinter, Places, print_below, print_lines};
 use lines_reports::{Diff, Report};
 use lines_words::{CodeAddress, Command, Files, Kind, PathText, SourcePlace};
@@ -62,6 +62,9 @@ impl<'r> Session<'r> {
         match request.command {
             Command::Where { .. } if !input.is_linked => self.locate_in_sections(files),
             Command::Where { .. } => {
+                if !self.begin_lookup(input.length(), files.limit)? {
+                    return Ok(());
+                }
                 let mut questions = Questions::new(rt, &request.addresses)?;
                 self.locate(program, input, None, &mut questions)
             }
@@ -70,13 +73,14 @@ impl<'r> Session<'r> {
                 Ok(())
             }
             Command::At(path, line) => {
-                self.begin_reading(input.length())?;
-                print_addresses(alloc, input, request, path, line, &mut self.output)?;
-                self.output.clear();
+                if self.begin_lookup(input.length(), files.limit)? {
+                    print_addresses(alloc, input, request, path, line, &mut self.output)?;
+                    self.output.clear();
+                }
                 Ok(())
             }
             Command::Source(place) => {
-                let functions = Functions::new(alloc, program.symbols(), None)?;
+                let functions = program.functions(alloc)?;
                 match SourceRows::new(alloc, input, &functions, place, request.context, output)? {
                     Some(mut found) => self.print_found(place, &mut found),
                     None => Ok(()),
@@ -140,8 +144,10 @@ impl<'r> Session<'r> {
     ) -> io::Result<bool> {
         match Program::of_section(self.run.rt.alloc(), files, name) {
             Ok(Some(program)) => {
-                self.locate(&program, &program.input(), Some(name), questions)?;
-                return Ok(true);
+                if self.begin_lookup(program.lines().len() as u64, files.limit)? {
+                    self.locate(&program, &program.input(), Some(name), questions)?;
+                    return Ok(true);
+                }
             }
             Ok(None) => {
                 let name = PathText(name);
@@ -161,10 +167,7 @@ impl<'r> Session<'r> {
         questions: &mut Questions<'_>,
     ) -> io::Result<()> {
         let Run { rt, request } = self.run;
-        if section.is_none() {
-            self.begin_reading(input.length())?;
-        }
-        let functions = Functions::new(rt.alloc(), program.symbols(), program.section())?;
+        let functions = program.functions(rt.alloc())?;
         let output = &mut self.output;
         let places = Places::new(rt.alloc(), input, functions, request, section, output)?;
         output.clear();

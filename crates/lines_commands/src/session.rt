@@ -13,6 +13,14 @@ use std::{env, io};
 /// The status where something was refused.
 pub const REFUSED: u8 = 1;
 
+/// The most bytes that are kept for a byte of `.debug_line`: 234 were measured, of a table of files
+/// of a byte each, and up to 132 of rows.
+const MOST_OF_A_BYTE: u64 = 256;
+
+/// How many times the usual limit of a compressed section may be kept, since compilers' sections
+/// take less: a section may have four times the bytes of its file.
+const USUAL_TIMES: u64 = 4;
+
 /// What a command runs with.
 #[derive(Clone, Copy)]
 pub struct Run<'r> {
@@ -64,10 +72,26 @@ impl<'r> Session<'r> {
         Ok(())
     }
 
+    /// Whether the rows of a section of so many bytes may be kept; that they may not is reported.
+    /// The limit is that of compressed sections, or where it is the usual one, several times that.
     /// Tells at a terminal that a whole section is read, where that is long.
-    pub fn begin_reading(&mut self, length: u64) -> io::Result<()> {
+    pub fn begin_lookup(&mut self, length: u64, limit: u64) -> io::Result<bool> {
+        let limit = self
+            .run
+            .request
+            .memory_limit
+            .unwrap_or(limit.saturating_mul(USUAL_TIMES));
+        let most = length.saturating_mul(MOST_OF_A_BYTE);
+        if most > limit {
+            self.output.tell(format_args!(
+                "to look among the rows of {length} bytes of .debug_line may take {most} bytes, \
+                 which is more than the limit; --memory-limit sets it"
+            ));
+            return Ok(false);
+        }
         show_reading(length, &mut self.output);
-        self.hand_on()
+        self.hand_on()?;
+        Ok(true)
     }
 
     /// Hands on what was printed, where nothing failed before, and returns the status of the

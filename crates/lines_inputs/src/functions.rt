@@ -18,6 +18,8 @@ struct CodeRange {
     /// How many symbols are left from it on.
     left: usize,
     name: u32,
+    /// Where its section ends.
+    section_end: u64,
 }
 
 /// The functions of a program, in the order of their addresses.
@@ -28,62 +30,68 @@ pub struct Functions<'n> {
 }
 
 impl<'n> Functions<'n> {
-    /// The functions among symbols; in an object file those of one section alone.
-    pub fn new(
+    /// The functions among symbols that stand in sections of code; in an object file those of one
+    /// section alone. The end of the code of each section is known by its index.
+    pub(crate) fn new(
         alloc: Global,
         table: SymbolTable<'n>,
         section: Option<u16>,
+        code_ends: &[u64],
     ) -> Result<Functions<'n>, AllocError> {
         let mut ranges = Vec::new(alloc);
         let count = table.count();
         for index in 0..count {
-            match table.get(index) {
-                Some(symbol) if is_function(symbol, section) => ranges.push(CodeRange {
+            let Some(symbol) = table.get(index) else {
+                continue;
+            };
+            let section_end = *code_ends.get(usize::from(symbol.section)).unwrap_or(&0);
+            if is_function(symbol, section) && symbol.address < section_end {
+                ranges.push(CodeRange {
                     start: symbol.address,
                     size: symbol.size,
                     left: count.saturating_sub(index),
                     name: symbol.name,
-                })?,
-                _ => {}
+                    section_end,
+                })?;
             }
         }
         ranges.sort()?;
         Ok(Functions { table, ranges })
     }
 
-    /// The name of the function that holds an address. One whose bytes aren't counted holds all up
-    /// to the next.
+    /// The name of the function that holds an address.
     pub fn name_at(&self, address: u64) -> Option<&'n [u8]> {
         let after = self.ranges.partition_point(|range| range.start <= address);
         let range = self.ranges.get(after.checked_sub(1)?)?;
-        let offset = address.checked_sub(range.start)?;
-        if range.size > 0 && offset >= range.size {
+        if address >= self.end_of(range) {
             return None;
         }
         self.table.name(range.name)
     }
 
-    /// The addresses of the first function of a name: where it begins, and where it ends. One whose
-    /// bytes aren't counted ends where the next begins.
+    /// The addresses of the first function of a name: where it begins, and where it ends.
     pub fn range_of(&self, name: &[u8]) -> Option<(u64, u64)> {
         let mut ranges = self.ranges.iter();
-        let place = ranges.position(|range| self.table.name(range.name) == Some(name))?;
-        let range = self.ranges.get(place)?;
-        if range.size > 0 {
-            return Some((range.start, range.start.saturating_add(range.size)));
-        }
+        let range = ranges.find(|range| self.table.name(range.name) == Some(name))?;
+        Some((range.start, self.end_of(range)))
+    }
+
+    /// Where a function ends, within its section. One whose bytes aren't counted ends where the
+    /// next begins.
+    fn end_of(&self, range: &CodeRange) -> u64 {
         let start = range.start;
         let after = self.ranges.partition_point(|range| range.start <= start);
-        let end = self.ranges.get(after).map_or(u64::MAX, |next| next.start);
-        Some((start, end))
+        let end = match self.ranges.get(after) {
+            Some(next) if range.size == 0 => next.start,
+            None if range.size == 0 => u64::MAX,
+            _ => start.saturating_add(range.size),
+        };
+        end.min(range.section_end)
     }
 }
 
 /// Whether a symbol is a function of the program, or of one of its sections.
 fn is_function(symbol: CodeSymbol, section: Option<u16>) -> bool {
-    let is_there = match section {
-        Some(section) => symbol.section == section,
-        None => symbol.section != 0,
-    };
+    let is_there = section.is_none_or(|section| symbol.section == section);
     is_there && (symbol.kind == FUNCTION || symbol.kind == CHOOSING)
 }

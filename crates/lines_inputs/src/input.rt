@@ -9,6 +9,7 @@ ghost use Rattle.elf_sections.specs.SectionBytes.{bytes_of};
 ghost use Rattle.elf_sections.specs.Fault.{is_for_memory};
 ghost use Rattle.lines_inputs.specs.Lines.{HasLines};
 
+use crate::functions::Functions;
 use elf_sections::{Elf, ElfError, SectionBytes, SectionPlace, SymbolTable};
 use gimli_compilation::CompilationSections;
 use gimli_core::{EndianSlice, Endianity, Reader, ReaderOffset, Section};
@@ -36,6 +37,8 @@ pub struct Input<R> {
     pub address_size: AddressSize,
     /// An address below which there is no code, 0 where none is known.
     pub lowest: u64,
+    /// An address from which on there is no code, the greatest one where none is known.
+    pub code_end: u64,
     /// Whether code has its addresses. In an object file each section stands at 0.
     pub is_linked: bool,
 }
@@ -72,12 +75,13 @@ struct OtherSections<'i> {
     string_offsets: SectionBytes<'i>,
     symbols: SectionBytes<'i>,
     symbol_names: SectionBytes<'i>,
+    code_ends: Vec<u64>,
 }
 
 impl<'i> OtherSections<'i> {
     /// Sections by themselves.
-    fn lent(files: Files<'i>) -> OtherSections<'i> {
-        OtherSections {
+    fn lent(alloc: Global, files: Files<'i>) -> Result<OtherSections<'i>, ElfError> {
+        Ok(OtherSections {
             line_str: SectionBytes::Lent(files.line_str),
             strings: SectionBytes::Lent(files.strings),
             info: SectionBytes::Lent(files.units.info),
@@ -85,7 +89,8 @@ impl<'i> OtherSections<'i> {
             string_offsets: SectionBytes::Lent(files.units.string_offsets),
             symbols: SectionBytes::Lent(files.symbols),
             symbol_names: SectionBytes::Lent(files.symbol_names),
-        }
+            code_ends: Vec::from_slice(alloc, files.code_ends)?,
+        })
     }
 
     /// The sections of an ELF file, of symbols all, or else those for linking when it runs. A
@@ -106,6 +111,7 @@ impl<'i> OtherSections<'i> {
             info: source.readable(b".debug_info")?,
             abbreviations: source.readable(b".debug_abbrev")?,
             string_offsets: source.readable(b".debug_str_offsets")?,
+            code_ends: source.elf.code_ends(source.alloc)?,
         })
     }
 }
@@ -126,7 +132,7 @@ impl<'i> Program<'i> {
             Kind::Raw(notation) => Ok(Program {
                 notation,
                 lines: SectionBytes::Lent(files.file),
-                others: OtherSections::lent(files),
+                others: OtherSections::lent(alloc, files)?,
                 is_linked: true,
                 place: SectionPlace::AllAtZero,
             }),
@@ -168,21 +174,15 @@ impl<'i> Program<'i> {
         let is_linked = !elf.is_relocatable();
         let lowest = elf.lowest_code_address().filter(|_| is_linked);
         let lowest = lowest.unwrap_or(0);
+        let code_end = elf.code_end().filter(|_| is_linked);
+        let code_end = code_end.unwrap_or(u64::MAX);
         Ok(Program {
-            notation: Notation::new(elf.is_big_endian(), elf.address_size(), lowest),
+            notation: Notation::new(elf.is_big_endian(), elf.address_size(), lowest, code_end),
             lines,
             others: OtherSections::of_elf(source)?,
             is_linked,
             place,
         })
-    }
-
-    /// The index of the section whose addresses count alone.
-    pub fn section(&self) -> Option<u16> {
-        match self.place {
-            SectionPlace::Only(index) => u16::try_from(index).ok(),
-            SectionPlace::AllAtZero => None,
-        }
     }
 
     /// The bytes of the line programs.
@@ -192,8 +192,17 @@ impl<'i> Program<'i> {
         self.lines.as_slice()
     }
 
+    /// The functions; in an object file those of the section whose addresses count.
+    pub fn functions(&self, alloc: Global) -> Result<Functions<'_>, AllocError> {
+        let section = match self.place {
+            SectionPlace::Only(index) => u16::try_from(index).ok(),
+            SectionPlace::AllAtZero => None,
+        };
+        Functions::new(alloc, self.symbols(), section, &self.others.code_ends)
+    }
+
     /// The symbols.
-    pub fn symbols(&self) -> SymbolTable<'_> {
+    fn symbols(&self) -> SymbolTable<'_> {
         SymbolTable::new(
             self.notation.order.is_big_endian(),
             self.notation.address_size.bytes(),
@@ -223,6 +232,7 @@ impl<'i> Program<'i> {
             },
             address_size: self.notation.address_size,
             lowest: self.notation.lowest,
+            code_end: self.notation.code_end,
             is_linked: self.is_linked,
         }
     }

@@ -2,7 +2,8 @@
 
 use crate::findings::Findings;
 use crate::report::Reading;
-use crate::unit_check::{Sequence, UnitCheck};
+use crate::row_check::{RowCheck, Sequence};
+use crate::unit_check::UnitCheck;
 use gimli_core::{Reader, ReaderOffset};
 use gimli_line::LineProgramHeader;
 use lines_pieces::{Piece, Result, path_or_fault};
@@ -41,7 +42,7 @@ impl<R: Reader> Check<R> {
     ) -> Result<bool> {
         if let Some(unit) = &mut self.unit {
             if !unit.run_some(&mut self.sequences, output)? {
-                self.findings = unit.findings;
+                self.findings = unit.rows.findings;
                 check_files(reading, unit.header(), &mut self.findings, output)?;
                 self.unit = None;
             }
@@ -68,7 +69,8 @@ impl<R: Reader> Check<R> {
         self.findings.unit = offset;
         match unit.program {
             Ok(program) => {
-                self.unit = Some(UnitCheck::new(self.findings, reading, program));
+                let rows = RowCheck::new(self.findings, reading);
+                self.unit = Some(UnitCheck::new(rows, program));
             }
             Err(refusal) => {
                 let (kind, byte) = (FindingKind::Header, Some(offset));

@@ -9,7 +9,7 @@ pub(crate) struct Findings {
     /// The offset of the unit that is looked at.
     pub(crate) unit: u64,
     /// How many there were of each kind.
-    counts: [u64; 12],
+    counts: [u64; 13],
 }
 
 impl Findings {
@@ -17,7 +17,7 @@ impl Findings {
     pub(crate) fn new() -> Findings {
         Findings {
             unit: 0,
-            counts: [0; 12],
+            counts: [0; 13],
         }
     }
 

@@ -7,6 +7,7 @@ mod diff;
 mod findings;
 mod path_numbers;
 mod report;
+mod row_check;
 mod row_list;
 mod stat;
 mod unit_check;

@@ -20,6 +20,8 @@ pub(crate) struct Reading<R: Reader> {
     pub(crate) length: u64,
     /// An address below which there is no code.
     pub(crate) lowest: u64,
+    /// An address from which on there is no code.
+    pub(crate) code_end: u64,
     /// Whether code has its addresses.
     pub(crate) is_linked: bool,
 }
@@ -40,6 +42,7 @@ impl<R: Reader> Reading<R> {
             sources,
             length: input.length(),
             lowest: input.lowest,
+            code_end: input.code_end,
             is_linked: input.is_linked,
         })
     }

@@ -78,23 +78,24 @@ impl RowList {
             let pieces = [rows, Piece::Fault(fault)];
             tell_of_unit(unit.offset, "after %: %", &pieces, output);
         }
-        self.path = match self.form {
-            Form::Json => {
-                let (name, bytes) = ("path", path.as_deref());
-                let path = JsonBytes { name, bytes };
-                format!(in reading.alloc; "{path}")?
-            }
-            form => {
-                let path = path.as_deref().unwrap_or(b"??");
-                let path = PathText(match form {
-                    Form::Text => last_part(path),
-                    _ => path,
-                });
-                format!(in reading.alloc; "{path}")?
-            }
-        };
+        self.path = path_text(reading.alloc, self.form, path.as_deref())?;
         Ok(())
     }
+}
+
+/// How a path is printed, as a value of JSON, whole or by its last part.
+fn path_text(alloc: Global, form: Form, path: Option<&[u8]>) -> Result<String> {
+    if let Form::Json = form {
+        let (name, bytes) = ("path", path);
+        let path = JsonBytes { name, bytes };
+        return format!(in alloc; "{path}");
+    }
+    let path = path.unwrap_or(b"??");
+    let path = PathText(match form {
+        Form::Text => last_part(path),
+        _ => path,
+    });
+    format!(in alloc; "{path}")
 }
 
 /// Prints a row for people.

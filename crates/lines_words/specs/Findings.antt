@@ -3,8 +3,9 @@ use Rattle.std.specs.Prelude.{ℕ, Bool, true, false, List, not, slice_index_or,
 use Rattle.lines_words.specs.declared.kinds.FindingKind.{FindingKind}
 use Rattle.lines_words.specs.declared.kinds.FindingKind.TheVariants.{Header, Program, NoPath}
 use Rattle.lines_words.specs.declared.kinds.FindingKind.TheVariants.{NoFile, GoesDown, BelowCode}
-use Rattle.lines_words.specs.declared.kinds.FindingKind.TheVariants.{NoEnd, SamePath, Overlap}
-use Rattle.lines_words.specs.declared.kinds.FindingKind.TheVariants.{FileZero, Merged, Dropped}
+use Rattle.lines_words.specs.declared.kinds.FindingKind.TheVariants.{PastCode, NoEnd, SamePath}
+use Rattle.lines_words.specs.declared.kinds.FindingKind.TheVariants.{Overlap, FileZero, Merged}
+use Rattle.lines_words.specs.declared.kinds.FindingKind.TheVariants.{Dropped}
 use Rattle.lines_words.specs.declared.kinds.Severity.{Severity}
 use Rattle.lines_words.specs.declared.kinds.Severity.TheVariants.{Fault, Lost, Odd, Usual}
 
@@ -17,6 +18,7 @@ severity NoPath = Fault
 severity NoFile = Fault
 severity GoesDown = Lost
 severity BelowCode = Lost
+severity PastCode = Lost
 severity NoEnd = Lost
 severity SamePath = Odd
 severity Overlap = Odd
@@ -32,12 +34,13 @@ number NoPath = 2
 number NoFile = 3
 number GoesDown = 4
 number BelowCode = 5
-number NoEnd = 6
-number SamePath = 7
-number Overlap = 8
-number FileZero = 9
-number Merged = 10
-number Dropped = 11
+number PastCode = 6
+number NoEnd = 7
+number SamePath = 8
+number Overlap = 9
+number FileZero = 10
+number Merged = 11
+number Dropped = 12
 
 -- faults and lost rows make the status 1 by themselves
 abbrev pub is_grave : Severity → Bool

@@ -51,8 +51,8 @@ whole-paths - flag Prints whole paths
 deny - KIND Makes the status 1 for these too: a kind, or fault, lost, odd or usual
 allow - KIND Only counts these, whatever --deny says: a kind, or fault, lost or odd
 all - flag Tells what is usual or allowed too
->Kinds: header, program, no-path, no-file (fault); goes-down, below-code, no-end (lost); \
-    same-path, overlap (odd); file-0, merged, dropped (usual)
+>Kinds: header, program, no-path, no-file (fault); goes-down, below-code, past-code, \
+    no-end (lost); same-path, overlap (odd); file-0, merged, dropped (usual)
 Example: lines check --deny odd --allow overlap a.out",
     "stat Prints what the bytes of the line programs are spent on
 >Example: lines stat a.out",
@@ -158,6 +158,7 @@ fn argument<'a>(alloc: Global, command: &str, row: &'static str) -> Result<Arg<'
             .required_unless_present_any(&["index", "indexes", "files"])?
             .conflicts_with_all(&["indexes", "files"]),
         "address-size" => word.requires_arg("raw"),
+        "source" if command == "where" => word.requires_arg("pretty"),
         _ => word.conflicts_with_all(conflicts_of(name)),
     }
 }

@@ -31,6 +31,8 @@ pub enum FindingKind {
     GoesDown,
     /// A sequence begins below the code.
     BelowCode,
+    /// A sequence begins past the code.
+    PastCode,
     /// No sequence ends after the last rows.
     NoEnd,
     /// Two files have one path.
@@ -47,13 +49,14 @@ pub enum FindingKind {
 
 impl FindingKind {
     /// All of them, the gravest first.
-    pub const ALL: [FindingKind; 12] = [
+    pub const ALL: [FindingKind; 13] = [
         FindingKind::Header,
         FindingKind::Program,
         FindingKind::NoPath,
         FindingKind::NoFile,
         FindingKind::GoesDown,
         FindingKind::BelowCode,
+        FindingKind::PastCode,
         FindingKind::NoEnd,
         FindingKind::SamePath,
         FindingKind::Overlap,
@@ -65,7 +68,7 @@ impl FindingKind {
     /// Its place among all, its name, and how grave it is.
     pub fn entry(self) -> (usize, &'static str, Severity)
         ensures number { result.0 ≡ number self }
-        ensures bound { result.0 < 12 }
+        ensures bound { result.0 < 13 }
         ensures severity { result.2 ≡ severity self }
     {
         match self {
@@ -75,12 +78,13 @@ impl FindingKind {
             FindingKind::NoFile => (3, "no-file", Severity::Fault),
             FindingKind::GoesDown => (4, "goes-down", Severity::Lost),
             FindingKind::BelowCode => (5, "below-code", Severity::Lost),
-            FindingKind::NoEnd => (6, "no-end", Severity::Lost),
-            FindingKind::SamePath => (7, "same-path", Severity::Odd),
-            FindingKind::Overlap => (8, "overlap", Severity::Odd),
-            FindingKind::FileZero => (9, "file-0", Severity::Usual),
-            FindingKind::Merged => (10, "merged", Severity::Usual),
-            FindingKind::Dropped => (11, "dropped", Severity::Usual),
+            FindingKind::PastCode => (6, "past-code", Severity::Lost),
+            FindingKind::NoEnd => (7, "no-end", Severity::Lost),
+            FindingKind::SamePath => (8, "same-path", Severity::Odd),
+            FindingKind::Overlap => (9, "overlap", Severity::Odd),
+            FindingKind::FileZero => (10, "file-0", Severity::Usual),
+            FindingKind::Merged => (11, "merged", Severity::Usual),
+            FindingKind::Dropped => (12, "dropped", Severity::Usual),
         }
     }
 }
@@ -111,7 +115,7 @@ impl Severity {
 
 /// Adds to these the kinds that a word names: one, or each that is so grave. False where it names
 /// none.
-pub(crate) fn add_kinds(kinds: &mut [bool; 12], word: &str) -> bool {
+pub(crate) fn add_kinds(kinds: &mut [bool; 13], word: &str) -> bool {
     let mut is_known = false;
     for kind in FindingKind::ALL {
         let (number, name, severity) = kind.entry();
@@ -124,7 +128,7 @@ pub(crate) fn add_kinds(kinds: &mut [bool; 12], word: &str) -> bool {
 }
 
 /// Whether a kind is among these.
-fn holds(kinds: [bool; 12], kind: FindingKind) -> bool
+fn holds(kinds: [bool; 13], kind: FindingKind) -> bool
     ensures { result ≡ is_in kinds kind }
 {
     kinds[kind.entry().0]
@@ -134,9 +138,9 @@ fn holds(kinds: [bool; 12], kind: FindingKind) -> bool
 #[derive(Clone, Copy)]
 pub struct CheckChoice {
     /// The kinds that make it 1 beside faults and lost rows.
-    pub denied: [bool; 12],
+    pub denied: [bool; 13],
     /// Those that are only counted, whatever else is said of them.
-    pub allowed: [bool; 12],
+    pub allowed: [bool; 13],
     /// Whether what is only counted is told too.
     pub is_all: bool,
 }

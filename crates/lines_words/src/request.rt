@@ -188,6 +188,8 @@ pub struct Notation {
     pub address_size: AddressSize,
     /// An address below which there is no code, 0 where none is known.
     pub lowest: u64,
+    /// An address from which on there is no code, the greatest one where none is known.
+    pub code_end: u64,
 }
 
 /// The bytes of the files that a request names: a file, and of a raw section those that it goes
@@ -208,6 +210,8 @@ pub struct Files<'i> {
     pub symbols: &'i [u8],
     /// The names of these, `.strtab` or `.dynstr`.
     pub symbol_names: &'i [u8],
+    /// The end of the code of each section, by the index that symbols have; 0 of one without code.
+    pub code_ends: &'i [u64],
 }
 
 /// The sections that say where compilations ran; no bytes where none is known.
@@ -223,7 +227,7 @@ pub struct UnitFiles<'i> {
 
 impl Notation {
     /// How the numbers of a program are read, whose addresses have 4 bytes or 8.
-    pub fn new(is_big_endian: bool, address_size: u8, lowest: u64) -> Notation {
+    pub fn new(is_big_endian: bool, address_size: u8, lowest: u64, code_end: u64) -> Notation {
         let order = match is_big_endian {
             true => RunTimeEndian::Big,
             false => RunTimeEndian::Little,
@@ -236,6 +240,7 @@ impl Notation {
             order,
             address_size,
             lowest,
+            code_end,
         }
     }
 }

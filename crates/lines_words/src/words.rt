@@ -144,6 +144,7 @@ fn kind_of<'w>(matches: &ArgMatches<'w>) -> Result<Kind, Mistake<'w>> {
             order,
             address_size: size.unwrap_or(AddressSize::Eight),
             lowest: 0,
+            code_end: u64::MAX,
         }),
         None => Kind::Elf,
     })
@@ -203,8 +204,8 @@ fn addresses_of<'w>(
 }
 
 /// The kinds of findings that the words of an option name.
-fn kinds_of<'w>(matches: &ArgMatches<'w>, option: &'static str) -> Result<[bool; 12], Mistake<'w>> {
-    let mut kinds = [false; 12];
+fn kinds_of<'w>(matches: &ArgMatches<'w>, option: &'static str) -> Result<[bool; 13], Mistake<'w>> {
+    let mut kinds = [false; 13];
     for word in matches.get_strs(option).unwrap_or(&[]) {
         if !add_kinds(&mut kinds, word) {
             return Err(Mistake::Word(word, option));
