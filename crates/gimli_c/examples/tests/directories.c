@@ -230,7 +230,7 @@ static void limit_of_paths(void) {
     }
 }
 
-/* A directory of 60,000 bytes, and 8,000 files in it, each with a row: their paths have 480 MB, and the section 156 KB. */
+/* A directory of 60,000 bytes, and 8,000 files in it, each with a row: their paths have 480 MB, and the section 148 KB. */
 static void long_paths(void) {
     enum { DIRECTORY = 60000, FILES = 8000, SIZE = 200000 };
     static const uint8_t head[] = {4, 0, 0, 0, 0, 0, 1, 1, 1, 0xfb, 14, 13, 0, 1, 1, 1, 1, 0, 0, 0, 1, 0, 0, 1},
@@ -239,7 +239,10 @@ static void long_paths(void) {
     at = (uint8_t *)memset(at + sizeof head, 'd', DIRECTORY) + DIRECTORY;
     *at++ = 0;
     *at++ = 0;
-    for (int i = 0; i < FILES; i++, at += 8) snprintf((char *)at, 5, "%04d", i), at[5] = 1, at[6] = at[7] = 0;
+    for (int i = 0; i < FILES; i++) {
+        const uint8_t file[] = {(uint8_t)('a' + i / 676), (uint8_t)('a' + i / 26 % 26), (uint8_t)('a' + i % 26), 0, 1, 0, 0};
+        at = (uint8_t *)memcpy(at, file, sizeof file) + sizeof file;
+    }
     *at++ = 0;
     uint32_t header = (uint32_t)(at - lines - 10), whole;
     memcpy(lines + 6, &header, 4);
