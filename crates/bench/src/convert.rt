@@ -69,6 +69,5 @@ fn convert_and_write<R: Reader>(
         &mut line_strings,
         &mut strings,
     )?;
-    let gimli_write::DebugLine(bytes) = unit;
-    Ok(bytes.into_vec())
+    Ok(unit.0.into_vec())
 }

@@ -68,7 +68,6 @@ fn index_of<R: Reader>(alloc: Global, lookup: &SectionLookup<R>, none: R) -> Opt
     };
     let compilations = Compilations::new(alloc, &sections).ok()?;
     let mut bytes = Vec::new(alloc);
-    let limit = usize::MAX;
     write_index(
         alloc,
         lookup,
@@ -76,7 +75,7 @@ fn index_of<R: Reader>(alloc: Global, lookup: &SectionLookup<R>, none: R) -> Opt
         &compilations,
         8,
         b"",
-        limit,
+        usize::MAX,
         &mut bytes,
     )
     .ok()?;

@@ -86,8 +86,7 @@ fn tally_of_section<R: Reader>(alloc: Global, section: &DebugLine<R>) -> Result<
     let lookup = SectionLookup::new(section, alloc, 8, 0)?;
     let mut tally = Tally::default();
     for unit in lookup.units() {
-        let offset = unit.offset();
-        tally.add(offset.0.into_u64());
+        tally.add(unit.offset().0.into_u64());
     }
     Ok(tally)
 }

@@ -6,16 +6,13 @@ ghost use Rattle.std.specs.Prelude.{false};
 
 use gimli_core::Endianity;
 
-/// The work that reads a section.
+/// The works: to read a section, to convert a unit, to look addresses up, to make and ask an index.
 pub(crate) const READ: u8 = 0;
 
-/// The work that converts a unit.
 pub(crate) const CONVERT: u8 = 1;
 
-/// The work that looks addresses up.
 pub(crate) const LOOKUP: u8 = 2;
 
-/// The work that makes an index that is bytes, and asks it.
 pub(crate) const INDEX: u8 = 3;
 
 /// The least significant byte first, in a work.

@@ -44,11 +44,7 @@ fn pass<R: Reader<Offset = usize>>(
     end: usize,
     what: What,
 ) -> Total {
-    let mut total = Total {
-        units: 0,
-        count: 0,
-        sum: 0,
-    };
+    let mut total = Total::default();
     let mut offset: usize = 0;
     for _ in 0..u64::MAX {
         if offset >= end {
@@ -63,7 +59,7 @@ fn pass<R: Reader<Offset = usize>>(
 }
 
 /// What was counted so far: units, rows or sequences, and the checksum.
-#[derive(Drop)]
+#[derive(Default, Drop)]
 struct Total {
     units: u64,
     count: u64,
@@ -112,9 +108,8 @@ fn unit<R: Reader<Offset = usize>>(
     what: What,
     total: &mut Total,
 ) -> Option<usize> {
-    let Ok(program) = section.program(alloc, DebugLineOffset(offset), 8, None, None) else {
-        return None;
-    };
+    let offset = DebugLineOffset(offset);
+    let program = section.program(alloc, offset, 8, None, None).ok()?;
     let length = program.header().unit_length();
     match what {
         What::Rows => add_rows(program, total),

@@ -46,8 +46,7 @@ fn write(alloc: Global, program: &LineProgram) -> Result<Vec<u8>> {
         let encoding = program.encoding();
         program.write(&mut section, encoding, &mut line_strings, &mut strings)?;
     }
-    let DebugLine(bytes) = section;
-    Ok(bytes.into_vec())
+    Ok(section.0.into_vec())
 }
 
 /// A program of so many sequences.

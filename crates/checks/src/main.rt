@@ -27,7 +27,7 @@ fn first_false(found: &[bool]) -> Option<usize> {
 }
 
 /// Each check, and what it finds.
-fn checks(alloc: Global) -> [(&'static str, Found); 12] {
+fn checks(alloc: Global) -> [(&'static str, Found); 11] {
     [
         ("readers::skipped", readers::skipped()),
         ("lookups::narrow_unit", lookups::narrow_unit(alloc)),
@@ -39,7 +39,6 @@ fn checks(alloc: Global) -> [(&'static str, Found); 12] {
         ("many::writers_and_tables", many::writers_and_tables(alloc)),
         ("many::conversions", many::conversions(alloc)),
         ("traps::told", traps::told(alloc)),
-        ("traps::marked", traps::marked(alloc)),
         ("errors::turned", errors::turned()),
     ]
 }

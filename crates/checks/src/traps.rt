@@ -2,74 +2,51 @@
 //! has one file.
 
 use crate::Found;
-use Mark::{Discriminator, EpilogueBegin, InitialFile, Isa, PrologueEnd};
-use Step::{At, End, Row, With};
+use Step::{At, Discriminator, End, EpilogueBegin, InitialFile, Isa, PrologueEnd, Row};
 use gimli_core::{Encoding, Format, LineEncoding};
 use gimli_write::Trap::{AddressOverflow, LaterOpcode, MissingFile, OpenSequence, UnsetAddress};
 use gimli_write::{Address, Error, LineProgram, LineString, Result, Trap};
 use std::alloc::Global;
 
-/// What a row has. The initial file, number 1, isn't there in version 5.
-#[derive(Clone, Copy, PartialEq, Eq)]
-enum Mark {
+/// What is built: a set address, a row at an offset, one at the start that has something, and an
+/// end. The initial file, number 1, isn't there in version 5.
+#[derive(Clone, Copy)]
+enum Step {
+    At(u64),
+    Row(u64),
     InitialFile,
     PrologueEnd,
     EpilogueBegin,
     Isa,
     Discriminator,
-}
-
-/// What is built: a set address, a row at an offset, one at the start with a mark, and an end.
-#[derive(Clone, Copy)]
-enum Step {
-    At(u64),
-    Row(u64),
-    With(Mark),
     End(u64),
 }
 
 /// A version, an address size, what is built, and all its traps.
 type Case = (u16, u8, &'static [Step], &'static [(usize, Trap)]);
 
-const CASES: [Case; 11] = [
-    (5, 4, &[At(16), Row(0), Row(4), End(8)], &[]),
-    (5, 4, &[At(16), Row(0)], &[(1, OpenSequence)]),
-    (5, 4, &[At(16), Row(0), At(32)], &[(1, OpenSequence)]),
+const CASES: [Case; 20] = [
+    (5, 4, &[At(1), Row(0), Row(4), End(8)], &[]),
+    (5, 4, &[At(1), Row(0)], &[(1, OpenSequence)]),
+    (5, 4, &[At(1), Row(0), At(32)], &[(1, OpenSequence)]),
     (5, 2, &[At(0xfff0), Row(15), End(15)], &[]),
-    (
-        5,
-        2,
-        &[At(0xfff0), Row(16), End(17)],
-        &[(1, AddressOverflow), (2, AddressOverflow)],
-    ),
+    (5, 1, &[At(0), Row(256)], &[(1, OpenSequence)]),
+    (5, 2, &[At(0xffff), End(1)], &[(1, AddressOverflow)]),
     (5, 8, &[At(u64::MAX), End(1)], &[(1, AddressOverflow)]),
     (5, 4, &[Row(0), Row(4), End(8)], &[(0, UnsetAddress)]),
-    (
-        5,
-        4,
-        &[At(16), End(4), Row(0), End(8)],
-        &[(2, UnsetAddress)],
-    ),
+    (5, 4, &[At(1), End(4), Isa, End(8)], &[(2, UnsetAddress)]),
     // Of several traps of one item the first counts.
-    (5, 1, &[Row(256)], &[(0, OpenSequence)]),
     (5, 1, &[Row(256), At(0), End(0)], &[(0, AddressOverflow)]),
-    (5, 4, &[With(InitialFile), End(4)], &[(0, MissingFile)]),
-];
-
-/// A version, what a row with a set address has, and its trap.
-type Marked = (u16, Mark, Option<Trap>);
-
-const MARKED: [Marked; 10] = [
-    (5, InitialFile, Some(MissingFile)),
-    (4, InitialFile, None),
-    (2, PrologueEnd, Some(LaterOpcode)),
-    (3, PrologueEnd, None),
-    (2, EpilogueBegin, Some(LaterOpcode)),
-    (3, EpilogueBegin, None),
-    (2, Isa, Some(LaterOpcode)),
-    (3, Isa, None),
-    (3, Discriminator, Some(LaterOpcode)),
-    (4, Discriminator, None),
+    (5, 4, &[InitialFile, End(4)], &[(0, MissingFile)]),
+    (4, 4, &[At(1), InitialFile, End(4)], &[]),
+    (2, 4, &[At(1), PrologueEnd, End(4)], &[(1, LaterOpcode)]),
+    (3, 4, &[At(1), PrologueEnd, End(4)], &[]),
+    (2, 4, &[At(1), EpilogueBegin, End(4)], &[(1, LaterOpcode)]),
+    (3, 4, &[At(1), EpilogueBegin, End(4)], &[]),
+    (2, 4, &[At(1), Isa, End(4)], &[(1, LaterOpcode)]),
+    (3, 4, &[At(1), Isa, End(4)], &[]),
+    (3, 4, &[At(1), Discriminator, End(4)], &[(1, LaterOpcode)]),
+    (4, 4, &[At(1), Discriminator, End(4)], &[]),
 ];
 
 /// The number of the first case that isn't told as it should be.
@@ -77,22 +54,6 @@ pub fn told(alloc: Global) -> Found {
     for (number, case) in CASES.iter().enumerate() {
         let mut program = one_file(alloc, case.0, case.1)?;
         if !is_told(&mut program, case.2, case.3)? {
-            return Ok(Some(number));
-        }
-    }
-    Ok(None)
-}
-
-/// The number of the first marked row that isn't told as it should be.
-pub fn marked(alloc: Global) -> Found {
-    for (number, case) in MARKED.iter().enumerate() {
-        let mut program = one_file(alloc, case.0, 4)?;
-        let traps = case.2.map(|trap| (1, trap));
-        if !is_told(
-            &mut program,
-            &[At(16), With(case.1), End(4)],
-            traps.as_slice(),
-        )? {
             return Ok(Some(number));
         }
     }
@@ -145,23 +106,23 @@ fn build(program: &mut LineProgram, step: Step) -> Result<()> {
     }
     match step {
         At(address) => program.set_address(Address::Constant(address)),
-        Row(offset) => add_row(program, offset, None),
-        With(mark) => add_row(program, 0, Some(mark)),
         End(offset) if program.can_end_sequence(offset) => program.end_sequence(offset),
         End(_) => Err(Error::InvalidRange),
+        Row(offset) => add_row(program, offset, step),
+        _ => add_row(program, 0, step),
     }
 }
 
-/// Adds a row.
-fn add_row(program: &mut LineProgram, offset: u64, mark: Option<Mark>) -> Result<()> {
+/// Adds a row at an offset, with what the step says.
+fn add_row(program: &mut LineProgram, offset: u64, step: Step) -> Result<()> {
     let file = program.default_file();
     let row = program.row();
     row.address_offset = offset;
-    row.isa = u64::from(mark == Some(Isa));
-    row.discriminator = u64::from(mark == Some(Discriminator));
-    row.prologue_end = mark == Some(PrologueEnd);
-    row.epilogue_begin = mark == Some(EpilogueBegin);
-    if mark != Some(InitialFile) {
+    row.isa = u64::from(matches!(step, Isa));
+    row.discriminator = u64::from(matches!(step, Discriminator));
+    row.prologue_end = matches!(step, PrologueEnd);
+    row.epilogue_begin = matches!(step, EpilogueBegin);
+    if !matches!(step, InitialFile) {
         row.file = file;
     }
     if program.is_none() || !program.can_generate_row() {

@@ -1,10 +1,17 @@
-//! The caller of a conversion: `convert.rt` says what it does. After the word `then` another
-//! conversion may follow; it is run where one is refused too.
+//! A unit up to version 4, written in version 5. After the word `then` another conversion may
+//! follow; it is run where one is refused too.
 #![tactic(auto)]
 
-mod convert;
-
-use anyhow::Result;
+use anyhow::{Result, bail};
+use gimli_core::{DebugLineOffset, Encoding, EndianSlice, LittleEndian, Reader};
+use gimli_line::{DebugLine, IncompleteLineProgram};
+use gimli_write::{
+    Address, ConvertError, ConvertResult, EndianVec, Error, LineProgram, LineStringTable,
+    RoundTrip, StringTable, convert_program, round_trip,
+};
+use std::alloc::Global;
+use std::fmt::Write;
+use std::fs;
 
 fn main(rt: HostRuntime) -> Result<()> {
     let words: Vec<String> = std::env::args(&rt)?.skip(1).collect(rt.alloc())?;
@@ -15,10 +22,103 @@ fn main(rt: HostRuntime) -> Result<()> {
 fn start(rt: &HostRuntime, words: &[String]) -> Result<()> {
     for words in words.split(|word| word.as_str() == "then") {
         let mut text = String::new(rt.alloc());
-        match convert::start(rt, words, &mut text) {
+        match print_unit(rt, words, &mut text) {
             Ok(()) => print!(rt; "{text}")?,
             Err(refusal) => println!(rt; "refused: {refusal}")?,
         }
     }
     Ok(())
+}
+
+/// Reads a section from a file, and prints the rows that are read of a unit after it was converted.
+/// The directory is `DW_AT_comp_dir` of its entry in `.debug_info`, and the name `DW_AT_name`.
+fn print_unit(rt: &HostRuntime, words: &[String], text: &mut String) -> Result<()> {
+    let [lines, offset, known @ ..] = words else {
+        bail!("usage: LINES OFFSET [DIRECTORY [NAME]]");
+    };
+    let offset = offset.parse::<usize>()?;
+    let section = fs::read(rt, lines.as_str())?;
+    Ok(print_converted(rt.alloc(), &section, offset, known, text)?)
+}
+
+/// Adds a line for each row that is read of the unit at an offset after it was converted. Up to
+/// version 4 all texts of a unit stand in its header, so the sections of texts have no bytes.
+fn print_converted<'i>(
+    alloc: Global,
+    section: &'i [u8],
+    offset: usize,
+    known: &'i [String],
+    text: &mut String,
+) -> ConvertResult<()> {
+    let directory = reader_of(known.first());
+    let name = reader_of(known.get(1));
+    let section = DebugLine::new(section, LittleEndian);
+    let source = section.program(alloc, DebugLineOffset(offset), 8, directory, None)?;
+    let empty = EndianSlice::new(b"", LittleEndian);
+    let converted = convert(alloc, source, name, empty)?;
+    for row in &converted.rows {
+        let line = row.line().map_or(0, |line| line.get());
+        let end = if row.end_sequence() { " end" } else { "" };
+        writeln!(text, "{:#x} line {line}{end}", row.address())?;
+    }
+    Ok(())
+}
+
+/// A reader of a word.
+fn reader_of(word: Option<&String>) -> Option<EndianSlice<'_, LittleEndian>> {
+    let word = word?;
+    Some(EndianSlice::new(word.as_bytes(), LittleEndian))
+}
+
+/// What is read of a unit after it was converted and written, each address as it is. Refused
+/// without a directory and a name, which tables from version 5 on have.
+fn convert<R: Reader>(
+    alloc: Global,
+    source: IncompleteLineProgram<R>,
+    name: Option<R>,
+    empty: R,
+) -> ConvertResult<RoundTrip> {
+    let mut strings = StringTable::default(alloc);
+    let mut line_strings = LineStringTable::default(alloc);
+    convert_with(alloc, source, name, empty, &mut line_strings, &mut strings)
+}
+
+/// Converts with the tables of texts that a program has.
+fn convert_with<R: Reader>(
+    alloc: Global,
+    source: IncompleteLineProgram<R>,
+    name: Option<R>,
+    empty: R,
+    line_strings: &mut LineStringTable,
+    strings: &mut StringTable,
+) -> ConvertResult<RoundTrip> {
+    let from = source.header().encoding();
+    let encoding = Encoding { version: 5, ..from };
+    let (program, _files) = convert_program(
+        empty,
+        empty,
+        source,
+        name,
+        Some(encoding),
+        None,
+        line_strings,
+        strings,
+        |address| Some(Address::Constant(address)),
+    )?;
+    read_back(alloc, &program, line_strings, strings)
+}
+
+/// What is read of a program after it was written.
+fn read_back(
+    alloc: Global,
+    program: &LineProgram,
+    line_strings: &mut LineStringTable,
+    strings: &mut StringTable,
+) -> ConvertResult<RoundTrip> {
+    if !program.can_write(line_strings, strings) {
+        return Err(ConvertError::Write(Error::InvalidRange));
+    }
+    let mut lines = gimli_write::DebugLine::from(EndianVec::new(alloc, LittleEndian));
+    let of = program.encoding();
+    round_trip(program, &mut lines, of, line_strings, strings)
 }
