@@ -112,11 +112,16 @@ impl<'a> Index<'a> {
     ///
     /// # Errors
     ///
-    /// [`Error::NO_SECTION`] where it has no `.debug_line`, [`Error::BAD_SECTION`] where a section can't be read, and those of
-    /// [`Index::write`].
+    /// [`Error::NO_SECTION`] where it has no `.debug_line`, [`Error::BAD_SECTION`] where a section can't be read,
+    /// [`Error::INDEX_TOO_LARGE`] also where `.debug_line` was compressed and has more bytes than four times the file's and 1 MiB, and
+    /// those of [`Index::write`].
     pub fn write_elf(elf: &Elf<'_>) -> Result<Vec<u8>, Error> {
         let section = |name| Ok::<_, Error>(elf.section(name)?.unwrap_or_default());
         let debug_line = elf.section(".debug_line")?.ok_or(Error::NO_SECTION)?;
+        // What is kept of the rows is at most 256 bytes for each byte of `.debug_line`.
+        if debug_line.len().saturating_mul(64) > elf.most() {
+            return Err(Error::INDEX_TOO_LARGE);
+        }
         let (line_str, str) = (section(".debug_line_str")?, section(".debug_str")?);
         let (info, abbrev) = (section(".debug_info")?, section(".debug_abbrev")?);
         let sections = Sections {

@@ -356,7 +356,8 @@ gimli_line_status gimli_line_index_of_sections(const gimli_line_sections *sectio
                                                uint8_t **index, size_t *size) GIMLI_LINE_CALL;
 
 /* Makes the index of an ELF file: that of its sections, named by its build id where it has one of at most 64 bytes. `length` takes the
- * place of the bytes of the sections for what its paths may have. GIMLI_LINE_NO_SECTION where it has no .debug_line; else it answers as
+ * place of the bytes of the sections for what its paths may have. GIMLI_LINE_NO_SECTION where it has no .debug_line, and
+ * GIMLI_LINE_INDEX_TOO_LARGE also where .debug_line was compressed and has more bytes than 4 * length and 1 MiB; else it answers as
  * gimli_line_sections_of_elf and gimli_line_index_of_sections do. */
 gimli_line_status gimli_line_index_of_elf(const void *file, size_t length, uint8_t **index, size_t *size) GIMLI_LINE_CALL;
 

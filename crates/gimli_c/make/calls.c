@@ -202,6 +202,8 @@ gimli_line_status gimli_line_index_of_elf(const void *file, size_t length, uint8
     *index = NULL;
     *size = 0;
     if (status == GIMLI_LINE_OK && sections.line == NULL) status = GIMLI_LINE_NO_SECTION;
+    /* What is kept of the rows is at most 256 bytes for each byte of .debug_line. */
+    if (status == GIMLI_LINE_OK && sections.line_size / 4 > length + (256 << 10)) status = GIMLI_LINE_INDEX_TOO_LARGE;
     if (status == GIMLI_LINE_OK) {
         gimli_line_status has = gimli_line_build_id(file, length, id, sizeof id, &id_size);
         if (has == GIMLI_LINE_BAD_SECTION) status = has;
