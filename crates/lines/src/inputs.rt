@@ -2,7 +2,7 @@
 
 ghost use Rattle.std.specs.Prelude.{◌≤◌, IfOk};
 
-use debug_files::{Found, Missing, PathSections, Source, Wanted};
+use debug_files::{Found, Missing, Wanted};
 use elf_sections::usual_limit;
 use lines_commands::{REFUSED, Run, Session};
 use lines_inputs::{InputError, Program, tell_refusal};
@@ -42,7 +42,10 @@ pub(crate) fn inputs_of(run: Run<'_>, name: &str) -> io::Result<Option<Inputs>> 
     };
     let kind = match &found {
         Found::Whole(_) => request.kind,
-        Found::Sections(source) => Kind::Raw(notation_of(source)),
+        Found::Sections(of) => {
+            let notation = Notation::new(of.is_big_endian, of.address_size, of.lowest, of.code_end);
+            Kind::Raw(notation)
+        }
     };
     Ok(Some(Inputs {
         kind,
@@ -78,21 +81,6 @@ fn sections_of(run: Run<'_>, name: &str) -> io::Result<Option<Found>> {
     }
 }
 
-/// How the numbers of a program's sections are read.
-fn notation_of(source: &Source) -> Notation {
-    let (lowest, code_end) = (source.lowest, source.code_end);
-    Notation::new(source.is_big_endian, source.address_size, lowest, code_end)
-}
-
-/// The sections of units.
-fn units_of(paths: &PathSections) -> UnitFiles<'_> {
-    UnitFiles {
-        info: &paths.info,
-        abbreviations: &paths.abbreviations,
-        string_offsets: &paths.string_offsets,
-    }
-}
-
 impl Inputs {
     /// The bytes of the files. Sections of texts that are named apart take the place of a program's
     /// own.
@@ -109,7 +97,11 @@ impl Inputs {
                 file: &source.lines,
                 line_str: named_or(&self.line_str, &source.paths.line_str),
                 strings: named_or(&self.strings, &source.paths.strings),
-                units: units_of(&source.paths),
+                units: UnitFiles {
+                    info: &source.paths.info,
+                    abbreviations: &source.paths.abbreviations,
+                    string_offsets: &source.paths.string_offsets,
+                },
                 symbols: &source.symbols,
                 symbol_names: &source.symbol_names,
                 code_ends: &source.code_ends,

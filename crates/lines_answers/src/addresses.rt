@@ -1,25 +1,25 @@
-//! The command `at`: the addresses of a line, in the files whose path ends with what is asked for.
+//! The command `at`: the addresses to break at for a line or for a function.
 
 use gimli_core::Reader;
 use gimli_index::PathEnd;
 use gimli_line::LineRow;
 use gimli_lookup::{Addresses, SectionLookup, SequenceRows, join_addresses};
-use lines_inputs::{Input, PathSources, column_of, line_of, look_up};
-use lines_pieces::{Piece, Result, add, note};
-use lines_words::{Json, Output, Request, bytes_of_word};
+use lines_inputs::{Functions, Input, PathSources, column_of, line_of, look_up};
+use lines_pieces::{Piece, Result, add, note, path_or_fault};
+use lines_words::{Json, Output, Request, SourcePlace, bytes_of_word};
 use std::alloc::{AllocError, Global};
 use std::collections::BTreeMap;
 
-/// Prints the addresses of a line in each file whose whole path ends with the components that are
-/// asked for, each path once: where to break at the line. Where none of its rows is a statement,
-/// the addresses of these rows; where it has none, those of the next line that has statements.
-/// Where there is none, the command ends as refused.
+/// Prints the addresses to break at for a line in each file whose whole path ends with the
+/// components that are asked for, each path once. Where none of its rows is a statement, these are
+/// the addresses of these rows; where it has none, those of the next line that has statements. Or
+/// prints where a function begins. Where there is no address, the command ends as refused.
 pub fn print_addresses<R: Reader>(
     alloc: Global,
     input: &Input<R>,
+    functions: &Functions<'_>,
     request: &Request<'_>,
-    path: &str,
-    line: u64,
+    place: SourcePlace<'_>,
     output: &mut Output<'_>,
 ) -> Result<()> {
     let sources = PathSources::new(alloc, input)?;
@@ -28,9 +28,17 @@ pub fn print_addresses<R: Reader>(
         alloc,
         sources: &sources,
         lookup: &lookup,
+        functions,
         request,
     };
-    search.print(path, line, output)
+    let is_found = match place {
+        SourcePlace::Line { path, line } => search.print_line(path, line, output)?,
+        SourcePlace::Function(name) => search.print_function(name, output)?,
+    };
+    if !is_found {
+        output.refuse();
+    }
+    Ok(())
 }
 
 /// A file of a unit.
@@ -65,26 +73,20 @@ fn add_file(alloc: Global, all: &mut Vec<PathFiles>, path: Vec<u8>, file: SeenFi
     Ok(())
 }
 
-/// A line that was found in the files of one path: its statements, or else its other rows.
-#[derive(Clone, Copy)]
-struct FoundLine<'f> {
-    of: &'f PathFiles,
-    line: u64,
-    is_stmt: bool,
-}
-
-/// A search for the addresses of a line.
+/// A search for addresses.
 #[derive(Clone, Copy)]
 struct Search<'s, R: Reader> {
     alloc: Global,
     sources: &'s PathSources<R>,
     lookup: &'s SectionLookup<R>,
+    functions: &'s Functions<'s>,
     request: &'s Request<'s>,
 }
 
 impl<R: Reader> Search<'_, R> {
-    /// Prints the addresses of a line in the files whose path ends so.
-    fn print(&self, path: &str, line: u64, output: &mut Output<'_>) -> Result<()> {
+    /// Prints the addresses of a line in the files whose path ends so, and returns whether there is
+    /// any.
+    fn print_line(&self, path: &str, line: u64, output: &mut Output<'_>) -> Result<bool> {
         let end = bytes_of_word(self.alloc, path)?;
         let all = self.find_files(PathEnd::new(&end))?;
         if all.is_empty() {
@@ -94,10 +96,58 @@ impl<R: Reader> Search<'_, R> {
         for of in &all {
             is_found |= self.print_of_path(of, line, output)?;
         }
-        if !is_found {
-            output.refuse();
+        Ok(is_found)
+    }
+
+    /// Prints where the code of a function begins, and returns whether a row covers it.
+    fn print_function(&self, name: &str, output: &mut Output<'_>) -> Result<bool> {
+        let word = bytes_of_word(self.alloc, name)?;
+        let Some((start, _)) = self.functions.range_of(&word) else {
+            note("no function has the name %", &[Piece::Name(name)], output);
+            return Ok(false);
+        };
+        let is_covered = self.print_row(self.breakpoint(start), output)?;
+        if !is_covered {
+            note("no rows have the code of %", &[Piece::Name(name)], output);
         }
-        Ok(())
+        Ok(is_covered)
+    }
+
+    /// An address, or that after the prologue where it is the beginning of a function, if that is
+    /// asked for: the first one whose row is marked as the end of the prologue (DWARF 5, section
+    /// 6.2.2), and where none is, that of the second row, as debuggers have it.
+    fn breakpoint(&self, address: u64) -> u64 {
+        let Some(end) = self.functions.end_from(address) else {
+            return address;
+        };
+        if !self.request.is_after_prologue {
+            return address;
+        }
+        let mut next = address;
+        while next < end {
+            match self.lookup.find(next) {
+                Some(found) if found.row.prologue_end() => return found.row.address(),
+                Some(found) if found.next.address() > next => next = found.next.address(),
+                _ => break,
+            }
+        }
+        let second = self.end_of_row(address);
+        if second < end { second } else { address }
+    }
+
+    /// Prints an address by the row that covers it; false where none does.
+    fn print_row(&self, address: u64, output: &mut Output<'_>) -> Result<bool> {
+        let Some(found) = self.lookup.find(address) else {
+            return Ok(false);
+        };
+        let path = self
+            .sources
+            .of_found(self.alloc, self.lookup.units(), &found);
+        let (path, _) = path_or_fault(self.sources, path)?;
+        let path = path.as_deref().unwrap_or(b"??");
+        let (line, column) = (line_of(&found.row), Some(column_of(&found.row)));
+        self.print_address(path, line, found.row.is_stmt(), address, column, output);
+        Ok(true)
     }
 
     /// The files that are meant in all units. One that has no path is passed over.
@@ -144,11 +194,9 @@ impl<R: Reader> Search<'_, R> {
 
     /// Prints the rows of a line that are no statements, and returns whether there is any.
     fn print_others(&self, of: &PathFiles, line: u64, output: &mut Output<'_>) -> Result<bool> {
-        let is_stmt = false;
-        let found = FoundLine { of, line, is_stmt };
-        let others = self.columns_of(&of.files, found)?;
+        let others = self.columns_of(&of.files, line, false)?;
         for (address, column) in &others {
-            self.print_address(found, *address, Some(*column), output);
+            self.print_address(&of.path, line, false, *address, Some(*column), output);
         }
         Ok(!others.is_empty())
     }
@@ -157,20 +205,18 @@ impl<R: Reader> Search<'_, R> {
     fn print_statements(
         &self,
         of: &PathFiles,
-        Addresses { line, addresses }: &Addresses,
+        found: &Addresses,
         output: &mut Output<'_>,
     ) -> Result<bool> {
         let has_column = self.request.has_column || output.is_json();
         let files = if has_column { of.files.as_slice() } else { &[] };
-        let found = FoundLine {
-            of,
-            line: *line,
-            is_stmt: true,
-        };
-        let columns = self.columns_of(files, found)?;
-        for address in addresses {
-            let column = columns.get(address).copied();
-            self.print_address(found, *address, column, output);
+        let columns = self.columns_of(files, found.line, true)?;
+        for address in &found.addresses {
+            let breakpoint = self.breakpoint(*address);
+            if breakpoint == *address || !self.print_row(breakpoint, output)? {
+                let column = columns.get(address).copied();
+                self.print_address(&of.path, found.line, true, *address, column, output);
+            }
         }
         Ok(true)
     }
@@ -178,7 +224,9 @@ impl<R: Reader> Search<'_, R> {
     /// Prints an address of a line.
     fn print_address(
         &self,
-        FoundLine { of, line, is_stmt }: FoundLine<'_>,
+        path: &[u8],
+        line: u64,
+        is_stmt: bool,
         address: u64,
         column: Option<u64>,
         output: &mut Output<'_>,
@@ -187,7 +235,7 @@ impl<R: Reader> Search<'_, R> {
         if output.is_json() {
             let fields = [
                 ("address", Json::Offset(Some(address))),
-                ("path", Json::Bytes(Some(&of.path))),
+                ("path", Json::Bytes(Some(path))),
                 ("line", Json::Number(line)),
                 ("column", Json::Number(column.unwrap_or(0))),
                 ("range", Json::Range(address, end)),
@@ -199,7 +247,7 @@ impl<R: Reader> Search<'_, R> {
         if self.request.has_range {
             add("-%", &[Piece::Address(end)], output);
         }
-        let place = [Piece::Path(Some(&of.path)), Piece::Number(line)];
+        let place = [Piece::Path(Some(path)), Piece::Number(line)];
         add("  %:%", &place, output);
         match column {
             Some(column) if self.request.has_column => add(":%", &[Piece::Number(column)], output),
@@ -220,38 +268,61 @@ impl<R: Reader> Search<'_, R> {
     fn addresses_of(&self, files: &[SeenFile], line: u64) -> Result<Option<Addresses>> {
         let mut found = None;
         for file in files {
-            let in_file = addresses_in(self.lookup, *file, line)?;
-            found = join_addresses(found, in_file).map_err(|_| AllocError)?;
+            if file.unit < self.lookup.units().len() {
+                let in_file = self.lookup.addresses_of_file(file.unit, file.index, line);
+                let in_file = in_file.map_err(|_| AllocError)?;
+                found = join_addresses(found, in_file).map_err(|_| AllocError)?;
+            }
         }
         Ok(found)
     }
 
     /// The columns of the rows of a line in files, by their addresses.
-    fn columns_of(&self, files: &[SeenFile], found: FoundLine<'_>) -> Result<BTreeMap<u64, u64>> {
+    fn columns_of(
+        &self,
+        files: &[SeenFile],
+        line: u64,
+        is_stmt: bool,
+    ) -> Result<BTreeMap<u64, u64>> {
         let mut columns = BTreeMap::new(self.alloc);
         for file in files {
-            for index in 0..usize::MAX {
-                let Some(rows) = sequence_in(self.lookup, file.unit, index) else {
-                    break;
-                };
-                self.add_columns(rows, *file, found, &mut columns)?;
-            }
+            self.add_columns_of(*file, line, is_stmt, &mut columns)?;
         }
         Ok(columns)
     }
 
     /// Adds the columns of the rows of a line in one file.
+    fn add_columns_of(
+        &self,
+        file: SeenFile,
+        line: u64,
+        is_stmt: bool,
+        columns: &mut BTreeMap<u64, u64>,
+    ) -> Result<()> {
+        if file.unit >= self.lookup.units().len() {
+            return Ok(());
+        }
+        for index in 0..self.lookup.sequence_count(file.unit) {
+            if let Some(rows) = self.lookup.sequence(file.unit, index) {
+                self.add_columns(rows, file, line, is_stmt, columns)?;
+            }
+        }
+        Ok(())
+    }
+
+    /// Adds the columns of the rows of a line in one sequence.
     fn add_columns(
         &self,
         rows: SequenceRows<'_>,
         file: SeenFile,
-        found: FoundLine<'_>,
+        line: u64,
+        is_stmt: bool,
         columns: &mut BTreeMap<u64, u64>,
     ) -> Result<()> {
         for index in 0..rows.len() {
             let row = rows.row(index);
-            let is_meant = row.file_index() == file.index && line_of(&row) == found.line;
-            if is_meant && row.is_stmt() == found.is_stmt && self.is_code(file.unit, &row) {
+            let is_meant = row.file_index() == file.index && line_of(&row) == line;
+            if is_meant && row.is_stmt() == is_stmt && self.is_code(file.unit, &row) {
                 columns.insert(row.address(), column_of(&row))?;
             }
         }
@@ -267,29 +338,4 @@ impl<R: Reader> Search<'_, R> {
             None => false,
         }
     }
-}
-
-/// The rows of a sequence of a unit; None where there is none of the index.
-fn sequence_in<R: Reader>(
-    lookup: &SectionLookup<R>,
-    unit: usize,
-    index: usize,
-) -> Option<SequenceRows<'_>> {
-    if unit >= lookup.units().len() {
-        return None;
-    }
-    lookup.sequence(unit, index)
-}
-
-/// The addresses in one file.
-fn addresses_in<R: Reader>(
-    lookup: &SectionLookup<R>,
-    file: SeenFile,
-    line: u64,
-) -> Result<Option<Addresses>> {
-    if file.unit >= lookup.units().len() {
-        return Ok(None);
-    }
-    let found = lookup.addresses_of_file(file.unit, file.index, line);
-    found.map_err(|_| AllocError)
 }

@@ -68,14 +68,16 @@ impl<'r> Session<'r> {
                 let mut questions = Questions::new(rt, &request.addresses)?;
                 self.locate(program, input, None, &mut questions)
             }
-            Command::At(_, _) | Command::Source(_) if !input.is_linked => {
+            Command::At(_) | Command::Source(_) if !input.is_linked => {
                 output.tell(NOT_LINKED);
                 Ok(())
             }
-            Command::At(path, line) => {
+            Command::At(place) => {
                 if self.begin_lookup(input.length(), files.limit)? {
-                    print_addresses(alloc, input, request, path, line, &mut self.output)?;
-                    self.output.clear();
+                    let functions = program.functions(alloc)?;
+                    let output = &mut self.output;
+                    print_addresses(alloc, input, &functions, request, place, output)?;
+                    output.clear();
                 }
                 Ok(())
             }

@@ -59,14 +59,25 @@ impl<'n> Functions<'n> {
         Ok(Functions { table, ranges })
     }
 
+    /// The last function that begins at an address or below it.
+    fn last_to(&self, address: u64) -> Option<&CodeRange> {
+        let after = self.ranges.partition_point(|range| range.start <= address);
+        self.ranges.get(after.checked_sub(1)?)
+    }
+
     /// The name of the function that holds an address.
     pub fn name_at(&self, address: u64) -> Option<&'n [u8]> {
-        let after = self.ranges.partition_point(|range| range.start <= address);
-        let range = self.ranges.get(after.checked_sub(1)?)?;
+        let range = self.last_to(address)?;
         if address >= self.end_of(range) {
             return None;
         }
         self.table.name(range.name)
+    }
+
+    /// Where the function ends that begins at an address.
+    pub fn end_from(&self, address: u64) -> Option<u64> {
+        let range = self.last_to(address)?;
+        (range.start == address).then_some(self.end_of(range))
     }
 
     /// The addresses of the first function of a name: where it begins, and where it ends.
@@ -74,6 +85,12 @@ impl<'n> Functions<'n> {
         let mut ranges = self.ranges.iter();
         let range = ranges.find(|range| self.table.name(range.name) == Some(name))?;
         Some((range.start, self.end_of(range)))
+    }
+
+    /// The address at an offset in the first function of a name. None where there is none.
+    pub fn address_in(&self, name: &str, offset: u64) -> Option<u64> {
+        let (start, _) = self.range_of(name.as_bytes())?;
+        start.checked_add(offset)
     }
 
     /// Where a function ends, within its section. One whose bytes aren't counted ends where the

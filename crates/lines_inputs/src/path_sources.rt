@@ -17,7 +17,7 @@ use crate::input::Input;
 use gimli_compilation::Compilations;
 use gimli_core::{Reader, ReaderOffset};
 use gimli_line::{FileEntry, LineProgramHeader, LineRow};
-use gimli_lookup::{PathError, Paths, StringSections};
+use gimli_lookup::{CoveringRows, PathError, Paths, StringSections, UnitLookup};
 use std::alloc::{AllocError, Global};
 use std::fmt;
 
@@ -120,6 +120,19 @@ impl<R: Reader> PathSources<R> {
         match row.file(header) {
             Some(file) => self.of_file(alloc, header, file),
             None => Err(PathError::InvalidFileIndex(row.file_index())),
+        }
+    }
+
+    /// The whole path of the file of rows that are found in units. Refused as `of_row` is.
+    pub fn of_found(
+        &self,
+        alloc: Global,
+        units: &[UnitLookup<R>],
+        found: &CoveringRows,
+    ) -> Result<Vec<u8>, PathError> {
+        match units.get(found.unit).and_then(|unit| unit.header()) {
+            Some(header) => self.of_row(alloc, header, &found.row),
+            None => Err(PathError::InvalidFileIndex(found.row.file_index())),
         }
     }
 

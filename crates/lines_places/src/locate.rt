@@ -2,12 +2,11 @@
 
 use crate::place_printer::{Asked, FoundPlace, PlacePrinter};
 use gimli_core::{Reader, ReaderOffset};
-use gimli_lookup::{CoveringRows, PathError};
 use lines_inputs::{
     Covering, Functions, Input, PathSources, column_of, flags_of, line_of, look_up_any,
     look_up_each,
 };
-use lines_pieces::{Piece, Result, path_or_fault, tell_of_unit};
+use lines_pieces::{Piece, Result, path_or_fault, tell, tell_of_unit};
 use lines_words::{CodeAddress, Json, Output, Request};
 use std::alloc::Global;
 
@@ -59,7 +58,7 @@ impl<'r, 'n, R: Reader> Places<'r, 'n, R> {
     ) -> Result<Places<'r, 'n, R>> {
         let printer = PlacePrinter::new(alloc, request)?;
         let sources = PathSources::new(alloc, input)?;
-        let lookup = rows_for(alloc, input, request, section.is_some(), output)?;
+        let lookup = rows_for(alloc, input, &functions, request, section.is_some(), output)?;
         Ok(Places {
             alloc,
             lookup,
@@ -80,11 +79,29 @@ impl<'r, 'n, R: Reader> Places<'r, 'n, R> {
             (Asked::Address(CodeAddress::InSection { section, offset }), Some(own))
                 if section.as_bytes() == own => self.print_place(offset, output),
             (_, Some(_)) => Ok(Answered::Elsewhere),
+            (Asked::Address(CodeAddress::InSection { section, offset }), None) => {
+                self.print_in_function(section, offset, output)
+            }
             (asked, None) => {
                 self.printer.print_other(asked, output);
                 Ok(Answered::Whole)
             }
         }
+    }
+
+    /// Prints the place at an offset in a function. That there is no such function is reported.
+    fn print_in_function(
+        &self,
+        name: &str,
+        offset: u64,
+        output: &mut Output<'_>,
+    ) -> Result<Answered> {
+        if let Some(own) = self.functions.address_in(name, offset) {
+            return self.print_place(own.saturating_add(self.printer.request.bias), output);
+        }
+        self.printer.print(None, None, None, output);
+        tell("no function has the name %", &[Piece::Name(name)], output);
+        Ok(Answered::Whole)
     }
 
     /// Prints the place of an address. In JSON its rows say more: their range is moved by the bias,
@@ -97,7 +114,10 @@ impl<'r, 'n, R: Reader> Places<'r, 'n, R> {
             self.printer.print(Some(address), function, None, output);
             return Ok(Answered::Whole);
         };
-        let (path, fault) = path_or_fault(&self.sources, self.path_of(&found))?;
+        let path = self
+            .sources
+            .of_found(self.alloc, self.lookup.units(), &found);
+        let (path, fault) = path_or_fault(&self.sources, path)?;
         let (line, column) = (line_of(&found.row), column_of(&found.row));
         let start = found.row.address().saturating_add(request.bias);
         let end = found.next.address().saturating_add(request.bias);
@@ -126,15 +146,6 @@ impl<'r, 'n, R: Reader> Places<'r, 'n, R> {
             _ => Answered::Whole,
         })
     }
-
-    /// The whole path of the file of a row. Refused as `PathError` says.
-    fn path_of(&self, found: &CoveringRows) -> Result<Vec<u8>, PathError> {
-        let unit = self.lookup.units().get(found.unit);
-        match unit.and_then(|unit| unit.header()) {
-            Some(header) => self.sources.of_row(self.alloc, header, &found.row),
-            None => Err(PathError::InvalidFileIndex(found.row.file_index())),
-        }
-    }
 }
 
 /// The rows for the addresses of a request, which are looked for as they were before the program
@@ -142,6 +153,7 @@ impl<'r, 'n, R: Reader> Places<'r, 'n, R> {
 fn rows_for<R: Reader>(
     alloc: Global,
     input: &Input<R>,
+    functions: &Functions<'_>,
     request: &Request<'_>,
     is_any: bool,
     output: &mut Output<'_>,
@@ -151,11 +163,11 @@ fn rows_for<R: Reader>(
     }
     let mut unmoved = Vec::new(alloc);
     for address in &request.addresses {
-        if let CodeAddress::Linked(address) = *address {
-            if let Some(own) = address.checked_sub(request.bias) {
-                unmoved.push(own)?;
-            }
-        }
+        let own = match *address {
+            CodeAddress::Linked(address) => address.checked_sub(request.bias),
+            CodeAddress::InSection { section, offset } => functions.address_in(section, offset),
+        };
+        unmoved.extend(own)?;
     }
     look_up_each(alloc, input, unmoved, output)
 }

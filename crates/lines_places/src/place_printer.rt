@@ -86,6 +86,10 @@ impl<'r> PlacePrinter<'r> {
         let path = path.map(|path| shown_path(path, self.request.paths, &self.directory));
         let (line, column) = place.map_or((0, 0), |place| (place.line, place.column));
         if !output.is_json() {
+            if self.request.has_address {
+                let address = address.map_or(Piece::Word("??"), Piece::Address);
+                add("%  ", &[address], output);
+            }
             if self.request.has_function {
                 add("% at ", &[Piece::Path(function)], output);
             }
@@ -124,7 +128,7 @@ impl<'r> PlacePrinter<'r> {
             }
             Asked::Address(CodeAddress::InSection { section, offset }) => {
                 let section = Piece::Path(Some(section.as_bytes()));
-                let text = "%+% is for object files; say an address";
+                let text = "%+% is for programs; say an address";
                 tell(text, &[section, Piece::Address(offset)], output);
             }
             Asked::Unknown(word) => tell("'%' is no address", &[Piece::Path(Some(word))], output),

@@ -11,8 +11,9 @@ const VERSION: &str = "0.1.0";
 /// or a stroke for none; how it is written, which `argument` reads; and help.
 const COMMANDS: [&str; 10] = [
     "where Prints path:line:column of each address, ??:0:0 where there is none
-ADDRESS - words An address in hexadecimal digits, or in an object file SECTION+OFFSET; without one \
-    they are read from standard input
+ADDRESS - words An address in hexadecimal digits, or FUNCTION+OFFSET, or in an object file \
+    SECTION+OFFSET; without one they are read from standard input
+addresses a flag Prints the address before the answer
 functions f flag Prints the name of the function that holds the address, before the path
 pretty - flag Prints the line of source below each answer, with a mark at the column
 source - SOURCE Reads this source file in the place of those that paths name
@@ -27,8 +28,10 @@ files - flag Reads lines of a file and an address, in the place of FILE
     "index Writes an index of the lines, for where --index and where --indexes
 output o OUT Where the index goes; without it to FILE with .lines after it, and - is standard output
 >Example: lines index a.out -o a.out.lines",
-    "at Prints the addresses to break at for a line, or for the next one that has code
-PATH:LINE - needed A line of each file whose path ends so, by whole parts
+    "at Prints the addresses to break at for a line, or the next one that has code, or for a function
+PLACE - needed A line of each file whose path ends so, PATH:LINE, or else the name of a function, \
+    as its symbol has it
+after-prologue - flag Goes past the prologue where an address is the beginning of a function
 columns - flag Prints the column after the line
 range - flag Prints where the row of each address ends, after its beginning
 >Example: lines at a.out src/main.c:12",

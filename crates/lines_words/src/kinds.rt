@@ -104,12 +104,7 @@ impl Severity {
     fn is_grave(self) -> bool
         ensures { result ≡ is_grave self }
     {
-        match self {
-            Severity::Fault => true,
-            Severity::Lost => true,
-            Severity::Odd => false,
-            Severity::Usual => false,
-        }
+        matches!(self, Severity::Fault | Severity::Lost)
     }
 }
 

@@ -33,8 +33,12 @@ pub struct Request<'w> {
     pub form: Form,
     /// How much of a path is printed.
     pub paths: PathForm<'w>,
+    /// Whether each address is printed before its answer.
+    pub has_address: bool,
     /// Whether the name of the function is printed too.
     pub has_function: bool,
+    /// Whether an address goes past the prologue where it is the beginning of a function.
+    pub is_after_prologue: bool,
     /// Whether the line of source is printed too.
     pub has_source: bool,
     /// Whether columns are printed after lines.
@@ -52,17 +56,16 @@ pub struct Request<'w> {
 /// What is done over a file.
 #[derive(Clone, Copy)]
 pub enum Command<'w> {
-    /// Prints the places in the source of addresses.
-    Where { has_function: bool },
+    /// Prints the places in the source of addresses. Functions may be named in it.
+    Where { has_names: bool },
     /// The same by an index, a file that is named.
     Ask(&'w str),
     /// The same of lines of standard input, which say what they ask.
     AskLines(LineNames<'w>),
     /// Writes the index of the lines, into a file that may be named.
     Index(Option<&'w str>),
-    /// Prints the addresses of a line of the files whose whole path ends with the components of
-    /// another.
-    At(&'w str, u64),
+    /// Prints the addresses to break at for a place.
+    At(SourcePlace<'w>),
     /// Prints the source of a place, with its addresses.
     Source(SourcePlace<'w>),
     /// Prints a line for each unit.
@@ -91,11 +94,11 @@ impl Command<'_> {
         self.prints_paths() && !matches!(self, Command::Rows(Form::Text))
     }
 
-    /// Whether names of functions are printed: symbols are read for these alone.
+    /// Whether names of functions are printed or asked for: symbols are read for these alone.
     pub fn prints_functions(&self) -> bool {
         matches!(
             self,
-            Command::Where { has_function: true } | Command::Source(_)
+            Command::Where { has_names: true } | Command::At(_) | Command::Source(_)
         )
     }
 }

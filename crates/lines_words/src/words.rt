@@ -46,9 +46,8 @@ fn wanted_of(name: &str) -> &'static str {
         "address-size" => "an address size: 1, 2, 4 or 8",
         "bias" => "an address, up to 16 hexadecimal digits with or without 0x",
         "ADDRESS" => {
-            "an address, up to 16 hexadecimal digits with or without 0x, or SECTION+OFFSET"
+            "an address, up to 16 hexadecimal digits with or without 0x, or NAME+OFFSET"
         }
-        "PATH:LINE" => "a path, a colon and a line",
         "PLACE" => "a path, a colon and a line, or the name of a function",
         "context" => "a number of lines up to 100000",
         "memory-limit" => "a number of bytes, decimal and with K, M or G after it or none",
@@ -127,7 +126,9 @@ fn request_of<'w>(alloc: Global, matches: &ArgMatches<'w>) -> Result<Request<'w>
         source: matches.get_str("source"),
         form: form_of(matches),
         paths: path_form_of(matches),
+        has_address: matches.get_flag("addresses"),
         has_function: matches.get_flag("functions"),
+        is_after_prologue: matches.get_flag("after-prologue"),
         has_source: matches.get_flag("pretty"),
         has_column: matches.get_flag("columns"),
         has_range: matches.get_flag("range"),
@@ -155,14 +156,8 @@ fn command_of<'w>(name: &'w str, matches: &ArgMatches<'w>) -> Result<Command<'w>
     Ok(match name {
         "where" => where_of(matches),
         "index" => Command::Index(matches.get_str("output")),
-        "at" => {
-            let (path, line) = said!(matches, "PATH:LINE", parse_target).unwrap_or(("", 0));
-            Command::At(path, line)
-        }
-        "source" => {
-            let place = said!(matches, "PLACE", parse_source_place);
-            Command::Source(place.unwrap_or(SourcePlace::Function("")))
-        }
+        "at" => Command::At(place_of(matches)?),
+        "source" => Command::Source(place_of(matches)?),
         "units" => Command::Units,
         "files" => Command::Files,
         "rows" => Command::Rows(form_of(matches)),
@@ -173,15 +168,25 @@ fn command_of<'w>(name: &'w str, matches: &ArgMatches<'w>) -> Result<Command<'w>
     })
 }
 
+/// The place that is named.
+fn place_of<'w>(matches: &ArgMatches<'w>) -> Result<SourcePlace<'w>, Mistake<'w>> {
+    let place = said!(matches, "PLACE", parse_source_place);
+    Ok(place.unwrap_or(SourcePlace::Function("")))
+}
+
 /// The command `where`, by what it asks.
 fn where_of<'w>(matches: &ArgMatches<'w>) -> Command<'w> {
     match (matches.get_str("index"), matches.get_str("indexes")) {
         (Some(index), _) => Command::Ask(index),
         (None, Some(folder)) => Command::AskLines(LineNames::BuildIds(folder)),
         _ if matches.get_flag("files") => Command::AskLines(LineNames::Files),
-        _ => Command::Where {
-            has_function: matches.get_flag("functions"),
-        },
+        _ => {
+            let words = matches.get_strs("ADDRESS").unwrap_or(&[]);
+            let may_name = words.is_empty() || words.iter().any(|word| word.contains('+'));
+            Command::Where {
+                has_names: may_name || matches.get_flag("functions"),
+            }
+        }
     }
 }
 

@@ -18,4 +18,4 @@ pub use lines::{Lines, Piece};
 pub use repeat::repeat_lines;
 pub use row_file::{CONVERSION_WORDS, Input, RowCommand, TestRow, parse_rows, words_before_parts};
 pub use stop::{Attempts, Stop};
-pub use words::parse_number;
+pub use words::{parse_number, reader};

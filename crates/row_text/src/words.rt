@@ -1,7 +1,8 @@
 //! Words: numbers, texts and bytes.
 
 use crate::stop::Stop;
-use line_text::parse_digits;
+use gimli_core::{EndianSlice, RunTimeEndian};
+use line_text::{Slice, parse_digits};
 use std::str;
 
 /// A number in decimal digits, or in hexadecimal ones after `0x`, where it fits.
@@ -10,6 +11,11 @@ pub fn parse_number(word: &str) -> Option<u64> {
         Some(digits) => parse_digits(digits, 16),
         None => parse_digits(word, 10),
     }
+}
+
+/// A reader over a text that is handed in.
+pub fn reader(text: &Option<Vec<u8>>, order: RunTimeEndian) -> Option<Slice<'_>> {
+    text.as_deref().map(|text| EndianSlice::new(text, order))
 }
 
 /// Appends a text: `%` and two hexadecimal digits are a byte, and `%` alone is the empty text. No

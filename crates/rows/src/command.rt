@@ -4,11 +4,11 @@ ghost use Rattle.std.specs.Prelude.{◌≡◌, IsErr};
 
 use crate::lookup_text::{print_lookup, print_paths, print_units, watch_rows};
 use crate::unit_text::{print_header, print_instructions};
-use gimli_core::{DebugLineOffset, EndianSlice, Error, Reader, ReaderOffset, RunTimeEndian};
+use gimli_core::{DebugLineOffset, EndianSlice, Error, Reader, ReaderOffset};
 use gimli_line::{DebugLine, IncompleteLineProgram};
 use gimli_lookup::StringSections;
 use line_text::{AddressSize, Slice};
-use row_text::{Arguments, Attempts, Lines, Stop};
+use row_text::{Arguments, Attempts, Lines, Stop, reader};
 use std::alloc::Global;
 use std::fmt::Debug;
 
@@ -139,11 +139,6 @@ pub fn print(
     };
     perform(command, &asked, lines);
     Ok(())
-}
-
-/// A reader over a text that is handed in.
-fn reader(text: &Option<Vec<u8>>, order: RunTimeEndian) -> Option<Slice<'_>> {
-    text.as_deref().map(|text| EndianSlice::new(text, order))
 }
 
 /// The same over any reader.

@@ -7,7 +7,6 @@ use crate::built::{Tables, print_row, put_refused};
 use crate::script::Script;
 use gimli_core::{
     DebugLineOffset, Encoding, EndianSlice, Error, LineEncoding, Reader, ReaderOffset,
-    RunTimeEndian,
 };
 use gimli_line::{DebugLine, IncompleteLineProgram};
 use gimli_write::{
@@ -15,9 +14,9 @@ use gimli_write::{
     ConvertLineSequence, ConvertLineSequenceEnd, ConvertResult, FileId, LineProgram,
     LineStringTable,
 };
-use line_text::{AddressSize, Slice};
+use line_text::AddressSize;
 use row_text::Piece::{Number, Word};
-use row_text::{Arguments, Attempts, Lines, Stop};
+use row_text::{Arguments, Attempts, Lines, Stop, reader};
 use std::alloc::Global;
 
 /// Prints a conversion, by the words after its command, of a unit in the sections `.debug_line`,
@@ -62,11 +61,6 @@ pub fn convert(
     script.reads_back = true;
     conversion.print(&mut script, lines);
     Ok(())
-}
-
-/// A reader over a text that is handed in.
-fn reader(text: &Option<Vec<u8>>, order: RunTimeEndian) -> Option<Slice<'_>> {
-    text.as_deref().map(|text| EndianSlice::new(text, order))
 }
 
 /// The encodings of the program that is built; where none is handed in it is that of the source.

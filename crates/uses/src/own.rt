@@ -1,24 +1,21 @@
-//! A writer and a reader of one's own, which write what they have to; all else has a body.
+//! A reader of one's own, which writes what it has to; all else has a body.
 #![tactic(auto)]
 
-ghost use Rattle.std.specs.Prelude.{◌≡◌, ◌≤◌, false, nat_eq, position};
+ghost use Rattle.std.specs.Prelude.{◌≡◌, false, nat_eq, position};
 
 use crate::make_unit::{AT_0X1000, write_unit};
 use crate::rows::print_units;
-use gimli_core::{Error as ReadError, LittleEndian, Reader, ReaderOffsetId, SectionId};
-use gimli_write::{Address, DebugLine, DebugLineStr, EndianVec, Error, Result, Sink, Writer};
+use gimli_core::{Error as ReadError, LittleEndian, Reader, ReaderOffsetId};
+use gimli_write::{DebugLine, DebugLineStr, EndianVec};
 use std::alloc::Global;
 use std::borrow::CowSlice;
 
-/// Writes a unit into an array, and prints the rows that are read there.
+/// Writes a unit, and prints the rows that are read of it.
 pub fn start(alloc: Global, text: &mut String) -> anyhow::Result<()> {
-    let mut lines = DebugLine::from(ArraySection {
-        bytes: [0; 256],
-        len: 0,
-    });
+    let mut lines = DebugLine::from(EndianVec::new(alloc, LittleEndian));
     let mut texts = DebugLineStr::from(EndianVec::new(alloc, LittleEndian));
     write_unit(alloc, AT_0X1000, &mut lines, &mut texts)?;
-    let slice = &lines.0.bytes[..lines.0.len];
+    let slice = lines.0.slice();
     Ok(print_units(alloc, OwnReader { slice }, text)?)
 }
 
@@ -96,90 +93,5 @@ impl<'i> Reader for OwnReader<'i> {
         let front = self.split(buf.len())?;
         buf.copy_from_slice(front.slice);
         Ok(())
-    }
-}
-
-/// A section in an array. That it keeps the bytes given to it isn't claimed.
-#[derive(Drop)]
-struct ArraySection {
-    bytes: [u8; 256],
-    len: usize,
-    ghost fits: { len ≤ 256 },
-}
-
-impl Sink for ArraySection {
-    ghost use Rattle.std.specs.Prelude.{[], take, false};
-    ghost use Rattle.gimli_bytes.specs.Hand.{plain};
-
-    ghost contents = { λ w. take w.len w.bytes };
-
-    ghost big = { λ w. false };
-
-    ghost keeps_bytes = { false };
-
-    ghost completes = { λ w. false };
-
-    ghost completed = { λ at w. [] };
-
-    ghost hand = { λ at. plain };
-
-    ghost fails_for_memory_alone = { false };
-
-    ghost refuses = { λ e. Unit {0} };
-
-    ghost all_or_none = { false };
-}
-
-impl Writer for ArraySection {
-    type Endian = LittleEndian;
-
-    fn endian(&self) -> LittleEndian {
-        LittleEndian
-    }
-
-    fn len(&self) -> usize {
-        self.len
-    }
-
-    fn write(&mut self, bytes: &[u8]) -> Result<()> {
-        let len = self.len;
-        if bytes.len() > 256 - len {
-            return Err(Error::LengthOutOfBounds);
-        }
-        let end = len + bytes.len();
-        self.bytes[len..end].copy_from_slice(bytes);
-        self.len = end;
-        Ok(())
-    }
-
-    fn write_at(&mut self, offset: usize, bytes: &[u8]) -> Result<()> {
-        let len = self.len;
-        if offset > len {
-            return Err(Error::OffsetOutOfBounds);
-        }
-        if bytes.len() > len - offset {
-            return Err(Error::LengthOutOfBounds);
-        }
-        self.bytes[offset..offset + bytes.len()].copy_from_slice(bytes);
-        Ok(())
-    }
-
-    fn write_address(&mut self, address: Address, size: u8) -> Result<()> {
-        match address {
-            Address::Constant(val) => self.write_udata(val, size),
-            Address::Symbol { .. } => Err(Error::InvalidAddress),
-        }
-    }
-
-    fn write_offset(&mut self, val: usize, _section: SectionId, size: u8) -> Result<()> {
-        self.write_udata(val as u64, size)
-    }
-
-    fn write_offset_at(&mut self, at: usize, val: usize, _of: SectionId, size: u8) -> Result<()> {
-        self.write_udata_at(at, val as u64, size)
-    }
-
-    fn write_reference(&mut self, _symbol: usize, _size: u8) -> Result<()> {
-        Err(Error::InvalidReference)
     }
 }
