@@ -28,7 +28,7 @@ files - flag Reads lines of a file and an address, in the place of FILE
     "index Writes an index of the lines, for where --index and where --indexes
 output o OUT Where the index goes; without it to FILE with .lines after it, and - is standard output
 >Example: lines index a.out -o a.out.lines",
-    "at Prints the addresses to break at for a line, or the next one that has code, or for a function
+    "at Prints the addresses to break at for a line, or the next that has code, or for a function
 PLACE - needed A line of each file whose path ends so, PATH:LINE, or else the name of a function, \
     as its symbol has it
 after-prologue - flag Goes past the prologue where an address is the beginning of a function
