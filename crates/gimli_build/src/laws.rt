@@ -21,7 +21,7 @@ ghost use Rattle.gimli_line.specs.run.Instruction.{Ins, defines_file};
 ghost use Rattle.gimli_line.specs.run.Events.{Event, row};
 ghost use Rattle.gimli_line.specs.run.RunState.{RunState};
 ghost use Rattle.gimli_line.specs.run.Progress.{with_reset_row, Progress};
-ghost use Rattle.gimli_line.specs.run.Rows.{FaultIs};
+ghost use Rattle.gimli_line.specs.run.Rows.{live_events, FaultIs};
 ghost use Rattle.gimli_line.specs.run.Machine.{initial};
 ghost use Rattle.gimli_line.specs.declared.run.instruction.LineInstruction.TheVariants.{SetAddress};
 ghost use Rattle.gimli_build.specs.declared.built.row.LineRow.{LineRow};
@@ -174,7 +174,7 @@ pub fn written_rows_take_no_memory()
     ensures goes { (old new : RunState) (events : List Event) → DefinesNoFile old →
         Progress old new events → DefinesNoFile new }
     ensures refused { (old new : RunState) (e : Error) → DefinesNoFile old →
-        FaultIs (with_reset_row old) new e → e ≡ AddressOverflow }
+        FaultIs live_events (with_reset_row old) new e → e ≡ AddressOverflow }
 {}
 
 /// `==` holds of two texts, and of two ids, exactly where they are the same text and the same

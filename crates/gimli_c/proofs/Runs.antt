@@ -10,8 +10,8 @@ use Rattle.gimli_line.specs.declared.run.row.LineRow.{LineRow}
 use Rattle.gimli_line.specs.header.File.{File}
 use Rattle.gimli_line.specs.header.Header.{Header}
 use Rattle.gimli_line.specs.run.Instruction.{Ins}
-use Rattle.gimli_line.specs.run.Events.{Event, row, fault, events_at, events_after, end_events, Events}
-use Rattle.gimli_line.specs.run.EventsWithFiles.{EventWithFiles, EventsWithFiles, with_files, files_at, events_with_files_after}
+use Rattle.gimli_line.specs.run.Events.{Event, row, fault, Events}
+use Rattle.gimli_line.specs.run.EventsWithFiles.{EventWithFiles, EventsWithFiles}
 use Rattle.gimli_line.specs.run.Sequences.{events_of}
 use Rattle.gimli_line.specs.run.InstructionReading.{decoded_at, decoded_upto}
 use Rattle.gimli_line.specs.run.Progress.{files_from}
@@ -21,6 +21,7 @@ use Rattle.gimli_c.specs.declared.row.GimliRow.{GimliRow}
 use Rattle.gimli_line.proofs.Bounds.{unit_bounded}
 use Rattle.gimli_line.proofs.HeaderLaws.{one_header}
 use Rattle.gimli_line.proofs.RowBounds.{events_bounded}
+use Rattle.gimli_line.proofs.RunLists.{given_without_files}
 use Rattle.gimli_c.specs.Location.{Location, notation_at, unit_entry_at, HasUnit}
 use Rattle.gimli_c.specs.Run.{rows_of, fault_of, Begun, Copied, HasEvents}
 use Rattle.gimli_c.specs.Seen.{row_seen}
@@ -118,21 +119,6 @@ counted events left rest skip count old now r way is fits =
 
 -- ---- the events of a program
 
-events_of_at : (files : List File) (es : List Event) → events_of (with_files files es) ≡ es
-events_of_at files [] = refl
-events_of_at files (e ∷ es) = ap (λ (xs : List Event). e ∷ xs) (events_of_at files es)
-
-events_of_after : (a : Bool) (h : Header) (past list : List Ins) (end : Option Error)
-    → events_of (events_with_files_after a h past list end) ≡ events_after h.parameters past list ++ end_events end
-events_of_after a h past [] end = events_of_at (files_at a h.files past) (end_events end)
-events_of_after a h past (i ∷ list) end =
-    let files = files_at a h.files past in
-    let here = events_at h.parameters past i in
-    map-append (λ (t : EventWithFiles). t.event) (with_files files here) (events_with_files_after a h (i ∷ past) list end)
-    ∙ ap (λ (xs : List Event). xs ++ events_of (events_with_files_after a h (i ∷ past) list end)) (events_of_at files here)
-    ∙ ap (λ (xs : List Event). here ++ xs) (events_of_after a h (i ∷ past) list end)
-    ∙ sym (append_assoc here (events_after h.parameters (i ∷ past) list) (end_events end))
-
 -- events that have files are events
 pub without_files : (notation : Notation) (a : Bool) (h : Header) (bytes : List ℕ) (events : List EventWithFiles) → EventsWithFiles notation a h bytes events
     → Events notation h bytes (events_of events)
@@ -140,7 +126,7 @@ without_files notation a h bytes events given = record {
   list = given.list;
   end = given.end;
   decoding = given.decoding;
-  given = ap events_of given.given ∙ events_of_after a h [] given.list given.end;
+  given = ap events_of given.given ∙ given_without_files a h given.list given.end;
 }
 
 -- rows are among the events

@@ -1,18 +1,22 @@
--- The machine's registers are those that are found by looking back.
-use Rattle.std.proofs.Common.{◌≡◌, Bool, true, false, not, if◌then◌else◌, List, [], ◌∷◌, ◌++◌, refl, ap}
+-- The machine makes what is found by looking back.
+use Rattle.std.proofs.Common.{◌≡◌, Bool, true, false, not, ◌||◌, if◌then◌else◌, List, [], ◌∷◌, ◌++◌, Option, None, refl, ap, ◌∙◌}
 use Rattle.std.specs.List.{list_any}
+use Rattle.gimli_core.specs.declared.error.Error.{Error}
 use Rattle.gimli_line.specs.declared.run.row.LineRow.{LineRow}
 use Rattle.gimli_line.specs.declared.run.instruction.LineInstruction.TheVariants.{Special, Copy, AdvancePc, AdvanceLine, SetFile, SetColumn, NegateStatement}
 use Rattle.gimli_line.specs.declared.run.instruction.LineInstruction.TheVariants.{SetBasicBlock, ConstAddPc, FixedAddPc, SetPrologueEnd, SetEpilogueBegin}
 use Rattle.gimli_line.specs.declared.run.instruction.LineInstruction.TheVariants.{SetIsa, UnknownStandard0, UnknownStandard1, UnknownStandardN, EndSequence}
 use Rattle.gimli_line.specs.declared.run.instruction.LineInstruction.TheVariants.{SetAddress, DefineFile, SetDiscriminator, UnknownExtended}
 use Rattle.gimli_line.specs.header.Parameters.{Parameters}
-use Rattle.gimli_line.specs.run.Instruction.{Ins, makes_row}
+use Rattle.gimli_line.specs.header.File.{File}
+use Rattle.gimli_line.specs.run.Instruction.{Ins, makes_row, files_after}
 use Rattle.gimli_line.specs.run.Registers.{sequence, nearest, is_odd, negates_statement, sets_basic_block, sets_prologue_end, sets_epilogue_begin}
 use Rattle.gimli_line.specs.run.Registers.{discriminator_operand, file_at, column_at, isa_at, is_stmt_at, line_after}
 use Rattle.gimli_line.specs.run.OperationPointer.{pointer_at, is_under_tombstone, overflows, since_last_row}
-use Rattle.gimli_line.specs.run.Events.{Event, row, row_at, events_after}
-use Rattle.gimli_line.specs.run.Machine.{initial, reset_row, step_of, run}
+use Rattle.gimli_line.specs.run.Events.{row, row_at, made_at, EventWithFiles, with_files, made_after, given_of, events_of, events_after, files_at}
+use Rattle.gimli_line.specs.run.Events.{past_at_end}
+use Rattle.gimli_line.specs.run.Machine.{initial, reset_row, step_of, is_refused, made_step, next_registers, registers_after, made_from, run}
+use Rattle.gimli_line.specs.run.Progress.{files_from}
 
 -- the registers before a point
 abbrev pub registers : Parameters → List Ins → LineRow
@@ -81,31 +85,76 @@ goes_past h past ConstAddPc large = rw large refl
 goes_past h past (FixedAddPc n) large = rw large refl
 goes_past h past i large = absurd cc
 
--- the row that the machine makes where it isn't under a tombstone
-pub row_is : (h : Parameters) (past : List Ins) (i : Ins) → makes_row i ≡ true → is_under_tombstone h past ≡ false
-    → step_of h i (registers h past) ≡ row_at h past i
-row_is h past (Special o) loud seen = rw seen refl
-row_is h past Copy loud seen = rw seen refl
-row_is h past EndSequence loud seen = rw seen refl
-row_is h past i loud seen = absurd cc
+-- the row that the machine makes
+pub row_is : (h : Parameters) (past : List Ins) (i : Ins) → makes_row i ≡ true → step_of h i (registers h past) ≡ row_at h past i
+row_is h past (Special o) loud = refl
+row_is h past Copy loud = refl
+row_is h past EndSequence loud = refl
+row_is h past i loud = absurd cc
 
-made : (h : Parameters) (past : List Ins) (i : Ins) (es : List Event) → makes_row i ≡ true → (tombstone : Bool) → is_under_tombstone h past ≡ tombstone
-    → (if tombstone then [] else row (step_of h i (registers h past)) ∷ []) ++ es ≡ (if not tombstone then row (row_at h past i) ∷ [] else []) ++ es
-made h past i es loud true e = refl
-made h past i es loud false e = rw (row_is h past i loud e) refl
+-- what an instruction makes
+makes : (h : Parameters) (past : List Ins) (i : Ins) (o m : Bool) → overflows h past i ≡ o → makes_row i ≡ m
+    → made_step h i (registers h past) ≡ made_at h past i
+makes h past i true m large loud = rw large refl
+makes h past i false true fits loud = rw (fits, loud) (ap (λ (r : LineRow). row r ∷ []) (row_is h past i loud))
+makes h past i false false fits quiet = rw (fits, quiet) refl
 
-run_at : (h : Parameters) (past : List Ins) (i : Ins) (list : List Ins) → run h (registers h (i ∷ past)) list ≡ events_after h (i ∷ past) list
-    → (o m : Bool) → overflows h past i ≡ o → makes_row i ≡ m → run h (registers h past) (i ∷ list) ≡ events_after h past (i ∷ list)
-run_at h past i list rest true m large loud = rw (large, goes_past h past i large, rest) refl
-run_at h past i list rest false true fits loud =
-    rw (fits, loud, starts_anew h past i loud, rest) (made h past i (events_after h (i ∷ past) list) loud (is_under_tombstone h past) refl)
-run_at h past i list rest false false fits quiet = rw (fits, quiet, goes_on h past i fits quiet, rest) refl
+-- and the registers after it
+goes_to : (h : Parameters) (i : Ins) (r : LineRow) (b : Bool) → (is_refused h i r || makes_row i) ≡ b
+    → next_registers h i r ≡ (if b then reset_row h (step_of h i r) else step_of h i r)
+goes_to h i r b is = ap (λ (b : Bool). if b then reset_row h (step_of h i r) else step_of h i r) is
 
--- a run from the registers of a point gives the events from there on
-pub run_is : (h : Parameters) (past list : List Ins) → run h (registers h past) list ≡ events_after h past list
-run_is h past [] = refl
-run_is h past (i ∷ list) = run_at h past i list (run_is h (i ∷ past) list) (overflows h past i) (makes_row i) refl refl
+goes : (h : Parameters) (past : List Ins) (i : Ins) (o m : Bool) → overflows h past i ≡ o → makes_row i ≡ m
+    → next_registers h i (registers h past) ≡ registers h (i ∷ past)
+goes h past i true m large loud = goes_to h i (registers h past) true (rw large refl) ∙ goes_past h past i large
+goes h past i false true fits loud = goes_to h i (registers h past) true (rw (fits, loud) refl) ∙ starts_anew h past i loud
+goes h past i false false fits quiet = goes_to h i (registers h past) false (rw (fits, quiet) refl) ∙ goes_on h past i fits quiet
 
--- a run from the start gives the events of the program
-pub starts : (h : Parameters) (list : List Ins) → run h (reset_row h (initial h)) list ≡ events_after h [] list
-starts h list = run_is h [] list
+-- and the files
+files_go : (a : Bool) (files : List File) (past : List Ins) (i : Ins) → files_after a i (files_at a files past) ≡ files_at a files (i ∷ past)
+files_go true files past (DefineFile f) = refl
+files_go false files past (DefineFile f) = refl
+files_go a files past i = refl
+
+files_come : (a : Bool) (files : List File) (past list : List Ins) → files_from a (files_at a files past) list ≡ files_at a files (past_at_end past list)
+files_come a files past [] = refl
+files_come a files past (i ∷ list) = rw (files_go a files past i) (files_come a files (i ∷ past) list)
+
+pub files_from_start : (a : Bool) (files : List File) (list : List Ins) → files_from a files list ≡ files_at a files (past_at_end [] list)
+files_from_start true files list = files_come true files [] list
+files_from_start false files list = files_come false files [] list
+
+-- from the registers of a point the machine makes what looking back says
+made_are : (a : Bool) (h : Parameters) (files : List File) (past list : List Ins) (end : Option Error)
+    → made_from a h (registers h past) (files_at a files past) list end ≡ made_after h (files_at a files) past list end
+made_are a h files past [] end = refl
+made_are a h files past (i ∷ list) end =
+    rw (
+      makes h past i (overflows h past i) (makes_row i) refl refl,
+      goes h past i (overflows h past i) (makes_row i) refl refl,
+      files_go a files past i,
+    )
+    (ap (λ (rest : List EventWithFiles). with_files (files_at a files past) (made_at h past i) ++ rest) (made_are a h files (i ∷ past) list end))
+
+-- from the start
+pub made_start : (a : Bool) (h : Parameters) (files : List File) (list : List Ins) (end : Option Error)
+    → made_from a h (initial h) files list end ≡ made_after h (files_at a files) [] list end
+made_start true h files list end = made_are true h files [] list end
+made_start false h files list end = made_are false h files [] list end
+
+pub starts : (h : Parameters) (list : List Ins) → run h (initial h) list ≡ events_after h [] list None
+starts h list = ap (λ (es : List EventWithFiles). events_of (given_of es)) (made_start false h [] list None)
+
+-- the registers after a past are those that are found by looking back
+looked_back : (h : Parameters) (past : List Ins) → registers_after h past ≡ registers h past
+looked_back h [] = refl
+looked_back h (i ∷ past) = ap (next_registers h i) (looked_back h past) ∙ goes h past i (overflows h past i) (makes_row i) refl refl
+
+pub refused_after : (h : Parameters) (past : List Ins) (i : Ins) → is_refused h i (registers_after h past) ≡ overflows h past i
+refused_after h past i = ap (is_refused h i) (looked_back h past)
+
+pub tombstone_after : (h : Parameters) (past : List Ins) → (registers_after h past).tombstone ≡ is_under_tombstone h past
+tombstone_after h past = ap (λ (r : LineRow). r.tombstone) (looked_back h past)
+
+pub row_after : (h : Parameters) (past : List Ins) (i : Ins) → makes_row i ≡ true → step_of h i (registers_after h past) ≡ row_at h past i
+row_after h past i loud = ap (step_of h i) (looked_back h past) ∙ row_is h past i loud

@@ -20,7 +20,6 @@ use Rattle.gimli_line.specs.run.InstructionReading.{standard_at, ins_at}
 use Rattle.gimli_line.specs.run.Machine.{step_of, is_refused}
 use Rattle.gimli_line.specs.run.Registers.{advanced_line}
 use Rattle.gimli_line.specs.run.Execution.{told_of, is_executed, IsExecuted, IsExecutedAs, ExecutesNext, RefusesNext}
-use Rattle.gimli_line.specs.run.AnyRows.{AnyFaultIs}
 use Rattle.gimli_line.specs.inside.run.Rows.{StepIs}
 use Rattle.gimli_line.specs.run.Unread.{Unread}
 use Rattle.gimli_line.proofs.InstructionLaws.{reads_instruction}

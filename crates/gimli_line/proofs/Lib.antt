@@ -20,6 +20,7 @@ pub mod Opened
 pub mod LookUps
 pub mod Operands
 pub mod Runs
+pub mod RunLists
 pub mod GivenRows
 pub mod Executions
 pub mod OtherExecutions

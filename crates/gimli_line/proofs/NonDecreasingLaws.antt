@@ -1,15 +1,17 @@
 -- Row addresses never go down between two ends.
-use Rattle.std.proofs.Common.{◌≡◌, ℕ, ◌+◌, ◌*◌, ◌/◌, ◌%◌, ◌^◌, ◌≤◌, Bool, true, false, ◌||◌, if◌then◌else◌, List, [], ◌∷◌, ◌++◌, refl, arith}
+use Rattle.std.proofs.Common.{◌≡◌, ℕ, ◌+◌, ◌*◌, ◌/◌, ◌%◌, ◌^◌, ◌≤◌, Bool, true, false, ◌||◌, if◌then◌else◌, List, [], ◌∷◌, ◌++◌, None, not, refl, arith}
 use Rattle.std.specs.Prelude.{nat_eq, nat_lt, nat_le}
+use Rattle.std.specs.List.{filter}
 use Rattle.std.proofs.lemmas.Bool.{ltb-false}
 use Rattle.gimli_core.specs.declared.error.Error.TheVariants.{AddressOverflow}
 use Rattle.gimli_line.specs.declared.run.instruction.LineInstruction.TheVariants.{Special, AdvancePc, ConstAddPc, FixedAddPc, EndSequence, SetAddress}
 use Rattle.gimli_line.specs.header.Parameters.{Parameters}
-use Rattle.gimli_line.specs.run.Instruction.{Ins, is_end}
+use Rattle.gimli_line.specs.run.Instruction.{Ins, is_end, makes_row}
 use Rattle.gimli_line.specs.run.OperationPointer.{OperationPointer, advanced_by, is_too_large, pointer_at_overflow, next_pointer, pointer_at}
 use Rattle.gimli_line.specs.run.OperationPointer.{is_under_tombstone, overflows}
-use Rattle.gimli_line.specs.run.Events.{Event, row, fault, row_at, events_after}
+use Rattle.gimli_line.specs.run.Events.{Event, row, fault, row_at, is_given, events_after}
 use Rattle.gimli_line.specs.run.NonDecreasing.{NeverBelow, AreOneSequence}
+use Rattle.gimli_line.proofs.RunLists.{after_here}
 
 -- ---- a pointer that goes on isn't lower
 
@@ -70,10 +72,10 @@ weaker low high le (row r ∷ events) n = (omega (arith, n.0), n.1)
 weaker low high le (fault e ∷ events) n = weaker low high le events n
 
 module _ (parameters : Parameters) where
-  -- what stands after a point that gives these events
+  -- what stands after a point that makes these events
   after_point : (past : List Ins) (i : Ins) (rest : List Event) → is_end i ≡ false → NeverBelow (pointer_at parameters (i ∷ past)).address rest
       → (o m : Bool) → NeverBelow (pointer_at parameters past).address
-      ((if o then fault AddressOverflow ∷ [] else (if m then row (row_at parameters past i) ∷ [] else [])) ++ rest)
+      (filter is_given (if o then fault AddressOverflow ∷ [] else (if m then row (row_at parameters past i) ∷ [] else [])) ++ rest)
   after_point past i rest inner n o m = at_test o m
     where
       up : (pointer_at parameters past).address ≤ (pointer_at parameters (i ∷ past)).address
@@ -82,30 +84,44 @@ module _ (parameters : Parameters) where
       here : (row_at parameters past i).address ≡ (pointer_at parameters (i ∷ past)).address
       here = rw inner refl
 
+      later : NeverBelow (pointer_at parameters past).address rest
+      later = weaker (pointer_at parameters past).address (pointer_at parameters (i ∷ past)).address up rest n
+
+      given : (b : Bool) → NeverBelow (pointer_at parameters past).address ((if b then row (row_at parameters past i) ∷ [] else []) ++ rest)
+      given true = (omega (arith, up, here), weaker (row_at parameters past i).address (pointer_at parameters (i ∷ past)).address (omega (arith, here)) rest n)
+      given false = later
+
       at_test : (o m : Bool)
           → NeverBelow (pointer_at parameters past).address
-          ((if o then fault AddressOverflow ∷ [] else (if m then row (row_at parameters past i) ∷ [] else [])) ++ rest)
-      at_test true m = weaker (pointer_at parameters past).address (pointer_at parameters (i ∷ past)).address up rest n
-      at_test false true =
-          (omega (arith, up, here), weaker (row_at parameters past i).address (pointer_at parameters (i ∷ past)).address (omega (arith, here)) rest n)
-      at_test false false = weaker (pointer_at parameters past).address (pointer_at parameters (i ∷ past)).address up rest n
+          (filter is_given (if o then fault AddressOverflow ∷ [] else (if m then row (row_at parameters past i) ∷ [] else [])) ++ rest)
+      at_test true m = later
+      at_test false true = given (not (is_under_tombstone parameters past))
+      at_test false false = later
 
   -- the last point, which may be an end
   last_point : (past : List Ins) (i : Ins) → (e o m : Bool) → is_end i ≡ e
       → NeverBelow (pointer_at parameters past).address
-      ((if o then fault AddressOverflow ∷ [] else (if m then row (row_at parameters past i) ∷ [] else [])) ++ [])
+      (filter is_given (if o then fault AddressOverflow ∷ [] else (if m then row (row_at parameters past i) ∷ [] else [])) ++ [])
   last_point past i false o m inner = after_point past i [] inner tt o m
   last_point past i true true m closes = tt
-  last_point past i true false true closes =
-      let here : (row_at parameters past i).address ≡ (pointer_at parameters past).address = rw closes refl in
-      (omega (arith, here), tt)
+  last_point past i true false true closes = given (not (is_under_tombstone parameters past))
+    where
+      here : (row_at parameters past i).address ≡ (pointer_at parameters past).address
+      here = rw closes refl
+
+      given : (b : Bool) → NeverBelow (pointer_at parameters past).address ((if b then row (row_at parameters past i) ∷ [] else []) ++ [])
+      given true = (omega (arith, here), tt)
+      given false = tt
   last_point past i true false false closes = tt
 
-  pub non_decreasing : (past list : List Ins) → AreOneSequence list → NeverBelow (pointer_at parameters past).address (events_after parameters past list)
+  pub non_decreasing : (past list : List Ins) → AreOneSequence list → NeverBelow (pointer_at parameters past).address (events_after parameters past list None)
   non_decreasing past [] one = tt
-  non_decreasing past (i ∷ []) one = last_point past i (is_end i) (overflows parameters past i) _ refl
+  non_decreasing past (i ∷ []) one = rw (after_here parameters past i [] None) (last_point past i (is_end i) (overflows parameters past i) (makes_row i) refl)
   non_decreasing past (i ∷ j ∷ list) one =
-      after_point past i (events_after parameters (i ∷ past) (j ∷ list)) one.0 (non_decreasing (i ∷ past) (j ∷ list) one.1) (overflows parameters past i) _
+      rw (after_here parameters past i (j ∷ list) None)
+      (after_point past i (events_after parameters (i ∷ past) (j ∷ list) None) one.0 (non_decreasing (i ∷ past) (j ∷ list) one.1)
+      (overflows parameters past i) (makes_row i))
 
-  pub never_down : (past list : List Ins) → AreOneSequence list → NeverBelow 0 (events_after parameters past list)
-  never_down past list one = weaker 0 (pointer_at parameters past).address (omega arith) (events_after parameters past list) (non_decreasing past list one)
+  pub never_down : (past list : List Ins) → AreOneSequence list → NeverBelow 0 (events_after parameters past list None)
+  never_down past list one =
+      weaker 0 (pointer_at parameters past).address (omega arith) (events_after parameters past list None) (non_decreasing past list one)

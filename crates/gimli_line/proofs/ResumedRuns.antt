@@ -11,15 +11,13 @@ use Rattle.gimli_line.specs.header.Orders.{HeaderOrders}
 use Rattle.gimli_line.specs.run.Instruction.{Ins}
 use Rattle.gimli_line.specs.run.InstructionGrammar.{Decodes}
 use Rattle.gimli_line.specs.run.InstructionReading.{decoded_at}
-use Rattle.gimli_line.specs.run.Events.{Event, row, Events, end_events, program_events}
-use Rattle.gimli_line.specs.run.EventsWithFiles.{EventWithFiles}
-use Rattle.gimli_line.specs.run.Machine.{initial}
+use Rattle.gimli_line.specs.run.Events.{Event, row, EventWithFiles, Events, events_of, program_events}
 use Rattle.gimli_line.specs.run.Rows.{events_left, start_of_run, GivesRowsAlone, IsRow}
-use Rattle.gimli_line.specs.run.Sequences.{Part, events_of, HasRun, HaveRuns, ResumesToRows}
+use Rattle.gimli_line.specs.run.Sequences.{Part, HasRun, HaveRuns, ResumesToRows}
 use Rattle.gimli_line.specs.run.Unread.{Unread}
 use Rattle.gimli_line.proofs.InstructionLaws.{is_decoded, one_decoding}
 use Rattle.gimli_line.proofs.Runs.{bare_decoding}
-use Rattle.gimli_line.proofs.SequenceLaws.{events_without_files, from_start}
+use Rattle.gimli_line.proofs.RunLists.{given_from_start}
 
 -- ---- bytes give one run
 
@@ -67,8 +65,7 @@ module _ (h : Header) (o : Notation) (offset : ℕ) (w : HeaderOrders) (s : Unre
   -- they give the run of the bytes
   pub gives_run : (run : List Event) → Events s.notation h s.bytes run → events_of (events_left (start_of_run false h o offset w s)) ≡ run
   gives_run run has =
-      events_without_files false h.parameters (initial h.parameters) h.files decoded.0 decoded.1
-      ∙ ap (λ (events : List Event). events ++ end_events decoded.1) (from_start h.parameters decoded.0)
+      given_from_start false h.parameters h.files decoded.0 decoded.1
       ∙ same_decoding s.notation h s.bytes decoded.0 has.list decoded.1 has.end decoding has.decoding
       ∙ sym has.given
 

@@ -1,5 +1,5 @@
 -- A run gives no more rows and refusals than its program has bytes.
-use Rattle.std.proofs.Common.{◌≡◌, ℕ, zero, suc, ◌+◌, ◌≤◌, Bool, true, false, not, ◌&&◌, if◌then◌else◌, List, [], ◌∷◌, length, Option, Ok, Err, ap, arith}
+use Rattle.std.proofs.Common.{◌≡◌, ℕ, zero, suc, ◌+◌, ◌≤◌, Bool, true, false, if◌then◌else◌, List, [], ◌∷◌, length, Option, Ok, Err, ap, refl, arith}
 use Rattle.std.proofs.lemmas.List.{length-append, length-map}
 use Rattle.gimli_core.specs.Notation.{Notation}
 use Rattle.gimli_core.specs.Reading.{Read}
@@ -12,14 +12,13 @@ use Rattle.gimli_line.specs.header.Parameters.{Parameters}
 use Rattle.gimli_line.specs.run.Instruction.{Ins, makes_row, files_after}
 use Rattle.gimli_line.specs.run.InstructionGrammar.{Decodes}
 use Rattle.gimli_line.specs.run.InstructionReading.{ins_at, decoded_at, decoded_after, decoded_upto}
-use Rattle.gimli_line.specs.run.OperationPointer.{is_under_tombstone, overflows}
-use Rattle.gimli_line.specs.run.Machine.{is_refused, step_of}
-use Rattle.gimli_line.specs.run.Events.{Event, Events, row, fault, row_at, events_at, events_after, end_events}
-use Rattle.gimli_line.specs.run.EventsWithFiles.{EventWithFiles, EventsWithFiles, with_files, files_at, events_with_files_after, step_events, next_registers}
-use Rattle.gimli_line.specs.run.EventsWithFiles.{events_with_files_from}
+use Rattle.gimli_line.specs.run.OperationPointer.{overflows}
+use Rattle.gimli_line.specs.run.Machine.{is_refused, step_of, made_step, next_registers, made_from}
+use Rattle.gimli_line.specs.run.Events.{Event, Events, row, fault, row_at, made_at, end_events, EventWithFiles, with_files, made_after, is_given, given_of, files_at}
+use Rattle.gimli_line.specs.run.EventsWithFiles.{program_made, Makes, EventsWithFiles}
 use Rattle.gimli_line.specs.run.Progress.{with_reset_row}
 use Rattle.gimli_line.specs.run.RunState.{RunState}
-use Rattle.gimli_line.specs.run.Rows.{events_left}
+use Rattle.gimli_line.specs.run.Rows.{made_left, events_left}
 use Rattle.gimli_line.proofs.InstructionLaws.{one_decoding}
 
 -- ---- no more events than instructions, and one more at a refused end
@@ -32,43 +31,40 @@ one_at_most false false r = omega arith
 length_with_files : (files : List File) (events : List Event) → length (with_files files events) ≡ length events
 length_with_files files events = length-map events (λ e. record { event = e; files = files })
 
-few_after : (parameters : Parameters) (past list : List Ins) → length (events_after parameters past list) ≤ length list
-few_after parameters past [] = omega arith
-few_after parameters past (i ∷ list) =
+few_after : (parameters : Parameters) (files : List Ins → List File) (past list : List Ins) (end : Option Error)
+    → length (made_after parameters files past list end) ≤ length list + length (end_events end)
+few_after parameters files past [] end = omega (arith, length_with_files (files past) (end_events end))
+few_after parameters files past (i ∷ list) end =
+    let here = made_at parameters past i in
     omega (
       arith,
-      length-append (events_at parameters past i) (events_after parameters (i ∷ past) list),
-      one_at_most (overflows parameters past i) (makes_row i && not (is_under_tombstone parameters past)) (row_at parameters past i),
-      few_after parameters (i ∷ past) list,
-    )
-
-few_with_files : (appends : Bool) (h : Header) (past list : List Ins) (end : Option Error)
-    → length (events_with_files_after appends h past list end) ≤ length list + length (end_events end)
-few_with_files appends h past [] end = omega (arith, length_with_files (files_at appends h.files past) (end_events end))
-few_with_files appends h past (i ∷ list) end =
-    let files = files_at appends h.files past in
-    let here = events_at h.parameters past i in
-    omega (
-      arith,
-      length-append (with_files files here) (events_with_files_after appends h (i ∷ past) list end),
-      length_with_files files here,
-      one_at_most (overflows h.parameters past i) (makes_row i && not (is_under_tombstone h.parameters past)) (row_at h.parameters past i),
-      few_with_files appends h (i ∷ past) list end,
+      length-append (with_files (files past) here) (made_after parameters files (i ∷ past) list end),
+      length_with_files (files past) here,
+      one_at_most (overflows parameters past i) (makes_row i) (row_at parameters past i),
+      few_after parameters files (i ∷ past) list end,
     )
 
 few_from : (appends : Bool) (parameters : Parameters) (r : LineRow) (files : List File) (list : List Ins) (end : Option Error)
-    → length (events_with_files_from appends parameters r files list end) ≤ length list + length (end_events end)
+    → length (made_from appends parameters r files list end) ≤ length list + length (end_events end)
 few_from appends parameters r files [] end = omega (arith, length_with_files files (end_events end))
 few_from appends parameters r files (i ∷ list) end =
-    let here = step_events parameters i r in
-    let later = events_with_files_from appends parameters (next_registers parameters i r) (files_after appends i files) list end in
+    let here = made_step parameters i r in
+    let later = made_from appends parameters (next_registers parameters i r) (files_after appends i files) list end in
     omega (
       arith,
       length-append (with_files files here) later,
       length_with_files files here,
-      one_at_most (is_refused parameters i r) (makes_row i && not r.tombstone) (step_of parameters i r),
+      one_at_most (is_refused parameters i r) (makes_row i) (step_of parameters i r),
       few_from appends parameters (next_registers parameters i r) (files_after appends i files) list end,
     )
+
+few_given : (events : List EventWithFiles) → length (given_of events) ≤ length events
+few_given [] = omega arith
+few_given (e ∷ events) = by (is_given e.event) (few_given events)
+  where
+    by : (b : Bool) → length (given_of events) ≤ length events → length (if b then e ∷ given_of events else given_of events) ≤ suc (length events)
+    by true few = omega (arith, few)
+    by false few = omega (arith, few)
 
 -- ---- no more instructions than bytes; where the end is refused, a byte is left for it
 
@@ -99,23 +95,38 @@ module _ (notation : Notation) (h : Header) where
 
   -- ---- no more events than bytes
 
+  pub made_bounded : (appends : Bool) (bytes : List ℕ) (events : List EventWithFiles) → Makes notation appends h bytes events → length events ≤ length bytes
+  made_bounded appends bytes events m =
+      omega (arith, ap length m.made, few_after h.parameters (files_at appends h.files) [] m.list m.end, decoded_bounded bytes m.list m.end m.decoding)
+
   pub events_bounded : (bytes : List ℕ) (events : List Event) → Events notation h bytes events → length events ≤ length bytes
   events_bounded bytes events given =
+      let made = made_after h.parameters (λ before. []) [] given.list given.end in
       omega (
         arith,
         ap length given.given,
-        length-append (events_after h.parameters [] given.list) (end_events given.end),
-        few_after h.parameters [] given.list,
+        length-map (given_of made) (λ (t : EventWithFiles). t.event),
+        few_given made,
+        few_after h.parameters (λ before. []) [] given.list given.end,
         decoded_bounded bytes given.list given.end given.decoding,
       )
 
   pub with_files_bounded : (appends : Bool) (bytes : List ℕ) (events : List EventWithFiles) → EventsWithFiles notation appends h bytes events
       → length events ≤ length bytes
   with_files_bounded appends bytes events given =
-      omega (arith, ap length given.given, few_with_files appends h [] given.list given.end, decoded_bounded bytes given.list given.end given.decoding)
+      let made = program_made appends h given.list given.end in
+      omega (
+        arith,
+        ap length given.given,
+        few_given made,
+        made_bounded appends bytes made (record { list = given.list; end = given.end; decoding = given.decoding; made = refl }),
+      )
 
-pub left_bounded : (rows : RunState) → length (events_left rows) ≤ length rows.unread.bytes
-left_bounded rows =
+pub made_left_bounded : (rows : RunState) → length (made_left rows) ≤ length rows.unread.bytes
+made_left_bounded rows =
     let a = with_reset_row rows in
     let taken = decoded_at a.unread.notation a.fixed a.unread.bytes in
     omega (arith, few_from a.appends a.fixed.parameters a.row a.files taken.0 taken.1, taken_bounded a.unread.notation a.fixed a.unread.bytes)
+
+pub left_bounded : (rows : RunState) → length (events_left rows) ≤ length rows.unread.bytes
+left_bounded rows = omega (arith, few_given (made_left rows), made_left_bounded rows)

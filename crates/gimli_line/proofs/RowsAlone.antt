@@ -5,10 +5,10 @@ use Rattle.std.proofs.lemmas.List.Elements.{All-nil, All-head, All-tail}
 use Rattle.gimli_core.specs.declared.error.Error.{Error}
 use Rattle.gimli_line.specs.declared.run.row.LineRow.{LineRow}
 use Rattle.gimli_line.specs.run.Events.{row, fault}
-use Rattle.gimli_line.specs.run.EventsWithFiles.{EventWithFiles}
+use Rattle.gimli_line.specs.run.Events.{EventWithFiles}
 use Rattle.gimli_line.specs.run.Progress.{with_reset_row}
 use Rattle.gimli_line.specs.run.RunState.{RunState}
-use Rattle.gimli_line.specs.run.Rows.{events_left, FaultIs, GivesRowsAlone, IsRow}
+use Rattle.gimli_line.specs.run.Rows.{live_events, events_left, FaultIs, GivesRowsAlone, IsRow}
 
 -- a fault is no row
 no_row : (e : Error) (r : LineRow) → fault e ≡ row r → ⊥
@@ -24,7 +24,7 @@ rest_alone old new e appends first alone = record {
 pub end_alone : (old new : RunState) → new.appends ≡ old.appends → events_left new ≡ [] → GivesRowsAlone old → GivesRowsAlone new
 end_alone old new appends none alone = record { complete = appends ∙ alone.complete; rows = subst (All IsRow) (sym none) (All-nil IsRow) }
 
-pub never_refused_alone : (old new : RunState) (e : Error) → new.appends ≡ old.appends → FaultIs (with_reset_row old) new e → GivesRowsAlone old → ⊥
+pub never_refused_alone : (old new : RunState) (e : Error) → new.appends ≡ old.appends → FaultIs live_events (with_reset_row old) new e → GivesRowsAlone old → ⊥
 never_refused_alone old new e appends (inl memory) alone = let same : true ≡ false = sym memory.1.appends ∙ appends ∙ alone.complete in absurd cc
 never_refused_alone old new e appends (inr comes) alone =
     let first = All-head IsRow _ (events_left new) (subst (All IsRow) comes.0 alone.rows) in no_row e first.0 first.1

@@ -1,6 +1,7 @@
 -- What one instruction does to the events that are still to come.
 use Rattle.std.proofs.Common.{not, if◌then◌else◌, ◌≡◌, ◌≢◌, ℕ, ◌<◌, Bool, true, false, List, [], ◌∷◌, ◌++◌, length, Option, Some, None, refl, sym, ap, ◌∙◌}
 use Rattle.std.proofs.Common.{append_assoc, arith, ◌⊎◌, inl, inr}
+use Rattle.std.specs.List.{filter}
 use Rattle.std.proofs.lemmas.List.{length-append, append-nil}
 use Rattle.gimli_core.specs.Notation.{Notation}
 use Rattle.gimli_core.specs.Production.{Each}
@@ -16,15 +17,14 @@ use Rattle.gimli_line.specs.run.Instruction.{Ins, makes_row, defines_file}
 use Rattle.gimli_line.specs.header.File.{File}
 use Rattle.gimli_line.specs.run.InstructionGrammar.{SpellsInstruction, instruction_production, IsEnd, Decodes}
 use Rattle.gimli_line.specs.run.InstructionReading.{decoded_upto, decoded_at}
-use Rattle.gimli_line.specs.run.Events.{Event, row, fault}
-use Rattle.gimli_line.specs.run.Machine.{step_of, reset_row, is_refused}
-use Rattle.gimli_line.specs.run.EventsWithFiles.{EventWithFiles, step_events, next_registers}
-use Rattle.gimli_line.specs.run.Made.{given_of}
+use Rattle.gimli_line.specs.run.Events.{Event, row, EventWithFiles, is_given, given_of}
+use Rattle.gimli_line.specs.run.Machine.{step_of, reset_row, is_refused, made_step, next_registers, run}
 use Rattle.gimli_line.specs.run.Unread.{Unread}
 use Rattle.gimli_line.specs.run.RunState.{RunState}
-use Rattle.gimli_line.specs.run.Progress.{Progress, with_reset_row, events_from, registers_from, files_from}
-use Rattle.gimli_line.specs.run.Rows.{live_events, events_left, files_at_end, IsOfOneOrder, WantsMemory, FaultIs}
-use Rattle.gimli_line.specs.run.AnyRows.{live_made, made_left, AnyFaultComes, AnyFaultIs}
+use Rattle.gimli_line.specs.run.Progress.{Progress, with_reset_row, registers_from, files_from}
+use Rattle.gimli_line.specs.run.Rows.{live_made, live_events, made_left, events_left, files_at_end, IsOfOneOrder, WantsMemory, FaultComes, FaultIs}
+use Rattle.gimli_line.specs.inside.run.Rows.{given_row}
+use Rattle.gimli_line.proofs.RunLists.{run_of_one, runs_joined}
 use Rattle.gimli_line.proofs.InstructionLaws.{is_decoded, one_decoding, takes_bytes}
 
 -- ---- what a program is decoded into, by its front
@@ -80,17 +80,7 @@ bare_decoding notation h bytes list end c = record {
 
 -- ---- instructions that make a row or are refused
 
--- such an instruction is a tombstone for what was under a tombstone before it
-special_keeps_tombstone : (h : Parameters) (o : ℕ) (r : LineRow) → (step_of h (Special o) r).tombstone ≡ r.tombstone
-special_keeps_tombstone h o r = refl
-
-pub keeps_tombstone : (h : Parameters) (i : Ins) (r : LineRow) → makes_row i ≡ true → (step_of h i r).tombstone ≡ r.tombstone
-keeps_tombstone h (Special o) r made = special_keeps_tombstone h o r
-keeps_tombstone h Copy r made = refl
-keeps_tombstone h EndSequence r made = refl
-keeps_tombstone h i r made = absurd cc
-
--- and defines no file
+-- such an instruction defines no file
 pub no_file_at_row : (a : Bool) (i : Ins) (files : List File) → makes_row i ≡ true → files_after a i files ≡ files
 no_file_at_row a (DefineFile f) files made = absurd cc
 no_file_at_row a i files made = refl
@@ -122,17 +112,14 @@ keeps_order old new notation appends unread added so = record {
 }
 
 -- where no bytes are left
-pub none_left : (a : RunState) → a.unread.bytes ≡ [] → live_events a ≡ []
-none_left a e = rw (decoded_none a.unread.notation a.fixed a.unread.bytes e) refl
-
-pub none_to_come : (a : RunState) → a.unread.bytes ≡ [] → events_left a ≡ []
-none_to_come a e = none_left (with_reset_row a) e
-
 pub none_made : (a : RunState) → a.unread.bytes ≡ [] → live_made a ≡ []
 none_made a e = rw (decoded_none a.unread.notation a.fixed a.unread.bytes e) refl
 
 pub none_to_make : (a : RunState) → a.unread.bytes ≡ [] → made_left a ≡ []
 none_to_make a e = none_made (with_reset_row a) e
+
+pub none_to_come : (a : RunState) → a.unread.bytes ≡ [] → events_left a ≡ []
+none_to_come a e = ap given_of (none_to_make a e)
 
 pub end_here : (a : RunState) → a.unread.bytes ≡ [] → files_at_end a ≡ a.files
 end_here a e = rw (decoded_none a.unread.notation a.fixed a.unread.bytes e) refl
@@ -140,7 +127,7 @@ end_here a e = rw (decoded_none a.unread.notation a.fixed a.unread.bytes e) refl
 -- k is the header that was lent, s2 what was left of the instructions
 module _ (a : Bool) (h k : Header) (same : k ≡ h) (o o2 : Notation) (n n2 : ℕ) (w w2 : HeaderOrders) (r : LineRow) (s s2 : Unread) where
   pub after_fault : (e : Error) → s.bytes ≢ [] → s2.bytes ≡ [] → (instruction_production s.notation k).Fault s.bytes e → (r2 : LineRow)
-      → AnyFaultComes (state a h o n w r s) (state a h o2 n2 w2 r2 s2) e
+      → FaultComes live_made (state a h o n w r s) (state a h o2 n2 w2 r2 s2) e
   after_fault e some empty f r2 =
       let last = decoded_fault s.notation (without_files h) s.bytes e some (rw same at f) in
       (rw (last, none_to_make (state a h o2 n2 w2 r2 s2) empty) refl, rw (last, end_here (state a h o2 n2 w2 r2 s2) empty) refl, λ _. empty)
@@ -156,7 +143,7 @@ module _ (a : Bool) (h k : Header) (same : k ≡ h) (o o2 : Notation) (n n2 : �
 
     -- one instruction is passed over
     pub passes_one : (h2 : Header) (r2 : LineRow) (events : List Event) → h2 ≡ record h { files = files_after a i h.files }
-        → step_events h.parameters i r ≡ events
+        → filter is_given (made_step h.parameters i r) ≡ events
         → r2 ≡ next_registers h.parameters i r → Progress (state a h o n w r s) (state a h2 o2 n2 w2 r2 s2) events
     passes_one h2 r2 events after given next = record {
       list = i ∷ [];
@@ -166,7 +153,7 @@ module _ (a : Bool) (h k : Header) (same : k ≡ h) (o o2 : Notation) (n n2 : �
       notation = notation;
       fixed = ap without_files after;
       appends = refl;
-      given = append-nil (step_events h.parameters i r) ∙ given;
+      given = run_of_one h.parameters i r ∙ given;
       registers = next;
       files = ap (λ (k : Header). k.files) after;
     }
@@ -176,13 +163,11 @@ module _ (a : Bool) (h k : Header) (same : k ≡ h) (o o2 : Notation) (n n2 : �
       passes_quiet made row_is = passes_one h2 r2 [] after (rw (fits, made) refl) (rw (fits, made) row_is)
 
       pub passes_made : makes_row i ≡ true → r2 ≡ step_of h.parameters i r
-          → Progress (state a h o n w r s) (with_reset_row (state a h2 o2 n2 w2 r2 s2)) (given_of r2)
+          → Progress (state a h o n w r s) (with_reset_row (state a h2 o2 n2 w2 r2 s2)) (given_row r2)
       passes_made made row_is =
           let parameters : h2.parameters ≡ h.parameters = ap (λ (k : Header). k.parameters) after in
-          let given : step_events h.parameters i r ≡ given_of r2 =
-          rw (fits, made) (ap (λ (b : Bool). if not b then row (step_of h.parameters i r) ∷ [] else []) (sym (keeps_tombstone h.parameters i r made))
-          ∙ ap given_of (sym row_is)) in
-          passes_one h2 (reset_row h2.parameters r2) (given_of r2) after given (rw (fits, made, parameters, row_is) refl)
+          let given : filter is_given (made_step h.parameters i r) ≡ given_row r2 = rw (fits, made) (ap given_row (sym row_is)) in
+          passes_one h2 (reset_row h2.parameters r2) (given_row r2) after given (rw (fits, made, parameters, row_is) refl)
 
     module _ (h2 : Header) (r2 : LineRow) where
       pub after_quiet : h2 ≡ record h { files = files_after a i h.files } → is_refused h.parameters i r ≡ false → makes_row i ≡ false
@@ -198,7 +183,7 @@ module _ (a : Bool) (h k : Header) (same : k ≡ h) (o o2 : Notation) (n n2 : �
           rw (first_decoded, after, row_is, notation, fits, made, files) refl
 
       pub after_overflow : h2 ≡ h → is_refused h.parameters i r ≡ true → r2 ≡ step_of h.parameters i r
-          → AnyFaultComes (state a h o n w r s) (state a h2 o2 n2 w2 r2 s2) AddressOverflow
+          → FaultComes live_made (state a h o n w r s) (state a h2 o2 n2 w2 r2 s2) AddressOverflow
       after_overflow kept large row_is =
           let files : files_after a i h.files ≡ h.files = no_file_at_refusal a h.parameters i r h.files large in
           let after = (decoded_at s.notation (without_files h) s2.bytes).0 in
@@ -254,13 +239,6 @@ each_joined n h front after [] more s t = rw s t
 each_joined n h front after (i ∷ list) more s t =
     (s.0, s.1 ++ after, ap (λ (xs : List ℕ). xs ++ after) s.2 ∙ append_assoc s.0 s.1 after, s.3, each_joined n h s.1 after list more s.4 t)
 
-pub events_joined : (h : Parameters) (r : LineRow) (list more : List Ins)
-    → events_from h r (list ++ more) ≡ events_from h r list ++ events_from h (registers_from h r list) more
-events_joined h r [] more = refl
-events_joined h r (i ∷ list) more =
-    ap (λ (es : List Event). step_events h i r ++ es) (events_joined h (next_registers h i r) list more)
-    ∙ sym (append_assoc (step_events h i r) (events_from h (next_registers h i r) list) (events_from h (registers_from h (next_registers h i r) list) more))
-
 registers_joined : (h : Parameters) (r : LineRow) (list more : List Ins) → registers_from h r (list ++ more) ≡ registers_from h (registers_from h r list) more
 registers_joined h r [] more = refl
 registers_joined h r (i ∷ list) more = registers_joined h (next_registers h i r) list more
@@ -279,8 +257,8 @@ passes_both a b c es fs p q = record {
   fixed = q.fixed ∙ p.fixed;
   appends = q.appends ∙ p.appends;
   given =
-      events_joined a.fixed.parameters a.row p.list q.list
-      ∙ ap (λ (xs : List Event). xs ++ events_from a.fixed.parameters (registers_from a.fixed.parameters a.row p.list) q.list) p.given
+      runs_joined a.fixed.parameters a.row p.list q.list
+      ∙ ap (λ (xs : List Event). xs ++ run a.fixed.parameters (registers_from a.fixed.parameters a.row p.list) q.list) p.given
       ∙ ap (λ (xs : List Event). es ++ xs) (rw (p.fixed, p.registers) at q.given);
   registers = rw (p.fixed, p.registers) at q.registers ∙ sym (registers_joined a.fixed.parameters a.row p.list q.list);
   files = rw (p.appends, p.files) at q.files ∙ sym (files_joined a.appends a.files p.list q.list);
@@ -313,7 +291,7 @@ wants a h k same o o2 n n2 w w2 r s i front rest parts spelled defines h2 r2 s2 
   defines = defines;
   appends = appends;
   files = ap (λ (k : Header). k.files) kept;
-  none = none_to_come (state a h2 o2 n2 w2 r2 s2) empty;
+  none = none_to_make (state a h2 o2 n2 w2 r2 s2) empty;
   empty = empty;
 }
 
@@ -334,16 +312,13 @@ wants_after a b c passed m = record {
   empty = m.empty;
 }
 
-pub refused_after : (a b c : RunState) (e : Error) → live_events a ≡ live_events b → Progress a b [] → FaultIs b c e → FaultIs a c e
-refused_after a b c e events passed (inl m) = inl (m.0, wants_after a b c passed m.1)
-refused_after a b c e events passed (inr f) = inr (events ∙ f.0, f.1 ∙ same_end a b [] passed, f.2)
-
-pub any_refused_after : (a b c : RunState) (e : Error) → live_made a ≡ live_made b → Progress a b [] → AnyFaultIs b c e → AnyFaultIs a c e
-any_refused_after a b c e made passed (inl m) = inl (m.0, wants_after a b c passed m.1)
-any_refused_after a b c e made passed (inr f) = inr (made ∙ f.0, f.1 ∙ same_end a b [] passed, f.2)
+pub refused_after : (live : RunState → List EventWithFiles) (a b c : RunState) (e : Error) → live a ≡ live b → Progress a b [] → FaultIs live b c e
+    → FaultIs live a c e
+refused_after live a b c e events passed (inl m) = inl (m.0, wants_after a b c passed m.1)
+refused_after live a b c e events passed (inr f) = inr (events ∙ f.0, f.1 ∙ same_end a b [] passed, f.2)
 
 -- where no bytes are left nothing is refused
-pub never_refused : (a b : RunState) (e : Error) → a.unread.bytes ≡ [] → FaultIs a b e → ⊥
+pub never_refused : (a b : RunState) (e : Error) → a.unread.bytes ≡ [] → FaultIs live_events a b e → ⊥
 never_refused a b e empty (inl m) =
     let w = m.1 in
     omega (
@@ -355,4 +330,4 @@ never_refused a b e empty (inl m) =
       ap length w.passed.parts,
       ap length empty,
     )
-never_refused a b e empty (inr f) = let none = sym (none_left a empty) ∙ f.0 in absurd cc
+never_refused a b e empty (inr f) = let none = sym (ap given_of (none_made a empty)) ∙ f.0 in absurd cc

@@ -12,54 +12,24 @@ use Rattle.gimli_line.specs.header.Parameters.{Parameters}
 use Rattle.gimli_line.specs.header.Orders.{HeaderOrders}
 use Rattle.gimli_line.specs.inside.header.Orders.{no_orders}
 use Rattle.gimli_line.specs.header.Header.{Header, without_files}
-use Rattle.gimli_line.specs.run.Instruction.{files_after}
-use Rattle.gimli_line.specs.run.Instruction.{Ins, makes_row}
+use Rattle.gimli_line.specs.run.Instruction.{Ins}
 use Rattle.gimli_line.specs.header.File.{File}
 use Rattle.gimli_line.specs.run.InstructionGrammar.{SpellsInstruction}
 use Rattle.gimli_line.specs.run.InstructionReading.{decoded_at}
-use Rattle.gimli_line.specs.run.OperationPointer.{overflows}
-use Rattle.gimli_line.specs.run.Events.{Event, row, fault, events_at, events_after, end_events, program_events, defined_files, past_at_end, ends_sequence}
+use Rattle.gimli_line.specs.run.Events.{Event, row, fault, EventWithFiles, given_of, events_of, program_events, defined_files, past_at_end, ends_sequence}
 use Rattle.gimli_line.specs.run.Events.{through_last_end}
-use Rattle.gimli_line.specs.run.Machine.{initial, reset_row}
-use Rattle.gimli_line.specs.run.EventsWithFiles.{EventWithFiles, with_files, events_with_files_from, step_events, next_registers}
+use Rattle.gimli_line.specs.run.Machine.{initial, reset_row, made_from, run}
 use Rattle.gimli_line.specs.run.Unread.{Unread}
 use Rattle.gimli_line.specs.inside.run.Unread.{front_of}
 use Rattle.gimli_line.specs.run.RunState.{RunState}
-use Rattle.gimli_line.specs.run.Progress.{Progress, with_reset_row, events_from, registers_from}
+use Rattle.gimli_line.specs.run.Progress.{Progress, with_reset_row, registers_from, files_from}
 use Rattle.gimli_line.specs.run.Rows.{live_events, events_left, start_of_run, event_of}
-use Rattle.gimli_line.specs.run.Sequences.{Part, events_of, first_address, IsSequence, HasRun, HaveRuns, AreSequences, HasFirstFault}
+use Rattle.gimli_line.specs.run.Sequences.{Part, first_address, IsSequence, HasRun, HaveRuns, AreSequences, HasFirstFault}
 use Rattle.gimli_line.specs.inside.run.SequenceSplit.{SequenceSplit, with_row, RowSplit, with_kept_row}
-use Rattle.gimli_line.proofs.Backwards.{registers}
-use Rattle.gimli_line.proofs.EventsWithFilesLaws.{gives, goes, files_from_start}
+use Rattle.gimli_line.proofs.Backwards.{starts, files_from_start}
+use Rattle.gimli_line.proofs.RunLists.{given_joined, given_from_start}
 use Rattle.gimli_line.proofs.InstructionLaws.{is_decoded, takes_bytes}
-use Rattle.gimli_line.proofs.Runs.{decodes_on, bare_decoding, passes_still, passes_both, events_joined}
-
--- ---- events alone
-
-events_of_at : (files : List File) (es : List Event) → events_of (with_files files es) ≡ es
-events_of_at files [] = refl
-events_of_at files (e ∷ es) = ap (λ (xs : List Event). e ∷ xs) (events_of_at files es)
-
-pub events_without_files : (a : Bool) (h : Parameters) (r : LineRow) (files : List File) (list : List Ins) (end : Option Error)
-    → events_of (events_with_files_from a h r files list end) ≡ events_from h r list ++ end_events end
-events_without_files a h r files [] end = events_of_at files (end_events end)
-events_without_files a h r files (i ∷ list) end =
-    map-append (λ (t : EventWithFiles). t.event) (with_files files (step_events h i r))
-    (events_with_files_from a h (next_registers h i r) (files_after a i files) list end)
-    ∙ ap (λ (xs : List Event). xs ++ events_of (events_with_files_from a h (next_registers h i r) (files_after a i files) list end))
-    (events_of_at files (step_events h i r))
-    ∙ ap (λ (xs : List Event). step_events h i r ++ xs) (events_without_files a h (next_registers h i r) (files_after a i files) list end)
-    ∙ sym (append_assoc (step_events h i r) (events_from h (next_registers h i r) list) (end_events end))
-
--- the machine's events are those found by looking back
-from_registers : (h : Parameters) (past list : List Ins) → events_from h (registers h past) list ≡ events_after h past list
-from_registers h past [] = refl
-from_registers h past (i ∷ list) =
-    rw (gives h past i (overflows h past i) (makes_row i) refl refl, goes h past i (overflows h past i) (makes_row i) refl refl)
-    (ap (λ (xs : List Event). events_at h past i ++ xs) (from_registers h (i ∷ past) list))
-
-pub from_start : (h : Parameters) (list : List Ins) → events_from h (initial h) list ≡ events_after h [] list
-from_start h list = from_registers h [] list
+use Rattle.gimli_line.proofs.Runs.{decodes_on, bare_decoding, passes_still, passes_both}
 
 -- ---- through the last end
 
@@ -270,7 +240,7 @@ module _ (h : Header) (k : SequenceSplit) (done : List LineRow) (point next : Ru
       list = whole.list;
       end = None;
       decoding = record { front = whole.front; rest = []; parts = front_is ∙ sym (append-nil whole.front); spelled = whole.spelled; ended = refl };
-      given = sym whole.given ∙ from_start h.parameters whole.list ∙ sym (append-nil (events_after h.parameters [] whole.list));
+      given = sym whole.given ∙ starts h.parameters whole.list;
     };
     is = record {
       rows = c.rows;
@@ -347,7 +317,7 @@ pub row_takes : (a b : RunState) (e : Event) (es : List Event) → Progress a b 
 row_takes a b e es p = at_list p.list p.front p.parts p.spelled p.given
   where
     at_list : (list : List Ins) (front : List ℕ) → a.unread.bytes ≡ front ++ b.unread.bytes → Each (SpellsInstruction a.unread.notation a.fixed) front list
-        → events_from a.fixed.parameters a.row list ≡ e ∷ es → length b.unread.bytes < length a.unread.bytes
+        → run a.fixed.parameters a.row list ≡ e ∷ es → length b.unread.bytes < length a.unread.bytes
     at_list [] front parts s given = absurd cc
     at_list (i ∷ list) front parts s given =
         omega
@@ -379,7 +349,7 @@ module _ (n : Notation) (offset : ℕ) (h c : Header) (k : SequenceSplit) (done 
   }
     where
       given : program_events h.parameters p.list None ≡ map row done
-      given = append-nil (events_after h.parameters [] p.list) ∙ sym (from_start h.parameters p.list) ∙ p.given
+      given = sym (starts h.parameters p.list) ∙ p.given
 
       c_is : c ≡ record h { files = defined_files h.files (past_at_end [] p.list) }
       c_is =
@@ -388,24 +358,18 @@ module _ (n : Notation) (offset : ℕ) (h c : Header) (k : SequenceSplit) (done 
 
 -- ---- a fault
 
-events_live : (a : RunState) → events_of (live_events a)
-    ≡ events_from a.fixed.parameters a.row (decoded_at a.unread.notation a.fixed a.unread.bytes).0
-    ++ end_events (decoded_at a.unread.notation a.fixed a.unread.bytes).1
-events_live a = let c = decoded_at a.unread.notation a.fixed a.unread.bytes in events_without_files a.appends a.fixed.parameters a.row a.files c.0 c.1
-
 pub passes_left : (a b : RunState) (es : List Event) → Progress a b es → events_of (live_events a) ≡ es ++ events_of (live_events b)
 passes_left a b es p =
     let c = decoded_at a.unread.notation a.fixed b.unread.bytes in
-    let there : events_of (live_events b) ≡ events_from a.fixed.parameters (registers_from a.fixed.parameters a.row p.list) c.0 ++ end_events c.1 =
-    events_live b ∙ rw (p.notation, p.fixed, p.registers) refl in
-    events_live a
-    ∙ ap (λ (d : List Ins × Option Error). events_from a.fixed.parameters a.row d.0 ++ end_events d.1)
+    let rest : live_events b
+    ≡ given_of (made_from a.appends a.fixed.parameters (registers_from a.fixed.parameters a.row p.list) (files_from a.appends a.files p.list) c.0 c.1) =
+    rw (p.notation, p.fixed, p.appends, p.registers, p.files) refl in
+    ap (λ (d : List Ins × Option Error). events_of (given_of (made_from a.appends a.fixed.parameters a.row a.files d.0 d.1)))
     (decodes_on a.unread.notation a.fixed a.unread.bytes p.list p.front b.unread.bytes p.parts p.spelled)
-    ∙ ap (λ (xs : List Event). xs ++ end_events c.1) (events_joined a.fixed.parameters a.row p.list c.0)
-    ∙ append_assoc (events_from a.fixed.parameters a.row p.list) (events_from a.fixed.parameters (registers_from a.fixed.parameters a.row p.list) c.0)
-    (end_events c.1)
-    ∙ ap (λ (xs : List Event). xs ++ (events_from a.fixed.parameters (registers_from a.fixed.parameters a.row p.list) c.0 ++ end_events c.1)) p.given
-    ∙ ap (λ (xs : List Event). es ++ xs) (sym there)
+    ∙ given_joined a.appends a.fixed.parameters a.row a.files p.list c.0 c.1
+    ∙ ap (λ (xs : List Event). xs ++ events_of (given_of (made_from a.appends a.fixed.parameters (registers_from a.fixed.parameters a.row p.list)
+    (files_from a.appends a.files p.list) c.0 c.1))) p.given
+    ∙ ap (λ (xs : List EventWithFiles). es ++ events_of xs) (sym rest)
 
 pub has_first_fault : (n : Notation) (offset : ℕ) (h : Header) (done : List LineRow) (old new : RunState) (e : Error)
     → Progress (with_reset_row (start_of_run true h n offset no_orders (record { bytes = h.program; notation = n }))) (with_reset_row old) (map row done)
@@ -419,8 +383,7 @@ has_first_fault n offset h done old new e p is =
       rows = done;
       rest = events_of (events_left new);
       given =
-          ap (λ (xs : List Event). xs ++ end_events c.1) (sym (from_start h.parameters c.0))
-          ∙ sym (events_live (with_reset_row (start_of_run true h n offset no_orders (record { bytes = h.program; notation = n }))))
+          sym (given_from_start true h.parameters h.files c.0 c.1)
           ∙ passes_left (with_reset_row (start_of_run true h n offset no_orders (record { bytes = h.program; notation = n }))) (with_reset_row old)
           (map row done) p
           ∙ ap (λ (t : List EventWithFiles). map row done ++ events_of t) is;

@@ -13,22 +13,20 @@ use Rattle.gimli_line.specs.declared.run.rows.Step.{Step}
 use Rattle.gimli_line.specs.declared.run.rows.Step.TheVariants.{Done, Made, More}
 use Rattle.gimli_line.specs.header.Header.{Header, without_files}
 use Rattle.gimli_line.specs.header.Orders.{HeaderOrders, AreOneOrder}
-use Rattle.gimli_line.specs.inside.run.Rows.{KeepsRun, ReadsOn, StepIs, StepsTo}
-use Rattle.gimli_line.specs.run.AnyRows.{live_made, AnyFaultComes}
+use Rattle.gimli_line.specs.inside.run.Rows.{given_row, KeepsRun, ReadsOn, StepIs, StepsTo}
 use Rattle.gimli_line.specs.run.Execution.{ExecutesNext, IsExecuted, RefusesNext, told_of}
 use Rattle.gimli_line.specs.run.Instruction.{Ins, makes_row, defines_file, files_after, header_after}
 use Rattle.gimli_line.specs.run.InstructionReading.{ins_at}
 use Rattle.gimli_line.specs.run.Machine.{step_of, is_refused}
-use Rattle.gimli_line.specs.run.Made.{given_of}
 use Rattle.gimli_line.specs.run.NextInstruction.{TakesNext, EndsByFault}
 use Rattle.gimli_line.specs.run.Progress.{Progress, with_reset_row}
 use Rattle.gimli_line.specs.run.RunState.{RunState}
-use Rattle.gimli_line.specs.run.Rows.{IsOfOneOrder, WantsMemory}
+use Rattle.gimli_line.specs.run.Rows.{live_made, FaultComes, IsOfOneOrder, WantsMemory}
 use Rattle.gimli_line.specs.run.Unread.{Unread}
 use Rattle.gimli_line.proofs.Executions.{told_row, told_quiet, told_address}
 use Rattle.gimli_line.proofs.InstructionLaws.{reads_instruction}
 use Rattle.gimli_line.proofs.Runs.{state, keeps_order, none_made, after_fault, after_quiet, after_made, after_overflow, is_shorter, only_overflow, passes_none}
-use Rattle.gimli_line.proofs.Runs.{passes_both, passes_quiet, passes_made, source_same, wants, any_refused_after}
+use Rattle.gimli_line.proofs.Runs.{passes_both, passes_quiet, passes_made, source_same, wants, refused_after}
 
 -- ---- the state of a run whose program has a header
 
@@ -98,7 +96,7 @@ module _ (x y : RunState) where
 
     pub step_after : (s : Step) → StepIs y z s → StepIs x z s
     step_after Done d = (r.made ∙ d.0, d.1, passes_both x y z [] [] r.passed d.2)
-    step_after Made m = (r.made ∙ m.0, passes_both x y (with_reset_row z) [] (given_of z.row) r.passed m.1)
+    step_after Made m = (r.made ∙ m.0, passes_both x y (with_reset_row z) [] (given_row z.row) r.passed m.1)
     step_after More m = (
       r.made ∙ m.0,
       omega (arith, m.1, length-append r.passed.front y.unread.bytes, ap length r.passed.parts),
@@ -107,7 +105,7 @@ module _ (x y : RunState) where
 
     pub steps_after : (answer : Result Step Error) → StepsTo y z answer → StepsTo x z answer
     steps_after (Ok s) q = record { ok = step_after s q.ok; err = tt; keeps = keeps_both x y z r.keeps q.keeps }
-    steps_after (Err e) q = record { ok = tt; err = any_refused_after x y z e r.made r.passed q.err; keeps = keeps_both x y z r.keeps q.keeps }
+    steps_after (Err e) q = record { ok = tt; err = refused_after live_made x y z e r.made r.passed q.err; keeps = keeps_both x y z r.keeps q.keeps }
 
 -- ---- where no instruction was taken
 
@@ -131,7 +129,7 @@ module _ (a : Bool) (h k : Header) (same : k ≡ h) (old new : RunState) (from :
   step_faults e to fault keeps = record {
     ok = tt;
     err =
-        inr (by_headers a h h old new from to (λ x y. AnyFaultComes x y e)
+        inr (by_headers a h h old new from to (λ x y. FaultComes live_made x y e)
         (after_fault a h k same old.notation new.notation old.offset new.offset old.orders new.orders old.row old.unread new.unread e fault.0 fault.1 fault.2
         new.row));
     keeps = keeps;
@@ -188,7 +186,7 @@ module _ (a : Bool) (h k : Header) (same : k ≡ h) (old new : RunState) (from :
     step_overflows kept over row to keeps = record {
       ok = tt;
       err =
-          inr (by_headers a h h2 old new from to (λ x y. AnyFaultComes x y AddressOverflow)
+          inr (by_headers a h h2 old new from to (λ x y. FaultComes live_made x y AddressOverflow)
           (after_overflow a h k same old.notation new.notation old.offset new.offset old.orders new.orders old.row old.unread new.unread notation i taken.0
           taken.1 taken.2 h2 new.row kept over row));
       keeps = keeps;

@@ -12,11 +12,9 @@ pub mod Execution
 pub mod Row
 pub mod StoredRow
 pub mod EventsWithFiles
-pub mod Made
 pub mod RunState
 pub mod Progress
 pub mod Rows
-pub mod AnyRows
 pub mod Started
 pub mod Sequences
 pub mod NonDecreasing

@@ -1,8 +1,8 @@
 //! Laws of the two grammars: a unit has one header or one refusal, a program is decoded in one way.
 //! And laws of what a run gives.
 
-ghost use Rattle.std.specs.Prelude.{◌≡◌, ◌≢◌, ◌≤◌, ◌⊎◌, ◌+◌, ℕ, Bool, List, [], ◌∷◌, Option, Some};
-ghost use Rattle.std.specs.Prelude.{filter, length, nat_eq, option_map};
+ghost use Rattle.std.specs.Prelude.{◌≡◌, ◌≢◌, ◌≤◌, ◌⊎◌, ◌+◌, ℕ, Bool, true, List, [], ◌∷◌};
+ghost use Rattle.std.specs.Prelude.{Option, Some, None, length, nat_eq, option_map};
 ghost use Rattle.std.specs.Ordering.{nat_cmp};
 ghost use Rattle.gimli_core.specs.Equality.{AreAlwaysCloned, ClonesGiveSame, ComparesBy, IsExact};
 ghost use Rattle.gimli_core.specs.Equality.{IsSameClone, both};
@@ -10,22 +10,17 @@ ghost use Rattle.gimli_core.specs.Notation.{Notation};
 ghost use Rattle.gimli_core.specs.Values.{value_by};
 ghost use Rattle.gimli_core.specs.declared.common.Format.{Format};
 ghost use Rattle.gimli_core.specs.declared.error.Error.{Error};
-ghost use Rattle.gimli_line.specs.header.File.{file_by};
+ghost use Rattle.gimli_line.specs.header.File.{File, file_by};
 ghost use Rattle.gimli_line.specs.header.Header.{Header, UnitEntry};
 ghost use Rattle.gimli_line.specs.header.Orders.{HeaderOrders};
 ghost use Rattle.gimli_line.specs.header.HeaderParts.{ComparesParts, ComparesSeen, entry_count};
 ghost use Rattle.gimli_line.specs.header.HeaderParts.{parts_of};
 ghost use Rattle.gimli_line.specs.header.HeaderGrammar.{SpellsUnit, HasHeaderFault, HasUnit};
 ghost use Rattle.gimli_line.specs.header.HeaderGrammar.{HasNoUnit, HaveCountedEntries};
-ghost use Rattle.gimli_line.specs.run.Events.{Event, Events, events_after, row_at, GivesRow};
-ghost use Rattle.gimli_line.specs.run.Instruction.{Ins, ins_by};
-ghost use Rattle.gimli_line.specs.run.EventsWithFiles.{
-  EventsWithFiles,
-  events_with_files_after,
-  machine_events,
-  registers_after,
-  registers_at,
-};
+ghost use Rattle.gimli_line.specs.run.Events.{Event, Events, made_after, events_after, row_at};
+ghost use Rattle.gimli_line.specs.run.Events.{files_at};
+ghost use Rattle.gimli_line.specs.run.Instruction.{Ins, ins_by, makes_row};
+ghost use Rattle.gimli_line.specs.run.EventsWithFiles.{EventsWithFiles};
 ghost use Rattle.gimli_line.specs.run.InstructionGrammar.{
   Decodes,
   AreDecodedOnce,
@@ -37,11 +32,10 @@ ghost use Rattle.gimli_line.specs.run.OperationPointer.{OperationPointer, IsPoin
 ghost use Rattle.gimli_line.specs.run.OperationPointer.{is_under_tombstone, overflows};
 ghost use Rattle.gimli_line.specs.run.RunState.{RunState};
 ghost use Rattle.gimli_line.specs.run.Rows.{events_left, start_of_run};
-ghost use Rattle.gimli_line.specs.run.Made.{is_given};
-ghost use Rattle.gimli_line.specs.run.AnyRows.{made_left};
 ghost use Rattle.gimli_line.specs.run.Started.{GivesEvents, GivesFiles};
 ghost use Rattle.gimli_line.specs.run.Unread.{Unread};
-ghost use Rattle.gimli_line.specs.run.Machine.{run, initial, is_refused};
+ghost use Rattle.gimli_line.specs.run.Machine.{initial, is_refused, made_from};
+ghost use Rattle.gimli_line.specs.run.Machine.{registers_after, registers_at};
 ghost use Rattle.gimli_line.specs.run.NonDecreasing.{AreOneSequence, NeverBelow};
 ghost use Rattle.gimli_line.specs.header.Parameters.{Parameters};
 ghost use Rattle.gimli_line.specs.run.Row.{column_number};
@@ -128,14 +122,14 @@ pub fn tables_are_bounded()
         SpellsUnit notation entry bytes h → h.unit_length ≤ length bytes }
 {}
 
-/// The machine, run from the registers at the start of a sequence, gives the rows and faults that
-/// looking back says, with the files of the header at each. So do rows at the start of a sequence,
-/// by the bytes that are to come.
+/// The machine, run from the registers at the start of a sequence, makes the rows and faults that
+/// looking back says, with the files of the header at each. What rows at the start of a sequence
+/// give is what looking back says of the bytes that are to come.
 pub fn machine_gives_events()
-    ensures without_files { (parameters : Parameters) (list : List Ins) →
-        run parameters (initial parameters) list ≡ events_after parameters [] list }
-    ensures machine { (appends : Bool) (h : Header) (list : List Ins) (end : Option Error) →
-        machine_events appends h list end ≡ events_with_files_after appends h [] list end }
+    ensures machine { (appends : Bool) (parameters : Parameters) (files : List File)
+        (list : List Ins) (end : Option Error)
+        → made_from appends parameters (initial parameters) files list end
+        ≡ made_after parameters (files_at appends files) [] list end }
     ensures started { (appends : Bool) (h : Header) (notation : Notation) (o : ℕ)
         (orders : HeaderOrders) (unread : Unread)
         → GivesEvents appends h unread (start_of_run appends h notation o orders unread) }
@@ -144,17 +138,11 @@ pub fn machine_gives_events()
         → GivesFiles appends h unread (start_of_run appends h notation o orders unread) }
 {}
 
-/// What a run still gives are the faults, and the rows that aren't under a tombstone, of what it
-/// still makes.
-pub fn given_rows_are_made()
-    ensures { (a : RunState) → events_left a ≡ filter (λ t. is_given t.event) (made_left a) }
-{}
-
 /// Between two ends of sequences, whether their rows are under a tombstone or not, and from the
 /// start to the first, the addresses of rows never go down.
 pub fn addresses_never_go_down()
     ensures { (parameters : Parameters) (past list : List Ins) → AreOneSequence list
-        → NeverBelow 0 (events_after parameters past list) }
+        → NeverBelow 0 (events_after parameters past list None) }
 {}
 
 /// Columns are compared by their numbers; the left edge, which stands for 0, is below them all.
@@ -366,12 +354,12 @@ pub fn instructions_are_taken()
 {}
 
 /// The registers that the machine has after a past are what looking back says: which instruction is
-/// refused, what is under a tombstone, and which row a place makes that isn't under a tombstone.
+/// refused, what is under a tombstone, and which row a place makes.
 pub fn registers_look_back()
     ensures refused { (parameters : Parameters) (past : List Ins) (i : Ins) →
         is_refused parameters i (registers_after parameters past) ≡ overflows parameters past i }
     ensures tombstone { (parameters : Parameters) (past : List Ins) →
         (registers_after parameters past).tombstone ≡ is_under_tombstone parameters past }
     ensures row { (parameters : Parameters) (past : List Ins) (i : Ins) →
-        GivesRow parameters past i → registers_at parameters past i ≡ row_at parameters past i }
+        makes_row i ≡ true → registers_at parameters past i ≡ row_at parameters past i }
 {}

@@ -1,5 +1,5 @@
 -- Files that a program defines: the list of a header only grows, and grows where memory was missing for one more.
-use Rattle.std.proofs.Common.{◌≡◌, ℕ, ◌<◌, ◌≤◌, Bool, true, false, ◌||◌, List, [], ◌∷◌, ◌++◌, length, refl, sym, ap, ◌∙◌, length-append, arith}
+use Rattle.std.proofs.Common.{◌≡◌, ℕ, ◌<◌, ◌≤◌, Bool, true, false, ◌||◌, if◌then◌else◌, List, [], ◌∷◌, ◌++◌, length, refl, sym, ap, ◌∙◌, length-append, arith}
 use Rattle.std.specs.Prelude.{Option, Some, None}
 use Rattle.std.specs.List.{list_any}
 use Rattle.gimli_core.specs.Notation.{Notation}
@@ -10,8 +10,8 @@ use Rattle.gimli_line.specs.header.File.{File}
 use Rattle.gimli_line.specs.header.Header.{Header, without_files}
 use Rattle.gimli_line.specs.header.Orders.{HeaderOrders}
 use Rattle.gimli_line.specs.header.Parameters.{Parameters}
-use Rattle.gimli_line.specs.run.Events.{Event, fault, end_events}
-use Rattle.gimli_line.specs.run.EventsWithFiles.{EventWithFiles, with_files, events_with_files_from, step_events, next_registers}
+use Rattle.gimli_line.specs.run.Events.{Event, fault, EventWithFiles, with_files, is_given, given_of}
+use Rattle.gimli_line.specs.run.Machine.{made_step, next_registers, made_from}
 use Rattle.gimli_line.specs.run.Instruction.{Ins, defines_file, files_after}
 use Rattle.gimli_line.specs.run.InstructionReading.{decoded_at}
 use Rattle.gimli_line.specs.run.Progress.{with_reset_row, files_from}
@@ -44,28 +44,30 @@ all_grow files (j ∷ before) i rest defines = omega (arith, one_keeps true j fi
 heads : (x y : EventWithFiles) (xs ys : List EventWithFiles) → x ∷ xs ≡ y ∷ ys → x ≡ y
 heads x y xs ys is = cc
 
--- an event has no fewer files than stood before it
+-- the first event that is given has no fewer files than stood before it
 at_events : (files : List File) (here : List Event) (later : List EventWithFiles) (e : EventWithFiles) (rest : List EventWithFiles)
-    → with_files files here ++ later ≡ e ∷ rest
-    → (later ≡ e ∷ rest → length files ≤ length e.files) → length files ≤ length e.files
+    → given_of (with_files files here ++ later) ≡ e ∷ rest
+    → (given_of later ≡ e ∷ rest → length files ≤ length e.files) → length files ≤ length e.files
 at_events files [] later e rest is otherwise = otherwise is
-at_events files (x ∷ here) later e rest is otherwise =
-    let first = heads (record { event = x; files = files }) e (with_files files here ++ later) rest is in
-    omega (arith, ap (λ (t : EventWithFiles). length t.files) first)
-
-at_end : (files : List File) (end : Option Error) (e : EventWithFiles) (rest : List EventWithFiles) → with_files files (end_events end) ≡ e ∷ rest
-    → length files ≤ length e.files
-at_end files None e rest is = absurd cc
-at_end files (Some d) e rest is =
-    let first = heads (record { event = fault d; files = files }) e [] rest is in
-    omega (arith, ap (λ (t : EventWithFiles). length t.files) first)
+at_events files (x ∷ here) later e rest is otherwise = by (is_given x) (λ is. at_events files here later e rest is otherwise) is
+  where
+    by : (b : Bool) → (given_of (with_files files here ++ later) ≡ e ∷ rest → length files ≤ length e.files)
+        → (if b then record { event = x; files = files } ∷ given_of (with_files files here ++ later) else given_of (with_files files here ++ later)) ≡ e ∷ rest
+        → length files ≤ length e.files
+    by true next is =
+        let first = heads (record { event = x; files = files }) e (given_of (with_files files here ++ later)) rest is in
+        omega (arith, ap (λ (t : EventWithFiles). length t.files) first)
+    by false next is = next is
 
 at_first : (a : Bool) (h : Parameters) (r : LineRow) (files : List File) (list : List Ins) (end : Option Error) (e : EventWithFiles)
     (rest : List EventWithFiles)
-    → events_with_files_from a h r files list end ≡ e ∷ rest → length files ≤ length e.files
-at_first a h r files [] end e rest is = at_end files end e rest is
+    → given_of (made_from a h r files list end) ≡ e ∷ rest → length files ≤ length e.files
+at_first a h r files [] None e rest is = absurd cc
+at_first a h r files [] (Some d) e rest is =
+    let first = heads (record { event = fault d; files = files }) e [] rest is in
+    omega (arith, ap (λ (t : EventWithFiles). length t.files) first)
 at_first a h r files (i ∷ list) end e rest is =
-    at_events files (step_events h i r) (events_with_files_from a h (next_registers h i r) (files_after a i files) list end) e rest is
+    at_events files (made_step h i r) (made_from a h (next_registers h i r) (files_after a i files) list end) e rest is
     (λ later. omega (arith, one_keeps a i files, at_first a h (next_registers h i r) (files_after a i files) list end e rest later))
 
 pub row_keeps : (old : RunState) (e : EventWithFiles) (rest : List EventWithFiles) → events_left old ≡ e ∷ rest → length old.files ≤ length e.files

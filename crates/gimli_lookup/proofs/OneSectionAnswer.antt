@@ -14,7 +14,7 @@ use Rattle.gimli_line.specs.header.HeaderGrammar.{SpellsUnit, HasHeaderFault, Ha
 use Rattle.gimli_line.specs.run.Events.{Event, row, fault}
 use Rattle.gimli_line.specs.run.EventsWithFiles.{EventWithFiles}
 use Rattle.gimli_line.specs.run.Instruction.{Ins}
-use Rattle.gimli_line.specs.run.Made.{Makes, made_after}
+use Rattle.gimli_line.specs.run.EventsWithFiles.{Makes, program_made}
 use Rattle.gimli_line.specs.run.Sequences.{events_of}
 use Rattle.gimli_line.specs.run.Unread.{Unread}
 use Rattle.gimli_line.specs.Units.{AreUnitsOnce}
@@ -79,8 +79,8 @@ same_made : AreAlwaysDecodedOnce → (notation : Notation) (h : Header) (a b : L
 same_made once notation h a b x y =
     let same = once notation h h.program x.list y.list x.end y.end x.decoding y.decoding in
     x.made
-    ∙ ap (λ (list : List Ins). made_after true h [] list x.end) same.0
-    ∙ ap (λ (end : Option Error). made_after true h [] y.list end) same.1
+    ∙ ap (λ (list : List Ins). program_made true h list x.end) same.0
+    ∙ ap (λ (end : Option Error). program_made true h y.list end) same.1
     ∙ sym y.made
 
 same_parts : AreAlwaysDecodedOnce → (notation : Notation) (lowest : ℕ) (h k c : Header) (e d : Option Error) (s t : List (List LineRow))

@@ -10,8 +10,7 @@ use Rattle.gimli_line.specs.run.Events.{row}
 use Rattle.gimli_line.specs.run.EventsWithFiles.{EventWithFiles}
 use Rattle.gimli_line.specs.run.Progress.{with_reset_row}
 use Rattle.gimli_line.specs.run.RunState.{RunState}
-use Rattle.gimli_line.specs.run.Rows.{files_at_end, KeepsHeader}
-use Rattle.gimli_line.specs.run.AnyRows.{made_left, AnyRowIs, NoneIs, AnyFaultIs}
+use Rattle.gimli_line.specs.run.Rows.{live_made, made_left, files_at_end, KeepsHeader, RowIs, EndIs, FaultIs}
 use Rattle.gimli_line.specs.run.Sequences.{events_of}
 use Rattle.gimli_lookup.specs.inside.SequenceCut.{SequenceCut, with_row, with_rows}
 use Rattle.gimli_lookup.specs.inside.RowsTaken.{AreTaken}
@@ -53,7 +52,7 @@ with_more [] r a = refl
 with_more (s ∷ rows) r a = with_more rows r (with_row s a)
 
 pub one_more : (first old new : RunState) (from to : SequenceCut) (r : LineRow) (files : List File) → TakesIn first old from to
-    → KeepsHeader old new → AnyRowIs old new r files → TakesIn first new from (with_row r to)
+    → KeepsHeader old new → RowIs live_made old new r files → TakesIn first new from (with_row r to)
 one_more first old new from to r files t keeps next =
     let event : EventWithFiles = record { event = row r; files = files } in
     record {
@@ -67,7 +66,7 @@ one_more first old new from to r files t keeps next =
       keeps = keeps_both first old new t.keeps keeps;
     }
 
-pub to_end : (first old new : RunState) (from to : SequenceCut) → TakesIn first old from to → KeepsHeader old new → NoneIs old new
+pub to_end : (first old new : RunState) (from to : SequenceCut) → TakesIn first old from to → KeepsHeader old new → EndIs live_made old new
     → AreTaken first new None from to
 to_end first old new from to t keeps next = record {
   rows = t.rows;
@@ -79,7 +78,7 @@ to_end first old new from to t keeps next = record {
 }
 
 pub to_fault : (first old new : RunState) (from to : SequenceCut) (e : Error) → TakesIn first old from to → KeepsHeader old new → (e ≡ OutOfMemory → ⊥)
-    → AnyFaultIs (with_reset_row old) new e → AreTaken first new (Some e) from to
+    → FaultIs live_made (with_reset_row old) new e → AreTaken first new (Some e) from to
 to_fault first old new from to e t keeps other (inl memory) = absurd (other memory.0)
 to_fault first old new from to e t keeps other (inr comes) = record {
   rows = t.rows;
@@ -93,7 +92,7 @@ to_fault first old new from to e t keeps other (inr comes) = record {
 -- a refusal that isn't for memory is the first fault
 pub fault_taken : (first old new : RunState) (from to : SequenceCut) (e : Error) (answer : Result (Option Error) Error) → TakesIn first old from to
     → KeepsHeader old new
-    → AnyFaultIs (with_reset_row old) new e → IfOk answer (λ found. (found ≡ Some e) × (e ≢ OutOfMemory))
+    → FaultIs live_made (with_reset_row old) new e → IfOk answer (λ found. (found ≡ Some e) × (e ≢ OutOfMemory))
     → IfOk answer (λ found. AreTaken first new found from to)
 fault_taken first old new from to e (Ok found) t keeps is as_is =
     subst (λ (o : Option Error). AreTaken first new o from to) (sym as_is.0) (to_fault first old new from to e t keeps as_is.1 is)

@@ -9,11 +9,9 @@ use Rattle.gimli_line.specs.header.File.{File}
 use Rattle.gimli_line.specs.header.Header.{Header}
 use Rattle.gimli_line.specs.header.Orders.{HeaderOrders}
 use Rattle.gimli_line.specs.run.Events.{row}
-use Rattle.gimli_line.specs.run.EventsWithFiles.{EventWithFiles, FilesAtEnd}
-use Rattle.gimli_line.specs.run.Made.{Makes}
+use Rattle.gimli_line.specs.run.EventsWithFiles.{EventWithFiles, Makes, FilesAtEnd}
 use Rattle.gimli_line.specs.run.RunState.{RunState}
-use Rattle.gimli_line.specs.run.Rows.{files_at_end, whole_run}
-use Rattle.gimli_line.specs.run.AnyRows.{made_left}
+use Rattle.gimli_line.specs.run.Rows.{made_left, files_at_end, whole_run}
 use Rattle.gimli_line.specs.run.Sequences.{events_of}
 use Rattle.gimli_lookup.specs.inside.SequenceCut.{SequenceCut, no_rows, with_rows}
 use Rattle.gimli_lookup.specs.RowsTaken.{header_of}

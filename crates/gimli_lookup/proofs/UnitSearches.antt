@@ -10,7 +10,7 @@ use Rattle.std.proofs.lemmas.List.{append-nil, length-append, take-append-le, ta
 use Rattle.gimli_core.specs.declared.error.Error.{Error}
 use Rattle.gimli_core.specs.declared.error.Error.TheVariants.{OutOfMemory}
 use Rattle.gimli_line.specs.declared.run.row.LineRow.{LineRow}
-use Rattle.gimli_line.specs.run.AnyRows.{AnyFaultIs}
+use Rattle.gimli_line.specs.run.Rows.{live_made, FaultIs}
 use Rattle.gimli_line.specs.run.Progress.{with_reset_row}
 use Rattle.gimli_line.specs.run.Rows.{KeepsHeader}
 use Rattle.gimli_line.specs.run.RunState.{RunState}
@@ -208,7 +208,7 @@ row_taken unit addresses cut r s b is sees =
 -- a refusal that isn't for memory is the first fault
 pub fault_searched : (addresses : List ℕ) (first old new : RunState) (from to : UnitSearch) (e : Error) (answer : Result (Option Error) Error)
     → ((unit : ℕ) (cut : SequenceCut) → Sees unit addresses cut from → (last : SequenceCut) × TakesIn first old cut last × Sees unit addresses last to)
-    → KeepsHeader old new → AnyFaultIs (with_reset_row old) new e → IfOk answer (λ found. (found ≡ Some e) × (e ≢ OutOfMemory))
+    → KeepsHeader old new → FaultIs live_made (with_reset_row old) new e → IfOk answer (λ found. (found ≡ Some e) × (e ≢ OutOfMemory))
     → IfOk answer (λ found. (unit : ℕ) (cut : SequenceCut) → Sees unit addresses cut from
     → (last : SequenceCut) × AreTaken first new found cut last × Sees unit addresses last to)
 fault_searched addresses first old new from to e (Err d) before keeps is as_is = tt

@@ -10,8 +10,7 @@ use Rattle.gimli_line.specs.declared.run.row.LineRow.{LineRow}
 use Rattle.gimli_line.specs.header.File.{File}
 use Rattle.gimli_line.specs.header.Header.{Header}
 use Rattle.gimli_line.specs.run.Events.{row, fault}
-use Rattle.gimli_line.specs.run.EventsWithFiles.{EventWithFiles, FilesAtEnd}
-use Rattle.gimli_line.specs.run.Made.{Makes}
+use Rattle.gimli_line.specs.run.EventsWithFiles.{EventWithFiles, Makes, FilesAtEnd}
 use Rattle.gimli_line.specs.run.Sequences.{events_of}
 use Rattle.gimli_lookup.specs.Cut.{AreCutAtEnds}
 

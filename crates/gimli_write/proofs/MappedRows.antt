@@ -12,7 +12,8 @@ use Rattle.gimli_bytes.specs.declared.address.Address.TheVariants.{Constant}
 use Rattle.gimli_line.specs.declared.run.row.LineRow.{LineRow as ReadRow}
 use Rattle.gimli_line.specs.declared.run.instruction.LineInstruction.TheVariants.{DefineFile}
 use Rattle.gimli_line.specs.header.Parameters.{Parameters}
-use Rattle.gimli_line.specs.run.Events.{Event, row, fault, row_at, events_at, events_after, end_events}
+use Rattle.gimli_line.specs.run.Events.{Event, row, fault, row_at, events_after}
+use Rattle.gimli_line.proofs.RunLists.{events_at, after_here}
 use Rattle.gimli_line.specs.run.Instruction.{Ins, is_end, makes_row}
 use Rattle.gimli_line.specs.run.OperationPointer.{address_limit, pointer_at, is_under_tombstone, overflows}
 use Rattle.gimli_build.specs.Calls.{after_address, after_row, after_end}
@@ -87,7 +88,7 @@ row_parts r address seen at inner =
 pub record Rest (sections : Sections) (parameters : Parameters) (first : TablesAndTexts) (size : ℕ) (c : Outcome) (past list : List Ins) (end : Option Error)
     (base : ℕ) (position : ℕ × ℕ) (p : Built) : Type 0 where
   pub rows : List ReadRow
-  pub events : events_after parameters past list ++ end_events end ≡ map row rows
+  pub events : events_after parameters past list end ≡ map row rows
   pub items : List BuiltItem
   pub built : c.program.items ≡ p.items ++ items
   pub mapped : RowsMapped parameters.encoding.version c.file_ids base items rows
@@ -144,7 +145,9 @@ module _ (sections : Sections) (parameters : Parameters) (first : TablesAndTexts
         → Rest sections parameters first size c (i ∷ past) list end base position p → Rest sections parameters first size c past (i ∷ list) end base position p
     passed base position p none r = record {
       rows = r.rows;
-      events = ap (λ (here : List Event). (here ++ events_after parameters (i ∷ past) list) ++ end_events end) none ∙ r.events;
+      events =
+          after_here parameters past i list end ∙ ap (λ (here : List Event). here ++ events_after parameters (i ∷ past) list end) none
+          ∙ r.events;
       items = r.items;
       built = r.built;
       mapped = r.mapped;
@@ -166,7 +169,7 @@ module _ (sections : Sections) (parameters : Parameters) (first : TablesAndTexts
     taken base later position after_it p next read built one pushed constant mapped fit r = record {
       rows = read ∷ r.rows;
       events =
-          ap (λ (here : List Event). (here ++ events_after parameters (i ∷ past) list) ++ end_events end) one
+          after_here parameters past i list end ∙ ap (λ (here : List Event). here ++ events_after parameters (i ∷ past) list end) one
           ∙ ap (λ (events : List Event). row read ∷ events) r.events;
       items = built ∷ r.items;
       built = r.built ∙ ap (λ (l : List BuiltItem). l ++ r.items) pushed ∙ append_assoc p.items (built ∷ []) r.items;
@@ -257,7 +260,7 @@ module _ (sections : Sections) (parameters : Parameters) (first : TablesAndTexts
         (λ items rows mapped. (
           record {
             file = record { from_one = number.from_one; there = later };
-            others = row_parts (row_at parameters past i) (base + ((row_at parameters past i).address - base_at past)) refl sum inner;
+            others = row_parts (row_at parameters past i) (base + ((row_at parameters past i).address - base_at past)) seen sum inner;
           },
           subst (λ (b : ℕ). RowsMapped parameters.encoding.version c.file_ids b items rows) (sym same) mapped,
         ))
@@ -331,7 +334,9 @@ module _ (sections : Sections) (parameters : Parameters) (first : TablesAndTexts
 
         gives : (o m tombstone : Bool) → overflows parameters past i ≡ o → makes_row i ≡ m → is_under_tombstone parameters past ≡ tombstone
             → events_at parameters past i ≡ (if o then fault AddressOverflow ∷ [] else (if m && not tombstone then row (row_at parameters past i) ∷ [] else []))
-        gives o m tombstone at made seen = rw (at, made, seen) refl
+        gives true m tombstone at made seen = rw at refl
+        gives false true tombstone at made seen = rw (at, made, seen) refl
+        gives false false tombstone at made seen = rw (at, made) refl
 
         quiet : (m tombstone : Bool) → makes_row i ≡ m → is_under_tombstone parameters past ≡ tombstone → (m && not tombstone) ≡ false
             → (makes_row i && not (is_under_tombstone parameters past)) ≡ false

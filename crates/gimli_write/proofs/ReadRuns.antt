@@ -1,40 +1,22 @@
 -- Rows that are read: they are what the program gives, or a fault comes after them.
-use Rattle.std.proofs.Common.{◌≡◌, ◌≢◌, ◌⊎◌, Bool, true, List, [], ◌∷◌, ◌++◌, map, refl, sym, ap, ◌∙◌, append_assoc, inl, inr}
-use Rattle.std.specs.Prelude.{Option}
-use Rattle.std.proofs.lemmas.List.{map-append, append-nil}
+use Rattle.std.proofs.Common.{◌≡◌, ◌≢◌, ◌⊎◌, true, List, [], ◌∷◌, ◌++◌, map, refl, sym, ap, ◌∙◌, inl, inr}
+use Rattle.std.proofs.lemmas.List.{append-nil}
 use Rattle.gimli_core.specs.Notation.{Notation}
 use Rattle.gimli_core.specs.declared.error.Error.{Error}
 use Rattle.gimli_core.specs.declared.error.Error.TheVariants.{OutOfMemory}
 use Rattle.gimli_line.specs.declared.run.row.LineRow.{LineRow}
 use Rattle.gimli_line.specs.header.Header.{Header}
-use Rattle.gimli_line.specs.run.Instruction.{Ins}
 use Rattle.gimli_line.specs.header.File.{File}
-use Rattle.gimli_line.specs.run.Events.{Event, row, fault, Events, events_at, events_after, end_events}
+use Rattle.gimli_line.specs.run.Events.{Event, row, fault, Events}
 use Rattle.gimli_line.specs.run.RunState.{RunState}
 use Rattle.gimli_line.specs.run.Progress.{with_reset_row}
-use Rattle.gimli_line.specs.run.Rows.{FaultIs, events_left}
+use Rattle.gimli_line.specs.run.Rows.{live_events, FaultIs, events_left}
 use Rattle.gimli_line.specs.run.Sequences.{events_of, HasFirstFault}
-use Rattle.gimli_line.specs.run.EventsWithFiles.{EventWithFiles, EventsWithFiles, with_files, files_at, events_with_files_after}
+use Rattle.gimli_line.specs.run.EventsWithFiles.{EventWithFiles, EventsWithFiles}
+use Rattle.gimli_line.proofs.RunLists.{given_without_files}
 use Rattle.gimli_write.specs.declared.convert_error.ConvertError.{ConvertError}
 use Rattle.gimli_write.specs.declared.convert_error.ConvertError.TheVariants.{Read, OutOfMemory as NoMemory}
 use Rattle.gimli_write.specs.RoundTrip.{IsRunRefusal}
-
--- ---- the events among events with their files
-
-events_of_at : (files : List File) (es : List Event) → events_of (with_files files es) ≡ es
-events_of_at files [] = refl
-events_of_at files (e ∷ es) = ap (λ (xs : List Event). e ∷ xs) (events_of_at files es)
-
-events_of_after : (a : Bool) (h : Header) (past list : List Ins) (end : Option Error)
-    → events_of (events_with_files_after a h past list end) ≡ events_after h.parameters past list ++ end_events end
-events_of_after a h past [] end = events_of_at (files_at a h.files past) (end_events end)
-events_of_after a h past (i ∷ list) end =
-    let files = files_at a h.files past in
-    let here = events_at h.parameters past i in
-    map-append (λ (t : EventWithFiles). t.event) (with_files files here) (events_with_files_after a h (i ∷ past) list end)
-    ∙ ap (λ (xs : List Event). xs ++ events_of (events_with_files_after a h (i ∷ past) list end)) (events_of_at files here)
-    ∙ ap (λ (xs : List Event). here ++ xs) (events_of_after a h (i ∷ past) list end)
-    ∙ sym (append_assoc here (events_after h.parameters (i ∷ past) list) (end_events end))
 
 -- ---- a run to its end
 
@@ -46,7 +28,7 @@ run_ended notation h events left rows tells so_far none = record {
   end = tells.end;
   decoding = tells.decoding;
   given = sym (append-nil (map row rows)) ∙ ap (λ (l : List EventWithFiles). map row rows ++ events_of l) (sym none) ∙ sym so_far
-      ∙ ap events_of tells.given ∙ events_of_after true h [] tells.list tells.end;
+      ∙ ap events_of tells.given ∙ given_without_files true h tells.list tells.end;
 }
 
 -- ---- a run that is refused
@@ -65,13 +47,13 @@ first_fault notation h events left rest rows files e tells so_far next = record 
   decoding = tells.decoding;
   rows = rows;
   rest = events_of rest;
-  given = sym (events_of_after true h [] tells.list tells.end) ∙ sym (ap events_of tells.given) ∙ so_far
+  given = sym (given_without_files true h tells.list tells.end) ∙ sym (ap events_of tells.given) ∙ so_far
       ∙ ap (λ (l : List EventWithFiles). map row rows ++ events_of l) next;
 }
 
 -- a refusal after rows is the first fault, or `OutOfMemory`, and has the name that conversions give it
 pub run_refused : (notation : Notation) (h : Header) (events : List EventWithFiles) (old new : RunState) (rows : List LineRow) (e : Error) (r : ConvertError)
-    → EventsWithFiles notation true h h.program events → events_of events ≡ map row rows ++ events_of (events_left old) → FaultIs (with_reset_row old) new e
+    → EventsWithFiles notation true h h.program events → events_of events ≡ map row rows ++ events_of (events_left old) → FaultIs live_events (with_reset_row old) new e
     → (e ≡ OutOfMemory → r ≡ NoMemory) → (e ≢ OutOfMemory → r ≡ Read e) → IsRunRefusal notation h r
 run_refused notation h events old new rows e r tells so_far (inl memory) named other = rw (named memory.0) tt
 run_refused notation h events old new rows e r tells so_far (inr next) named other = elim (is_memory e) [

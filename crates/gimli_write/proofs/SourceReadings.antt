@@ -13,7 +13,7 @@ use Rattle.gimli_line.specs.run.Machine.{is_refused}
 use Rattle.gimli_line.specs.run.OperationPointer.{is_under_tombstone, overflows}
 use Rattle.gimli_line.specs.run.EventsWithFiles.{registers_after}
 use Rattle.gimli_line.specs.run.Unread.{Unread}
-use Rattle.gimli_line.proofs.EventsWithFilesLaws.{refused_after, tombstone_after, row_after}
+use Rattle.gimli_line.proofs.Backwards.{refused_after, tombstone_after, row_after}
 use Rattle.gimli_line.proofs.InstructionLaws.{is_decoded}
 use Rattle.gimli_build.specs.Texts.{Sections}
 use Rattle.gimli_write.specs.declared.convert_error.ConvertError.{ConvertError}
@@ -60,7 +60,7 @@ row_same : (h : Header) (u : Unread) (past : List Ins) (i : Ins) → makes_row i
     → row_made (state_at h past u) i ≡ source_row h.parameters past i
 row_same h u past i loud seen =
     ap (λ (row : LineRow). let r : SourceRow = record { set_address = pending_address past; address_offset = row.address - base_at past; row = row } in r)
-    (row_after h.parameters past i loud seen)
+    (row_after h.parameters past i loud)
 
 module _ (give : SourceRow → Reading) (stop rest : Reading) where
   same_parts : (made over tombstone : Bool) (r d : SourceRow) → (made ≡ true → tombstone ≡ false → r ≡ d)

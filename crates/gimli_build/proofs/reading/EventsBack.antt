@@ -86,8 +86,7 @@ rows_given parameters encoding e items same known can version built held =
     sym (items-run encoding e known can version 0 first items (start_position e can) (lit< tt) built held)
     ∙ sym (ap (λ (r : ReadRow). run (built_rules encoding e) r list) (start-is encoding e version))
     ∙ starts (built_rules encoding e) list
-    ∙ ap (λ (r : Parameters). events_after r [] list) (sym same)
-    ∙ sym (append-nil (events_after parameters [] list))
+    ∙ ap (λ (r : Parameters). events_after r [] list None) (sym same)
 
 -- the rows of a written program, where addresses hold its items and none is a tombstone
 pub rows-back : (notation : Notation) (h : Header) (p : Built) → IsBuilt p → p.encoding.version ≤ 5 → 11 < notation.limit

@@ -20,14 +20,12 @@ use Rattle.gimli_line.specs.declared.run.instruction.LineInstruction.TheVariants
 use Rattle.gimli_line.specs.run.Instruction.{Ins, defines_file, makes_row}
 use Rattle.gimli_line.specs.run.InstructionGrammar.{SpellsInstruction, Decodes}
 use Rattle.gimli_line.specs.run.InstructionReading.{decoded_at}
-use Rattle.gimli_line.specs.run.Events.{Event, row, fault}
-use Rattle.gimli_line.specs.run.EventsWithFiles.{EventWithFiles, events_with_files_from, next_registers}
+use Rattle.gimli_line.specs.run.Events.{row, fault, EventWithFiles, with_files, given_of, events_of}
 use Rattle.gimli_line.specs.run.Instruction.{files_after}
-use Rattle.gimli_line.specs.run.Sequences.{events_of}
-use Rattle.gimli_line.specs.run.Machine.{is_refused, step_of}
+use Rattle.gimli_line.specs.run.Machine.{is_refused, step_of, next_registers, made_from}
 use Rattle.gimli_line.specs.run.RunState.{RunState}
 use Rattle.gimli_line.specs.run.Progress.{with_reset_row, Progress}
-use Rattle.gimli_line.specs.run.Rows.{events_left, start_of_run, WantsMemory, FaultIs}
+use Rattle.gimli_line.specs.run.Rows.{live_events, events_left, start_of_run, WantsMemory, FaultIs}
 use Rattle.gimli_line.proofs.InstructionLaws.{is_decoded, one_decoding}
 use Rattle.gimli_build.specs.declared.built.row.LineRow.{LineRow}
 use Rattle.gimli_build.specs.declared.built.items.BuiltItem.{BuiltItem}
@@ -176,28 +174,40 @@ no_memory a b none wants =
 
 -- the only fault of whole instructions
 only_overflow : (appends : Bool) (parameters : Parameters) (r : ReadRow) (files seen : List File) (list : List Ins) (rest : List EventWithFiles) (e : Error)
-    → events_with_files_from appends parameters r files list None ≡ record { event = fault e; files = seen } ∷ rest → e ≡ AddressOverflow
+    → given_of (made_from appends parameters r files list None) ≡ record { event = fault e; files = seen } ∷ rest → e ≡ AddressOverflow
 only_overflow appends parameters r files seen [] rest e is = absurd cc
 only_overflow appends parameters r files seen (i ∷ list) rest e is =
-    by (is_refused parameters i r) (makes_row i && not r.tombstone)
-    (events_with_files_from appends parameters (next_registers parameters i r) (files_after appends i files) list None)
+    by (is_refused parameters i r) (makes_row i)
     (only_overflow appends parameters (next_registers parameters i r) (files_after appends i files) seen list rest e) is
   where
-    by : (refused made : Bool) (after : List EventWithFiles) → (after ≡ record { event = fault e; files = seen } ∷ rest → e ≡ AddressOverflow)
-        → map (λ e. let t : EventWithFiles = record { event = e; files = files } in t)
-        (if refused then fault AddressOverflow ∷ [] else (if made then row (step_of parameters i r) ∷ [] else [])) ++ after
+    later : List EventWithFiles
+    later = made_from appends parameters (next_registers parameters i r) (files_after appends i files) list None
+
+    abbrev Next : Type 0
+    Next = given_of later ≡ record { event = fault e; files = seen } ∷ rest → e ≡ AddressOverflow
+
+    row_or_next : (b : Bool) → Next
+        → (if b then record { event = row (step_of parameters i r); files = files } ∷ given_of later else given_of later)
         ≡ record { event = fault e; files = seen } ∷ rest
         → e ≡ AddressOverflow
-    by true made after next is = let first = ap events_of is in cc
-    by false true after next is = let first = ap events_of is in absurd cc
-    by false false after next is = next is
+    row_or_next true next is = let first = ap events_of is in absurd cc
+    row_or_next false next is = next is
 
-pub refused-none : (a b : RunState) (e : Error) → DefinesNoFile a → FaultIs (with_reset_row a) b e → e ≡ AddressOverflow
+    by : (refused made : Bool) → Next
+        → given_of (with_files files (if refused then fault AddressOverflow ∷ [] else (if made then row (step_of parameters i r) ∷ [] else [])) ++ later)
+        ≡ record { event = fault e; files = seen } ∷ rest
+        → e ≡ AddressOverflow
+    by true made next is = let first = ap events_of is in cc
+    by false true next is = row_or_next (not (step_of parameters i r).tombstone) next is
+    by false false next is = next is
+
+pub refused-none : (a b : RunState) (e : Error) → DefinesNoFile a → FaultIs live_events (with_reset_row a) b e → e ≡ AddressOverflow
 refused-none a b e none (inl memory) =
     absurd (no_memory (with_reset_row a) b (record { list = none.list; decoding = none.decoding; none = none.none }) memory.1)
 refused-none a b e none (inr next) =
     let same = one_decoding a.unread.notation a.fixed a.unread.bytes none.list None none.decoding in
-    let whole = ap (λ (p : List Ins × Option Error). events_with_files_from a.appends a.fixed.parameters (with_reset_row a).row a.files p.0 p.1) same in
+    let whole =
+    ap (λ (p : List Ins × Option Error). given_of (made_from a.appends a.fixed.parameters (with_reset_row a).row a.files p.0 p.1)) same in
     only_overflow a.appends a.fixed.parameters (with_reset_row a).row a.files b.files none.list (events_left b) e (whole ∙ next.0)
 
 -- ---- a program from its start

@@ -1,7 +1,7 @@
--- What a program gives: its rows and faults in order.
-use Rattle.std.specs.Prelude.{◌≡◌, Bool, true, false, not, ◌&&◌, if◌then◌else◌, List, [], ◌∷◌, ◌++◌}
-use Rattle.std.specs.Prelude.{ℕ, Option, Some, None}
-use Rattle.std.specs.List.{list_any}
+-- What a program makes and gives: its rows and faults in order, with the files at each.
+use Rattle.std.specs.Prelude.{◌≡◌, ℕ, Bool, true, false, not, if◌then◌else◌, List, [], ◌∷◌, ◌++◌}
+use Rattle.std.specs.Prelude.{map, Option, Some, None}
+use Rattle.std.specs.List.{list_any, filter}
 use Rattle.gimli_core.specs.declared.error.Error.{Error}
 use Rattle.gimli_core.specs.declared.error.Error.TheVariants.{AddressOverflow}
 use Rattle.gimli_line.specs.declared.run.instruction.LineInstruction.TheVariants.{DefineFile}
@@ -18,13 +18,16 @@ use Rattle.gimli_line.specs.run.Registers.{sets_prologue_end, sets_epilogue_begi
 use Rattle.gimli_line.specs.run.OperationPointer.{pointer_at, is_under_tombstone, overflows}
 use Rattle.gimli_line.specs.run.OperationPointer.{since_last_row}
 
--- the row of a point; that of an end has the pointer before it, any other the one after it
+-- ---- what is made
+
+-- the row of a point, which may be under a tombstone; that of an end has the pointer before it, any
+-- other the one after it
 abbrev pub row_at : Parameters → List Ins → Ins → LineRow
 row_at parameters past i =
     let here = if is_end i then pointer_at parameters past else pointer_at parameters (i ∷ past) in
     let marks = since_last_row parameters past in
     record {
-      tombstone = false;
+      tombstone = is_under_tombstone parameters past;
       address = here.address;
       op_index = here.op_index;
       file = file_at past;
@@ -43,32 +46,57 @@ pub data Event : Type 0 where
   row : LineRow → Event
   fault : Error → Event
 
--- what a point gives: a fault where it overflows, else a row where it makes one and isn't under a
--- tombstone
-abbrev pub events_at : Parameters → List Ins → Ins → List Event
-events_at parameters past i =
+-- what a point makes: a fault where it overflows, else a row where its instruction makes one
+abbrev pub made_at : Parameters → List Ins → Ins → List Event
+made_at parameters past i =
     if overflows parameters past i then fault AddressOverflow ∷ []
-    else (if makes_row i && not (is_under_tombstone parameters past)
-    then row (row_at parameters past i) ∷ [] else [])
+    else (if makes_row i then row (row_at parameters past i) ∷ [] else [])
 
--- a point gives a row: its instruction makes one, and it isn't under a tombstone
-abbrev pub GivesRow : Parameters → List Ins → Ins → Type 0
-GivesRow parameters past i = (makes_row i ≡ true) × (is_under_tombstone parameters past ≡ false)
-
--- what these instructions give after a past
-abbrev pub events_after : Parameters → List Ins → List Ins → List Event
-events_after parameters past [] = []
-events_after parameters past (i ∷ list) =
-    events_at parameters past i ++ events_after parameters (i ∷ past) list
-
--- what the end of a program gives
+-- what the end of a program makes
 abbrev pub end_events : Option Error → List Event
 end_events None = []
 end_events (Some e) = fault e ∷ []
 
+-- an event, and the files of the header at its point
+pub record EventWithFiles : Type 0 where
+  pub event : Event
+  pub files : List File
+
+-- events of a point with these files
+abbrev pub with_files : List File → List Event → List EventWithFiles
+with_files files events = map (λ e. record { event = e; files = files }) events
+
+-- what these instructions and this end make after a past, with the files at each point
+abbrev pub made_after : Parameters → (List Ins → List File) → List Ins → List Ins → Option Error
+    → List EventWithFiles
+made_after parameters files past [] end = with_files (files past) (end_events end)
+made_after parameters files past (i ∷ list) end =
+    with_files (files past) (made_at parameters past i)
+    ++ made_after parameters files (i ∷ past) list end
+
+-- ---- what is given of it
+
+-- a fault, or a row that isn't under a tombstone
+abbrev pub is_given : Event → Bool
+is_given (row r) = not r.tombstone
+is_given (fault e) = true
+
+-- those that are given, of these that are made
+abbrev pub given_of : List EventWithFiles → List EventWithFiles
+given_of events = filter (λ t. is_given t.event) events
+
+-- the events among events with their files
+abbrev pub events_of : List EventWithFiles → List Event
+events_of events = map (λ t. t.event) events
+
+-- what these instructions and this end give after a past, without the files
+abbrev pub events_after : Parameters → List Ins → List Ins → Option Error → List Event
+events_after parameters past list end =
+    events_of (given_of (made_after parameters (λ before. []) past list end))
+
 -- what a program gives that is decoded into these instructions and this end
 abbrev pub program_events : Parameters → List Ins → Option Error → List Event
-program_events parameters list end = events_after parameters [] list ++ end_events end
+program_events parameters list end = events_after parameters [] list end
 
 -- the events of a program's bytes
 pub record Events (notation : Notation) (h : Header) (bytes : List ℕ) (events : List Event)
@@ -86,6 +114,10 @@ abbrev pub defined_files : List File → List Ins → List File
 defined_files files [] = files
 defined_files files (DefineFile f ∷ past) = defined_files files past ++ f ∷ []
 defined_files files (i ∷ past) = defined_files files past
+
+-- where the list is complete, they are all there from the start
+abbrev pub files_at : Bool → List File → List Ins → List File
+files_at appends files past = if appends then defined_files files past else files
 
 -- the instructions before the end of a program, the nearest first
 abbrev pub past_at_end : List Ins → List Ins → List Ins

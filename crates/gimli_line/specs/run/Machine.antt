@@ -1,7 +1,8 @@
 -- The line machine: one register record, and what an instruction does to it (DWARF 5, sections
 -- 6.2.2 and 6.2.5).
-use Rattle.std.specs.Prelude.{◌≤◌, Bool, true, false, not, ◌&&◌, if◌then◌else◌, List, [], ◌∷◌, ◌++◌}
-use Rattle.std.specs.Prelude.{Some, None}
+use Rattle.std.specs.Prelude.{◌≤◌, Bool, true, false, not, ◌&&◌, ◌||◌, if◌then◌else◌}
+use Rattle.std.specs.Prelude.{List, [], ◌∷◌, ◌++◌, Option, Some, None}
+use Rattle.gimli_core.specs.declared.error.Error.{Error}
 use Rattle.gimli_core.specs.declared.error.Error.TheVariants.{AddressOverflow}
 use Rattle.gimli_line.specs.declared.run.instruction.LineInstruction.TheVariants.{
   Special,
@@ -22,11 +23,13 @@ use Rattle.gimli_line.specs.declared.run.instruction.LineInstruction.TheVariants
 }
 use Rattle.gimli_line.specs.declared.run.row.LineRow.{LineRow}
 use Rattle.gimli_line.specs.header.Parameters.{Parameters}
-use Rattle.gimli_line.specs.run.Instruction.{Ins, makes_row}
+use Rattle.gimli_line.specs.header.File.{File}
+use Rattle.gimli_line.specs.run.Instruction.{Ins, makes_row, files_after}
 use Rattle.gimli_line.specs.run.Registers.{line_advance, advanced_line}
 use Rattle.gimli_line.specs.run.OperationPointer.{OperationPointer, next_pointer, target_pointer}
 use Rattle.gimli_line.specs.run.OperationPointer.{is_too_large, is_tombstone}
-use Rattle.gimli_line.specs.run.Events.{Event, row, fault}
+use Rattle.gimli_line.specs.run.Events.{Event, row, fault, end_events, EventWithFiles, with_files}
+use Rattle.gimli_line.specs.run.Events.{given_of, events_of}
 
 -- the registers at the start of a sequence
 abbrev pub initial : Parameters → LineRow
@@ -114,13 +117,39 @@ is_refused parameters i r =
     [ Some to ↦ is_too_large parameters to | None ↦ false ])
     && not r.tombstone
 
--- what a run gives from these registers on
+-- ---- a run
+
+-- what an instruction makes at these registers
+abbrev pub made_step : Parameters → Ins → LineRow → List Event
+made_step parameters i r =
+    if is_refused parameters i r then fault AddressOverflow ∷ []
+    else (if makes_row i then row (step_of parameters i r) ∷ [] else [])
+
+-- the registers after an instruction: they are reset after a row and after a refusal
+abbrev pub next_registers : Parameters → Ins → LineRow → LineRow
+next_registers parameters i r =
+    if is_refused parameters i r || makes_row i then reset_row parameters (step_of parameters i r)
+    else step_of parameters i r
+
+-- the registers after a past, run from the start of a program
+abbrev pub registers_after : Parameters → List Ins → LineRow
+registers_after parameters [] = initial parameters
+registers_after parameters (i ∷ past) =
+    next_registers parameters i (registers_after parameters past)
+
+-- the registers that the machine has at a point with this instruction
+abbrev pub registers_at : Parameters → List Ins → Ins → LineRow
+registers_at parameters past i = step_of parameters i (registers_after parameters past)
+
+-- what these instructions and this end make from these registers and files on
+abbrev pub made_from : Bool → Parameters → LineRow → List File → List Ins → Option Error
+    → List EventWithFiles
+made_from appends parameters r files [] end = with_files files (end_events end)
+made_from appends parameters r files (i ∷ list) end =
+    with_files files (made_step parameters i r)
+    ++ made_from appends parameters (next_registers parameters i r) (files_after appends i files)
+    list end
+
+-- what these instructions give from these registers on
 abbrev pub run : Parameters → LineRow → List Ins → List Event
-run parameters r [] = []
-run parameters r (i ∷ list) =
-    if is_refused parameters i r
-    then fault AddressOverflow ∷ run parameters (reset_row parameters (step_of parameters i r)) list
-    else (if makes_row i
-    then (if r.tombstone then [] else row (step_of parameters i r) ∷ [])
-    ++ run parameters (reset_row parameters (step_of parameters i r)) list
-    else run parameters (step_of parameters i r) list)
+run parameters r list = events_of (given_of (made_from false parameters r [] list None))

@@ -3,21 +3,14 @@ use Rattle.std.specs.Prelude.{◌≡◌, Bool, List, [], ◌∷◌, ◌++◌, �
 use Rattle.gimli_core.specs.Production.{Each}
 use Rattle.gimli_line.specs.declared.run.row.LineRow.{LineRow}
 use Rattle.gimli_line.specs.header.Parameters.{Parameters}
-use Rattle.gimli_line.specs.run.Instruction.{files_after}
-use Rattle.gimli_line.specs.run.Instruction.{Ins}
+use Rattle.gimli_line.specs.run.Instruction.{Ins, files_after}
 use Rattle.gimli_line.specs.header.File.{File}
 use Rattle.gimli_line.specs.run.InstructionGrammar.{SpellsInstruction}
 use Rattle.gimli_line.specs.run.Events.{Event}
-use Rattle.gimli_line.specs.run.Machine.{reset_row}
-use Rattle.gimli_line.specs.run.EventsWithFiles.{step_events, next_registers}
+use Rattle.gimli_line.specs.run.Machine.{reset_row, next_registers, run}
 use Rattle.gimli_line.specs.run.RunState.{RunState}
 
--- what these instructions give from these registers on, and the registers after them
-abbrev pub events_from : Parameters → LineRow → List Ins → List Event
-events_from parameters r [] = []
-events_from parameters r (i ∷ list) =
-    step_events parameters i r ++ events_from parameters (next_registers parameters i r) list
-
+-- the registers after these instructions, from these on
 abbrev pub registers_from : Parameters → LineRow → List Ins → LineRow
 registers_from parameters r [] = r
 registers_from parameters r (i ∷ list) =
@@ -41,6 +34,6 @@ pub record Progress (old new : RunState) (events : List Event) : Type 0 where
   pub notation : new.unread.notation ≡ old.unread.notation
   pub fixed : new.fixed ≡ old.fixed
   pub appends : new.appends ≡ old.appends
-  pub given : events_from old.fixed.parameters old.row list ≡ events
+  pub given : run old.fixed.parameters old.row list ≡ events
   pub registers : new.row ≡ registers_from old.fixed.parameters old.row list
   pub files : new.files ≡ files_from old.appends old.files list

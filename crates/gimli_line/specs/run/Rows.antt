@@ -1,4 +1,4 @@
--- What a row iterator still gives.
+-- What a row iterator still makes and gives.
 use Rattle.std.specs.Prelude.{◌≡◌, ◌≢◌, ◌⊎◌, ℕ, Bool, true, false, List, [], ◌∷◌, ◌++◌, All, Option}
 use Rattle.std.specs.Prelude.{Some, None, Result, Ok, Err}
 use Rattle.std.specs.Borrow.{Bor}
@@ -12,20 +12,30 @@ use Rattle.gimli_line.specs.header.Orders.{HeaderOrders, AreOneOrder}
 use Rattle.gimli_line.specs.run.Instruction.{Ins, defines_file}
 use Rattle.gimli_line.specs.run.InstructionGrammar.{SpellsInstruction}
 use Rattle.gimli_line.specs.run.InstructionReading.{decoded_at}
-use Rattle.gimli_line.specs.run.Events.{Event, row, fault}
-use Rattle.gimli_line.specs.run.Machine.{initial}
+use Rattle.gimli_line.specs.run.Events.{Event, row, fault, EventWithFiles, given_of}
+use Rattle.gimli_line.specs.run.Machine.{initial, made_from}
 use Rattle.gimli_line.specs.run.Unread.{Unread, whole_program}
 use Rattle.gimli_line.specs.run.RunState.{RunState}
-use Rattle.gimli_line.specs.run.EventsWithFiles.{EventWithFiles, events_with_files_from}
 use Rattle.gimli_line.specs.run.Progress.{with_reset_row, files_from, Progress}
 
--- what is still to come where the registers were reset
-abbrev pub live_events : RunState → List EventWithFiles
-live_events a =
-    let c = decoded_at a.unread.notation a.fixed a.unread.bytes in
-    events_with_files_from a.appends a.fixed.parameters a.row a.files c.0 c.1
+-- ---- what is still to come
 
--- what is still to come: rows and faults, each with the files of the header at its point
+-- rows and faults that are still to be made where the registers were reset, each with the files of
+-- the header at its point
+abbrev pub live_made : RunState → List EventWithFiles
+live_made a =
+    let c = decoded_at a.unread.notation a.fixed a.unread.bytes in
+    made_from a.appends a.fixed.parameters a.row a.files c.0 c.1
+
+-- those of them that are given
+abbrev pub live_events : RunState → List EventWithFiles
+live_events a = given_of (live_made a)
+
+-- what is still to be made
+abbrev pub made_left : RunState → List EventWithFiles
+made_left a = live_made (with_reset_row a)
+
+-- what is still to be given
 abbrev pub events_left : RunState → List EventWithFiles
 events_left a = live_events (with_reset_row a)
 
@@ -82,17 +92,22 @@ pub record KeepsHeader (old new : RunState) : Type 0 where
   pub notation : new.notation ≡ old.notation
   pub offset : new.offset ≡ old.offset
 
+-- ---- an answer, where `live` says what is to come where the registers were reset: `live_events` or
+-- `live_made`
+
 -- a row was the next to come, and these are the files of its point; those at the end are still the
 -- same
-abbrev pub RowIs : RunState → RunState → LineRow → List File → Type 0
-RowIs old new r files =
-    (events_left old ≡ record { event = row r; files = files } ∷ events_left new)
+abbrev pub RowIs : (RunState → List EventWithFiles) → RunState → RunState → LineRow → List File
+    → Type 0
+RowIs live old new r files =
+    (live (with_reset_row old)
+    ≡ record { event = row r; files = files } ∷ live (with_reset_row new))
     × (new.files ≡ files) × (files_at_end new ≡ files_at_end old)
 
 -- nothing was to come; no bytes are left, and the files are those at the end
-abbrev pub EndIs : RunState → RunState → Type 0
-EndIs old new =
-    (events_left old ≡ []) × (events_left new ≡ []) × (new.unread.bytes ≡ [])
+abbrev pub EndIs : (RunState → List EventWithFiles) → RunState → RunState → Type 0
+EndIs live old new =
+    (live (with_reset_row old) ≡ []) × (live (with_reset_row new) ≡ []) × (new.unread.bytes ≡ [])
     × (new.files ≡ files_at_end old)
 
 -- memory was missing for a file, whose definition comes after instructions that give nothing; the
@@ -108,24 +123,25 @@ pub record WantsMemory (old new : RunState) : Type 0 where
   pub defines : defines_file definition ≡ true
   pub appends : new.appends ≡ true
   pub files : new.files ≡ point.files
-  pub none : events_left new ≡ []
+  pub none : made_left new ≡ []
   pub empty : new.unread.bytes ≡ []
 
 -- a fault was the next to come; the files at the end are still the same, and no bytes are left but
 -- where an address overflows
-abbrev pub FaultComes : RunState → RunState → Error → Type 0
-FaultComes old new e =
-    (live_events old ≡ event_of (fault e) new ∷ events_left new)
+abbrev pub FaultComes : (RunState → List EventWithFiles) → RunState → RunState → Error → Type 0
+FaultComes live old new e =
+    (live old ≡ event_of (fault e) new ∷ live (with_reset_row new))
     × (files_at_end new ≡ files_at_end old) × (e ≢ AddressOverflow → new.unread.bytes ≡ [])
 
 -- a refusal: `OutOfMemory` for a file, or a fault
-abbrev pub FaultIs : RunState → RunState → Error → Type 0
-FaultIs old new e = ((e ≡ OutOfMemory) × WantsMemory old new) ⊎ FaultComes old new e
+abbrev pub FaultIs : (RunState → List EventWithFiles) → RunState → RunState → Error → Type 0
+FaultIs live old new e = ((e ≡ OutOfMemory) × WantsMemory old new) ⊎ FaultComes live old new e
 
--- an answer of `next_row` is what was next to come: the end, a row with a header that has the files
--- of its point, or a refusal
-abbrev pub NextIs : {R Offset Endian : Type 0} → RunState → RunState
+-- an answer of `next_row` or `next_any_row` is what was next to come: the end, a row with a header
+-- that has the files of its point, or a refusal
+abbrev pub NextIs : {R Offset Endian : Type 0} → (RunState → List EventWithFiles) → RunState
+    → RunState
     → Result (Option (Bor (SeenHeader R Offset Endian) × Bor LineRow)) Error → Type 0
-NextIs old new (Ok None) = EndIs old new
-NextIs old new (Ok (Some found)) = RowIs old new found.1.now found.0.now.meaning.files
-NextIs old new (Err e) = FaultIs (with_reset_row old) new e
+NextIs live old new (Ok None) = EndIs live old new
+NextIs live old new (Ok (Some found)) = RowIs live old new found.1.now found.0.now.meaning.files
+NextIs live old new (Err e) = FaultIs live (with_reset_row old) new e

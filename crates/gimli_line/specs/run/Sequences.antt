@@ -10,7 +10,7 @@ use Rattle.gimli_line.specs.run.Instruction.{Ins}
 use Rattle.gimli_line.specs.run.InstructionGrammar.{Decodes}
 use Rattle.gimli_line.specs.run.Events.{Event, row, fault, Events, program_events, defined_files}
 use Rattle.gimli_line.specs.run.Events.{past_at_end, through_last_end}
-use Rattle.gimli_line.specs.run.EventsWithFiles.{EventWithFiles}
+pub use Rattle.gimli_line.specs.run.Events.{events_of}
 use Rattle.gimli_line.specs.run.Unread.{Unread}
 
 -- a sequence: the addresses that it names, and the instructions that give its rows
@@ -21,10 +21,6 @@ pub record Part : Type 0 where
 
 abbrev pub part_of : {A B C : Type 0} → LineSequence A B C → Part
 part_of s = record { start = s.start; end = s.end; unread = s.instructions }
-
--- the events among events with their files
-abbrev pub events_of : List EventWithFiles → List Event
-events_of events = map (λ t. t.event) events
 
 -- the address of the first row; 0 where there is none
 abbrev pub first_address : List LineRow → ℕ

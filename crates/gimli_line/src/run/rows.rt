@@ -76,9 +76,8 @@ impl<R: Reader, P: LineProgram<R>> LineRows<R, P> {
     ghost use Rattle.gimli_line.specs.run.Progress.{with_reset_row, Progress};
     ghost use Rattle.gimli_line.specs.run.Rows.{start_of_run, GivesRowsAlone, IsOfOneOrder};
     ghost use Rattle.gimli_line.specs.run.Rows.{KeepsHeader, NextIs, RowIs, EndIs, FaultIs};
-    ghost use Rattle.gimli_line.specs.run.Made.{given_of};
-    ghost use Rattle.gimli_line.specs.run.AnyRows.{AnyFaultIs, AnyRowIs, NextAnyIs, NoneIs};
-    ghost use Rattle.gimli_line.specs.inside.run.Rows.{KeepsRun, StepsTo};
+    ghost use Rattle.gimli_line.specs.run.Rows.{live_events, live_made};
+    ghost use Rattle.gimli_line.specs.inside.run.Rows.{given_row, KeepsRun, StepsTo};
 
     /// The rows of these instructions of a program, from the start of a sequence on.
     pub(crate) fn start(program: P, instructions: LineInstructions<R>) -> Self
@@ -114,7 +113,7 @@ impl<R: Reader, P: LineProgram<R>> LineRows<R, P> {
     #[inline(always)]
     pub fn next_row(&mut self) -> Result<Option<(&LineProgramHeader<R>, &LineRow)>>
         ensures* after { sem 𝓛 (Rests ⟦<LineRows<R, P> as Lent>⟧.lent self.entry
-            (λ new. KeepsHeader self.old new × NextIs self.old new result)) }
+            (λ new. KeepsHeader self.old new × NextIs live_events self.old new result)) }
         ensures ended { self.old.unread.bytes ≡ [] → result ≡ Ok None }
         ensures header { IfOk result (λ found. IfSome found
             (λ next. without_files next.0.now.meaning ≡ self.old.fixed)) }
@@ -141,7 +140,7 @@ impl<R: Reader, P: LineProgram<R>> LineRows<R, P> {
     /// dropped its code. Refused as `next_row` is.
     pub fn next_any_row(&mut self) -> Result<Option<(&LineProgramHeader<R>, &LineRow)>>
         ensures* after { sem 𝓛 (Rests ⟦<LineRows<R, P> as Lent>⟧.lent self.entry
-            (λ new. KeepsHeader self.old new × NextAnyIs self.old new result)) }
+            (λ new. KeepsHeader self.old new × NextIs live_made self.old new result)) }
         ensures header { IfOk result (λ found. IfSome found
             (λ next. without_files next.0.now.meaning ≡ self.old.fixed)) }
         ensures notation { IfOk result (λ found. IfSome found
@@ -190,9 +189,9 @@ impl<R: Reader, P: LineProgram<R>> LineRows<R, P> {
     #[inline(always)]
     pub(crate) fn advance(&mut self) -> Result<bool>
         ensures row { IfOk result (λ found. MatchBool found
-            (RowIs self.old self.new self.new.row self.new.files)
-            (EndIs self.old self.new)) }
-        ensures err { IfErr result (FaultIs (with_reset_row self.old) self.new) }
+            (RowIs live_events self.old self.new self.new.row self.new.files)
+            (EndIs live_events self.old self.new)) }
+        ensures err { IfErr result (FaultIs live_events (with_reset_row self.old) self.new) }
         ensures keeps { KeepsRun self.old self.new }
         ensures passes { IfOk result (λ found. MatchBool found
             (Progress (with_reset_row self.old) (with_reset_row self.new)
@@ -217,12 +216,12 @@ impl<R: Reader, P: LineProgram<R>> LineRows<R, P> {
     #[inline(always)]
     fn advance_any(&mut self) -> Result<bool>
         ensures row { IfOk result (λ found. MatchBool found
-            (AnyRowIs self.old self.new self.new.row self.new.files)
-            (NoneIs self.old self.new)) }
-        ensures err { IfErr result (AnyFaultIs (with_reset_row self.old) self.new) }
+            (RowIs live_made self.old self.new self.new.row self.new.files)
+            (EndIs live_made self.old self.new)) }
+        ensures err { IfErr result (FaultIs live_made (with_reset_row self.old) self.new) }
         ensures keeps { KeepsRun self.old self.new }
         ensures passes { IfOk result (λ found. MatchBool found
-            (Progress (with_reset_row self.old) (with_reset_row self.new) (given_of self.new.row))
+            (Progress (with_reset_row self.old) (with_reset_row self.new) (given_row self.new.row))
             ((self.new.unread.bytes ≡ []) × Progress (with_reset_row self.old) self.new [])) }
     {
         self.row.reset(self.program.header());
@@ -383,10 +382,9 @@ impl<R: Reader> IncompleteLineProgram<R> {
     ghost use Rattle.std.specs.Prelude.{◌≡◌, true};
     ghost use Rattle.gimli_line.specs.header.Header.{HasOneOrder};
     ghost use Rattle.gimli_line.specs.header.Orders.{header_orders};
-    ghost use Rattle.gimli_line.specs.run.Rows.{events_left, files_at_end, whole_run, IsOfOneOrder};
-    ghost use Rattle.gimli_line.specs.run.EventsWithFiles.{EventsWithFiles, FilesAtEnd};
-    ghost use Rattle.gimli_line.specs.run.Made.{Makes};
-    ghost use Rattle.gimli_line.specs.run.AnyRows.{made_left};
+    ghost use Rattle.gimli_line.specs.run.Rows.{events_left, made_left, files_at_end, whole_run};
+    ghost use Rattle.gimli_line.specs.run.Rows.{IsOfOneOrder};
+    ghost use Rattle.gimli_line.specs.run.EventsWithFiles.{Makes, EventsWithFiles, FilesAtEnd};
 
     /// The rows of the program, from its start to its end.
     pub fn rows(self) -> OneShotLineRows<R>

@@ -1,14 +1,14 @@
 -- What one step of a row iterator does.
-use Rattle.std.specs.Prelude.{◌≡◌, ◌<◌, [], ◌∷◌, length, IfErr, IfOk, Result}
+use Rattle.std.specs.Prelude.{◌≡◌, ◌<◌, List, [], ◌∷◌, length, IfErr, IfOk, Result}
 use Rattle.gimli_core.specs.declared.error.Error.{Error}
 use Rattle.gimli_line.specs.declared.run.rows.Step.{Step}
 use Rattle.gimli_line.specs.declared.run.rows.Step.TheVariants.{Done, Made, More}
-use Rattle.gimli_line.specs.run.Events.{row}
-use Rattle.gimli_line.specs.run.Made.{given_of}
+use Rattle.std.specs.List.{filter}
+use Rattle.gimli_line.specs.run.Events.{Event, row, is_given}
+use Rattle.gimli_line.specs.declared.run.row.LineRow.{LineRow}
 use Rattle.gimli_line.specs.run.RunState.{RunState}
 use Rattle.gimli_line.specs.run.Progress.{with_reset_row, Progress}
-use Rattle.gimli_line.specs.run.Rows.{event_of, IsOfOneOrder}
-use Rattle.gimli_line.specs.run.AnyRows.{live_made, made_left, AnyFaultIs}
+use Rattle.gimli_line.specs.run.Rows.{event_of, live_made, made_left, FaultIs, IsOfOneOrder}
 
 -- the header is the same but for its files, whose readers keep the order of its program; readers
 -- that were handed in keep theirs
@@ -26,12 +26,16 @@ pub record ReadsOn (old new : RunState) : Type 0 where
   pub passed : Progress old new []
   pub keeps : KeepsRun old new
 
+-- what a row that is made gives
+abbrev pub given_row : LineRow → List Event
+given_row r = filter is_given (row r ∷ [])
+
 -- what instructions did up to a row, which may be under a tombstone, or to the end
 abbrev pub StepIs : RunState → RunState → Step → Type 0
 StepIs old new Done = (live_made old ≡ []) × (new.unread.bytes ≡ []) × Progress old new []
 StepIs old new Made =
     (live_made old ≡ event_of (row new.row) new ∷ made_left new)
-    × Progress old (with_reset_row new) (given_of new.row)
+    × Progress old (with_reset_row new) (given_row new.row)
 StepIs old new More =
     (live_made old ≡ live_made new) × (length new.unread.bytes < length old.unread.bytes)
     × Progress old new []
@@ -39,5 +43,5 @@ StepIs old new More =
 -- an answer says what was done, or is a refusal; and the run is kept
 pub record StepsTo (old new : RunState) (answer : Result Step Error) : Type 0 where
   pub ok : IfOk answer (StepIs old new)
-  pub err : IfErr answer (AnyFaultIs old new)
+  pub err : IfErr answer (FaultIs live_made old new)
   pub keeps : KeepsRun old new

@@ -1,5 +1,5 @@
 use Rattle.std.proofs.Common.{length}
-use Rattle.gimli_line.specs.run.AnyRows.{made_left}
+use Rattle.gimli_line.specs.run.Rows.{made_left}
 use Rattle.gimli_lookup.proofs.RowsTaken.{TakesIn}
 use Rattle.gimli_lookup.proofs.unit_run.take_rows.Given as goal
 

@@ -1,5 +1,5 @@
 use Rattle.std.proofs.Common.{ℕ, length}
-use Rattle.gimli_line.specs.run.AnyRows.{made_left}
+use Rattle.gimli_line.specs.run.Rows.{made_left}
 use Rattle.gimli_lookup.specs.inside.SequenceCut.{SequenceCut}
 use Rattle.gimli_lookup.specs.inside.UnitSearch.{Sees}
 use Rattle.gimli_lookup.proofs.RowsTaken.{TakesIn}

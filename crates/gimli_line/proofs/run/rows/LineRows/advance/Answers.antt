@@ -1,8 +1,9 @@
 use Rattle.std.proofs.Common.{List, [], ◌∷◌, ◌≡◌, refl, sym, ap, subst, ◌∙◌}
 use Rattle.gimli_line.specs.declared.run.row.LineRow.{LineRow}
 use Rattle.gimli_line.specs.run.Events.{Event, row}
-use Rattle.gimli_line.specs.run.Made.{given_of}
+use Rattle.gimli_line.specs.inside.run.Rows.{given_row}
 use Rattle.gimli_line.specs.run.Progress.{with_reset_row, Progress}
+use Rattle.gimli_line.specs.run.Rows.{live_events}
 use Rattle.gimli_line.proofs.GivenRows.{fault_given, fewer_made, hidden, none_given, seen}
 use Rattle.gimli_line.proofs.Runs.{passes_none, passes_both, refused_after, same_end}
 use Rattle.gimli_line.proofs.Steps.{keeps_both, keeps_same}
@@ -21,7 +22,7 @@ returns-in-Err g c =
     record {
       row = tt;
       err =
-          refused_after (with_reset_row c.args.self.now) (with_reset_row c.rows.self) c.advance_any.new.self c.in-Err.e i.events i.passes
+          refused_after live_events (with_reset_row c.args.self.now) (with_reset_row c.rows.self) c.advance_any.new.self c.in-Err.e i.events i.passes
           (fault_given (with_reset_row c.rows.self) c.advance_any.new.self c.in-Err.e c.in-Err.ensures.err);
       keeps = keeps_both _ c.rows.self _ i.keeps c.in-Err.ensures.keeps;
       passes = tt;
@@ -34,14 +35,14 @@ returns-then-not-is_under_tombstone g c =
     let passes = rw c.in-Ok-true.field-0-test at c.in-Ok-true.ensures.passes in
     let shown = ap (λ (r : LineRow). r.tombstone) (sym c.row.ensures) ∙ sym c.is_under_tombstone.ensures ∙ c.if-not-is_under_tombstone.true in
     let s = seen c.rows.self c.advance_any.new.self _ _ next shown in
-    let given : given_of c.advance_any.new.self.row ≡ row c.advance_any.new.self.row ∷ [] = rw shown refl in
+    let given : given_row c.advance_any.new.self.row ≡ row c.advance_any.new.self.row ∷ [] = rw shown refl in
     record {
       row = (i.events ∙ s.0, s.1, s.2 ∙ same_end (with_reset_row c.args.self.now) (with_reset_row c.rows.self) [] i.passes);
       err = tt;
       keeps = keeps_both _ c.rows.self _ i.keeps c.in-Ok-true.ensures.keeps;
       passes = subst (λ (es : List Event). Progress (with_reset_row c.args.self.now) (with_reset_row c.advance_any.new.self) es) given
           (passes_both (with_reset_row c.args.self.now) (with_reset_row c.rows.self) (with_reset_row c.advance_any.new.self) []
-          (given_of c.advance_any.new.self.row) i.passes passes);
+          (given_row c.advance_any.new.self.row) i.passes passes);
     }
 
 pub rows-smaller : goal.rows-smaller
@@ -55,12 +56,12 @@ rows-preserved g c =
     let next = rw c.in-Ok-true.field-0-test at c.in-Ok-true.ensures.row in
     let passes = rw c.in-Ok-true.field-0-test at c.in-Ok-true.ensures.passes in
     let under = ap (λ (r : LineRow). r.tombstone) (sym c.row.ensures) ∙ sym c.is_under_tombstone.ensures ∙ c.if-not-is_under_tombstone.false in
-    let given : given_of c.advance_any.new.self.row ≡ [] = rw under refl in
+    let given : given_row c.advance_any.new.self.row ≡ [] = rw under refl in
     record {
       events = i.events ∙ hidden c.rows.self c.advance_any.new.self _ _ next under;
       passes = subst (λ (es : List Event). Progress (with_reset_row c.args.self.now) (with_reset_row c.advance_any.new.self) es) given
           (passes_both (with_reset_row c.args.self.now) (with_reset_row c.rows.self) (with_reset_row c.advance_any.new.self) []
-          (given_of c.advance_any.new.self.row) i.passes passes);
+          (given_row c.advance_any.new.self.row) i.passes passes);
       keeps = keeps_both _ c.rows.self _ i.keeps c.in-Ok-true.ensures.keeps;
     }
 

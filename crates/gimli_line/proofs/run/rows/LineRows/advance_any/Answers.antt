@@ -1,11 +1,11 @@
 use Rattle.std.proofs.Common.{◌≡◌, rules, [], refl, sym, ap, ◌∙◌}
 use Rattle.gimli_line.specs.declared.run.row.LineRow.{LineRow}
 use Rattle.gimli_line.specs.header.Header.{Header}
-use Rattle.gimli_line.specs.run.AnyRows.{live_made}
+use Rattle.gimli_line.specs.run.Rows.{live_made}
 use Rattle.gimli_line.specs.run.Machine.{reset_row}
-use Rattle.gimli_line.specs.run.Made.{given_of}
+use Rattle.gimli_line.specs.inside.run.Rows.{given_row}
 use Rattle.gimli_line.specs.run.Progress.{with_reset_row}
-use Rattle.gimli_line.proofs.Runs.{none_to_make, end_here, same_end, passes_none, passes_both, any_refused_after}
+use Rattle.gimli_line.proofs.Runs.{none_to_make, end_here, same_end, passes_none, passes_both, refused_after}
 use Rattle.gimli_line.proofs.Steps.{keeps_both, keeps_rest, with_rest}
 use Rattle.gimli_line.proofs.run.rows.LineRows.advance_any.Goals as goal
 
@@ -26,7 +26,7 @@ returns-in-Err g c =
     let i = c.instructions.invariant in
     record {
       row = tt;
-      err = any_refused_after _ c.instructions.self _ c.in-Err.e i.made i.passes c.in-Err.ensures.err;
+      err = refused_after live_made _ c.instructions.self _ c.in-Err.e i.made i.passes c.in-Err.ensures.err;
       keeps = keeps_both _ c.instructions.self _ i.keeps c.in-Err.ensures.keeps;
       passes = tt;
     }
@@ -52,7 +52,7 @@ pub returns-in-Ok-Made : goal.returns-in-Ok-Made
 returns-in-Ok-Made g c =
     let i = c.instructions.invariant in
     let m = rw c.in-Ok-Made.field-0-is at c.in-Ok-Made.ensures.ok in
-    let events = given_of c.execute_some.new.self.row in
+    let events = given_row c.execute_some.new.self.row in
     let passed = passes_both (with_reset_row c.args.self.now) c.instructions.self (with_reset_row c.execute_some.new.self) [] events i.passes m.1 in
     record {
       row = (i.made ∙ m.0, refl, same_end (with_reset_row c.args.self.now) (with_reset_row c.execute_some.new.self) events passed);
