@@ -34,7 +34,10 @@ pub enum Wanted {
 /// ```rust
 /// let kind = match &found {
 ///     Found::Whole(_) => request.kind,
-///     Found::Sections(source) => Kind::Raw(notation_of(source)),
+///     Found::Sections(of) => {
+///         let notation = Notation::new(of.is_big_endian, of.address_size, of.lowest, of.code_end);
+///         Kind::Raw(notation)
+///     }
 /// };
 /// ```
 #[derive(Drop)]
@@ -49,10 +52,7 @@ pub enum Found {
 ///
 /// <!-- part of crates/lines/src/inputs.rt -->
 /// ```rust
-/// fn notation_of(source: &Source) -> Notation {
-///     let (lowest, code_end) = (source.lowest, source.code_end);
-///     Notation::new(source.is_big_endian, source.address_size, lowest, code_end)
-/// }
+/// let notation = Notation::new(of.is_big_endian, of.address_size, of.lowest, of.code_end);
 /// ```
 #[derive(Drop)]
 pub struct Source {
@@ -84,11 +84,11 @@ pub struct Source {
 ///
 /// <!-- part of crates/lines/src/inputs.rt -->
 /// ```rust
-/// UnitFiles {
-///     info: &paths.info,
-///     abbreviations: &paths.abbreviations,
-///     string_offsets: &paths.string_offsets,
-/// }
+/// units: UnitFiles {
+///     info: &source.paths.info,
+///     abbreviations: &source.paths.abbreviations,
+///     string_offsets: &source.paths.string_offsets,
+/// },
 /// ```
 #[derive(Drop)]
 pub struct PathSections {
