@@ -140,9 +140,8 @@ impl<R: Reader> Search<'_, R> {
         let Some(found) = self.lookup.find(address) else {
             return Ok(false);
         };
-        let path = self
-            .sources
-            .of_found(self.alloc, self.lookup.units(), &found);
+        let units = self.lookup.units();
+        let path = self.sources.of_found(self.alloc, units, &found);
         let (path, _) = path_or_fault(self.sources, path)?;
         let path = path.as_deref().unwrap_or(b"??");
         let (line, column) = (line_of(&found.row), Some(column_of(&found.row)));

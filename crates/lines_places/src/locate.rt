@@ -114,9 +114,8 @@ impl<'r, 'n, R: Reader> Places<'r, 'n, R> {
             self.printer.print(Some(address), function, None, output);
             return Ok(Answered::Whole);
         };
-        let path = self
-            .sources
-            .of_found(self.alloc, self.lookup.units(), &found);
+        let units = self.lookup.units();
+        let path = self.sources.of_found(self.alloc, units, &found);
         let (path, fault) = path_or_fault(&self.sources, path)?;
         let (line, column) = (line_of(&found.row), column_of(&found.row));
         let start = found.row.address().saturating_add(request.bias);

@@ -87,7 +87,10 @@ impl<'r> PlacePrinter<'r> {
         let (line, column) = place.map_or((0, 0), |place| (place.line, place.column));
         if !output.is_json() {
             if self.request.has_address {
-                let address = address.map_or(Piece::Word("??"), Piece::Address);
+                let address = match address {
+                    Some(address) => Piece::Address(address),
+                    None => Piece::Word("??"),
+                };
                 add("%  ", &[address], output);
             }
             if self.request.has_function {
