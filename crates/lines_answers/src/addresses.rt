@@ -124,10 +124,10 @@ impl<R: Reader> Search<'_, R> {
             return address;
         }
         let mut next = address;
-        while next < end {
+        for _ in 0..u64::MAX {
             match self.lookup.find(next) {
-                Some(found) if found.row.prologue_end() => return found.row.address(),
-                Some(found) if found.next.address() > next => next = found.next.address(),
+                Some(found) if next < end && found.row.prologue_end() => return next,
+                Some(found) if next < end => next = found.next.address(),
                 _ => break,
             }
         }
