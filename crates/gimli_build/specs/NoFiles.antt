@@ -1,12 +1,12 @@
 -- A run that defines no file.
-use Rattle.std.specs.Prelude.{◌≡◌, ℕ, Bool, false, List, None, All}
-use Rattle.gimli_core.specs.Notation.{Notation}
+use Rattle.std.specs.Prelude.{◌≡◌, Bool, false, List, None, All}
 use Rattle.gimli_line.specs.header.Header.{Header}
-use Rattle.gimli_line.specs.header.Orders.{HeaderOrders}
+use Rattle.gimli_line.specs.header.Orders.{Source}
 use Rattle.gimli_line.specs.run.Instruction.{Ins, defines_file}
 use Rattle.gimli_line.specs.run.InstructionGrammar.{Decodes}
 use Rattle.gimli_line.specs.run.RunState.{RunState}
 use Rattle.gimli_line.specs.run.Rows.{start_of_run}
+use Rattle.gimli_line.specs.run.Unread.{whole_program}
 
 -- what is left of the program is whole instructions, and none of them defines a file
 pub record DefinesNoFile (a : RunState) : Type 0 where
@@ -15,7 +15,6 @@ pub record DefinesNoFile (a : RunState) : Type 0 where
   pub none : All (λ i. defines_file i ≡ false) list
 
 -- rows at the start of the program of a header
-abbrev pub program_started : Bool → Header → Notation → ℕ → HeaderOrders → RunState
-program_started appends h notation offset orders =
-    start_of_run appends h notation offset orders
-    (record { bytes = h.program; notation = notation })
+abbrev pub program_started : Bool → Header → Source → RunState
+program_started appends h source =
+    start_of_run appends h source (whole_program h source.notation)

@@ -16,7 +16,7 @@ ghost use Rattle.gimli_bytes.specs.declared.error.Error.TheVariants.{OutOfMemory
 ghost use Rattle.gimli_core.specs.declared.common.Encoding.{Encoding};
 ghost use Rattle.gimli_core.specs.declared.common.LineEncoding.{LineEncoding};
 ghost use Rattle.gimli_line.specs.header.Header.{Header};
-ghost use Rattle.gimli_line.specs.header.Orders.{HeaderOrders};
+ghost use Rattle.gimli_line.specs.header.Orders.{Source};
 ghost use Rattle.gimli_line.specs.run.Instruction.{Ins, defines_file};
 ghost use Rattle.gimli_line.specs.run.Events.{Event, row};
 ghost use Rattle.gimli_line.specs.run.RunState.{RunState};
@@ -168,9 +168,8 @@ pub fn items_define_no_file()
 /// is left once the run has gone on; and `next_row` is refused by `AddressOverflow` alone then,
 /// never by `OutOfMemory`.
 pub fn written_rows_take_no_memory()
-    ensures start { (notation : Notation) (h : Header) (p : Built) → DecodesAs notation h p →
-        (appends : Bool) (offset : ℕ) (orders : HeaderOrders)
-        → DefinesNoFile (program_started appends h notation offset orders) }
+    ensures start { (source : Source) (h : Header) (p : Built) → DecodesAs source.notation h p →
+        (appends : Bool) → DefinesNoFile (program_started appends h source) }
     ensures goes { (old new : RunState) (events : List Event) → DefinesNoFile old →
         Progress old new events → DefinesNoFile new }
     ensures refused { (old new : RunState) (e : Error) → DefinesNoFile old →

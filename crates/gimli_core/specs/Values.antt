@@ -1,5 +1,5 @@
 -- The values of forms, with lists of bytes in place of readers and numbers in place of offsets.
-use Rattle.std.specs.Prelude.{◌≡◌, ℕ, Bool, List, Option, Some, None, pos, negsuc}
+use Rattle.std.specs.Prelude.{◌≡◌, ℕ, Bool, List, Option, Some, None, IfSome, pos, negsuc}
 use Rattle.gimli_core.specs.declared.attribute_value.AttributeValue.{AttributeValue}
 use Rattle.gimli_core.specs.declared.attribute_value.AttributeValue.TheVariants.{
   Block,
@@ -39,19 +39,21 @@ module _ {R Offset Endian : Type 0} (bytes : R → List ℕ) (number : Offset �
   value_seen (DebugLineStrRef o) = DebugLineStrRef (record { 0 = number o.0 })
   value_seen (DebugStrOffsetsIndex i) = DebugStrOffsetsIndex (record { 0 = number i.0 })
 
--- the reader of a value, where it is a text or a block, has this order of bytes
-module _ {R Offset Endian : Type 0} (big : R → Bool) (order : Bool) where
-  abbrev pub ValueHasOrder : AttributeValue R Offset Endian → Type 0
-  ValueHasOrder (Block r) = big r ≡ order
-  ValueHasOrder (String r) = big r ≡ order
-  ValueHasOrder v = Unit {0}
-
 -- the order of bytes of the reader of a value, where it is a text or a block
 module _ {R Offset Endian : Type 0} (big : R → Bool) where
   abbrev pub value_order : AttributeValue R Offset Endian → Option Bool
   value_order (Block r) = Some (big r)
   value_order (String r) = Some (big r)
   value_order v = None
+
+-- a reader, where there is one, has this order
+abbrev pub IsOrder : Bool → Option Bool → Type 0
+IsOrder order o = IfSome o (λ big. big ≡ order)
+
+-- so has that of a value
+module _ {R Offset Endian : Type 0} (big : R → Bool) (order : Bool) where
+  abbrev pub ValueHasOrder : AttributeValue R Offset Endian → Type 0
+  ValueHasOrder v = IsOrder order (value_order big v)
 
 -- a value, its readers seen by bytes and order, and its offsets by number
 module _ {R Offset Endian : Type 0} (bytes : R → List ℕ) (big : R → Bool)

@@ -1,8 +1,9 @@
 -- Worked headers: from the bytes of a unit to the parts of its header, or to its refusal, computed from the definitions.
-use Rattle.std.proofs.Common.{◌≡◌, ℕ, zero, suc, drop, true, false, List, [], ◌∷◌, None, Some, Ok, Err, refl}
+use Rattle.std.proofs.Common.{◌≡◌, ℕ, zero, suc, drop, true, false, List, [], ◌∷◌, map, None, Some, Result, Ok, Err, refl}
+use Rattle.std.specs.List.{AllByRecursion}
 use Rattle.std.specs.Prelude.{pos, negsuc, ℤ, codes, replicate}
 use Rattle.gimli_core.specs.Notation.{Notation}
-use Rattle.gimli_core.specs.Reading.{uleb_at, sleb_at, word_at, initial_length_at, address_size_at}
+use Rattle.gimli_core.specs.Reading.{Read, uleb_at, sleb_at, word_at, initial_length_at, address_size_at}
 use Rattle.gimli_core.specs.declared.common.Format.{Format}
 use Rattle.gimli_core.specs.declared.common.Format.TheVariants.{Dwarf32, Dwarf64}
 use Rattle.gimli_core.specs.declared.attribute_value.AttributeValue.TheVariants.{String}
@@ -126,258 +127,212 @@ with_byte (suc i) byte (b ∷ bytes) = b ∷ with_byte i byte bytes
 -- a unit of version 4 with one file and a program
 abbrev bytes_4 : List ℕ
 bytes_4 =
-    0x2f ∷ 0x00 ∷ 0x00 ∷ 0x00 ∷ 0x04 ∷ 0x00 ∷ 0x1b ∷ 0x00 ∷ 0x00 ∷ 0x00 ∷ 0x01 ∷ 0x01 ∷ 0x01 ∷ 0xfb ∷ 0x0e ∷ 0x0d
-    ∷ 0x00 ∷ 0x01 ∷ 0x01 ∷ 0x01 ∷ 0x01 ∷ 0x00 ∷ 0x00 ∷ 0x00 ∷ 0x01 ∷ 0x00 ∷ 0x00 ∷ 0x01 ∷ 0x00 ∷ 0x61 ∷ 0x2e ∷ 0x63
-    ∷ 0x00 ∷ 0x00 ∷ 0x00 ∷ 0x00 ∷ 0x00 ∷ 0x00 ∷ 0x05 ∷ 0x02 ∷ 0x00 ∷ 0x10 ∷ 0x00 ∷ 0x00 ∷ 0x01 ∷ 0x4c ∷ 0x02 ∷ 0x04
-    ∷ 0x00 ∷ 0x01 ∷ 0x01 ∷ []
+    0x2f ∷ 0 ∷ 0 ∷ 0 ∷ 4 ∷ 0 ∷ 0x1b ∷ 0 ∷ 0 ∷ 0 ∷ 1 ∷ 1 ∷ 1 ∷ 0xfb ∷ 0x0e ∷ 0x0d ∷ 0 ∷ 1 ∷ 1 ∷ 1 ∷ 1 ∷ 0 ∷ 0 ∷ 0 ∷ 1
+    ∷ 0 ∷ 0 ∷ 1 ∷ 0 ∷ 0x61 ∷ 0x2e ∷ 0x63 ∷ 0 ∷ 0 ∷ 0 ∷ 0 ∷ 0 ∷ 0 ∷ 5 ∷ 2 ∷ 0 ∷ 0x10 ∷ 0 ∷ 0 ∷ 1 ∷ 0x4c ∷ 2 ∷ 4 ∷ 0 ∷ 1
+    ∷ 1 ∷ []
 
 -- one of version 5 with one directory and one file
 abbrev bytes_5 : List ℕ
 bytes_5 =
-    0x2c ∷ 0x00 ∷ 0x00 ∷ 0x00 ∷ 0x05 ∷ 0x00 ∷ 0x08 ∷ 0x00 ∷ 0x24 ∷ 0x00 ∷ 0x00 ∷ 0x00 ∷ 0x01 ∷ 0x01 ∷ 0x01 ∷ 0xfb
-    ∷ 0x0e ∷ 0x0d ∷ 0x00 ∷ 0x01 ∷ 0x01 ∷ 0x01 ∷ 0x01 ∷ 0x00 ∷ 0x00 ∷ 0x00 ∷ 0x01 ∷ 0x00 ∷ 0x00 ∷ 0x01 ∷ 0x01 ∷ 0x01
-    ∷ 0x08 ∷ 0x01 ∷ 0x2f ∷ 0x77 ∷ 0x00 ∷ 0x02 ∷ 0x01 ∷ 0x08 ∷ 0x02 ∷ 0x0f ∷ 0x01 ∷ 0x61 ∷ 0x2e ∷ 0x63 ∷ 0x00 ∷ 0x00 ∷ []
+    0x2c ∷ 0 ∷ 0 ∷ 0 ∷ 5 ∷ 0 ∷ 8 ∷ 0 ∷ 0x24 ∷ 0 ∷ 0 ∷ 0 ∷ 1 ∷ 1 ∷ 1 ∷ 0xfb ∷ 0x0e ∷ 0x0d ∷ 0 ∷ 1 ∷ 1 ∷ 1 ∷ 1 ∷ 0 ∷ 0
+    ∷ 0 ∷ 1 ∷ 0 ∷ 0 ∷ 1 ∷ 1 ∷ 1 ∷ 8 ∷ 1 ∷ 0x2f ∷ 0x77 ∷ 0 ∷ 2 ∷ 1 ∷ 8 ∷ 2 ∷ 0x0f ∷ 1 ∷ 0x61 ∷ 0x2e ∷ 0x63 ∷ 0 ∷ 0 ∷ []
 
 -- one of version 4 with two directories and two files
 abbrev tables_4 : List ℕ
 tables_4 =
-    0x3e ∷ 0x00 ∷ 0x00 ∷ 0x00 ∷ 0x04 ∷ 0x00 ∷ 0x28 ∷ 0x00 ∷ 0x00 ∷ 0x00 ∷ 0x01 ∷ 0x01 ∷ 0x01 ∷ 0x00 ∷ 0x01 ∷ 0x03
-    ∷ 0x01 ∷ 0x02 ∷ 0x2f ∷ 0x69 ∷ 0x6e ∷ 0x63 ∷ 0x00 ∷ 0x2f ∷ 0x69 ∷ 0x6e ∷ 0x63 ∷ 0x32 ∷ 0x00 ∷ 0x00 ∷ 0x66 ∷ 0x6f
-    ∷ 0x6f ∷ 0x2e ∷ 0x72 ∷ 0x73 ∷ 0x00 ∷ 0x00 ∷ 0x00 ∷ 0x00 ∷ 0x62 ∷ 0x61 ∷ 0x72 ∷ 0x2e ∷ 0x68 ∷ 0x00 ∷ 0x01 ∷ 0x00
-    ∷ 0x00 ∷ 0x00 ∷ 0x00 ∷ 0x00 ∷ 0x00 ∷ 0x00 ∷ 0x00 ∷ 0x00 ∷ 0x00 ∷ 0x00 ∷ 0x00 ∷ 0x00 ∷ 0x00 ∷ 0x00 ∷ 0x00 ∷ 0x00
-    ∷ 0x00 ∷ 0x00 ∷ 0x00 ∷ 0x00 ∷ 0x00 ∷ 0x00 ∷ 0x00 ∷ 0x00 ∷ 0x00 ∷ 0x00 ∷ 0x00 ∷ 0x00 ∷ 0x00 ∷ 0x00 ∷ 0x00 ∷ 0x00
-    ∷ 0x00 ∷ 0x00 ∷ []
+    0x3e ∷ 0 ∷ 0 ∷ 0 ∷ 4 ∷ 0 ∷ 0x28 ∷ 0 ∷ 0 ∷ 0 ∷ 1 ∷ 1 ∷ 1 ∷ 0 ∷ 1 ∷ 3 ∷ 1 ∷ 2 ∷ 0x2f ∷ 0x69 ∷ 0x6e ∷ 0x63 ∷ 0 ∷ 0x2f
+    ∷ 0x69 ∷ 0x6e ∷ 0x63 ∷ 0x32 ∷ 0 ∷ 0 ∷ 0x66 ∷ 0x6f ∷ 0x6f ∷ 0x2e ∷ 0x72 ∷ 0x73 ∷ 0 ∷ 0 ∷ 0 ∷ 0 ∷ 0x62 ∷ 0x61 ∷ 0x72
+    ∷ 0x2e ∷ 0x68 ∷ 0 ∷ 1 ∷ 0 ∷ 0 ∷ 0 ∷ 0 ∷ 0 ∷ 0 ∷ 0 ∷ 0 ∷ 0 ∷ 0 ∷ 0 ∷ 0 ∷ 0 ∷ 0 ∷ 0 ∷ 0 ∷ 0 ∷ 0 ∷ 0 ∷ 0 ∷ 0 ∷ 0 ∷ 0
+    ∷ 0 ∷ 0 ∷ 0 ∷ 0 ∷ 0 ∷ 0 ∷ 0 ∷ 0 ∷ 0 ∷ 0 ∷ 0 ∷ 0 ∷ []
 
 -- one of version 5 that says the greatest count of files
 abbrev greatest_count : List ℕ
 greatest_count =
-    0x35 ∷ 0x00 ∷ 0x00 ∷ 0x00 ∷ 0x05 ∷ 0x00 ∷ 0x08 ∷ 0x00 ∷ 0x2d ∷ 0x00 ∷ 0x00 ∷ 0x00 ∷ 0x01 ∷ 0x01 ∷ 0x01 ∷ 0xfb
-    ∷ 0x0e ∷ 0x0d ∷ 0x00 ∷ 0x01 ∷ 0x01 ∷ 0x01 ∷ 0x01 ∷ 0x00 ∷ 0x00 ∷ 0x00 ∷ 0x01 ∷ 0x00 ∷ 0x00 ∷ 0x01 ∷ 0x01 ∷ 0x01
-    ∷ 0x08 ∷ 0x01 ∷ 0x2f ∷ 0x77 ∷ 0x00 ∷ 0x02 ∷ 0x01 ∷ 0x08 ∷ 0x02 ∷ 0x0f ∷ 0xff ∷ 0xff ∷ 0xff ∷ 0xff ∷ 0xff ∷ 0xff
-    ∷ 0xff ∷ 0xff ∷ 0xff ∷ 0x01 ∷ 0x61 ∷ 0x2e ∷ 0x63 ∷ 0x00 ∷ 0x00 ∷ []
+    0x35 ∷ 0 ∷ 0 ∷ 0 ∷ 5 ∷ 0 ∷ 8 ∷ 0 ∷ 0x2d ∷ 0 ∷ 0 ∷ 0 ∷ 1 ∷ 1 ∷ 1 ∷ 0xfb ∷ 0x0e ∷ 0x0d ∷ 0 ∷ 1 ∷ 1 ∷ 1 ∷ 1 ∷ 0 ∷ 0
+    ∷ 0 ∷ 1 ∷ 0 ∷ 0 ∷ 1 ∷ 1 ∷ 1 ∷ 8 ∷ 1 ∷ 0x2f ∷ 0x77 ∷ 0 ∷ 2 ∷ 1 ∷ 8 ∷ 2 ∷ 0x0f ∷ 0xff ∷ 0xff ∷ 0xff ∷ 0xff ∷ 0xff
+    ∷ 0xff ∷ 0xff ∷ 0xff ∷ 0xff ∷ 1 ∷ 0x61 ∷ 0x2e ∷ 0x63 ∷ 0 ∷ 0 ∷ []
 
 -- ---- units
 
+-- a unit, and the bytes after it
 record WholeUnit : Type 0 where
   notation : Notation
   given : UnitEntry
   bytes : List ℕ
   header : Header
-  -- the bytes after the unit
   rest : List ℕ
 
 abbrev IsUnit : WholeUnit → Type 0
 IsUnit u = SpellsUnit u.notation u.given u.bytes u.header
 
-is_unit : (u : WholeUnit) → header_at u.notation u.given u.bytes ≡ (Ok u.header, u.rest) → IsUnit u
-is_unit u read = unit_found u.notation u.given u.bytes u.header u.rest read
+abbrev read : WholeUnit → Read Header
+read u = header_at u.notation u.given u.bytes
 
--- tables up to version 4, and what was handed in
-abbrev version_4_tables : WholeUnit
-version_4_tables = record {
-  notation = little;
-  given = handed_names;
-  bytes = tables_4;
-  header = record {
-    parameters = parameters 4 4 Dwarf32 (pos 0) 1 3;
-    unit_length = 62;
-    header_length = 40;
-    operand_counts = 1 ∷ 2 ∷ [];
-    directory_formats = [];
-    directories = String (codes "/inc") ∷ String (codes "/inc2") ∷ [];
-    file_formats = [];
-    files = plain_file (codes "foo.rs") 0 0 0 ∷ plain_file (codes "bar.h") 1 0 0 ∷ [];
-    program = replicate 16 0;
-    comp_dir = Some (codes "/comp_dir");
-    comp_file = Some (plain_file (codes "/comp_name") 0 0 0);
-  };
-  rest = replicate 16 0;
-}
+abbrev expected : WholeUnit → Read Header
+expected u = (Ok u.header, u.rest)
 
--- bytes after the tables that the header length counts
-abbrev slack : WholeUnit
-slack = record {
-  notation = little;
-  given = handed 4;
-  bytes = with_byte 6 0x29 bytes_4;
-  header = record header_13 { header_length = 41 };
-  rest = [];
-}
+are_units : (us : List WholeUnit) → map read us ≡ map expected us → AllByRecursion IsUnit us
+are_units [] same = tt
+are_units (u ∷ us) same =
+    let first : read u ≡ expected u = cc in
+    let later : map read us ≡ map expected us = cc in
+    (unit_found u.notation u.given u.bytes u.header u.rest first, are_units us later)
 
--- what was handed in is ignored
-abbrev version_5_unit : WholeUnit
-version_5_unit = record {
-  notation = little;
-  given = handed_names;
-  bytes = bytes_5;
-  header = header_5 44 36 (a_c 0) [];
-  rest = [];
-}
+abbrev whole_units : List WholeUnit
+whole_units =
+    -- tables up to version 4, and what was handed in
+    record {
+      notation = little;
+      given = handed_names;
+      bytes = tables_4;
+      header = record {
+        parameters = parameters 4 4 Dwarf32 (pos 0) 1 3;
+        unit_length = 62;
+        header_length = 40;
+        operand_counts = 1 ∷ 2 ∷ [];
+        directory_formats = [];
+        directories = String (codes "/inc") ∷ String (codes "/inc2") ∷ [];
+        file_formats = [];
+        files = plain_file (codes "foo.rs") 0 0 0 ∷ plain_file (codes "bar.h") 1 0 0 ∷ [];
+        program = replicate 16 0;
+        comp_dir = Some (codes "/comp_dir");
+        comp_file = Some (plain_file (codes "/comp_name") 0 0 0);
+      };
+      rest = replicate 16 0;
+    }
+    ∷  -- bytes after the tables that the header length counts
+    record {
+      notation = little;
+      given = handed 4;
+      bytes = with_byte 6 0x29 bytes_4;
+      header = record header_13 { header_length = 41 };
+      rest = [];
+    }
+    ∷  -- what was handed in is ignored
+    record {
+      notation = little;
+      given = handed_names;
+      bytes = bytes_5;
+      header = header_5 44 36 (a_c 0) [];
+      rest = [];
+    }
+    ∷  -- a source that is empty
+    record {
+      notation = little;
+      given = handed 8;
+      bytes = 0x30 ∷ 0 ∷ 0 ∷ 0 ∷ 5 ∷ 0 ∷ 8 ∷ 0 ∷ 0x28 ∷ 0 ∷ 0 ∷ 0 ∷ 1 ∷ 1 ∷ 1 ∷ 0xfb ∷ 0x0e ∷ 0x0d ∷ 0 ∷ 1 ∷ 1 ∷ 1
+          ∷ 1 ∷ 0 ∷ 0 ∷ 0 ∷ 1 ∷ 0 ∷ 0 ∷ 1 ∷ 1 ∷ 1 ∷ 8 ∷ 1 ∷ 0x2f ∷ 0x77 ∷ 0 ∷ 3 ∷ 1 ∷ 8 ∷ 2 ∷ 0x0f ∷ 0x81 ∷ 0x40 ∷ 8
+          ∷ 1 ∷ 0x61 ∷ 0x2e ∷ 0x63 ∷ 0 ∷ 0 ∷ 0 ∷ [];
+      header = record (header_5 48 40 (a_c_with_source) []) {
+        file_formats = format 0x0001 0x08 ∷ format 0x0002 0x0f ∷ format 0x2001 0x08 ∷ [];
+      };
+      rest = [];
+    }
+    ∷  -- a table without an entry
+    record {
+      notation = little;
+      given = handed 8;
+      bytes = with_byte 42 0 bytes_5;
+      header = record (header_5 44 36 (a_c 0) []) { files = [] };
+      rest = [];
+    }
+    ∷  -- an index needs no entry
+    record {
+      notation = little;
+      given = handed 8;
+      bytes = with_byte 47 0x7f bytes_5;
+      header = header_5 44 36 (a_c 127) [];
+      rest = [];
+    }
+    ∷  -- a negative number is no index
+    record {
+      notation = little;
+      given = handed 8;
+      bytes = with_byte 47 0x7f (with_byte 41 0x0d bytes_5);
+      header = record (header_5 44 36 (a_c 0) []) {
+        file_formats = format 0x0001 0x08 ∷ format 0x0002 0x0d ∷ [];
+      };
+      rest = [];
+    }
+    ∷  -- all parts of a file, and bytes after the unit
+    record {
+      notation = little;
+      given = handed 8;
+      bytes = 0x68 ∷ 0 ∷ 0 ∷ 0 ∷ 5 ∷ 0 ∷ 4 ∷ 0 ∷ 0x5b ∷ 0 ∷ 0 ∷ 0 ∷ 1 ∷ 1 ∷ 1 ∷ 0 ∷ 1 ∷ 3 ∷ 1 ∷ 2 ∷ 1 ∷ 1 ∷ 8 ∷ 2
+          ∷ 0x64 ∷ 0x69 ∷ 0x72 ∷ 0x31 ∷ 0 ∷ 0x64 ∷ 0x69 ∷ 0x72 ∷ 0x32 ∷ 0 ∷ 4 ∷ 1 ∷ 8 ∷ 2 ∷ 0x0b ∷ 5 ∷ 0x1e ∷ 0x81
+          ∷ 0x40 ∷ 8 ∷ 2 ∷ 0x66 ∷ 0x69 ∷ 0x6c ∷ 0x65 ∷ 0x31 ∷ 0 ∷ 0 ∷ 1 ∷ 2 ∷ 3 ∷ 4 ∷ 5 ∷ 6 ∷ 7 ∷ 8 ∷ 9 ∷ 0x0a ∷ 0x0b
+          ∷ 0x0c ∷ 0x0d ∷ 0x0e ∷ 0x0f ∷ 0x10 ∷ 0x66 ∷ 0x6f ∷ 0x6f ∷ 0x62 ∷ 0x61 ∷ 0x72 ∷ 0 ∷ 0x66 ∷ 0x69 ∷ 0x6c ∷ 0x65
+          ∷ 0x32 ∷ 0 ∷ 1 ∷ 0x0b ∷ 0x0c ∷ 0x0d ∷ 0x0e ∷ 0x0f ∷ 0x10 ∷ 0x11 ∷ 0x12 ∷ 0x13 ∷ 0x14 ∷ 0x15 ∷ 0x16 ∷ 0x17
+          ∷ 0x18 ∷ 0x19 ∷ 0x1a ∷ 0x71 ∷ 0x75 ∷ 0x75 ∷ 0x78 ∷ 0 ∷ 0 ∷ 1 ∷ 2 ∷ 3 ∷ 4 ∷ 5 ∷ 6 ∷ 7 ∷ 8 ∷ 9 ∷ [];
+      header = header_of_digests Dwarf32 104;
+      rest = 5 ∷ 6 ∷ 7 ∷ 8 ∷ 9 ∷ [];
+    }
+    ∷  -- the same in words of eight bytes
+    record {
+      notation = little;
+      given = handed 8;
+      bytes = 0xff ∷ 0xff ∷ 0xff ∷ 0xff ∷ 0x6c ∷ 0 ∷ 0 ∷ 0 ∷ 0 ∷ 0 ∷ 0 ∷ 0 ∷ 5 ∷ 0 ∷ 4 ∷ 0 ∷ 0x5b ∷ 0 ∷ 0 ∷ 0 ∷ 0 ∷ 0
+          ∷ 0 ∷ 0 ∷ 1 ∷ 1 ∷ 1 ∷ 0 ∷ 1 ∷ 3 ∷ 1 ∷ 2 ∷ 1 ∷ 1 ∷ 8 ∷ 2 ∷ 0x64 ∷ 0x69 ∷ 0x72 ∷ 0x31 ∷ 0 ∷ 0x64 ∷ 0x69 ∷ 0x72
+          ∷ 0x32 ∷ 0 ∷ 4 ∷ 1 ∷ 8 ∷ 2 ∷ 0x0b ∷ 5 ∷ 0x1e ∷ 0x81 ∷ 0x40 ∷ 8 ∷ 2 ∷ 0x66 ∷ 0x69 ∷ 0x6c ∷ 0x65 ∷ 0x31 ∷ 0
+          ∷ 0 ∷ 1 ∷ 2 ∷ 3 ∷ 4 ∷ 5 ∷ 6 ∷ 7 ∷ 8 ∷ 9 ∷ 0x0a ∷ 0x0b ∷ 0x0c ∷ 0x0d ∷ 0x0e ∷ 0x0f ∷ 0x10 ∷ 0x66 ∷ 0x6f
+          ∷ 0x6f ∷ 0x62 ∷ 0x61 ∷ 0x72 ∷ 0 ∷ 0x66 ∷ 0x69 ∷ 0x6c ∷ 0x65 ∷ 0x32 ∷ 0 ∷ 1 ∷ 0x0b ∷ 0x0c ∷ 0x0d ∷ 0x0e
+          ∷ 0x0f ∷ 0x10 ∷ 0x11 ∷ 0x12 ∷ 0x13 ∷ 0x14 ∷ 0x15 ∷ 0x16 ∷ 0x17 ∷ 0x18 ∷ 0x19 ∷ 0x1a ∷ 0x71 ∷ 0x75 ∷ 0x75
+          ∷ 0x78 ∷ 0 ∷ 0 ∷ 1 ∷ 2 ∷ 3 ∷ 4 ∷ 5 ∷ 6 ∷ 7 ∷ 8 ∷ 9 ∷ [];
+      header = header_of_digests Dwarf64 108;
+      rest = 5 ∷ 6 ∷ 7 ∷ 8 ∷ 9 ∷ [];
+    }
+    ∷  -- version 2, the most significant byte first
+    record {
+      notation = big_endian;
+      given = handed 8;
+      bytes = 0xff ∷ 0xff ∷ 0xff ∷ 0xff ∷ 0 ∷ 0 ∷ 0 ∷ 0 ∷ 0 ∷ 0 ∷ 0 ∷ 0x1d ∷ 0 ∷ 2 ∷ 0 ∷ 0 ∷ 0 ∷ 0 ∷ 0 ∷ 0 ∷ 0 ∷ 0x13
+          ∷ 1 ∷ 1 ∷ 0xfb ∷ 0x0e ∷ 0x0d ∷ 0 ∷ 1 ∷ 1 ∷ 1 ∷ 1 ∷ 0 ∷ 0 ∷ 0 ∷ 1 ∷ 0 ∷ 0 ∷ 1 ∷ 0 ∷ 0 ∷ [];
+      header = record {
+        parameters = parameters 2 8 Dwarf64 (negsuc 4) 14 13;
+        unit_length = 29;
+        header_length = 19;
+        operand_counts = counts_13;
+        directory_formats = [];
+        directories = [];
+        file_formats = [];
+        files = [];
+        program = [];
+        comp_dir = None;
+        comp_file = None;
+      };
+      rest = [];
+    }
+    ∷  -- two directory indexes
+    record {
+      notation = little;
+      given = handed 8;
+      bytes = 0x2f ∷ 0 ∷ 0 ∷ 0 ∷ 5 ∷ 0 ∷ 8 ∷ 0 ∷ 0x27 ∷ 0 ∷ 0 ∷ 0 ∷ 1 ∷ 1 ∷ 1 ∷ 0xfb ∷ 0x0e ∷ 0x0d ∷ 0 ∷ 1 ∷ 1 ∷ 1
+          ∷ 1 ∷ 0 ∷ 0 ∷ 0 ∷ 1 ∷ 0 ∷ 0 ∷ 1 ∷ 1 ∷ 1 ∷ 8 ∷ 1 ∷ 0x2f ∷ 0x77 ∷ 0 ∷ 3 ∷ 1 ∷ 8 ∷ 2 ∷ 0x0b ∷ 2 ∷ 0x0b ∷ 1
+          ∷ 0x61 ∷ 0x2e ∷ 0x63 ∷ 0 ∷ 5 ∷ 6 ∷ [];
+      header = record (header_5 47 39 (a_c 6) []) {
+        file_formats = format 0x0001 0x08 ∷ format 0x0002 0x0b ∷ format 0x0002 0x0b ∷ [];
+      };
+      rest = [];
+    }
+    ∷  -- a digest of fifteen bytes is none, and an unknown content type is ignored
+    record {
+      notation = little;
+      given = handed 8;
+      bytes = 0x3f ∷ 0 ∷ 0 ∷ 0 ∷ 5 ∷ 0 ∷ 8 ∷ 0 ∷ 0x37 ∷ 0 ∷ 0 ∷ 0 ∷ 1 ∷ 1 ∷ 1 ∷ 0xfb ∷ 0x0e ∷ 0x0d ∷ 0 ∷ 1 ∷ 1 ∷ 1
+          ∷ 1 ∷ 0 ∷ 0 ∷ 0 ∷ 1 ∷ 0 ∷ 0 ∷ 1 ∷ 1 ∷ 1 ∷ 8 ∷ 1 ∷ 0x2f ∷ 0x77 ∷ 0 ∷ 3 ∷ 1 ∷ 8 ∷ 5 ∷ 0x0a ∷ 0xff ∷ 0x7f
+          ∷ 0x0f ∷ 1 ∷ 0x61 ∷ 0x2e ∷ 0x63 ∷ 0 ∷ 0x0f ∷ 1 ∷ 2 ∷ 3 ∷ 4 ∷ 5 ∷ 6 ∷ 7 ∷ 8 ∷ 9 ∷ 0x0a ∷ 0x0b ∷ 0x0c ∷ 0x0d
+          ∷ 0x0e ∷ 0x0f ∷ 0x2a ∷ [];
+      header = record (header_5 63 55 (a_c 0) []) {
+        file_formats = format 0x0001 0x08 ∷ format 0x0005 0x0a ∷ format 0x3fff 0x0f ∷ [];
+      };
+      rest = [];
+    }
+    ∷ []
 
--- a source that is empty
-abbrev version_5_with_source : WholeUnit
-version_5_with_source = record {
-  notation = little;
-  given = handed 8;
-  bytes = 0x30 ∷ 0x00 ∷ 0x00 ∷ 0x00 ∷ 0x05 ∷ 0x00 ∷ 0x08 ∷ 0x00 ∷ 0x28 ∷ 0x00 ∷ 0x00 ∷ 0x00 ∷ 0x01 ∷ 0x01 ∷ 0x01 ∷ 0xfb
-      ∷ 0x0e ∷ 0x0d ∷ 0x00 ∷ 0x01 ∷ 0x01 ∷ 0x01 ∷ 0x01 ∷ 0x00 ∷ 0x00 ∷ 0x00 ∷ 0x01 ∷ 0x00 ∷ 0x00 ∷ 0x01 ∷ 0x01 ∷ 0x01
-      ∷ 0x08 ∷ 0x01 ∷ 0x2f ∷ 0x77 ∷ 0x00 ∷ 0x03 ∷ 0x01 ∷ 0x08 ∷ 0x02 ∷ 0x0f ∷ 0x81 ∷ 0x40 ∷ 0x08 ∷ 0x01 ∷ 0x61 ∷ 0x2e
-      ∷ 0x63 ∷ 0x00 ∷ 0x00 ∷ 0x00 ∷ [];
-  header = record (header_5 48 40 (a_c_with_source) []) {
-    file_formats = format 0x0001 0x08 ∷ format 0x0002 0x0f ∷ format 0x2001 0x08 ∷ [];
-  };
-  rest = [];
-}
-
--- a table without an entry
-abbrev no_files : WholeUnit
-no_files = record {
-  notation = little;
-  given = handed 8;
-  bytes = with_byte 42 0x00 bytes_5;
-  header = record (header_5 44 36 (a_c 0) []) { files = [] };
-  rest = [];
-}
-
--- an index needs no entry
-abbrev directory_past_the_end : WholeUnit
-directory_past_the_end = record {
-  notation = little;
-  given = handed 8;
-  bytes = with_byte 47 0x7f bytes_5;
-  header = header_5 44 36 (a_c 127) [];
-  rest = [];
-}
-
--- a negative number is no index
-abbrev negative_directory : WholeUnit
-negative_directory = record {
-  notation = little;
-  given = handed 8;
-  bytes = with_byte 47 0x7f (with_byte 41 0x0d bytes_5);
-  header = record (header_5 44 36 (a_c 0) []) {
-    file_formats = format 0x0001 0x08 ∷ format 0x0002 0x0d ∷ [];
-  };
-  rest = [];
-}
-
--- all parts of a file, and bytes after the unit
-abbrev digests_and_sources : WholeUnit
-digests_and_sources = record {
-  notation = little;
-  given = handed 8;
-  bytes = 0x68 ∷ 0x00 ∷ 0x00 ∷ 0x00 ∷ 0x05 ∷ 0x00 ∷ 0x04 ∷ 0x00 ∷ 0x5b ∷ 0x00 ∷ 0x00 ∷ 0x00 ∷ 0x01 ∷ 0x01 ∷ 0x01 ∷ 0x00
-      ∷ 0x01 ∷ 0x03 ∷ 0x01 ∷ 0x02 ∷ 0x01 ∷ 0x01 ∷ 0x08 ∷ 0x02 ∷ 0x64 ∷ 0x69 ∷ 0x72 ∷ 0x31 ∷ 0x00 ∷ 0x64 ∷ 0x69 ∷ 0x72
-      ∷ 0x32 ∷ 0x00 ∷ 0x04 ∷ 0x01 ∷ 0x08 ∷ 0x02 ∷ 0x0b ∷ 0x05 ∷ 0x1e ∷ 0x81 ∷ 0x40 ∷ 0x08 ∷ 0x02 ∷ 0x66 ∷ 0x69 ∷ 0x6c
-      ∷ 0x65 ∷ 0x31 ∷ 0x00 ∷ 0x00 ∷ 0x01 ∷ 0x02 ∷ 0x03 ∷ 0x04 ∷ 0x05 ∷ 0x06 ∷ 0x07 ∷ 0x08 ∷ 0x09 ∷ 0x0a ∷ 0x0b ∷ 0x0c
-      ∷ 0x0d ∷ 0x0e ∷ 0x0f ∷ 0x10 ∷ 0x66 ∷ 0x6f ∷ 0x6f ∷ 0x62 ∷ 0x61 ∷ 0x72 ∷ 0x00 ∷ 0x66 ∷ 0x69 ∷ 0x6c ∷ 0x65 ∷ 0x32
-      ∷ 0x00 ∷ 0x01 ∷ 0x0b ∷ 0x0c ∷ 0x0d ∷ 0x0e ∷ 0x0f ∷ 0x10 ∷ 0x11 ∷ 0x12 ∷ 0x13 ∷ 0x14 ∷ 0x15 ∷ 0x16 ∷ 0x17 ∷ 0x18
-      ∷ 0x19 ∷ 0x1a ∷ 0x71 ∷ 0x75 ∷ 0x75 ∷ 0x78 ∷ 0x00 ∷ 0x00 ∷ 0x01 ∷ 0x02 ∷ 0x03 ∷ 0x04 ∷ 0x05 ∷ 0x06 ∷ 0x07 ∷ 0x08
-      ∷ 0x09 ∷ [];
-  header = header_of_digests Dwarf32 104;
-  rest = 0x05 ∷ 0x06 ∷ 0x07 ∷ 0x08 ∷ 0x09 ∷ [];
-}
-
--- the same in words of eight bytes
-abbrev digests_and_sources_of_64_bits : WholeUnit
-digests_and_sources_of_64_bits = record {
-  notation = little;
-  given = handed 8;
-  bytes = 0xff ∷ 0xff ∷ 0xff ∷ 0xff ∷ 0x6c ∷ 0x00 ∷ 0x00 ∷ 0x00 ∷ 0x00 ∷ 0x00 ∷ 0x00 ∷ 0x00 ∷ 0x05 ∷ 0x00 ∷ 0x04 ∷ 0x00
-      ∷ 0x5b ∷ 0x00 ∷ 0x00 ∷ 0x00 ∷ 0x00 ∷ 0x00 ∷ 0x00 ∷ 0x00 ∷ 0x01 ∷ 0x01 ∷ 0x01 ∷ 0x00 ∷ 0x01 ∷ 0x03 ∷ 0x01 ∷ 0x02
-      ∷ 0x01 ∷ 0x01 ∷ 0x08 ∷ 0x02 ∷ 0x64 ∷ 0x69 ∷ 0x72 ∷ 0x31 ∷ 0x00 ∷ 0x64 ∷ 0x69 ∷ 0x72 ∷ 0x32 ∷ 0x00 ∷ 0x04 ∷ 0x01
-      ∷ 0x08 ∷ 0x02 ∷ 0x0b ∷ 0x05 ∷ 0x1e ∷ 0x81 ∷ 0x40 ∷ 0x08 ∷ 0x02 ∷ 0x66 ∷ 0x69 ∷ 0x6c ∷ 0x65 ∷ 0x31 ∷ 0x00 ∷ 0x00
-      ∷ 0x01 ∷ 0x02 ∷ 0x03 ∷ 0x04 ∷ 0x05 ∷ 0x06 ∷ 0x07 ∷ 0x08 ∷ 0x09 ∷ 0x0a ∷ 0x0b ∷ 0x0c ∷ 0x0d ∷ 0x0e ∷ 0x0f ∷ 0x10
-      ∷ 0x66 ∷ 0x6f ∷ 0x6f ∷ 0x62 ∷ 0x61 ∷ 0x72 ∷ 0x00 ∷ 0x66 ∷ 0x69 ∷ 0x6c ∷ 0x65 ∷ 0x32 ∷ 0x00 ∷ 0x01 ∷ 0x0b ∷ 0x0c
-      ∷ 0x0d ∷ 0x0e ∷ 0x0f ∷ 0x10 ∷ 0x11 ∷ 0x12 ∷ 0x13 ∷ 0x14 ∷ 0x15 ∷ 0x16 ∷ 0x17 ∷ 0x18 ∷ 0x19 ∷ 0x1a ∷ 0x71 ∷ 0x75
-      ∷ 0x75 ∷ 0x78 ∷ 0x00 ∷ 0x00 ∷ 0x01 ∷ 0x02 ∷ 0x03 ∷ 0x04 ∷ 0x05 ∷ 0x06 ∷ 0x07 ∷ 0x08 ∷ 0x09 ∷ [];
-  header = header_of_digests Dwarf64 108;
-  rest = 0x05 ∷ 0x06 ∷ 0x07 ∷ 0x08 ∷ 0x09 ∷ [];
-}
-
--- version 2, the most significant byte first
-abbrev big_endian_64_bits : WholeUnit
-big_endian_64_bits = record {
-  notation = big_endian;
-  given = handed 8;
-  bytes = 0xff ∷ 0xff ∷ 0xff ∷ 0xff ∷ 0x00 ∷ 0x00 ∷ 0x00 ∷ 0x00 ∷ 0x00 ∷ 0x00 ∷ 0x00 ∷ 0x1d ∷ 0x00 ∷ 0x02 ∷ 0x00 ∷ 0x00
-      ∷ 0x00 ∷ 0x00 ∷ 0x00 ∷ 0x00 ∷ 0x00 ∷ 0x13 ∷ 0x01 ∷ 0x01 ∷ 0xfb ∷ 0x0e ∷ 0x0d ∷ 0x00 ∷ 0x01 ∷ 0x01 ∷ 0x01 ∷ 0x01
-      ∷ 0x00 ∷ 0x00 ∷ 0x00 ∷ 0x01 ∷ 0x00 ∷ 0x00 ∷ 0x01 ∷ 0x00 ∷ 0x00 ∷ [];
-  header = record {
-    parameters = parameters 2 8 Dwarf64 (negsuc 4) 14 13;
-    unit_length = 29;
-    header_length = 19;
-    operand_counts = counts_13;
-    directory_formats = [];
-    directories = [];
-    file_formats = [];
-    files = [];
-    program = [];
-    comp_dir = None;
-    comp_file = None;
-  };
-  rest = [];
-}
-
--- two directory indexes
-abbrev later_format_wins : WholeUnit
-later_format_wins = record {
-  notation = little;
-  given = handed 8;
-  bytes = 0x2f ∷ 0x00 ∷ 0x00 ∷ 0x00 ∷ 0x05 ∷ 0x00 ∷ 0x08 ∷ 0x00 ∷ 0x27 ∷ 0x00 ∷ 0x00 ∷ 0x00 ∷ 0x01 ∷ 0x01 ∷ 0x01 ∷ 0xfb
-      ∷ 0x0e ∷ 0x0d ∷ 0x00 ∷ 0x01 ∷ 0x01 ∷ 0x01 ∷ 0x01 ∷ 0x00 ∷ 0x00 ∷ 0x00 ∷ 0x01 ∷ 0x00 ∷ 0x00 ∷ 0x01 ∷ 0x01 ∷ 0x01
-      ∷ 0x08 ∷ 0x01 ∷ 0x2f ∷ 0x77 ∷ 0x00 ∷ 0x03 ∷ 0x01 ∷ 0x08 ∷ 0x02 ∷ 0x0b ∷ 0x02 ∷ 0x0b ∷ 0x01 ∷ 0x61 ∷ 0x2e ∷ 0x63
-      ∷ 0x00 ∷ 0x05 ∷ 0x06 ∷ [];
-  header = record (header_5 47 39 (a_c 6) []) {
-    file_formats = format 0x0001 0x08 ∷ format 0x0002 0x0b ∷ format 0x0002 0x0b ∷ [];
-  };
-  rest = [];
-}
-
--- a digest of fifteen bytes is none, and an unknown content type is ignored
-abbrev digest_of_other_length : WholeUnit
-digest_of_other_length = record {
-  notation = little;
-  given = handed 8;
-  bytes = 0x3f ∷ 0x00 ∷ 0x00 ∷ 0x00 ∷ 0x05 ∷ 0x00 ∷ 0x08 ∷ 0x00 ∷ 0x37 ∷ 0x00 ∷ 0x00 ∷ 0x00 ∷ 0x01 ∷ 0x01 ∷ 0x01 ∷ 0xfb
-      ∷ 0x0e ∷ 0x0d ∷ 0x00 ∷ 0x01 ∷ 0x01 ∷ 0x01 ∷ 0x01 ∷ 0x00 ∷ 0x00 ∷ 0x00 ∷ 0x01 ∷ 0x00 ∷ 0x00 ∷ 0x01 ∷ 0x01 ∷ 0x01
-      ∷ 0x08 ∷ 0x01 ∷ 0x2f ∷ 0x77 ∷ 0x00 ∷ 0x03 ∷ 0x01 ∷ 0x08 ∷ 0x05 ∷ 0x0a ∷ 0xff ∷ 0x7f ∷ 0x0f ∷ 0x01 ∷ 0x61 ∷ 0x2e
-      ∷ 0x63 ∷ 0x00 ∷ 0x0f ∷ 0x01 ∷ 0x02 ∷ 0x03 ∷ 0x04 ∷ 0x05 ∷ 0x06 ∷ 0x07 ∷ 0x08 ∷ 0x09 ∷ 0x0a ∷ 0x0b ∷ 0x0c ∷ 0x0d
-      ∷ 0x0e ∷ 0x0f ∷ 0x2a ∷ [];
-  header = record (header_5 63 55 (a_c 0) []) {
-    file_formats = format 0x0001 0x08 ∷ format 0x0005 0x0a ∷ format 0x3fff 0x0f ∷ [];
-  };
-  rest = [];
-}
-
-units : IsUnit version_4_tables
-    × IsUnit slack
-    × IsUnit version_5_unit
-    × IsUnit version_5_with_source
-    × IsUnit no_files
-    × IsUnit directory_past_the_end
-    × IsUnit negative_directory
-    × IsUnit digests_and_sources
-    × IsUnit digests_and_sources_of_64_bits
-    × IsUnit big_endian_64_bits
-    × IsUnit later_format_wins
-    × IsUnit digest_of_other_length
+units : AllByRecursion IsUnit whole_units
 unfolding uleb_at sleb_at word_at initial_length_at address_size_at closed_below positive_at plain_file_at form_at format_at formats_at entries_at table_at
     version_at own_address_size_at opening_at line_encoding_at parameters_at directories_at file_names_at fields_at header_at
-units = (
-  is_unit version_4_tables refl,
-  is_unit slack refl,
-  is_unit version_5_unit refl,
-  is_unit version_5_with_source refl,
-  is_unit no_files refl,
-  is_unit directory_past_the_end refl,
-  is_unit negative_directory refl,
-  is_unit digests_and_sources refl,
-  is_unit digests_and_sources_of_64_bits refl,
-  is_unit big_endian_64_bits refl,
-  is_unit later_format_wins refl,
-  is_unit digest_of_other_length refl,
-)
+units = are_units whole_units refl
 
 -- ---- refusals
 
@@ -386,212 +341,73 @@ record Refused : Type 0 where
   bytes : List ℕ
   refusal : Error
 
+abbrev refused : UnitEntry → List ℕ → Error → Refused
+refused given bytes refusal = record { given = given; bytes = bytes; refusal = refusal }
+
 abbrev IsRefused : Refused → Type 0
 IsRefused u = HasHeaderFault little u.given u.bytes u.refusal
 
-is_refused : (u : Refused) → (header_at little u.given u.bytes).0 ≡ Err u.refusal → IsRefused u
-is_refused u read = (reads_header little u.given).fault u.bytes u.refusal read
+abbrev answer : Refused → Result Header Error
+answer u = (header_at little u.given u.bytes).0
 
--- the first word of a length
-abbrev reserved_length : Refused
-reserved_length = record {
-  given = handed 4;
-  bytes = 0xf0 ∷ 0xff ∷ 0xff ∷ 0xff ∷ drop 4 bytes_4;
-  refusal = UnknownReservedLength;
-}
+abbrev refusal_of : Refused → Result Header Error
+refusal_of u = Err u.refusal
 
--- a length of eight bytes that no section has
-abbrev twelve_ones : Refused
-twelve_ones = record {
-  given = handed 4;
-  bytes = 0xff ∷ 0xff ∷ 0xff ∷ 0xff ∷ 0xff ∷ 0xff ∷ 0xff ∷ 0xff ∷ 0xff ∷ 0xff ∷ 0xff ∷ 0xff ∷ [];
-  refusal = UnexpectedEof (record { 0 = 0 });
-}
+are_refused : (us : List Refused) → map answer us ≡ map refusal_of us → AllByRecursion IsRefused us
+are_refused [] same = tt
+are_refused (u ∷ us) same =
+    let first : answer u ≡ refusal_of u = cc in
+    let later : map answer us ≡ map refusal_of us = cc in
+    ((reads_header little u.given).fault u.bytes u.refusal first, are_refused us later)
 
--- a byte of the unit is missing
-abbrev unit_too_long : Refused
-unit_too_long = record {
-  given = handed 4;
-  bytes = with_byte 0 0x30 bytes_4;
-  refusal = UnexpectedEof (record { 0 = 47 });
-}
+abbrev refused_units : List Refused
+refused_units =
+    -- reserved length: the first word of a length
+    refused (handed 4) (0xf0 ∷ 0xff ∷ 0xff ∷ 0xff ∷ drop 4 bytes_4) UnknownReservedLength
+    ∷  -- twelve ones: a length of eight bytes that no section has
+    refused (handed 4) (0xff ∷ 0xff ∷ 0xff ∷ 0xff ∷ 0xff ∷ 0xff ∷ 0xff ∷ 0xff ∷ 0xff ∷ 0xff ∷ 0xff ∷ 0xff ∷ [])
+    (UnexpectedEof (record { 0 = 0 }))
+    ∷  -- unit too long: a byte of the unit is missing
+    refused (handed 4) (with_byte 0 0x30 bytes_4) (UnexpectedEof (record { 0 = 47 }))
+    ∷  -- version 1
+    refused (handed 4) (with_byte 4 1 bytes_4) (UnknownVersion 1)
+    ∷  -- version 6
+    refused (handed 4) (with_byte 4 6 bytes_4) (UnknownVersion 6)
+    ∷  -- header too long: a byte of the header is missing
+    refused (handed 4) (with_byte 6 0x2a bytes_4) (UnexpectedEof (record { 0 = 41 }))
+    ∷  -- no instruction length
+    refused (handed 4) (with_byte 10 0 bytes_4) MinimumInstructionLengthZero
+    ∷  -- no operations
+    refused (handed 4) (with_byte 11 0 bytes_4) MaximumOperationsPerInstructionZero
+    ∷  -- no line range
+    refused (handed 4) (with_byte 14 0 bytes_4) LineRangeZero
+    ∷  -- no opcode base
+    refused (handed 4) (with_byte 15 0 bytes_4) OpcodeBaseZero
+    ∷  -- short tables: the tables pass the header length
+    refused handed_names (with_byte 6 0x15 tables_4) (UnexpectedEof (record { 0 = 1 }))
+    ∷  -- address size 3
+    refused (handed 8) (with_byte 6 3 bytes_5) (UnsupportedAddressSize 3)
+    ∷  -- segment selectors
+    refused (handed 8) (with_byte 7 1 bytes_5) (UnsupportedSegmentSize 1)
+    ∷  -- no format: a table without a format
+    refused (handed 8) (with_byte 30 0 bytes_5) MissingFileEntryFormatPath
+    ∷  -- no path: a directory index in place of the path
+    refused (handed 8) (with_byte 31 2 bytes_5) MissingFileEntryFormatPath
+    ∷  -- two paths
+    refused (handed 8) (with_byte 40 1 bytes_5) MissingFileEntryFormatPath
+    ∷  -- unknown form: refused where an entry is read
+    refused (handed 8) (with_byte 32 1 bytes_5) (UnknownForm (record { 0 = 0x01 }))
+    ∷  -- an entry too many
+    refused (handed 8) (with_byte 42 2 bytes_5) (UnexpectedEof (record { 0 = 0 }))
+    ∷  -- too many directories
+    refused (handed 8) (with_byte 33 0xff bytes_5) (UnexpectedEof (record { 0 = 0 }))
+    ∷  -- as many as numbers go: the greatest count of entries
+    refused (handed 8) greatest_count (UnexpectedEof (record { 0 = 0 }))
+    ∷  -- count too large: a count that 64 bits don't hold
+    refused (handed 8) (with_byte 51 2 greatest_count) BadUnsignedLeb128
+    ∷ []
 
-abbrev version_1 : Refused
-version_1 = record {
-  given = handed 4;
-  bytes = with_byte 4 0x01 bytes_4;
-  refusal = UnknownVersion 1;
-}
-
-abbrev version_6 : Refused
-version_6 = record {
-  given = handed 4;
-  bytes = with_byte 4 0x06 bytes_4;
-  refusal = UnknownVersion 6;
-}
-
--- a byte of the header is missing
-abbrev header_too_long : Refused
-header_too_long = record {
-  given = handed 4;
-  bytes = with_byte 6 0x2a bytes_4;
-  refusal = UnexpectedEof (record { 0 = 41 });
-}
-
-abbrev no_instruction_length : Refused
-no_instruction_length = record {
-  given = handed 4;
-  bytes = with_byte 10 0x00 bytes_4;
-  refusal = MinimumInstructionLengthZero;
-}
-
-abbrev no_operations : Refused
-no_operations = record {
-  given = handed 4;
-  bytes = with_byte 11 0x00 bytes_4;
-  refusal = MaximumOperationsPerInstructionZero;
-}
-
-abbrev no_line_range : Refused
-no_line_range = record {
-  given = handed 4;
-  bytes = with_byte 14 0x00 bytes_4;
-  refusal = LineRangeZero;
-}
-
-abbrev no_opcode_base : Refused
-no_opcode_base = record {
-  given = handed 4;
-  bytes = with_byte 15 0x00 bytes_4;
-  refusal = OpcodeBaseZero;
-}
-
--- the tables pass the header length
-abbrev short_tables : Refused
-short_tables = record {
-  given = handed_names;
-  bytes = with_byte 6 0x15 tables_4;
-  refusal = UnexpectedEof (record { 0 = 1 });
-}
-
-abbrev address_size_3 : Refused
-address_size_3 = record {
-  given = handed 8;
-  bytes = with_byte 6 0x03 bytes_5;
-  refusal = UnsupportedAddressSize 3;
-}
-
-abbrev segment_selectors : Refused
-segment_selectors = record {
-  given = handed 8;
-  bytes = with_byte 7 0x01 bytes_5;
-  refusal = UnsupportedSegmentSize 1;
-}
-
--- a table without a format
-abbrev no_format : Refused
-no_format = record {
-  given = handed 8;
-  bytes = with_byte 30 0x00 bytes_5;
-  refusal = MissingFileEntryFormatPath;
-}
-
--- a directory index in place of the path
-abbrev no_path : Refused
-no_path = record {
-  given = handed 8;
-  bytes = with_byte 31 0x02 bytes_5;
-  refusal = MissingFileEntryFormatPath;
-}
-
-abbrev two_paths : Refused
-two_paths = record {
-  given = handed 8;
-  bytes = with_byte 40 0x01 bytes_5;
-  refusal = MissingFileEntryFormatPath;
-}
-
--- refused where an entry is read
-abbrev unknown_form : Refused
-unknown_form = record {
-  given = handed 8;
-  bytes = with_byte 32 0x01 bytes_5;
-  refusal = UnknownForm (record { 0 = 0x01 });
-}
-
-abbrev an_entry_too_many : Refused
-an_entry_too_many = record {
-  given = handed 8;
-  bytes = with_byte 42 0x02 bytes_5;
-  refusal = UnexpectedEof (record { 0 = 0 });
-}
-
-abbrev too_many_directories : Refused
-too_many_directories = record {
-  given = handed 8;
-  bytes = with_byte 33 0xff bytes_5;
-  refusal = UnexpectedEof (record { 0 = 0 });
-}
-
--- the greatest count of entries
-abbrev as_many_as_numbers_go : Refused
-as_many_as_numbers_go = record {
-  given = handed 8;
-  bytes = greatest_count;
-  refusal = UnexpectedEof (record { 0 = 0 });
-}
-
--- a count that 64 bits don't hold
-abbrev count_too_large : Refused
-count_too_large = record {
-  given = handed 8;
-  bytes = with_byte 51 0x02 greatest_count;
-  refusal = BadUnsignedLeb128;
-}
-
-refusals : IsRefused reserved_length
-    × IsRefused twelve_ones
-    × IsRefused unit_too_long
-    × IsRefused version_1
-    × IsRefused version_6
-    × IsRefused header_too_long
-    × IsRefused no_instruction_length
-    × IsRefused no_operations
-    × IsRefused no_line_range
-    × IsRefused no_opcode_base
-    × IsRefused short_tables
-    × IsRefused address_size_3
-    × IsRefused segment_selectors
-    × IsRefused no_format
-    × IsRefused no_path
-    × IsRefused two_paths
-    × IsRefused unknown_form
-    × IsRefused an_entry_too_many
-    × IsRefused too_many_directories
-    × IsRefused as_many_as_numbers_go
-    × IsRefused count_too_large
+refusals : AllByRecursion IsRefused refused_units
 unfolding uleb_at sleb_at word_at initial_length_at address_size_at closed_below positive_at plain_file_at form_at format_at formats_at entries_at table_at
     version_at own_address_size_at opening_at line_encoding_at parameters_at directories_at file_names_at fields_at header_at
-refusals = (
-  is_refused reserved_length refl,
-  is_refused twelve_ones refl,
-  is_refused unit_too_long refl,
-  is_refused version_1 refl,
-  is_refused version_6 refl,
-  is_refused header_too_long refl,
-  is_refused no_instruction_length refl,
-  is_refused no_operations refl,
-  is_refused no_line_range refl,
-  is_refused no_opcode_base refl,
-  is_refused short_tables refl,
-  is_refused address_size_3 refl,
-  is_refused segment_selectors refl,
-  is_refused no_format refl,
-  is_refused no_path refl,
-  is_refused two_paths refl,
-  is_refused unknown_form refl,
-  is_refused an_entry_too_many refl,
-  is_refused too_many_directories refl,
-  is_refused as_many_as_numbers_go refl,
-  is_refused count_too_large refl,
-)
+refusals = are_refused refused_units refl

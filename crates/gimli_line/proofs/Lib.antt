@@ -29,6 +29,7 @@ pub mod SequenceLaws
 pub mod ResumedRuns
 pub mod NonDecreasingLaws
 pub mod Order
+pub mod Sources
 pub mod Equality
 pub mod Tables
 pub mod Fields

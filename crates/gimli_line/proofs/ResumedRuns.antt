@@ -7,7 +7,7 @@ use Rattle.gimli_core.specs.declared.error.Error.{Error}
 use Rattle.gimli_core.specs.Notation.{Notation}
 use Rattle.gimli_line.specs.declared.run.row.LineRow.{LineRow}
 use Rattle.gimli_line.specs.header.Header.{Header, without_files}
-use Rattle.gimli_line.specs.header.Orders.{HeaderOrders}
+use Rattle.gimli_line.specs.header.Orders.{Source}
 use Rattle.gimli_line.specs.run.Instruction.{Ins}
 use Rattle.gimli_line.specs.run.InstructionGrammar.{Decodes}
 use Rattle.gimli_line.specs.run.InstructionReading.{decoded_at}
@@ -55,7 +55,7 @@ are_rows (e ∷ events) (r ∷ rows) same = All-cons IsRow e events (r, at_head)
     at_tail : events_of events ≡ map row rows
     at_tail = cc
 
-module _ (h : Header) (o : Notation) (offset : ℕ) (w : HeaderOrders) (s : Unread) where
+module _ (h : Header) (c : Source) (s : Unread) where
   abbrev decoded : List Ins × Option Error
   decoded = decoded_at s.notation (without_files h) s.bytes
 
@@ -63,15 +63,15 @@ module _ (h : Header) (o : Notation) (offset : ℕ) (w : HeaderOrders) (s : Unre
   decoding = bare_decoding s.notation h s.bytes decoded.0 decoded.1 (is_decoded s.notation (without_files h) s.bytes)
 
   -- they give the run of the bytes
-  pub gives_run : (run : List Event) → Events s.notation h s.bytes run → events_of (events_left (start_of_run false h o offset w s)) ≡ run
+  pub gives_run : (run : List Event) → Events s.notation h s.bytes run → events_of (events_left (start_of_run false h c s)) ≡ run
   gives_run run has =
       given_from_start false h.parameters h.files decoded.0 decoded.1
       ∙ same_decoding s.notation h s.bytes decoded.0 has.list decoded.1 has.end decoding has.decoding
       ∙ sym has.given
 
   -- and rows alone, where that has rows alone
-  pub gives_rows_alone : (rows : List LineRow) → Events s.notation h s.bytes (map row rows) → GivesRowsAlone (start_of_run false h o offset w s)
-  gives_rows_alone rows has = record { complete = refl; rows = are_rows (events_left (start_of_run false h o offset w s)) rows (gives_run (map row rows) has) }
+  pub gives_rows_alone : (rows : List LineRow) → Events s.notation h s.bytes (map row rows) → GivesRowsAlone (start_of_run false h c s)
+  gives_rows_alone rows has = record { complete = refl; rows = are_rows (events_left (start_of_run false h c s)) rows (gives_run (map row rows) has) }
 
 -- ---- sequences with runs
 

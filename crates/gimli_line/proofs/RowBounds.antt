@@ -14,7 +14,8 @@ use Rattle.gimli_line.specs.run.InstructionGrammar.{Decodes}
 use Rattle.gimli_line.specs.run.InstructionReading.{ins_at, decoded_at, decoded_after, decoded_upto}
 use Rattle.gimli_line.specs.run.OperationPointer.{overflows}
 use Rattle.gimli_line.specs.run.Machine.{is_refused, step_of, made_step, next_registers, made_from}
-use Rattle.gimli_line.specs.run.Events.{Event, Events, row, fault, row_at, made_at, end_events, EventWithFiles, with_files, made_after, is_given, given_of, files_at}
+use Rattle.gimli_line.specs.run.Events.{Event, Events, row, fault, row_at, made_at, end_events, EventWithFiles, with_files, made_after, is_given, given_of}
+use Rattle.gimli_line.specs.run.Events.{files_at}
 use Rattle.gimli_line.specs.run.EventsWithFiles.{program_made, Makes, EventsWithFiles}
 use Rattle.gimli_line.specs.run.Progress.{with_reset_row}
 use Rattle.gimli_line.specs.run.RunState.{RunState}

@@ -8,7 +8,8 @@ use Rattle.gimli_line.specs.header.File.{File}
 use Rattle.gimli_line.specs.header.Header.{Header}
 use Rattle.gimli_line.specs.header.Parameters.{Parameters}
 use Rattle.gimli_line.specs.run.Instruction.{Ins, files_after}
-use Rattle.gimli_line.specs.run.Events.{Event, row, fault, made_at, EventWithFiles, with_files, made_after, is_given, given_of, events_of, events_after, program_events}
+use Rattle.gimli_line.specs.run.Events.{Event, row, fault, made_at, EventWithFiles, with_files, made_after, is_given, given_of, events_of, events_after}
+use Rattle.gimli_line.specs.run.Events.{program_events}
 use Rattle.gimli_line.specs.run.EventsWithFiles.{program_made}
 use Rattle.gimli_line.specs.run.Machine.{initial, made_step, next_registers, made_from, run}
 use Rattle.gimli_line.specs.run.Progress.{registers_from, files_from}

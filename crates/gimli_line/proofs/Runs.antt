@@ -10,7 +10,7 @@ use Rattle.gimli_core.specs.declared.error.Error.TheVariants.{AddressOverflow, O
 use Rattle.gimli_line.specs.declared.run.row.LineRow.{LineRow}
 use Rattle.gimli_line.specs.declared.run.instruction.LineInstruction.TheVariants.{Special, Copy, EndSequence, DefineFile}
 use Rattle.gimli_line.specs.header.Parameters.{Parameters}
-use Rattle.gimli_line.specs.header.Orders.{HeaderOrders, AreOneOrder}
+use Rattle.gimli_line.specs.header.Orders.{Source}
 use Rattle.gimli_line.specs.header.Header.{Header, without_files}
 use Rattle.gimli_line.specs.run.Instruction.{files_after}
 use Rattle.gimli_line.specs.run.Instruction.{Ins, makes_row, defines_file}
@@ -22,7 +22,7 @@ use Rattle.gimli_line.specs.run.Machine.{step_of, reset_row, is_refused, made_st
 use Rattle.gimli_line.specs.run.Unread.{Unread}
 use Rattle.gimli_line.specs.run.RunState.{RunState}
 use Rattle.gimli_line.specs.run.Progress.{Progress, with_reset_row, registers_from, files_from}
-use Rattle.gimli_line.specs.run.Rows.{live_made, live_events, made_left, events_left, files_at_end, IsOfOneOrder, WantsMemory, FaultComes, FaultIs}
+use Rattle.gimli_line.specs.run.Rows.{live_made, live_events, made_left, events_left, files_at_end, WantsMemory, FaultComes, FaultIs}
 use Rattle.gimli_line.specs.inside.run.Rows.{given_row}
 use Rattle.gimli_line.proofs.RunLists.{run_of_one, runs_joined}
 use Rattle.gimli_line.proofs.InstructionLaws.{is_decoded, one_decoding, takes_bytes}
@@ -91,8 +91,8 @@ no_file_at_refusal a h i r files large = refl
 
 -- ---- a state of an iterator, whose program has the header h
 
-abbrev pub state : Bool → Header → Notation → ℕ → HeaderOrders → LineRow → Unread → RunState
-state a h o n w r s = record { fixed = without_files h; files = h.files; appends = a; notation = o; offset = n; orders = w; row = r; unread = s }
+abbrev pub state : Bool → Header → Source → LineRow → Unread → RunState
+state a h c r s = record { fixed = without_files h; files = h.files; appends = a; source = c; row = r; unread = s }
 
 abbrev pub events : Event → Header → EventWithFiles
 events e h = record { event = e; files = h.files }
@@ -101,15 +101,6 @@ pub source_same : (s t : Unread) → s.bytes ≡ t.bytes → s.notation ≡ t.no
 source_same s t b n =
     ap (λ (xs : List ℕ). let u : Unread = record { bytes = xs; notation = s.notation } in u) b
     ∙ ap (λ (m : Notation). let u : Unread = record { bytes = t.bytes; notation = m } in u) n
-
--- the readers keep their order, where those that are added have it
-pub keeps_order : (old new : RunState) → new.notation ≡ old.notation → new.appends ≡ old.appends → new.unread.notation ≡ old.unread.notation
-    → (IsOfOneOrder old → AreOneOrder old.notation.big new.orders)
-    → IsOfOneOrder old → IsOfOneOrder new
-keeps_order old new notation appends unread added so = record {
-  readers = rw notation (added so);
-  unread = λ adds. rw (unread, notation) (so.unread (sym appends ∙ adds));
-}
 
 -- where no bytes are left
 pub none_made : (a : RunState) → a.unread.bytes ≡ [] → live_made a ≡ []
@@ -125,12 +116,12 @@ pub end_here : (a : RunState) → a.unread.bytes ≡ [] → files_at_end a ≡ a
 end_here a e = rw (decoded_none a.unread.notation a.fixed a.unread.bytes e) refl
 
 -- k is the header that was lent, s2 what was left of the instructions
-module _ (a : Bool) (h k : Header) (same : k ≡ h) (o o2 : Notation) (n n2 : ℕ) (w w2 : HeaderOrders) (r : LineRow) (s s2 : Unread) where
+module _ (a : Bool) (h k : Header) (same : k ≡ h) (c c2 : Source) (r : LineRow) (s s2 : Unread) where
   pub after_fault : (e : Error) → s.bytes ≢ [] → s2.bytes ≡ [] → (instruction_production s.notation k).Fault s.bytes e → (r2 : LineRow)
-      → FaultComes live_made (state a h o n w r s) (state a h o2 n2 w2 r2 s2) e
+      → FaultComes live_made (state a h c r s) (state a h c2 r2 s2) e
   after_fault e some empty f r2 =
       let last = decoded_fault s.notation (without_files h) s.bytes e some (rw same at f) in
-      (rw (last, none_to_make (state a h o2 n2 w2 r2 s2) empty) refl, rw (last, end_here (state a h o2 n2 w2 r2 s2) empty) refl, λ _. empty)
+      (rw (last, none_to_make (state a h c2 r2 s2) empty) refl, rw (last, end_here (state a h c2 r2 s2) empty) refl, λ _. empty)
 
   module _ (notation : s2.notation ≡ s.notation) (i : Ins) (front : List ℕ) (parts : s.bytes ≡ front ++ s2.bytes)
       (spelled : SpellsInstruction s.notation k front i) where
@@ -144,7 +135,7 @@ module _ (a : Bool) (h k : Header) (same : k ≡ h) (o o2 : Notation) (n n2 : �
     -- one instruction is passed over
     pub passes_one : (h2 : Header) (r2 : LineRow) (events : List Event) → h2 ≡ record h { files = files_after a i h.files }
         → filter is_given (made_step h.parameters i r) ≡ events
-        → r2 ≡ next_registers h.parameters i r → Progress (state a h o n w r s) (state a h2 o2 n2 w2 r2 s2) events
+        → r2 ≡ next_registers h.parameters i r → Progress (state a h c r s) (state a h2 c2 r2 s2) events
     passes_one h2 r2 events after given next = record {
       list = i ∷ [];
       front = front;
@@ -159,11 +150,11 @@ module _ (a : Bool) (h k : Header) (same : k ≡ h) (o o2 : Notation) (n n2 : �
     }
 
     module _ (h2 : Header) (r2 : LineRow) (after : h2 ≡ record h { files = files_after a i h.files }) (fits : is_refused h.parameters i r ≡ false) where
-      pub passes_quiet : makes_row i ≡ false → r2 ≡ step_of h.parameters i r → Progress (state a h o n w r s) (state a h2 o2 n2 w2 r2 s2) []
+      pub passes_quiet : makes_row i ≡ false → r2 ≡ step_of h.parameters i r → Progress (state a h c r s) (state a h2 c2 r2 s2) []
       passes_quiet made row_is = passes_one h2 r2 [] after (rw (fits, made) refl) (rw (fits, made) row_is)
 
       pub passes_made : makes_row i ≡ true → r2 ≡ step_of h.parameters i r
-          → Progress (state a h o n w r s) (with_reset_row (state a h2 o2 n2 w2 r2 s2)) (given_row r2)
+          → Progress (state a h c r s) (with_reset_row (state a h2 c2 r2 s2)) (given_row r2)
       passes_made made row_is =
           let parameters : h2.parameters ≡ h.parameters = ap (λ (k : Header). k.parameters) after in
           let given : filter is_given (made_step h.parameters i r) ≡ given_row r2 = rw (fits, made) (ap given_row (sym row_is)) in
@@ -172,22 +163,22 @@ module _ (a : Bool) (h k : Header) (same : k ≡ h) (o o2 : Notation) (n n2 : �
     module _ (h2 : Header) (r2 : LineRow) where
       pub after_quiet : h2 ≡ record h { files = files_after a i h.files } → is_refused h.parameters i r ≡ false → makes_row i ≡ false
           → r2 ≡ step_of h.parameters i r
-          → live_made (state a h o n w r s) ≡ live_made (state a h2 o2 n2 w2 r2 s2)
+          → live_made (state a h c r s) ≡ live_made (state a h2 c2 r2 s2)
       after_quiet after fits made row_is = rw (first_decoded, after, row_is, notation, fits, made) refl
 
       pub after_made : h2 ≡ record h { files = files_after a i h.files } → is_refused h.parameters i r ≡ false → makes_row i ≡ true
           → r2 ≡ step_of h.parameters i r
-          → live_made (state a h o n w r s) ≡ events (row r2) h2 ∷ made_left (state a h2 o2 n2 w2 r2 s2)
+          → live_made (state a h c r s) ≡ events (row r2) h2 ∷ made_left (state a h2 c2 r2 s2)
       after_made after fits made row_is =
           let files : files_after a i h.files ≡ h.files = no_file_at_row a i h.files made in
           rw (first_decoded, after, row_is, notation, fits, made, files) refl
 
       pub after_overflow : h2 ≡ h → is_refused h.parameters i r ≡ true → r2 ≡ step_of h.parameters i r
-          → FaultComes live_made (state a h o n w r s) (state a h2 o2 n2 w2 r2 s2) AddressOverflow
+          → FaultComes live_made (state a h c r s) (state a h2 c2 r2 s2) AddressOverflow
       after_overflow kept large row_is =
           let files : files_after a i h.files ≡ h.files = no_file_at_refusal a h.parameters i r h.files large in
           let after = (decoded_at s.notation (without_files h) s2.bytes).0 in
-          let at_end : files_at_end (state a h o n w r s) ≡ files_from a h.files after =
+          let at_end : files_at_end (state a h c r s) ≡ files_from a h.files after =
           ap (λ (c : List Ins × Option Error). files_from a h.files c.0) first_decoded ∙ ap (λ (fs : List File). files_from a fs after) files in
           (rw (first_decoded, kept, row_is, notation, large, files) refl, rw (kept, notation) (sym at_end), λ other. absurd (other refl))
 
@@ -276,13 +267,13 @@ same_end a b es p =
 -- ---- refusals
 
 -- memory is missing for the file that an instruction defines
-pub wants : (a : Bool) (h k : Header) → k ≡ h → (o o2 : Notation) (n n2 : ℕ) (w w2 : HeaderOrders) (r : LineRow) (s : Unread) (i : Ins) (front rest : List ℕ)
+pub wants : (a : Bool) (h k : Header) → k ≡ h → (c c2 : Source) (r : LineRow) (s : Unread) (i : Ins) (front rest : List ℕ)
     → s.bytes ≡ front ++ rest
     → SpellsInstruction s.notation k front i → defines_file i ≡ true → (h2 : Header) (r2 : LineRow) (s2 : Unread) → s2.bytes ≡ [] → h2 ≡ h → a ≡ true
-    → WantsMemory (state a h o n w r s) (state a h2 o2 n2 w2 r2 s2)
-wants a h k same o o2 n n2 w w2 r s i front rest parts spelled defines h2 r2 s2 empty kept appends = record {
-  point = state a h o n w r s;
-  passed = passes_none (state a h o n w r s) (state a h o n w r s) refl;
+    → WantsMemory (state a h c r s) (state a h2 c2 r2 s2)
+wants a h k same c c2 r s i front rest parts spelled defines h2 r2 s2 empty kept appends = record {
+  point = state a h c r s;
+  passed = passes_none (state a h c r s) (state a h c r s) refl;
   definition = i;
   front = front;
   rest = rest;
@@ -291,7 +282,7 @@ wants a h k same o o2 n n2 w w2 r s i front rest parts spelled defines h2 r2 s2 
   defines = defines;
   appends = appends;
   files = ap (λ (k : Header). k.files) kept;
-  none = none_to_make (state a h2 o2 n2 w2 r2 s2) empty;
+  none = none_to_make (state a h2 c2 r2 s2) empty;
   empty = empty;
 }
 

@@ -1,16 +1,16 @@
 -- Splitting a program into sequences gives its rows through the last end.
 use Rattle.std.proofs.Common.{◌<◌, ◌≡◌, ℕ, ◌-◌, Bool, true, false, if◌then◌else◌, ◌||◌, List, [], ◌∷◌, ◌++◌, length, take, map, Option, Some, None, refl, sym}
-use Rattle.std.proofs.Common.{ap, ◌∙◌, subst, append_assoc, arith}
+use Rattle.std.proofs.Common.{ap, ◌∙◌, subst, append_assoc, arith, ◌≢◌, inl, inr}
 use Rattle.std.specs.List.{AllByRecursion, list_any, flat_map}
 use Rattle.std.specs.Option.{unwrap_or}
 use Rattle.std.proofs.lemmas.List.{length-append, append-nil, map-append, take_at}
 use Rattle.gimli_core.specs.Notation.{Notation}
 use Rattle.gimli_core.specs.Production.{Each}
 use Rattle.gimli_core.specs.declared.error.Error.{Error}
+use Rattle.gimli_core.specs.declared.error.Error.TheVariants.{OutOfMemory}
 use Rattle.gimli_line.specs.declared.run.row.LineRow.{LineRow}
 use Rattle.gimli_line.specs.header.Parameters.{Parameters}
-use Rattle.gimli_line.specs.header.Orders.{HeaderOrders}
-use Rattle.gimli_line.specs.inside.header.Orders.{no_orders}
+use Rattle.gimli_line.specs.header.Orders.{Source, KeepsSource}
 use Rattle.gimli_line.specs.header.Header.{Header, without_files}
 use Rattle.gimli_line.specs.run.Instruction.{Ins}
 use Rattle.gimli_line.specs.header.File.{File}
@@ -23,12 +23,13 @@ use Rattle.gimli_line.specs.run.Unread.{Unread}
 use Rattle.gimli_line.specs.inside.run.Unread.{front_of}
 use Rattle.gimli_line.specs.run.RunState.{RunState}
 use Rattle.gimli_line.specs.run.Progress.{Progress, with_reset_row, registers_from, files_from}
-use Rattle.gimli_line.specs.run.Rows.{live_events, events_left, start_of_run, event_of}
+use Rattle.gimli_line.specs.run.Rows.{live_events, events_left, start_of_run, whole_run, FaultComes, FaultIs, KeepsRun}
 use Rattle.gimli_line.specs.run.Sequences.{Part, first_address, IsSequence, HasRun, HaveRuns, AreSequences, HasFirstFault}
 use Rattle.gimli_line.specs.inside.run.SequenceSplit.{SequenceSplit, with_row, RowSplit, with_kept_row}
 use Rattle.gimli_line.proofs.Backwards.{starts, files_from_start}
 use Rattle.gimli_line.proofs.RunLists.{given_joined, given_from_start}
 use Rattle.gimli_line.proofs.InstructionLaws.{is_decoded, takes_bytes}
+use Rattle.gimli_line.proofs.Sources.{fits_less, keeps_same, keeps_both}
 use Rattle.gimli_line.proofs.Runs.{decodes_on, bare_decoding, passes_still, passes_both}
 
 -- ---- through the last end
@@ -124,14 +125,12 @@ abbrev pub first_of : List LineRow → Option ℕ
 first_of [] = None
 first_of (r ∷ rows) = Some r.address
 
-abbrev began : Header → Notation → ℕ → List File → Unread → RunState
-began h o n files unread = record {
+abbrev began : Header → Source → List File → Unread → RunState
+began h source files unread = record {
   fixed = without_files h;
   files = files;
   appends = true;
-  notation = o;
-  offset = n;
-  orders = no_orders;
+  source = source;
   row = initial h.parameters;
   unread = unread;
 }
@@ -139,20 +138,18 @@ began h o n files unread = record {
 pub record Splitting (h : Header) (k : SequenceSplit) (done : List LineRow) (point : RunState) : Type 0 where
   runs : List (List Event)
   rows : List LineRow
-  order : Notation
-  offset : ℕ
+  source : Source
   files : List File
   done_is : map row done ≡ joined_runs runs ++ map row rows
   closed : HaveRuns (without_files h) k.parts runs
   unended : AreOpen rows
   start_is : k.start ≡ first_of rows
-  passes : Progress (began h order offset files k.unread) point (map row rows)
+  passes : Progress (began h source files k.unread) point (map row rows)
 
-pub starts_splitting : (h : Header) (o : Notation) (n : ℕ) (w : HeaderOrders) (unread : Unread)
-    → Splitting h (record { parts = []; unread = unread; start = None }) [] (with_reset_row (start_of_run true h o n w unread))
-starts_splitting h o n w unread = record {
-  order = o;
-  offset = n;
+pub starts_splitting : (h : Header) (source : Source) (unread : Unread)
+    → Splitting h (record { parts = []; unread = unread; start = None }) [] (with_reset_row (start_of_run true h source unread))
+starts_splitting h source unread = record {
+  source = source;
   runs = [];
   rows = [];
   files = h.files;
@@ -160,7 +157,7 @@ starts_splitting h o n w unread = record {
   closed = tt;
   unended = tt;
   start_is = refl;
-  passes = passes_still (began h o n h.files unread) (with_reset_row (start_of_run true h o n w unread)) refl refl refl refl refl;
+  passes = passes_still (began h source h.files unread) (with_reset_row (start_of_run true h source unread)) refl refl refl refl refl;
 }
 
 -- the same, with the rows of each sequence
@@ -169,11 +166,11 @@ pub record Keeping (h : Header) (k : SequenceSplit) (kept : RowSplit) (done : Li
   pub unended : splitting.rows ≡ kept.unended
   pub closed : splitting.runs ≡ map (map row) kept.closed
 
-pub starts_keeping : (h : Header) (o : Notation) (n : ℕ) (w : HeaderOrders) (unread : Unread)
+pub starts_keeping : (h : Header) (source : Source) (unread : Unread)
     → Keeping h (record { parts = []; unread = unread; start = None }) (record { closed = []; unended = [] }) []
-    (with_reset_row (start_of_run true h o n w unread))
+    (with_reset_row (start_of_run true h source unread))
 unfolding starts_splitting
-starts_keeping h o n w unread = record { splitting = starts_splitting h o n w unread; unended = refl; closed = refl }
+starts_keeping h source unread = record { splitting = starts_splitting h source unread; unended = refl; closed = refl }
 
 -- the rows of each sequence are its run
 pub kept_runs : (h : Header) (k : SequenceSplit) (kept : RowSplit) (done : List LineRow) (point : RunState) → Keeping h k kept done point
@@ -200,8 +197,8 @@ front_at bytes front rest parts = rw parts (take_at front rest (length (front ++
 
 module _ (h : Header) (k : SequenceSplit) (done : List LineRow) (point next : RunState) (c : Splitting h k done point)
     (p : Progress point (with_reset_row next) (row next.row ∷ [])) where
-  whole : Progress (began h c.order c.offset c.files k.unread) (with_reset_row next) (map row c.rows ++ row next.row ∷ [])
-  whole = passes_both (began h c.order c.offset c.files k.unread) point (with_reset_row next) (map row c.rows) (row next.row ∷ []) c.passes p
+  whole : Progress (began h c.source c.files k.unread) (with_reset_row next) (map row c.rows ++ row next.row ∷ [])
+  whole = passes_both (began h c.source c.files k.unread) point (with_reset_row next) (map row c.rows) (row next.row ∷ []) c.passes p
 
   abbrev last_run : List Event
   last_run = map row c.rows ++ row next.row ∷ []
@@ -216,15 +213,14 @@ module _ (h : Header) (k : SequenceSplit) (done : List LineRow) (point next : Ru
   goes_open e = record {
     runs = c.runs;
     rows = c.rows ++ next.row ∷ [];
-    order = c.order;
-    offset = c.offset;
+    source = c.source;
     files = c.files;
     done_is = more_done ∙ ap (λ (xs : List Event). joined_runs c.runs ++ xs) (sym (map-append row c.rows (next.row ∷ [])));
     closed = c.closed;
     unended = open_push c.rows next.row c.unended e;
     start_is = first_push c.rows next.row k.start c.start_is;
     passes =
-        subst (λ (es : List Event). Progress (began h c.order c.offset c.files k.unread) (with_reset_row next) es) (sym (map-append row c.rows (next.row ∷ [])))
+        subst (λ (es : List Event). Progress (began h c.source c.files k.unread) (with_reset_row next) es) (sym (map-append row c.rows (next.row ∷ [])))
         whole;
   }
 
@@ -258,15 +254,14 @@ module _ (h : Header) (k : SequenceSplit) (done : List LineRow) (point next : Ru
   goes_closed e = record {
     runs = c.runs ++ last_run ∷ [];
     rows = [];
-    order = next.notation;
-    offset = next.offset;
+    source = next.source;
     files = next.files;
     done_is = more_done ∙ sym (joined_push c.runs last_run) ∙ sym (append-nil (joined_runs (c.runs ++ last_run ∷ [])));
     closed = runs_push (without_files h) k.parts c.runs ended last_run c.closed (closes e);
     unended = tt;
     start_is = refl;
     passes =
-        passes_still (began h next.notation next.offset next.files next.unread) (with_reset_row next) refl whole.fixed whole.appends
+        passes_still (began h next.source next.files next.unread) (with_reset_row next) refl whole.fixed whole.appends
         (anew_at_end next.fixed.parameters next.row e ∙ ap (λ (x : Header). initial x.parameters) whole.fixed) refl;
   }
 
@@ -325,17 +320,14 @@ row_takes a b e es p = at_list p.list p.front p.parts p.spelled p.given
 
 -- ---- the end of a run without a fault
 
-module _ (n : Notation) (offset : ℕ) (h c : Header) (k : SequenceSplit) (done : List LineRow) (point last : RunState) where
-  abbrev whole_program : Unread
-  whole_program = record { bytes = h.program; notation = n }
-
-  pub are_sequences : Splitting h k done point → Progress (with_reset_row (start_of_run true h n offset no_orders whole_program)) last (map row done)
-      → last.unread.bytes ≡ [] → without_files c ≡ last.fixed → c.files ≡ last.files
-      → AreSequences n h c k.parts
+module _ (source : Source) (h c : Header) (k : SequenceSplit) (done : List LineRow) (point last : RunState) where
+  are_sequences : Splitting h k done point → Progress (with_reset_row (whole_run h source)) last (map row done) → last.unread.bytes ≡ []
+      → without_files c ≡ last.fixed → c.files ≡ last.files
+      → AreSequences source.notation h c k.parts
   are_sequences splitting p empty fixed files = record {
     list = p.list;
     decoding =
-        bare_decoding n h h.program p.list None
+        bare_decoding source.notation h h.program p.list None
         (record { front = p.front; rest = []; parts = p.parts ∙ ap (λ (xs : List ℕ). p.front ++ xs) empty; spelled = p.spelled; ended = refl });
     rows = done;
     given = given;
@@ -358,7 +350,7 @@ module _ (n : Notation) (offset : ℕ) (h c : Header) (k : SequenceSplit) (done 
 
 -- ---- a fault
 
-pub passes_left : (a b : RunState) (es : List Event) → Progress a b es → events_of (live_events a) ≡ es ++ events_of (live_events b)
+passes_left : (a b : RunState) (es : List Event) → Progress a b es → events_of (live_events a) ≡ es ++ events_of (live_events b)
 passes_left a b es p =
     let c = decoded_at a.unread.notation a.fixed b.unread.bytes in
     let rest : live_events b
@@ -371,20 +363,70 @@ passes_left a b es p =
     (files_from a.appends a.files p.list) c.0 c.1))) p.given
     ∙ ap (λ (xs : List EventWithFiles). es ++ events_of xs) (sym rest)
 
-pub has_first_fault : (n : Notation) (offset : ℕ) (h : Header) (done : List LineRow) (old new : RunState) (e : Error)
-    → Progress (with_reset_row (start_of_run true h n offset no_orders (record { bytes = h.program; notation = n }))) (with_reset_row old) (map row done)
-    → events_left old ≡ event_of (fault e) new ∷ events_left new → HasFirstFault n h e
-has_first_fault n offset h done old new e p is =
-    let c = decoded_at n (without_files h) h.program in
+has_first_fault : (source : Source) (h : Header) (done : List LineRow) (old new : RunState) (e : Error)
+    → Progress (with_reset_row (whole_run h source)) (with_reset_row old) (map row done) → FaultComes live_events (with_reset_row old) new e
+    → HasFirstFault source.notation h e
+has_first_fault source h done old new e p is =
+    let c = decoded_at source.notation (without_files h) h.program in
     record {
       list = c.0;
       end = c.1;
-      decoding = bare_decoding n h h.program c.0 c.1 (is_decoded n (without_files h) h.program);
+      decoding = bare_decoding source.notation h h.program c.0 c.1 (is_decoded source.notation (without_files h) h.program);
       rows = done;
       rest = events_of (events_left new);
       given =
           sym (given_from_start true h.parameters h.files c.0 c.1)
-          ∙ passes_left (with_reset_row (start_of_run true h n offset no_orders (record { bytes = h.program; notation = n }))) (with_reset_row old)
-          (map row done) p
-          ∙ ap (λ (t : List EventWithFiles). map row done ++ events_of t) is;
+          ∙ passes_left (with_reset_row (whole_run h source)) (with_reset_row old) (map row done) p
+          ∙ ap (λ (t : List EventWithFiles). map row done ++ events_of t) is.0;
     }
+
+-- ---- a run of a whole program that is split on its way
+
+pub record IsSplit (Split : List LineRow → RunState → Type 0) (h : Header) (source : Source) (rows : RunState) : Type 0 where
+  pub done : List LineRow
+  pub split : Split done (with_reset_row rows)
+  pub passes : Progress (with_reset_row (whole_run h source)) (with_reset_row rows) (map row done)
+  pub keeps : KeepsRun (whole_run h source) rows
+
+module _ (h : Header) (source : Source) (Split : List LineRow → RunState → Type 0) where
+  abbrev whole_row : RunState
+  whole_row = with_reset_row (whole_run h source)
+
+  pub split_starts : (rows : RunState) → rows ≡ whole_run h source → Split [] whole_row → IsSplit Split h source rows
+  split_starts rows start split =
+      subst (IsSplit Split h source) (sym start) (record {
+        done = [];
+        split = split;
+        passes = passes_still whole_row whole_row refl refl refl refl refl;
+        keeps = keeps_same (whole_run h source) (whole_run h source) refl;
+      })
+
+  module _ (rows next : RunState) (so_far : IsSplit Split h source rows) (keeps : KeepsRun rows next) where
+    pub split_goes : (Longer : List LineRow → RunState → Type 0) → Progress (with_reset_row rows) (with_reset_row next) (row next.row ∷ [])
+        → Longer (so_far.done ++ next.row ∷ []) (with_reset_row next) → IsSplit Longer h source next
+    split_goes Longer p split = record {
+      done = so_far.done ++ next.row ∷ [];
+      split = split;
+      passes =
+          subst (λ (es : List Event). Progress whole_row (with_reset_row next) es) (sym (map-append row so_far.done (next.row ∷ [])))
+          (passes_both whole_row (with_reset_row rows) (with_reset_row next) (map row so_far.done) (row next.row ∷ []) so_far.passes p);
+      keeps = keeps_both (whole_run h source) rows next so_far.keeps keeps;
+    }
+
+    pub split_faults : (e : Error) → e ≢ OutOfMemory → FaultIs live_events (with_reset_row rows) next e → HasFirstFault source.notation h e
+    split_faults e other (inl memory) = absurd (other memory.0)
+    split_faults e other (inr comes) = has_first_fault source h so_far.done rows next e so_far.passes comes
+
+    -- the program that is left is that of the run
+    pub split_source : (last : Source) → last ≡ next.source → KeepsSource (λ order. source.notation.big ≡ order) source last
+    split_source last same =
+        subst (KeepsSource (λ order. source.notation.big ≡ order) source) (sym same)
+        (fits_less _ _ _ _ (λ order is adds. is) (keeps_both (whole_run h source) rows next so_far.keeps keeps).source)
+
+    pub split_ends : (c : Header) (k : SequenceSplit) → Splitting h k so_far.done (with_reset_row rows) → next.unread.bytes ≡ []
+        → Progress (with_reset_row rows) next [] → without_files c ≡ next.fixed → c.files ≡ next.files → AreSequences source.notation h c k.parts
+    split_ends c k splitting empty p =
+        are_sequences source h c k so_far.done (with_reset_row rows) next splitting
+        (subst (λ (es : List Event). Progress whole_row next es) (append-nil (map row so_far.done))
+        (passes_both whole_row (with_reset_row rows) next (map row so_far.done) [] so_far.passes p))
+        empty

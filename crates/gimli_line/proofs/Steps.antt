@@ -12,8 +12,8 @@ use Rattle.gimli_line.specs.declared.run.row.LineRow.{LineRow}
 use Rattle.gimli_line.specs.declared.run.rows.Step.{Step}
 use Rattle.gimli_line.specs.declared.run.rows.Step.TheVariants.{Done, Made, More}
 use Rattle.gimli_line.specs.header.Header.{Header, without_files}
-use Rattle.gimli_line.specs.header.Orders.{HeaderOrders, AreOneOrder}
-use Rattle.gimli_line.specs.inside.run.Rows.{given_row, KeepsRun, ReadsOn, StepIs, StepsTo}
+use Rattle.gimli_line.specs.header.Orders.{KeepsSource}
+use Rattle.gimli_line.specs.inside.run.Rows.{given_row, ReadsOn, StepIs, StepsTo}
 use Rattle.gimli_line.specs.run.Execution.{ExecutesNext, IsExecuted, RefusesNext, told_of}
 use Rattle.gimli_line.specs.run.Instruction.{Ins, makes_row, defines_file, files_after, header_after}
 use Rattle.gimli_line.specs.run.InstructionReading.{ins_at}
@@ -21,11 +21,12 @@ use Rattle.gimli_line.specs.run.Machine.{step_of, is_refused}
 use Rattle.gimli_line.specs.run.NextInstruction.{TakesNext, EndsByFault}
 use Rattle.gimli_line.specs.run.Progress.{Progress, with_reset_row}
 use Rattle.gimli_line.specs.run.RunState.{RunState}
-use Rattle.gimli_line.specs.run.Rows.{live_made, FaultComes, IsOfOneOrder, WantsMemory}
+use Rattle.gimli_line.specs.run.Rows.{live_made, FaultComes, AddsInOrder, KeepsRun, WantsMemory}
 use Rattle.gimli_line.specs.run.Unread.{Unread}
 use Rattle.gimli_line.proofs.Executions.{told_row, told_quiet, told_address}
 use Rattle.gimli_line.proofs.InstructionLaws.{reads_instruction}
-use Rattle.gimli_line.proofs.Runs.{state, keeps_order, none_made, after_fault, after_quiet, after_made, after_overflow, is_shorter, only_overflow, passes_none}
+use Rattle.gimli_line.proofs.Sources.{source_kept, fits_less, keeps_same, keeps_both}
+use Rattle.gimli_line.proofs.Runs.{state, none_made, after_fault, after_quiet, after_made, after_overflow, is_shorter, only_overflow, passes_none}
 use Rattle.gimli_line.proofs.Runs.{passes_both, passes_quiet, passes_made, source_same, wants, refused_after}
 
 -- ---- the state of a run whose program has a header
@@ -34,51 +35,27 @@ use Rattle.gimli_line.proofs.Runs.{passes_both, passes_quiet, passes_made, sourc
 abbrev pub Has : Bool → Header → RunState → Type 0
 Has a h s = (s.appends ≡ a) × (s.fixed ≡ without_files h) × (s.files ≡ h.files)
 
-is_state : (a : Bool) (h : Header) (s : RunState) → Has a h s → s ≡ state a h s.notation s.offset s.orders s.row s.unread
+is_state : (a : Bool) (h : Header) (s : RunState) → Has a h s → s ≡ state a h s.source s.row s.unread
 is_state a h s has = rw (← has.0, ← has.1, ← has.2) refl
 
 -- what holds of two runs by their headers holds of them
 by_headers : (a : Bool) (h h2 : Header) (old new : RunState) → Has a h old → Has a h2 new → (P : RunState → RunState → Type 0)
-    → P (state a h old.notation old.offset old.orders old.row old.unread) (state a h2 new.notation new.offset new.orders new.row new.unread) → P old new
+    → P (state a h old.source old.row old.unread) (state a h2 new.source new.row new.unread) → P old new
 by_headers a h h2 old new from to P p =
     subst (λ (q : RunState). P q new) (sym (is_state a h old from))
-    (subst (λ (q : RunState). P (state a h old.notation old.offset old.orders old.row old.unread) q) (sym (is_state a h2 new to)) p)
+    (subst (λ (q : RunState). P (state a h old.source old.row old.unread) q) (sym (is_state a h2 new to)) p)
 
 -- ---- what is kept
 
 -- the header is still that of the run, but for its files; what is added fits the order of the instructions to come
-pub keeps_run : (a : Bool) (h h2 : Header) (old new : RunState) → Has a h old → Has a h2 new → without_files h2 ≡ without_files h → new.notation ≡ old.notation
-    → new.offset ≡ old.offset
-    → new.orders.handed ≡ old.orders.handed → new.unread.notation ≡ old.unread.notation → (Fits : Bool → Type 0)
-    → ((order : Bool) → (a ≡ true → Fits order) → AreOneOrder order old.orders → AreOneOrder order new.orders) → Fits old.unread.notation.big → KeepsRun old new
-keeps_run a h h2 old new from to fixed notation offset handed unread Fits order fits = record {
+pub keeps_run : (a : Bool) (h h2 : Header) (old new : RunState) → Has a h old → Has a h2 new → without_files h2 ≡ without_files h
+    → new.unread.notation ≡ old.unread.notation → (Fits : Bool → Type 0) → KeepsSource (λ order. a ≡ true → Fits order) old.source new.source
+    → Fits old.unread.notation.big → KeepsRun old new
+keeps_run a h h2 old new from to fixed unread Fits source fits = record {
   fixed = to.1 ∙ fixed ∙ sym from.1;
   appends = to.0 ∙ sym from.0;
-  notation = notation;
-  offset = offset;
-  order = keeps_order old new notation (to.0 ∙ sym from.0) unread
-      (λ so. order old.notation.big (λ adds. subst Fits (so.unread (from.0 ∙ adds)) fits) so.readers);
-  handed = handed;
-}
-
-pub keeps_both : (x y z : RunState) → KeepsRun x y → KeepsRun y z → KeepsRun x z
-keeps_both x y z p q = record {
-  fixed = q.fixed ∙ p.fixed;
-  appends = q.appends ∙ p.appends;
-  notation = q.notation ∙ p.notation;
-  offset = q.offset ∙ p.offset;
-  order = λ so. q.order (p.order so);
-  handed = q.handed ∙ p.handed;
-}
-
-pub keeps_same : (x y : RunState) → x ≡ y → KeepsRun x y
-keeps_same x y same = record {
-  fixed = ap (λ (q : RunState). q.fixed) (sym same);
-  appends = ap (λ (q : RunState). q.appends) (sym same);
-  notation = ap (λ (q : RunState). q.notation) (sym same);
-  offset = ap (λ (q : RunState). q.offset) (sym same);
-  order = λ so. subst IsOfOneOrder same so;
-  handed = ap (λ (q : RunState). q.orders.handed) (sym same);
+  unread = unread;
+  source = fits_less _ _ _ _ (λ order adds appends. subst Fits (adds (from.0 ∙ appends)) fits) source;
 }
 
 -- ---- steps after one another
@@ -130,7 +107,7 @@ module _ (a : Bool) (h k : Header) (same : k ≡ h) (old new : RunState) (from :
     ok = tt;
     err =
         inr (by_headers a h h old new from to (λ x y. FaultComes live_made x y e)
-        (after_fault a h k same old.notation new.notation old.offset new.offset old.orders new.orders old.row old.unread new.unread e fault.0 fault.1 fault.2
+        (after_fault a h k same old.source new.source old.row old.unread new.unread e fault.0 fault.1 fault.2
         new.row));
     keeps = keeps;
   }
@@ -145,7 +122,7 @@ module _ (a : Bool) (h k : Header) (same : k ≡ h) (old new : RunState) (from :
         inl (
           refl,
           by_headers a h h2 old new from to WantsMemory
-              (wants a h k same old.notation new.notation old.offset new.offset old.orders new.orders old.row old.unread i taken.0 rest.bytes taken.1 taken.2
+              (wants a h k same old.source new.source old.row old.unread i taken.0 rest.bytes taken.1 taken.2
               defines h2 new.row new.unread empty kept appends),
         );
     keeps = keeps;
@@ -157,11 +134,11 @@ module _ (a : Bool) (h k : Header) (same : k ≡ h) (old new : RunState) (from :
         → Has a h2 new → KeepsRun old new → StepsTo old new (Ok More)
     step_quiet after fits made row to keeps = record {
       ok = by_headers a h h2 old new from to (λ x y. StepIs x y More) (
-        after_quiet a h k same old.notation new.notation old.offset new.offset old.orders new.orders old.row old.unread new.unread notation i taken.0 taken.1
+        after_quiet a h k same old.source new.source old.row old.unread new.unread notation i taken.0 taken.1
             taken.2 h2 new.row after fits made row,
-        is_shorter a h k same old.notation new.notation old.offset new.offset old.orders new.orders old.row old.unread new.unread notation i taken.0 taken.1
+        is_shorter a h k same old.source new.source old.row old.unread new.unread notation i taken.0 taken.1
             taken.2,
-        passes_quiet a h k same old.notation new.notation old.offset new.offset old.orders new.orders old.row old.unread new.unread notation i taken.0 taken.1
+        passes_quiet a h k same old.source new.source old.row old.unread new.unread notation i taken.0 taken.1
             taken.2 h2 new.row after fits made row,
       );
       err = tt;
@@ -172,9 +149,9 @@ module _ (a : Bool) (h k : Header) (same : k ≡ h) (old new : RunState) (from :
         → Has a h2 new → KeepsRun old new → StepsTo old new (Ok Made)
     step_made after fits made row to keeps = record {
       ok = by_headers a h h2 old new from to (λ x y. StepIs x y Made) (
-        after_made a h k same old.notation new.notation old.offset new.offset old.orders new.orders old.row old.unread new.unread notation i taken.0 taken.1
+        after_made a h k same old.source new.source old.row old.unread new.unread notation i taken.0 taken.1
             taken.2 h2 new.row after fits made row,
-        passes_made a h k same old.notation new.notation old.offset new.offset old.orders new.orders old.row old.unread new.unread notation i taken.0 taken.1
+        passes_made a h k same old.source new.source old.row old.unread new.unread notation i taken.0 taken.1
             taken.2 h2 new.row after fits made row,
       );
       err = tt;
@@ -187,7 +164,7 @@ module _ (a : Bool) (h k : Header) (same : k ≡ h) (old new : RunState) (from :
       ok = tt;
       err =
           inr (by_headers a h h2 old new from to (λ x y. FaultComes live_made x y AddressOverflow)
-          (after_overflow a h k same old.notation new.notation old.offset new.offset old.orders new.orders old.row old.unread new.unread notation i taken.0
+          (after_overflow a h k same old.source new.source old.row old.unread new.unread notation i taken.0
           taken.1 taken.2 h2 new.row kept over row));
       keeps = keeps;
     }
@@ -198,14 +175,7 @@ abbrev pub with_rest : RunState → LineRow → Unread → RunState
 with_rest old row unread = record old { row = row; unread = unread }
 
 pub keeps_rest : (old : RunState) (row : LineRow) (unread : Unread) → unread.notation ≡ old.unread.notation → KeepsRun old (with_rest old row unread)
-keeps_rest old row unread notation = record {
-  fixed = refl;
-  appends = refl;
-  notation = refl;
-  offset = refl;
-  order = keeps_order old (with_rest old row unread) refl refl notation (λ so. so.readers);
-  handed = refl;
-}
+keeps_rest old row unread notation = record { fixed = refl; appends = refl; unread = notation; source = source_kept (AddsInOrder old) old.source }
 
 -- none was
 pub none_executed : (k : Header) (old : RunState) (row : LineRow) (unread : Unread) → ExecutesNext k old.unread unread old.row row No

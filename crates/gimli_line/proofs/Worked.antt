@@ -27,14 +27,6 @@ rules_13 address_size operations = record {
   opcode_base = 13;
 }
 
--- opcode base 3, and special opcodes that advance no line
-abbrev rules_3 : Parameters
-rules_3 = record {
-  encoding = record { address_size = 4; format = Dwarf32; version = 4 };
-  line_encoding = record { minimum_instruction_length = 1; maximum_operations_per_instruction = 1; default_is_stmt = true; line_base = pos 0; line_range = 1 };
-  opcode_base = 3;
-}
-
 -- a row of the first file, at the left edge
 abbrev blank : ℕ → ℕ → ℕ → LineRow
 blank address op_index line = record {
@@ -56,55 +48,10 @@ blank address op_index line = record {
 abbrev at : ℕ → ℕ → ℕ → Bool → Event
 at address op_index line end = row (record (blank address op_index line) { end_sequence = end })
 
-pub tombstone_in_a_sequence : program_events rules_3 (SetAddress 1 ∷ Copy ∷ SetAddress 0xffff_ffff ∷ EndSequence ∷ Copy ∷ EndSequence ∷ []) None
-    ≡ at 1 0 1 false ∷ at 0 0 1 false ∷ at 0 0 1 true ∷ []
-tombstone_in_a_sequence = refl
-
-abbrev three_sequences : List Ins
-three_sequences =
-    SetAddress 1 ∷ Copy ∷ AdvancePc 1 ∷ Copy ∷ AdvancePc 2 ∷ EndSequence
-    ∷ SetAddress 0xffff_ffff ∷ Copy ∷ AdvancePc 1 ∷ Copy ∷ AdvancePc 2 ∷ EndSequence
-    ∷ SetAddress 0x0b ∷ Copy ∷ AdvancePc 1 ∷ Copy ∷ AdvancePc 2 ∷ EndSequence ∷ []
-
-pub tombstone_between_sequences : program_events rules_3 three_sequences None
-    ≡ at 1 0 1 false ∷ at 2 0 1 false ∷ at 4 0 1 true ∷ at 11 0 1 false ∷ at 12 0 1 false ∷ at 14 0 1 true ∷ []
-tombstone_between_sequences = refl
-
 -- the last row but one is after the last end
 pub through_the_last_end : through_last_end (program_events (rules_13 4 1) (Copy ∷ EndSequence ∷ Copy ∷ []) None)
     ≡ at 0 0 1 false ∷ at 0 0 1 true ∷ []
 through_the_last_end = refl
-
-pub overflow_at_one_byte : program_events (rules_13 1 1) (AdvancePc 255 ∷ AdvancePc 1 ∷ Copy ∷ []) None
-    ≡ fault AddressOverflow ∷ at 255 0 1 false ∷ []
-overflow_at_one_byte = refl
-
-pub line_stops_at_zero : program_events (rules_13 4 1) (AdvanceLine (negsuc 9223372036854775807) ∷ Copy ∷ []) None ≡ at 0 0 0 false ∷ []
-line_stops_at_zero = refl
-
-pub low_opcode_base : program_events rules_3 (Special 5 ∷ EndSequence ∷ []) None ≡ at 2 0 1 false ∷ at 2 0 1 true ∷ []
-low_opcode_base = refl
-
-pub several_operations : program_events (rules_13 4 3) (AdvancePc 4 ∷ Copy ∷ AdvancePc 1 ∷ Copy ∷ EndSequence ∷ []) None
-    ≡ at 1 1 1 false ∷ at 1 2 1 false ∷ at 1 2 1 true ∷ []
-several_operations = refl
-
-pub fixed_advance_of_several_operations : program_events (rules_13 4 3) (AdvancePc 4 ∷ FixedAddPc 5 ∷ Copy ∷ EndSequence ∷ []) None
-    ≡ at 6 0 1 false ∷ at 6 0 1 true ∷ []
-fixed_advance_of_several_operations = refl
-
-pub set_address_that_goes_back : program_events (rules_13 4 1)
-    (SetAddress 0x10 ∷ Copy ∷ SetAddress 8 ∷ AdvanceLine (pos 2) ∷ Copy ∷ AdvancePc 9 ∷ SetAddress 0x20 ∷ Copy ∷ EndSequence ∷ []) None
-    ≡ at 0x10 0 1 false ∷ at 0x20 0 3 false ∷ at 0x20 0 3 true ∷ []
-set_address_that_goes_back = refl
-
-pub special_overflow : program_events (rules_13 1 1) (AdvancePc 255 ∷ Special 33 ∷ Copy ∷ []) None
-    ≡ fault AddressOverflow ∷ at 255 0 2 false ∷ []
-special_overflow = refl
-
-pub demo_unit : program_events (rules_13 4 1) (SetAddress 0x1000 ∷ Copy ∷ Special 0x4c ∷ AdvancePc 4 ∷ EndSequence ∷ []) None
-    ≡ at 0x1000 0 1 false ∷ at 0x1004 0 3 false ∷ at 0x1008 0 3 true ∷ []
-demo_unit = refl
 
 -- the two greatest addresses stand for nothing, the one below them is an address
 pub least_tombstone : program_events (rules_13 4 1) (SetAddress 0xffff_fffe ∷ Copy ∷ EndSequence ∷ SetAddress 0xffff_fffd ∷ Copy ∷ EndSequence ∷ []) None

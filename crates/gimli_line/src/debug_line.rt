@@ -4,7 +4,8 @@ ghost use Rattle.std.specs.Prelude.{◌≡◌, IfErr, IfOk, IsTrue, drop, option
 ghost use Rattle.gimli_core.specs.Notation.{notation_of};
 ghost use Rattle.gimli_core.specs.Numbers.{is_address_size};
 ghost use Rattle.gimli_core.specs.declared.attribute_value.AttributeValue.TheVariants.{String};
-ghost use Rattle.gimli_line.specs.header.Header.{HasOneOrder, unit_entry};
+ghost use Rattle.gimli_line.specs.header.Header.{unit_entry};
+ghost use Rattle.gimli_line.specs.header.Orders.{HasOneOrder};
 ghost use Rattle.gimli_line.specs.header.HeaderGrammar.{handed_value};
 ghost use Rattle.gimli_line.specs.UnitAt.{HasUnitAt, IsUnitRefusal};
 ghost use Rattle.gimli_line.specs.run.Unread.{unread_of};

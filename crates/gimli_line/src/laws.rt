@@ -12,7 +12,7 @@ ghost use Rattle.gimli_core.specs.declared.common.Format.{Format};
 ghost use Rattle.gimli_core.specs.declared.error.Error.{Error};
 ghost use Rattle.gimli_line.specs.header.File.{File, file_by};
 ghost use Rattle.gimli_line.specs.header.Header.{Header, UnitEntry};
-ghost use Rattle.gimli_line.specs.header.Orders.{HeaderOrders};
+ghost use Rattle.gimli_line.specs.header.Orders.{Source};
 ghost use Rattle.gimli_line.specs.header.HeaderParts.{ComparesParts, ComparesSeen, entry_count};
 ghost use Rattle.gimli_line.specs.header.HeaderParts.{parts_of};
 ghost use Rattle.gimli_line.specs.header.HeaderGrammar.{SpellsUnit, HasHeaderFault, HasUnit};
@@ -130,12 +130,10 @@ pub fn machine_gives_events()
         (list : List Ins) (end : Option Error)
         → made_from appends parameters (initial parameters) files list end
         ≡ made_after parameters (files_at appends files) [] list end }
-    ensures started { (appends : Bool) (h : Header) (notation : Notation) (o : ℕ)
-        (orders : HeaderOrders) (unread : Unread)
-        → GivesEvents appends h unread (start_of_run appends h notation o orders unread) }
-    ensures files { (appends : Bool) (h : Header) (notation : Notation) (o : ℕ)
-        (orders : HeaderOrders) (unread : Unread)
-        → GivesFiles appends h unread (start_of_run appends h notation o orders unread) }
+    ensures started { (appends : Bool) (h : Header) (source : Source) (unread : Unread)
+        → GivesEvents appends h unread (start_of_run appends h source unread) }
+    ensures files { (appends : Bool) (h : Header) (source : Source) (unread : Unread)
+        → GivesFiles appends h unread (start_of_run appends h source unread) }
 {}
 
 /// Between two ends of sequences, whether their rows are under a tombstone or not, and from the

@@ -118,7 +118,7 @@ impl<R: Reader> DebugLine<R> {
 impl<R: Reader> LineUnits<R> {
     ghost use Rattle.std.specs.Prelude.{◌≡◌, ◌∷◌, [], IfErr, IfOk, IfSome, MatchOption};
     ghost use Rattle.gimli_line.specs.UnitAt.{HasUnitAt, HasUnitFaultAt};
-    ghost use Rattle.gimli_line.specs.header.Header.{HasOneOrder};
+    ghost use Rattle.gimli_line.specs.header.Orders.{HasOneOrder};
 
     /// The next unit of the section; None where no bytes are left. A unit that `program` refuses is
     /// given with its refusal, and the next one begins after it; where its length can't be read or

@@ -8,7 +8,7 @@ use Rattle.gimli_line.specs.declared.run.instruction.LineInstruction.TheVariants
 use Rattle.gimli_line.specs.declared.run.row.LineRow.{LineRow}
 use Rattle.gimli_line.specs.header.File.{File}
 use Rattle.gimli_line.specs.header.Header.{Header, without_files}
-use Rattle.gimli_line.specs.header.Orders.{HeaderOrders}
+use Rattle.gimli_line.specs.header.Orders.{Source}
 use Rattle.gimli_line.specs.header.Parameters.{Parameters}
 use Rattle.gimli_line.specs.run.Events.{Event, fault, EventWithFiles, with_files, is_given, given_of}
 use Rattle.gimli_line.specs.run.Machine.{made_step, next_registers, made_from}
@@ -105,23 +105,23 @@ no_files a files (i ∷ list) none =
     let both = neither (defines_file i) (list_any defines_file list) none in
     ap (λ (fs : List File). files_from a fs list) (no_file a files i both.0) ∙ no_files a files list both.1
 
-pub defines : (notation : Notation) (h : Header) (offset : ℕ) (orders : HeaderOrders) (first old new : RunState) → first ≡ whole_run h notation offset orders
+pub defines : (h : Header) (source : Source) (first old new : RunState) → first ≡ whole_run h source
     → files_at_end old ≡ files_at_end first → length first.files ≤ length old.files → new.appends ≡ old.appends → WantsMemory (with_reset_row old) new
-    → DefinesFile notation h
-defines notation h offset orders first old new start same few appends w =
-    at_test (list_any defines_file (decoded_at notation (without_files h) h.program).0) refl
+    → DefinesFile source.notation h
+defines h source first old new start same few appends w =
+    at_test (list_any defines_file (decoded_at source.notation (without_files h) h.program).0) refl
   where
-    at_test : (b : Bool) → list_any defines_file (decoded_at notation (without_files h) h.program).0 ≡ b → DefinesFile notation h
+    at_test : (b : Bool) → list_any defines_file (decoded_at source.notation (without_files h) h.program).0 ≡ b → DefinesFile source.notation h
     at_test true some = record {
-      list = (decoded_at notation (without_files h) h.program).0;
-      end = (decoded_at notation (without_files h) h.program).1;
+      list = (decoded_at source.notation (without_files h) h.program).0;
+      end = (decoded_at source.notation (without_files h) h.program).1;
       decoding =
-          bare_decoding notation h h.program (decoded_at notation (without_files h) h.program).0 (decoded_at notation (without_files h) h.program).1
-          (is_decoded notation (without_files h) h.program);
+          bare_decoding source.notation h h.program (decoded_at source.notation (without_files h) h.program).0
+          (decoded_at source.notation (without_files h) h.program).1 (is_decoded source.notation (without_files h) h.program);
       defines = some;
     }
     at_test false none =
-        let all = no_files true h.files (decoded_at notation (without_files h) h.program).0 none in
+        let all = no_files true h.files (decoded_at source.notation (without_files h) h.program).0 none in
         absurd (omega (
           arith,
           few,

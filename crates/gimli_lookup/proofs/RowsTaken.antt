@@ -12,6 +12,7 @@ use Rattle.gimli_line.specs.run.Progress.{with_reset_row}
 use Rattle.gimli_line.specs.run.RunState.{RunState}
 use Rattle.gimli_line.specs.run.Rows.{live_made, made_left, files_at_end, KeepsHeader, RowIs, EndIs, FaultIs}
 use Rattle.gimli_line.specs.run.Sequences.{events_of}
+use Rattle.gimli_line.proofs.Sources.{keeps_same, keeps_both}
 use Rattle.gimli_lookup.specs.inside.SequenceCut.{SequenceCut, with_row, with_rows}
 use Rattle.gimli_lookup.specs.inside.RowsTaken.{AreTaken}
 
@@ -33,19 +34,11 @@ none_taken run cut = record {
   to_come = refl;
   files = refl;
   taken = refl;
-  keeps = record { order = λ o. o; handed = refl; alone = λ a. a; fixed = refl; appends = refl; notation = refl; offset = refl };
+  keeps = record { run = keeps_same run run refl; alone = λ alone. alone };
 }
 
-keeps_both : (a b c : RunState) → KeepsHeader a b → KeepsHeader b c → KeepsHeader a c
-keeps_both a b c f g = record {
-  order = λ o. g.order (f.order o);
-  handed = g.handed ∙ f.handed;
-  alone = λ a. g.alone (f.alone a);
-  fixed = g.fixed ∙ f.fixed;
-  appends = g.appends ∙ f.appends;
-  notation = g.notation ∙ f.notation;
-  offset = g.offset ∙ f.offset;
-}
+keeps_header : (a b c : RunState) → KeepsHeader a b → KeepsHeader b c → KeepsHeader a c
+keeps_header a b c f g = record { run = keeps_both a b c f.run g.run; alone = λ alone. g.alone (f.alone alone) }
 
 with_more : (rows : List LineRow) (r : LineRow) (a : SequenceCut) → with_rows (rows ++ r ∷ []) a ≡ with_row r (with_rows rows a)
 with_more [] r a = refl
@@ -63,7 +56,7 @@ one_more first old new from to r files t keeps next =
       to_come = t.to_come ∙ ap (λ es. t.front ++ es) next.0 ∙ sym (append_assoc t.front (event ∷ []) (made_left new));
       files = next.2 ∙ t.files;
       taken = ap (with_row r) t.taken ∙ sym (with_more t.rows r from);
-      keeps = keeps_both first old new t.keeps keeps;
+      keeps = keeps_header first old new t.keeps keeps;
     }
 
 pub to_end : (first old new : RunState) (from to : SequenceCut) → TakesIn first old from to → KeepsHeader old new → EndIs live_made old new
@@ -74,7 +67,7 @@ to_end first old new from to t keeps next = record {
   rows_are = t.rows_are;
   stops = (t.to_come ∙ ap (λ es. t.front ++ es) next.0 ∙ append-nil t.front, next.3 ∙ t.files);
   taken = t.taken;
-  keeps = keeps_both first old new t.keeps keeps;
+  keeps = keeps_header first old new t.keeps keeps;
 }
 
 pub to_fault : (first old new : RunState) (from to : SequenceCut) (e : Error) → TakesIn first old from to → KeepsHeader old new → (e ≡ OutOfMemory → ⊥)
@@ -86,7 +79,7 @@ to_fault first old new from to e t keeps other (inr comes) = record {
   rows_are = t.rows_are;
   stops = (made_left new, t.to_come ∙ ap (λ es. t.front ++ es) comes.0);
   taken = t.taken;
-  keeps = keeps_both first old new t.keeps keeps;
+  keeps = keeps_header first old new t.keeps keeps;
 }
 
 -- a refusal that isn't for memory is the first fault

@@ -70,7 +70,7 @@ whole_unit offset run fault = record { offset = offset; header = Some (header_at
 
 pub searched : {R Offset Endian : Type 0} (lowest index : ℕ) (addresses : List ℕ) (program : SeenHeader R Offset Endian) (run : RunState)
     (offset : ℕ) (fault : Option Error) (listed : ListedUnit) (old found new : List CoveringRows) (parts : List (List LineRow))
-    → IsKept program.notation lowest program.meaning (header_of run) fault parts → run.notation ≡ program.notation
+    → IsKept program.notation lowest program.meaning (header_of run) fault parts → run.source.notation ≡ program.notation
     → All (λ a. IsFoundOf index parts a (first_covering a found)) addresses → AreKeptBehind addresses old found new
     → (listed ≡ whole_unit offset run fault) ⊎ ((length new ≡ length old) × (fault ≡ None) × (listed ≡ bare_unit offset fault))
     → IsSearched lowest index addresses (Ok program) listed old new

@@ -7,7 +7,7 @@ use Rattle.gimli_core.specs.declared.error.Error.{Error}
 use Rattle.gimli_line.specs.declared.run.row.LineRow.{LineRow}
 use Rattle.gimli_line.specs.header.File.{File}
 use Rattle.gimli_line.specs.header.Header.{Header}
-use Rattle.gimli_line.specs.header.Orders.{HeaderOrders}
+use Rattle.gimli_line.specs.header.Orders.{Source}
 use Rattle.gimli_line.specs.run.Events.{row}
 use Rattle.gimli_line.specs.run.EventsWithFiles.{EventWithFiles, Makes, FilesAtEnd}
 use Rattle.gimli_line.specs.run.RunState.{RunState}
@@ -37,18 +37,18 @@ before_fault notation h old new rows front (Some e) made files are stops = recor
   rows_are = are;
 }
 
-pub is_kept : (notation : Notation) (lowest : ℕ) (h : Header) (offset : ℕ) (orders : HeaderOrders) (old new : RunState) (e : Option Error) (to : SequenceCut)
-    → old ≡ whole_run h notation offset orders → Makes notation true h h.program (made_left old) → FilesAtEnd notation true h h.program (files_at_end old)
+pub is_kept : (lowest : ℕ) (h : Header) (source : Source) (old new : RunState) (e : Option Error) (to : SequenceCut) → old ≡ whole_run h source
+    → Makes source.notation true h h.program (made_left old) → FilesAtEnd source.notation true h h.program (files_at_end old)
     → AreTaken old new e (no_rows lowest) to
-    → IsKept notation lowest h (header_of new) e (take to.ended to.parts)
-is_kept notation lowest h offset orders old new e to starts made files taken =
+    → IsKept source.notation lowest h (header_of new) e (take to.ended to.parts)
+is_kept lowest h source old new e to starts made files taken =
     let last = with_rows taken.rows (no_rows lowest) in
     let cut = are_cut [] taken.rows (no_rows lowest) (starts_cut lowest) in
     let is_lowest : last.lowest ≡ lowest = same_lowest taken.rows (no_rows lowest) in
     record {
       rows = taken.rows;
-      before = before_fault notation h old new taken.rows taken.front e made files taken.rows_are taken.stops;
-      header = ap (λ (k : Header). record k { files = new.files }) (taken.keeps.fixed ∙ ap (λ (a : RunState). a.fixed) starts);
+      before = before_fault source.notation h old new taken.rows taken.front e made files taken.rows_are taken.stops;
+      header = ap (λ (k : Header). record k { files = new.files }) (taken.keeps.run.fixed ∙ ap (λ (a : RunState). a.fixed) starts);
       sequences = cut.sequences;
       cut = record { unended = cut.unended; joined = cut.joined; each = cut.each; no_end = cut.no_end };
       parts_are =

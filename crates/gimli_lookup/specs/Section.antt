@@ -18,7 +18,7 @@ pub record KeptHeader : Type 0 where
 
 -- that of a run, as it stands
 abbrev pub header_at : RunState → KeptHeader
-header_at a = record { meaning = header_of a; notation = a.notation }
+header_at a = record { meaning = header_of a; notation = a.source.notation }
 
 -- a unit as it is listed
 pub record ListedUnit : Type 0 where

@@ -2,12 +2,11 @@
 
 ghost use Rattle.std.specs.Prelude.{◌≡◌, ◌≢◌, ◌≤◌, ◌+◌, ◌*◌, length, map, nat_eq, sum_by, All, Any};
 ghost use Rattle.std.specs.Prelude.{IfErr, IfOk, MatchOption};
-ghost use Rattle.gimli_line.specs.header.Header.{HasOneOrder};
-ghost use Rattle.gimli_line.specs.header.Orders.{header_orders};
+ghost use Rattle.gimli_line.specs.header.Orders.{source_of, KeepsSource};
 ghost use Rattle.gimli_line.specs.run.Events.{row};
 ghost use Rattle.gimli_line.specs.run.Sequences.{part_of, AreSequences, HasFirstFault, HaveRuns};
 ghost use Rattle.gimli_lookup.specs.FirstPair.{HasNoPair, IsFirstPair};
-ghost use Rattle.gimli_lookup.specs.Kept.{AreRowsThroughLastEnd, IsOfOneOrder};
+ghost use Rattle.gimli_lookup.specs.Kept.{AreRowsThroughLastEnd};
 ghost use Rattle.gimli_lookup.specs.Run.{AreRowsOfSequences};
 ghost use Rattle.gimli_lookup.specs.Covering.{covering_probes, scan_probes, IsLookedInto};
 ghost use Rattle.gimli_lookup.specs.Probes.{binary_digits, most_probes};
@@ -53,7 +52,7 @@ pub struct Lookup<R: Reader> {
 
 impl<R: Reader> Model for Lookup<R> {
     ghost use Rattle.std.specs.Prelude.{map};
-    ghost use Rattle.gimli_line.specs.header.Orders.{header_orders};
+    ghost use Rattle.gimli_line.specs.header.Orders.{source_of};
     ghost use Rattle.gimli_line.specs.run.Sequences.{part_of};
     ghost use Rattle.gimli_lookup.specs.Kept.{Kept};
     ghost use Rattle.gimli_lookup.specs.Steps.{IsStepTableOf};
@@ -62,9 +61,7 @@ impl<R: Reader> Model for Lookup<R> {
 
     ghost view = { λ a. record {
       header = a.program.meaning;
-      notation = a.program.notation;
-      offset = R.Offset.number a.program.offset.0;
-      orders = header_orders R.big a.program;
+      source = source_of R.big R.Offset.number a.program;
       parts = map part_of a.sequences.items;
       rows = a.rows.items;
     } };
@@ -85,11 +82,8 @@ impl<R: Reader> Lookup<R> {
             AreRowsThroughLastEnd program.notation program.meaning lookup.rows) }
         ensures cut { IfOk result (λ lookup.
             AreRowsOfSequences program.notation program.meaning lookup.rows) }
-        ensures notation { IfOk result (λ lookup. lookup.notation ≡ program.notation) }
-        ensures offset { IfOk result (λ lookup. lookup.offset ≡ R.Offset.number program.offset.0) }
-        ensures order { HasOneOrder R.big program → IfOk result IsOfOneOrder }
-        ensures handed { IfOk result (λ lookup.
-            lookup.orders.handed ≡ (header_orders R.big program).handed) }
+        ensures source { IfOk result (λ lookup. KeepsSource (λ order. program.notation.big ≡ order)
+            (source_of R.big R.Offset.number program) lookup.source) }
         ensures err { IfErr result (λ e. e ≢ Error.OutOfMemory
             → HasFirstFault program.notation program.meaning e) }
     {
@@ -107,10 +101,7 @@ impl<R: Reader> Lookup<R> {
     /// The header of the program, with all files.
     pub fn header(&self) -> &LineProgramHeader<R>
         ensures header { result.now.meaning ≡ self.now.header }
-        ensures notation { result.now.notation ≡ self.now.notation }
-        ensures offset { R.Offset.number result.now.offset.0 ≡ self.now.offset }
-        ensures order { IsOfOneOrder self.now → HasOneOrder R.big result.now }
-        ensures handed { (header_orders R.big result.now).handed ≡ self.now.orders.handed }
+        ensures source { source_of R.big R.Offset.number result.now ≡ self.now.source }
     {
         self.program.header()
     }

@@ -1,7 +1,7 @@
 //! A unit of a section, as a lookup lists it.
 
 ghost use Rattle.std.specs.Prelude.{◌≡◌, ◌++◌, None, Some, IfErr, IfOk, IfSome, MatchOption, OnOk};
-ghost use Rattle.gimli_line.specs.header.Header.{HasOneOrder};
+ghost use Rattle.gimli_line.specs.header.Orders.{HasOneOrder};
 
 use crate::covering_pairs::keep_pairs;
 use crate::kept_rows::KeptRows;
@@ -54,7 +54,7 @@ impl<R: Reader> Model for UnitLookup<R> {
 
     ghost invariant = { λ a.
         IfSome a.run (λ run.
-        IsOfOneOrder run.value × (run.value.offset ≡ R.Offset.number a.offset.0)) };
+        IsOfOneOrder run.value × (run.value.source.offset ≡ R.Offset.number a.offset.0)) };
 }
 
 impl<R: Reader> UnitLookup<R> {

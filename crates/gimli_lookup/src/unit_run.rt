@@ -1,8 +1,8 @@
 //! The run of a unit, up to its first fault.
 
 ghost use Rattle.std.specs.Prelude.{◌≡◌, ◌≢◌, IfErr, IfOk, Some};
-ghost use Rattle.gimli_line.specs.header.Header.{HasOneOrder};
-ghost use Rattle.gimli_line.specs.run.Rows.{IsOfOneOrder};
+ghost use Rattle.gimli_line.specs.header.Orders.{source_of};
+ghost use Rattle.gimli_line.specs.run.Rows.{whole_run, KeepsRun};
 ghost use Rattle.gimli_lookup.specs.UnitRun.{IsKept};
 ghost use Rattle.gimli_lookup.specs.RowsTaken.{header_of};
 ghost use Rattle.gimli_lookup.specs.inside.RowsTaken.{AreTaken};
@@ -62,9 +62,8 @@ pub(crate) fn run_unit<R: Reader>(
 ) -> Result<UnitRun<R>>
     ensures kept { IfOk result (λ unit. IsKept program.notation lowest program.meaning
         (header_of unit.run) unit.fault unit.parts.items) }
-    ensures notation { IfOk result (λ unit. unit.run.notation ≡ program.notation) }
-    ensures offset { IfOk result (λ unit. unit.run.offset ≡ R.Offset.number program.offset.0) }
-    ensures order { HasOneOrder R.big program → IfOk result (λ unit. IsOfOneOrder unit.run) }
+    ensures run { IfOk result (λ unit. KeepsRun
+        (whole_run program.meaning (source_of R.big R.Offset.number program)) unit.run) }
     ensures err { IfErr result (λ e. e ≡ Error.OutOfMemory) }
 {
     let mut run = program.rows();

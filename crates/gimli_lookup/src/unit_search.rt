@@ -4,8 +4,8 @@
 ghost use Rattle.std.specs.Prelude.{◌≡◌, ◌≤◌, ℕ, List, take, All, IfErr, IfOk, IsTrue, MatchOption};
 ghost use Rattle.std.specs.Prelude.{OnOk};
 ghost use Rattle.gimli_line.specs.declared.run.row.LineRow.{LineRow};
-ghost use Rattle.gimli_line.specs.header.Header.{HasOneOrder};
-ghost use Rattle.gimli_line.specs.run.Rows.{IsOfOneOrder};
+ghost use Rattle.gimli_line.specs.header.Orders.{source_of};
+ghost use Rattle.gimli_line.specs.run.Rows.{whole_run, KeepsRun};
 ghost use Rattle.gimli_lookup.specs.RowsTaken.{header_of};
 ghost use Rattle.gimli_lookup.specs.UnitRun.{IsKept};
 ghost use Rattle.gimli_lookup.specs.inside.RowsTaken.{AreTaken};
@@ -232,10 +232,8 @@ pub(crate) fn search_unit<R: Reader>(
     ensures found { IfOk result (λ found. (parts : List (List LineRow))
         × IsKept program.notation lowest program.meaning (header_of found.run) found.fault parts
         × All (λ a. IsFoundOf unit parts a (first_covering a found.pairs.items)) addresses.now) }
-    ensures notation { IfOk result (λ found. found.run.notation ≡ program.notation) }
-    ensures offset { IfOk result (λ found.
-        found.run.offset ≡ R.Offset.number program.offset.0) }
-    ensures order { HasOneOrder R.big program → IfOk result (λ found. IsOfOneOrder found.run) }
+    ensures run { IfOk result (λ found. KeepsRun
+        (whole_run program.meaning (source_of R.big R.Offset.number program)) found.run) }
     ensures err { IfErr result (λ e. e ≡ Error.OutOfMemory) }
 {
     let mut run = program.rows();

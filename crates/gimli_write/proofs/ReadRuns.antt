@@ -53,7 +53,8 @@ first_fault notation h events left rest rows files e tells so_far next = record 
 
 -- a refusal after rows is the first fault, or `OutOfMemory`, and has the name that conversions give it
 pub run_refused : (notation : Notation) (h : Header) (events : List EventWithFiles) (old new : RunState) (rows : List LineRow) (e : Error) (r : ConvertError)
-    → EventsWithFiles notation true h h.program events → events_of events ≡ map row rows ++ events_of (events_left old) → FaultIs live_events (with_reset_row old) new e
+    → EventsWithFiles notation true h h.program events → events_of events ≡ map row rows ++ events_of (events_left old)
+    → FaultIs live_events (with_reset_row old) new e
     → (e ≡ OutOfMemory → r ≡ NoMemory) → (e ≢ OutOfMemory → r ≡ Read e) → IsRunRefusal notation h r
 run_refused notation h events old new rows e r tells so_far (inl memory) named other = rw (named memory.0) tt
 run_refused notation h events old new rows e r tells so_far (inr next) named other = elim (is_memory e) [

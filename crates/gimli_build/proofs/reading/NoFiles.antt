@@ -10,7 +10,7 @@ use Rattle.gimli_core.specs.declared.common.LineEncoding.{LineEncoding}
 use Rattle.gimli_core.specs.declared.error.Error.{Error}
 use Rattle.gimli_core.specs.declared.error.Error.TheVariants.{AddressOverflow}
 use Rattle.gimli_line.specs.header.File.{File}
-use Rattle.gimli_line.specs.header.Orders.{HeaderOrders}
+use Rattle.gimli_line.specs.header.Orders.{Source}
 use Rattle.gimli_line.specs.header.Header.{Header, without_files}
 use Rattle.gimli_line.specs.header.Parameters.{Parameters}
 use Rattle.gimli_line.specs.declared.run.row.LineRow.{LineRow as ReadRow}
@@ -25,7 +25,7 @@ use Rattle.gimli_line.specs.run.Instruction.{files_after}
 use Rattle.gimli_line.specs.run.Machine.{is_refused, step_of, next_registers, made_from}
 use Rattle.gimli_line.specs.run.RunState.{RunState}
 use Rattle.gimli_line.specs.run.Progress.{with_reset_row, Progress}
-use Rattle.gimli_line.specs.run.Rows.{live_events, events_left, start_of_run, WantsMemory, FaultIs}
+use Rattle.gimli_line.specs.run.Rows.{live_events, events_left, WantsMemory, FaultIs}
 use Rattle.gimli_line.proofs.InstructionLaws.{is_decoded, one_decoding}
 use Rattle.gimli_build.specs.declared.built.row.LineRow.{LineRow}
 use Rattle.gimli_build.specs.declared.built.items.BuiltItem.{BuiltItem}
@@ -37,7 +37,7 @@ use Rattle.gimli_build.specs.Due.{when}
 use Rattle.gimli_build.specs.Encode.{differ, marks, changes, is_special_advance, line_opcode, line_part, still_opcode, constant_advance, row_maker}
 use Rattle.gimli_build.specs.Encode.{operation_part, row_instructions, end_instructions}
 use Rattle.gimli_build.specs.Items.{next_previous, item_instructions, items_instructions}
-use Rattle.gimli_build.specs.NoFiles.{DefinesNoFile}
+use Rattle.gimli_build.specs.NoFiles.{DefinesNoFile, program_started}
 
 -- ---- the instructions of items
 
@@ -218,11 +218,10 @@ bare_each : (notation : Notation) (h : Header) (front : List ℕ) (list : List I
 bare_each notation h front [] s = s
 bare_each notation h front (i ∷ list) s = (s.0, s.1, s.2, s.3, bare_each notation h s.1 list s.4)
 
-pub starts-none : (notation : Notation) (h : Header) (appends : Bool) (offset : ℕ) (orders : HeaderOrders) (list : List Ins)
-    → Decodes notation h h.program list None → All (λ i. defines_file i ≡ false) list
-    → DefinesNoFile (start_of_run appends h notation offset orders (record { bytes = h.program; notation = notation }))
-starts-none notation h appends offset orders list d none = record {
+pub starts-none : (source : Source) (h : Header) (appends : Bool) (list : List Ins) → Decodes source.notation h h.program list None
+    → All (λ i. defines_file i ≡ false) list → DefinesNoFile (program_started appends h source)
+starts-none source h appends list d none = record {
   list = list;
-  decoding = record { front = d.front; rest = d.rest; parts = d.parts; spelled = bare_each notation h d.front list d.spelled; ended = d.ended };
+  decoding = record { front = d.front; rest = d.rest; parts = d.parts; spelled = bare_each source.notation h d.front list d.spelled; ended = d.ended };
   none = none;
 }

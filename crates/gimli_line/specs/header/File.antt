@@ -1,6 +1,6 @@
 -- A file, with lists of bytes in place of readers and numbers in place of offsets.
 use Rattle.std.specs.Prelude.{ℕ, Bool, List, Option, option_map, IfSome}
-use Rattle.gimli_core.specs.Values.{value_seen, ValueHasOrder, value_order}
+use Rattle.gimli_core.specs.Values.{value_seen, IsOrder, value_order}
 use Rattle.gimli_line.specs.declared.header.file_entry.FileEntry.{FileEntry}
 
 abbrev pub File : Type 0
@@ -18,11 +18,6 @@ module _ {R Offset Endian : Type 0} (bytes : R → List ℕ) (number : Offset �
     source = option_map (value_seen bytes number) f.source;
   }
 
--- the readers of a file, in its path and its source, have this order of bytes
-module _ {R Offset Endian : Type 0} (big : R → Bool) (order : Bool) where
-  abbrev pub FileHasOrder : FileEntry R Offset Endian → Type 0
-  FileHasOrder f = ValueHasOrder big order f.path_name × IfSome f.source (ValueHasOrder big order)
-
 -- the orders of bytes of a file's readers: of its path, and of its source
 abbrev pub FileOrders : Type 0
 FileOrders = Option Bool × Option (Option Bool)
@@ -30,6 +25,14 @@ FileOrders = Option Bool × Option (Option Bool)
 module _ {R Offset Endian : Type 0} (big : R → Bool) where
   abbrev pub file_orders : FileEntry R Offset Endian → FileOrders
   file_orders f = (value_order big f.path_name, option_map (value_order big) f.source)
+
+-- the readers of a file, in its path and its source, have this order
+abbrev pub AreFileOrders : Bool → FileOrders → Type 0
+AreFileOrders order o = IsOrder order o.0 × IfSome o.1 (IsOrder order)
+
+module _ {R Offset Endian : Type 0} (big : R → Bool) (order : Bool) where
+  abbrev pub FileHasOrder : FileEntry R Offset Endian → Type 0
+  FileHasOrder f = AreFileOrders order (file_orders big f)
 
 -- a file, its readers seen by bytes and order, and its offsets by number
 module _ {R Offset Endian : Type 0} (bytes : R → List ℕ) (big : R → Bool)

@@ -1,16 +1,16 @@
 -- A header: what it says, and how contracts see it.
 use Rattle.std.specs.Prelude.{◌≡◌, ℕ, zero, suc, Bool, List, [], ◌∷◌, ◌++◌, Option, None}
 use Rattle.std.specs.Prelude.{option_map, replicate, nat_le, nat_eq, if◌then◌else◌, slice_get}
-use Rattle.std.specs.List.{list_any, All}
+use Rattle.std.specs.List.{list_any}
 use Rattle.std.specs.declared.vec.Vec.{Vec}
 use Rattle.std.specs.declared.alloc.Global.{Global}
-use Rattle.gimli_core.specs.Values.{Value, ValueHasOrder}
+use Rattle.gimli_core.specs.Values.{Value}
 use Rattle.gimli_core.specs.declared.attribute_value.AttributeValue.{AttributeValue}
 use Rattle.gimli_core.specs.declared.attribute_value.AttributeValue.TheVariants.{String}
 use Rattle.gimli_core.specs.declared.common.DebugLineOffset.{DebugLineOffset}
 use Rattle.gimli_core.specs.Notation.{Notation}
 use Rattle.gimli_line.specs.header.Parameters.{Parameters}
-use Rattle.gimli_line.specs.header.File.{File, FileHasOrder}
+use Rattle.gimli_line.specs.header.File.{File}
 use Rattle.gimli_line.specs.declared.header.file_entry.FileEntry.{FileEntry}
 use Rattle.gimli_line.specs.declared.header.file_entry.FileEntryFormat.{FileEntryFormat}
 
@@ -126,13 +126,3 @@ module _ {R Offset Endian : Type 0} where
 
   abbrev pub own_file_of : SeenHeader R Offset Endian → ℕ → Option (FileEntry R Offset Endian)
   own_file_of h i = entry_of h.meaning.parameters.encoding.version h.comp_file h.file_names.items i
-
--- ---- the order of bytes of a header's readers
-
--- the readers that were taken from the section, in the operand counts and both tables, have the
--- order of the program
-module _ {R Offset Endian : Type 0} (big : R → Bool) where
-  pub record HasOneOrder (h : SeenHeader R Offset Endian) : Type 0 where
-    pub operand_counts : big h.standard_opcode_lengths ≡ h.notation.big
-    pub directories : All (ValueHasOrder big h.notation.big) h.include_directories.items
-    pub files : All (FileHasOrder big h.notation.big) h.file_names.items

@@ -1,7 +1,8 @@
 -- The orders of bytes of the readers that a header takes from its section.
-use Rattle.std.specs.Prelude.{◌≡◌, Bool, List, map, Option, option_map, IfSome, All}
-use Rattle.gimli_core.specs.Values.{value_order}
-use Rattle.gimli_line.specs.header.File.{FileOrders, file_orders}
+use Rattle.std.specs.Prelude.{◌≡◌, ℕ, Bool, List, map, Option, option_map, All}
+use Rattle.gimli_core.specs.Notation.{Notation}
+use Rattle.gimli_core.specs.Values.{value_order, IsOrder}
+use Rattle.gimli_line.specs.header.File.{FileOrders, file_orders, AreFileOrders}
 use Rattle.gimli_line.specs.header.Header.{SeenHeader}
 
 -- those of the directory and of the name that a caller handed in, where there are any: such readers
@@ -26,16 +27,38 @@ module _ {R Offset Endian : Type 0} (big : R → Bool) where
     handed = (option_map big h.comp_dir, option_map (file_orders big) h.comp_file);
   }
 
--- a reader, where there is one, has this order
-abbrev pub IsOrder : Bool → Option Bool → Type 0
-IsOrder order o = IfSome o (λ big. big ≡ order)
-
--- so have those of a file
-abbrev pub AreFileOrders : Bool → FileOrders → Type 0
-AreFileOrders order o = IsOrder order o.0 × IfSome o.1 (IsOrder order)
-
 -- all that were taken from the section have this order
 pub record AreOneOrder (order : Bool) (o : HeaderOrders) : Type 0 where
   pub operand_counts : o.operand_counts ≡ order
   pub directories : All (IsOrder order) o.directories
   pub files : All (AreFileOrders order) o.files
+
+-- ---- the source of a header
+
+-- how its program notes numbers, where it stands in its section, and the orders of its readers
+pub record Source : Type 0 where
+  pub notation : Notation
+  pub offset : ℕ
+  pub orders : HeaderOrders
+
+module _ {R Offset Endian : Type 0} (big : R → Bool) where
+  abbrev pub source_of : (Offset → ℕ) → SeenHeader R Offset Endian → Source
+  source_of number h = record {
+    notation = h.notation;
+    offset = number h.offset.0;
+    orders = header_orders big h;
+  }
+
+  -- the readers that were taken from the section, in the operand counts and both tables, have the
+  -- order of the program
+  abbrev pub HasOneOrder : SeenHeader R Offset Endian → Type 0
+  HasOneOrder h = AreOneOrder h.notation.big (header_orders big h)
+
+-- it is still the same source: readers that were handed in keep their order, and those that were
+-- taken from the section have one order as before, if what is added fits it
+pub record KeepsSource (Fits : Bool → Type 0) (old new : Source) : Type 0 where
+  pub notation : new.notation ≡ old.notation
+  pub offset : new.offset ≡ old.offset
+  pub handed : new.orders.handed ≡ old.orders.handed
+  pub order : (order : Bool) → Fits order → AreOneOrder order old.orders
+      → AreOneOrder order new.orders

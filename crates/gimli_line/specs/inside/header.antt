@@ -3,7 +3,6 @@ pub mod FormReading
 pub mod HeaderGrammar
 pub mod HeaderReading
 pub mod Opening
-pub mod Orders
 pub mod Outcome
 pub mod Parameters
 pub mod TableReading

@@ -4,11 +4,10 @@ use Rattle.std.specs.Prelude.{Some, None, Result, Ok, Err}
 use Rattle.std.specs.Borrow.{Bor}
 use Rattle.gimli_core.specs.declared.error.Error.{Error}
 use Rattle.gimli_core.specs.declared.error.Error.TheVariants.{AddressOverflow, OutOfMemory}
-use Rattle.gimli_core.specs.Notation.{Notation}
 use Rattle.gimli_line.specs.declared.run.row.LineRow.{LineRow}
 use Rattle.gimli_line.specs.header.File.{File}
 use Rattle.gimli_line.specs.header.Header.{Header, SeenHeader, without_files}
-use Rattle.gimli_line.specs.header.Orders.{HeaderOrders, AreOneOrder}
+use Rattle.gimli_line.specs.header.Orders.{Source, source_of, AreOneOrder, KeepsSource}
 use Rattle.gimli_line.specs.run.Instruction.{Ins, defines_file}
 use Rattle.gimli_line.specs.run.InstructionGrammar.{SpellsInstruction}
 use Rattle.gimli_line.specs.run.InstructionReading.{decoded_at}
@@ -49,28 +48,28 @@ abbrev pub event_of : Event → RunState → EventWithFiles
 event_of e a = record { event = e; files = a.files }
 
 -- rows at the start of a sequence
-abbrev pub start_of_run : Bool → Header → Notation → ℕ → HeaderOrders → Unread → RunState
-start_of_run appends h notation offset orders unread = record {
+abbrev pub start_of_run : Bool → Header → Source → Unread → RunState
+start_of_run appends h source unread = record {
   fixed = without_files h;
   files = h.files;
   appends = appends;
-  notation = notation;
-  offset = offset;
-  orders = orders;
+  source = source;
   row = initial h.parameters;
   unread = unread;
 }
 
 -- rows of a whole program, from its start to its end
-abbrev pub whole_run : Header → Notation → ℕ → HeaderOrders → RunState
-whole_run h notation offset orders =
-    start_of_run true h notation offset orders (whole_program h notation)
+abbrev pub whole_run : Header → Source → RunState
+whole_run h source = start_of_run true h source (whole_program h source.notation)
 
--- the readers of the header have the order of its program, and so have the instructions to come,
--- where files are added
+-- where files are added, the instructions to come have this order
+abbrev pub AddsInOrder : RunState → Bool → Type 0
+AddsInOrder a order = a.appends ≡ true → a.unread.notation.big ≡ order
+
+-- the readers of the header have the order of its program, and so has what is added
 pub record IsOfOneOrder (a : RunState) : Type 0 where
-  pub readers : AreOneOrder a.notation.big a.orders
-  pub unread : a.appends ≡ true → a.unread.notation.big ≡ a.notation.big
+  pub readers : AreOneOrder a.source.notation.big a.source.orders
+  pub unread : AddsInOrder a a.source.notation.big
 
 -- an event is a row
 abbrev pub IsRow : EventWithFiles → Type 0
@@ -81,19 +80,25 @@ pub record GivesRowsAlone (a : RunState) : Type 0 where
   pub complete : a.appends ≡ false
   pub rows : All IsRow (events_left a)
 
--- the header is the same but for its files, whose readers keep the order of its program; readers
--- that were handed in keep theirs; and a run that is refused for nothing stays one
-pub record KeepsHeader (old new : RunState) : Type 0 where
-  pub order : IsOfOneOrder old → IsOfOneOrder new
-  pub handed : new.orders.handed ≡ old.orders.handed
-  pub alone : GivesRowsAlone old → GivesRowsAlone new
+-- the header is the same but for its files, and it comes from the same source
+pub record KeepsRun (old new : RunState) : Type 0 where
   pub fixed : new.fixed ≡ old.fixed
   pub appends : new.appends ≡ old.appends
-  pub notation : new.notation ≡ old.notation
-  pub offset : new.offset ≡ old.offset
+  pub unread : new.unread.notation ≡ old.unread.notation
+  pub source : KeepsSource (AddsInOrder old) old.source new.source
 
--- ---- an answer, where `live` says what is to come where the registers were reset: `live_events` or
--- `live_made`
+-- and a run that is refused for nothing stays one
+pub record KeepsHeader (old new : RunState) : Type 0 where
+  pub run : KeepsRun old new
+  pub alone : GivesRowsAlone old → GivesRowsAlone new
+
+-- a header is that of a run but for its files, and it comes from the same source
+pub record SeesHeader {R Offset Endian : Type 0} (big : R → Bool) (number : Offset → ℕ)
+    (a : RunState) (h : SeenHeader R Offset Endian) : Type 0 where
+  pub fixed : without_files h.meaning ≡ a.fixed
+  pub source : KeepsSource (AddsInOrder a) a.source (source_of big number h)
+
+-- ---- an answer; `live` is `live_events` or `live_made`
 
 -- a row was the next to come, and these are the files of its point; those at the end are still the
 -- same

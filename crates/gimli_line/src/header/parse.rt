@@ -173,7 +173,8 @@ where
 {
     ghost use Rattle.gimli_line.specs.inside.header.Outcome.{IsAnswer};
     ghost use Rattle.gimli_core.specs.declared.attribute_value.AttributeValue.TheVariants.{String};
-    ghost use Rattle.gimli_line.specs.header.Header.{plain_file, unit_entry, HasOneOrder};
+    ghost use Rattle.gimli_line.specs.header.Header.{plain_file, unit_entry};
+    ghost use Rattle.gimli_line.specs.header.Orders.{HasOneOrder};
     ghost use Rattle.gimli_line.specs.header.HeaderGrammar.{handed_value};
     ghost use Rattle.gimli_line.specs.inside.header.HeaderReading.{fields_at, header_at};
     ghost use Rattle.gimli_line.specs.inside.header.Opening.{opening_seen};

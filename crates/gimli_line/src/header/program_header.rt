@@ -124,7 +124,7 @@ where
     ghost use Rattle.gimli_line.specs.header.Header.{own_file_of, has_content, with_file};
     ghost use Rattle.gimli_line.specs.header.HeaderParts.{parts_of};
     ghost use Rattle.gimli_line.specs.header.File.{file_seen, FileHasOrder};
-    ghost use Rattle.gimli_line.specs.header.Orders.{AreOneOrder, header_orders};
+    ghost use Rattle.gimli_line.specs.header.Orders.{source_of, KeepsSource};
     ghost use Rattle.gimli_line.specs.Units.{offset_after};
 
     /// A copy, which agrees with the header in all its parts and says what it says. Refused by
@@ -412,13 +412,8 @@ where
             ≡ with_file (file_seen R.bytes Offset.number file) self.old.meaning) }
         ensures err { OnErr result (self.new.meaning ≡ self.old.meaning) }
         ensures memory { IfErr result (λ e. e ≡ Error.OutOfMemory) }
-        ensures notation { self.new.notation ≡ self.old.notation }
-        ensures offset { self.new.offset ≡ self.old.offset }
-        ensures order { (order : Bool) → FileHasOrder R.big order file
-            → AreOneOrder order (header_orders R.big self.old)
-            → AreOneOrder order (header_orders R.big self.new) }
-        ensures handed { (header_orders R.big self.new).handed
-            ≡ (header_orders R.big self.old).handed }
+        ensures source { KeepsSource (λ order. FileHasOrder R.big order file)
+            (source_of R.big Offset.number self.old) (source_of R.big Offset.number self.new) }
     {
         push(&mut self.file_names, file)
     }

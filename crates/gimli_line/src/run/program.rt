@@ -7,23 +7,16 @@ use std::marker::Model;
 
 /// What has the header of a line program, and takes the files that the program defines.
 pub trait LineProgram<R: Reader> {
-    ghost use Rattle.std.specs.Prelude.{◌≡◌, ℕ, Bool, true, OnOk, OnErr, IfErr};
-    ghost use Rattle.gimli_core.specs.Notation.{Notation};
+    ghost use Rattle.std.specs.Prelude.{◌≡◌, Bool, true, OnOk, OnErr, IfErr};
     ghost use Rattle.gimli_line.specs.header.Header.{Header, with_defined_file};
     ghost use Rattle.gimli_line.specs.header.File.{file_seen, FileHasOrder};
-    ghost use Rattle.gimli_line.specs.header.Orders.{HeaderOrders, AreOneOrder, header_orders};
+    ghost use Rattle.gimli_line.specs.header.Orders.{Source, source_of, KeepsSource};
 
     /// What the header says.
     ghost meaning: { Self → Header };
 
-    /// The notation of the program.
-    ghost notation: { Self → Notation };
-
-    /// The offset of the header in its section.
-    ghost offset: { Self → ℕ };
-
-    /// The orders of bytes of the header's readers.
-    ghost orders: { Self → HeaderOrders };
+    /// Where the header comes from.
+    ghost source: { Self → Source };
 
     /// Whether a file is added, or the list is complete.
     ghost appends: { Bool };
@@ -31,9 +24,7 @@ pub trait LineProgram<R: Reader> {
     /// The header.
     fn header(&self) -> &LineProgramHeader<R>
         ensures meaning { result.now.meaning ≡ meaning self.now }
-        ensures notation { result.now.notation ≡ notation self.now }
-        ensures offset { R.Offset.number result.now.offset.0 ≡ offset self.now }
-        ensures orders { header_orders R.big result.now ≡ orders self.now };
+        ensures source { source_of R.big R.Offset.number result.now ≡ source self.now };
 
     /// Adds a file that the program defines, where the list of files isn't complete. Refused by
     /// `OutOfMemory` alone; nothing is changed then.
@@ -42,11 +33,8 @@ pub trait LineProgram<R: Reader> {
             (file_seen R.bytes R.Offset.number file) (meaning self.old)) }
         ensures err { OnErr result (meaning self.new ≡ meaning self.old) }
         ensures memory { IfErr result (λ e. (e ≡ Error.OutOfMemory) × (appends ≡ true)) }
-        ensures notation { notation self.new ≡ notation self.old }
-        ensures offset { offset self.new ≡ offset self.old }
-        ensures order { (order : Bool) → (appends ≡ true → FileHasOrder R.big order file)
-            → AreOneOrder order (orders self.old) → AreOneOrder order (orders self.new) }
-        ensures handed { (orders self.new).handed ≡ (orders self.old).handed };
+        ensures source { KeepsSource (λ order. appends ≡ true → FileHasOrder R.big order file)
+            (source self.old) (source self.new) };
 }
 
 /// A line program that was not run yet, so that files may still be defined.
@@ -104,18 +92,14 @@ where
 }
 
 impl<R: Reader> LineProgram<R> for IncompleteLineProgram<R> {
-    ghost use Rattle.std.specs.Prelude.{◌≡◌, Bool, true, OnOk, OnErr, IfErr};
+    ghost use Rattle.std.specs.Prelude.{◌≡◌, true, OnOk, OnErr, IfErr};
     ghost use Rattle.gimli_line.specs.header.File.{file_seen, FileHasOrder};
     ghost use Rattle.gimli_line.specs.header.Header.{with_file};
-    ghost use Rattle.gimli_line.specs.header.Orders.{AreOneOrder, header_orders};
+    ghost use Rattle.gimli_line.specs.header.Orders.{source_of, KeepsSource};
 
     ghost meaning = { λ p. p.meaning };
 
-    ghost notation = { λ p. p.notation };
-
-    ghost offset = { λ p. R.Offset.number p.offset.0 };
-
-    ghost orders = { λ p. header_orders R.big p };
+    ghost source = { λ p. source_of R.big R.Offset.number p };
 
     ghost appends = { true };
 
@@ -128,13 +112,9 @@ impl<R: Reader> LineProgram<R> for IncompleteLineProgram<R> {
             ≡ with_file (file_seen R.bytes R.Offset.number file) self.old.meaning) }
         ensures err { OnErr result (self.new.meaning ≡ self.old.meaning) }
         ensures memory { IfErr result (λ e. (e ≡ Error.OutOfMemory) × (true ≡ true)) }
-        ensures notation { self.new.notation ≡ self.old.notation }
-        ensures offset { R.Offset.number self.new.offset.0 ≡ R.Offset.number self.old.offset.0 }
-        ensures order { (order : Bool) → (true ≡ true → FileHasOrder R.big order file)
-            → AreOneOrder order (header_orders R.big self.old)
-            → AreOneOrder order (header_orders R.big self.new) }
-        ensures handed { (header_orders R.big self.new).handed
-            ≡ (header_orders R.big self.old).handed }
+        ensures source { KeepsSource (λ order. true ≡ true → FileHasOrder R.big order file)
+            (source_of R.big R.Offset.number self.old)
+            (source_of R.big R.Offset.number self.new) }
     {
         self.header.add_file(file)
     }
@@ -195,17 +175,13 @@ where
 }
 
 impl<'program, R: Reader> LineProgram<R> for &'program CompleteLineProgram<R> {
-    ghost use Rattle.std.specs.Prelude.{◌≡◌, Bool, true, false, IsOk, OnOk, OnErr, IfErr};
+    ghost use Rattle.std.specs.Prelude.{◌≡◌, true, false, IsOk, OnOk, OnErr, IfErr};
     ghost use Rattle.gimli_line.specs.header.File.{FileHasOrder};
-    ghost use Rattle.gimli_line.specs.header.Orders.{AreOneOrder, header_orders};
+    ghost use Rattle.gimli_line.specs.header.Orders.{source_of, KeepsSource};
 
     ghost meaning = { λ p. p.now.meaning };
 
-    ghost notation = { λ p. p.now.notation };
-
-    ghost offset = { λ p. R.Offset.number p.now.offset.0 };
-
-    ghost orders = { λ p. header_orders R.big p.now };
+    ghost source = { λ p. source_of R.big R.Offset.number p.now };
 
     ghost appends = { false };
 
@@ -218,14 +194,9 @@ impl<'program, R: Reader> LineProgram<R> for &'program CompleteLineProgram<R> {
         ensures ok { OnOk result (self.new.now.meaning ≡ self.old.now.meaning) }
         ensures err { OnErr result (self.new.now.meaning ≡ self.old.now.meaning) }
         ensures memory { IfErr result (λ e. (e ≡ Error.OutOfMemory) × (false ≡ true)) }
-        ensures notation { self.new.now.notation ≡ self.old.now.notation }
-        ensures offset { R.Offset.number self.new.now.offset.0
-            ≡ R.Offset.number self.old.now.offset.0 }
-        ensures order { (order : Bool) → (false ≡ true → FileHasOrder R.big order _file)
-            → AreOneOrder order (header_orders R.big self.old.now)
-            → AreOneOrder order (header_orders R.big self.new.now) }
-        ensures handed { (header_orders R.big self.new.now).handed
-            ≡ (header_orders R.big self.old.now).handed }
+        ensures source { KeepsSource (λ order. false ≡ true → FileHasOrder R.big order _file)
+            (source_of R.big R.Offset.number self.old.now)
+            (source_of R.big R.Offset.number self.new.now) }
         ensures only { IsOk result }
     {
         Ok(())

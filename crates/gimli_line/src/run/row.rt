@@ -58,7 +58,7 @@ fn sum_of_size(address: u64, length: u64, size: u8) -> Result<u64>
 
 impl LineRow {
     ghost use Rattle.gimli_line.specs.header.Header.{file_of, own_file_of};
-    ghost use Rattle.gimli_line.specs.header.Orders.{AreOneOrder};
+    ghost use Rattle.gimli_line.specs.header.Orders.{KeepsSource};
     ghost use Rattle.gimli_line.specs.run.Instruction.{ins_seen, makes_row, header_after};
     ghost use Rattle.gimli_line.specs.run.Instruction.{InsHasOrder};
     ghost use Rattle.gimli_line.specs.header.File.{file_seen};
@@ -227,11 +227,9 @@ impl LineRow {
         ensures memory { IfErr result (OtherRefusalIs P.appends
             (ins_seen R.bytes R.Offset.number instruction) self.old self.new) }
         ensures kept { OnErr result (P.meaning program.new ≡ P.meaning program.old) }
-        ensures notation { P.notation program.new ≡ P.notation program.old }
-        ensures offset { P.offset program.new ≡ P.offset program.old }
-        ensures order { (order : Bool) → (P.appends ≡ true → InsHasOrder R.big order instruction)
-            → AreOneOrder order (P.orders program.old) → AreOneOrder order (P.orders program.new) }
-        ensures handed { (P.orders program.new).handed ≡ (P.orders program.old).handed }
+        ensures source { KeepsSource (λ order.
+            P.appends ≡ true → InsHasOrder R.big order instruction)
+            (P.source program.old) (P.source program.new) }
     {
         let parameters = program.header().parameters;
         if let LineInstruction::DefineFile(file) = instruction {

@@ -42,9 +42,7 @@ impl<R: Reader, P: LineProgram<R>> Model for LineRows<R, P> {
       fixed = without_files (P.meaning a.program);
       files = (P.meaning a.program).files;
       appends = P.appends;
-      notation = P.notation a.program;
-      offset = P.offset a.program;
-      orders = P.orders a.program;
+      source = P.source a.program;
       row = a.row;
       unread = a.instructions;
     } };
@@ -71,19 +69,18 @@ impl<R: Reader, P: LineProgram<R>> LineRows<R, P> {
     ghost use Rattle.std.specs.Borrow.{sem};
     ghost use Rattle.std.specs.Io.BufRead.{Rests};
     ghost use Rattle.gimli_line.specs.run.Events.{row as row_event};
-    ghost use Rattle.gimli_line.specs.header.Header.{without_files, HasOneOrder};
-    ghost use Rattle.gimli_line.specs.header.Orders.{header_orders};
+    ghost use Rattle.gimli_line.specs.header.Header.{without_files};
     ghost use Rattle.gimli_line.specs.run.Progress.{with_reset_row, Progress};
-    ghost use Rattle.gimli_line.specs.run.Rows.{start_of_run, GivesRowsAlone, IsOfOneOrder};
-    ghost use Rattle.gimli_line.specs.run.Rows.{KeepsHeader, NextIs, RowIs, EndIs, FaultIs};
+    ghost use Rattle.gimli_line.specs.run.Rows.{start_of_run, GivesRowsAlone};
+    ghost use Rattle.gimli_line.specs.run.Rows.{KeepsRun, KeepsHeader, SeesHeader, NextIs, RowIs};
+    ghost use Rattle.gimli_line.specs.run.Rows.{EndIs, FaultIs};
     ghost use Rattle.gimli_line.specs.run.Rows.{live_events, live_made};
-    ghost use Rattle.gimli_line.specs.inside.run.Rows.{given_row, KeepsRun, StepsTo};
+    ghost use Rattle.gimli_line.specs.inside.run.Rows.{given_row, StepsTo};
 
     /// The rows of these instructions of a program, from the start of a sequence on.
     pub(crate) fn start(program: P, instructions: LineInstructions<R>) -> Self
         ensures { result
-            ≡ start_of_run P.appends (P.meaning program) (P.notation program) (P.offset program)
-            (P.orders program) instructions }
+            ≡ start_of_run P.appends (P.meaning program) (P.source program) instructions }
     {
         let row = LineRow::new(program.header());
         LineRows {
@@ -95,12 +92,8 @@ impl<R: Reader, P: LineProgram<R>> LineRows<R, P> {
 
     /// The header, with the files that were defined so far.
     pub fn header(&self) -> &LineProgramHeader<R>
-        ensures header { without_files result.now.meaning ≡ self.now.fixed }
+        ensures header { SeesHeader R.big R.Offset.number self.now result.now }
         ensures files { result.now.meaning.files ≡ self.now.files }
-        ensures notation { result.now.notation ≡ self.now.notation }
-        ensures offset { R.Offset.number result.now.offset.0 ≡ self.now.offset }
-        ensures order { IsOfOneOrder self.now → HasOneOrder R.big result.now }
-        ensures handed { (header_orders R.big result.now).handed ≡ self.now.orders.handed }
     {
         self.program.header()
     }
@@ -116,15 +109,7 @@ impl<R: Reader, P: LineProgram<R>> LineRows<R, P> {
             (λ new. KeepsHeader self.old new × NextIs live_events self.old new result)) }
         ensures ended { self.old.unread.bytes ≡ [] → result ≡ Ok None }
         ensures header { IfOk result (λ found. IfSome found
-            (λ next. without_files next.0.now.meaning ≡ self.old.fixed)) }
-        ensures notation { IfOk result (λ found. IfSome found
-            (λ next. next.0.now.notation ≡ self.old.notation)) }
-        ensures offset { IfOk result (λ found. IfSome found
-            (λ next. R.Offset.number next.0.now.offset.0 ≡ self.old.offset)) }
-        ensures order { IsOfOneOrder self.old → IfOk result (λ found. IfSome found
-            (λ next. HasOneOrder R.big next.0.now)) }
-        ensures handed { IfOk result (λ found. IfSome found
-            (λ next. (header_orders R.big next.0.now).handed ≡ self.old.orders.handed)) }
+            (λ next. SeesHeader R.big R.Offset.number self.old next.0.now)) }
         ensures unrefused { GivesRowsAlone self.old → IsOk result }
     {
         match self.advance() {
@@ -142,15 +127,7 @@ impl<R: Reader, P: LineProgram<R>> LineRows<R, P> {
         ensures* after { sem 𝓛 (Rests ⟦<LineRows<R, P> as Lent>⟧.lent self.entry
             (λ new. KeepsHeader self.old new × NextIs live_made self.old new result)) }
         ensures header { IfOk result (λ found. IfSome found
-            (λ next. without_files next.0.now.meaning ≡ self.old.fixed)) }
-        ensures notation { IfOk result (λ found. IfSome found
-            (λ next. next.0.now.notation ≡ self.old.notation)) }
-        ensures offset { IfOk result (λ found. IfSome found
-            (λ next. R.Offset.number next.0.now.offset.0 ≡ self.old.offset)) }
-        ensures order { IsOfOneOrder self.old → IfOk result (λ found. IfSome found
-            (λ next. HasOneOrder R.big next.0.now)) }
-        ensures handed { IfOk result (λ found. IfSome found
-            (λ next. (header_orders R.big next.0.now).handed ≡ self.old.orders.handed)) }
+            (λ next. SeesHeader R.big R.Offset.number self.old next.0.now)) }
     {
         match self.advance_any() {
             Err(e) => Err(e),
@@ -177,9 +154,7 @@ impl<R: Reader, P: LineProgram<R>> LineRows<R, P> {
     pub(crate) fn into_program(self) -> P
         ensures header { without_files (P.meaning result) ≡ self.fixed }
         ensures files { (P.meaning result).files ≡ self.files }
-        ensures notation { P.notation result ≡ self.notation }
-        ensures offset { P.offset result ≡ self.offset }
-        ensures orders { P.orders result ≡ self.orders }
+        ensures source { P.source result ≡ self.source }
     {
         self.program
     }
@@ -335,13 +310,9 @@ impl<R: Reader, P: LineProgram<R>> LineRows<R, P> {
 
     /// The header and the row, as they are.
     fn current(&self) -> (&LineProgramHeader<R>, &LineRow)
-        ensures header { without_files result.0.now.meaning ≡ self.now.fixed }
+        ensures header { SeesHeader R.big R.Offset.number self.now result.0.now }
         ensures files { result.0.now.meaning.files ≡ self.now.files }
-        ensures notation { result.0.now.notation ≡ self.now.notation }
-        ensures offset { R.Offset.number result.0.now.offset.0 ≡ self.now.offset }
         ensures row { result.1.now ≡ self.now.row }
-        ensures order { IsOfOneOrder self.now → HasOneOrder R.big result.0.now }
-        ensures handed { (header_orders R.big result.0.now).handed ≡ self.now.orders.handed }
     {
         (self.program.header(), &self.row)
     }
@@ -380,10 +351,8 @@ impl<R: Reader> LineRows<R, IncompleteLineProgram<R>> {
 
 impl<R: Reader> IncompleteLineProgram<R> {
     ghost use Rattle.std.specs.Prelude.{◌≡◌, true};
-    ghost use Rattle.gimli_line.specs.header.Header.{HasOneOrder};
-    ghost use Rattle.gimli_line.specs.header.Orders.{header_orders};
+    ghost use Rattle.gimli_line.specs.header.Orders.{source_of};
     ghost use Rattle.gimli_line.specs.run.Rows.{events_left, made_left, files_at_end, whole_run};
-    ghost use Rattle.gimli_line.specs.run.Rows.{IsOfOneOrder};
     ghost use Rattle.gimli_line.specs.run.EventsWithFiles.{Makes, EventsWithFiles, FilesAtEnd};
 
     /// The rows of the program, from its start to its end.
@@ -394,9 +363,7 @@ impl<R: Reader> IncompleteLineProgram<R> {
             (made_left result) }
         ensures files { FilesAtEnd self.notation true self.meaning self.meaning.program
             (files_at_end result) }
-        ensures start { result ≡ whole_run self.meaning self.notation
-            (R.Offset.number self.offset.0) (header_orders R.big self) }
-        ensures order { HasOneOrder R.big self → IsOfOneOrder result }
+        ensures start { result ≡ whole_run self.meaning (source_of R.big R.Offset.number self) }
     {
         let instructions = self.header.instructions();
         LineRows::start(self, instructions)

@@ -159,9 +159,8 @@ impl RowSplit {
 
 impl<R: Reader> IncompleteLineProgram<R> {
     ghost use Rattle.std.specs.Prelude.{◌≡◌, ◌≢◌, map, All, IfErr, IfOk};
-    ghost use Rattle.gimli_line.specs.header.Header.{HasOneOrder};
     ghost use Rattle.gimli_line.specs.run.Events.{row};
-    ghost use Rattle.gimli_line.specs.header.Orders.{header_orders};
+    ghost use Rattle.gimli_line.specs.header.Orders.{source_of, KeepsSource};
     ghost use Rattle.gimli_line.specs.run.Sequences.{part_of, AreSequences, HasFirstFault};
     ghost use Rattle.gimli_line.specs.run.Sequences.{HaveRuns, ResumesToRows};
 
@@ -171,12 +170,8 @@ impl<R: Reader> IncompleteLineProgram<R> {
     pub fn sequences(self) -> Result<(CompleteLineProgram<R>, Vec<LineSequence<R>>)>
         ensures ok { IfOk result (λ found. AreSequences self.notation self.meaning found.0.meaning
             (map part_of found.1.items)) }
-        ensures notation { IfOk result (λ found. found.0.notation ≡ self.notation) }
-        ensures offset { IfOk result
-            (λ found. R.Offset.number found.0.offset.0 ≡ R.Offset.number self.offset.0) }
-        ensures order { HasOneOrder R.big self → IfOk result (λ found. HasOneOrder R.big found.0) }
-        ensures handed { IfOk result (λ found.
-            (header_orders R.big found.0).handed ≡ (header_orders R.big self).handed) }
+        ensures source { IfOk result (λ found. KeepsSource (λ order. self.notation.big ≡ order)
+            (source_of R.big R.Offset.number self) (source_of R.big R.Offset.number found.0)) }
         ensures unrefused { IfOk result (λ found.
             All (ResumesToRows found.0.meaning) (map part_of found.1.items)) }
         ensures err { IfErr result
@@ -202,12 +197,8 @@ impl<R: Reader> IncompleteLineProgram<R> {
             AreSequences self.notation self.meaning found.0.meaning (map part_of found.1.items)) }
         ensures each { IfOk result (λ found.
             HaveRuns found.0.meaning (map part_of found.1.items) (map (map row) found.2.items)) }
-        ensures notation { IfOk result (λ found. found.0.notation ≡ self.notation) }
-        ensures offset { IfOk result
-            (λ found. R.Offset.number found.0.offset.0 ≡ R.Offset.number self.offset.0) }
-        ensures order { HasOneOrder R.big self → IfOk result (λ found. HasOneOrder R.big found.0) }
-        ensures handed { IfOk result (λ found.
-            (header_orders R.big found.0).handed ≡ (header_orders R.big self).handed) }
+        ensures source { IfOk result (λ found. KeepsSource (λ order. self.notation.big ≡ order)
+            (source_of R.big R.Offset.number self) (source_of R.big R.Offset.number found.0)) }
         ensures unrefused { IfOk result (λ found.
             All (ResumesToRows found.0.meaning) (map part_of found.1.items)) }
         ensures err { IfErr result
@@ -233,12 +224,11 @@ impl<R: Reader> IncompleteLineProgram<R> {
 
 impl<R: Reader> CompleteLineProgram<R> {
     ghost use Rattle.std.specs.Prelude.{◌≡◌, false, List};
-    ghost use Rattle.gimli_line.specs.header.Header.{HasOneOrder};
-    ghost use Rattle.gimli_line.specs.header.Orders.{header_orders};
+    ghost use Rattle.gimli_line.specs.header.Orders.{source_of};
     ghost use Rattle.gimli_line.specs.run.Events.{Event, Events};
     ghost use Rattle.gimli_line.specs.run.EventsWithFiles.{EventsWithFiles};
     ghost use Rattle.gimli_line.specs.run.Rows.{events_left, files_at_end, start_of_run};
-    ghost use Rattle.gimli_line.specs.run.Rows.{GivesRowsAlone, IsOfOneOrder};
+    ghost use Rattle.gimli_line.specs.run.Rows.{GivesRowsAlone};
     ghost use Rattle.gimli_line.specs.run.Sequences.{events_of, part_of, ResumesToRows};
 
     /// The rows of one of the program's sequences. The header has all files from the start.
@@ -252,10 +242,8 @@ impl<R: Reader> CompleteLineProgram<R> {
             → Events sequence.now.instructions.notation self.now.meaning
             sequence.now.instructions.bytes run → events_of (events_left result) ≡ run }
         ensures files { files_at_end result ≡ self.now.meaning.files }
-        ensures start { result ≡ start_of_run false self.now.meaning self.now.notation
-            (R.Offset.number self.now.offset.0) (header_orders R.big self.now)
-            sequence.now.instructions }
-        ensures order { HasOneOrder R.big self.now → IsOfOneOrder result }
+        ensures start { result ≡ start_of_run false self.now.meaning
+            (source_of R.big R.Offset.number self.now) sequence.now.instructions }
         ensures unrefused { ResumesToRows self.now.meaning (part_of sequence.now)
             → GivesRowsAlone result }
     {

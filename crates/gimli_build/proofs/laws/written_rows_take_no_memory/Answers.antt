@@ -5,8 +5,8 @@ use Rattle.gimli_build.proofs.laws.written_rows_take_no_memory.Goals as goal
 
 pub returns : goal.returns
 returns c = record {
-  start = λ notation h p decodes appends offset orders.
-      starts-none notation h appends offset orders (program_instructions p) decodes
+  start = λ source h p decodes appends.
+      starts-none source h appends (program_instructions p) decodes
       (items-none p.encoding.version p.line_encoding (initial_row p.encoding.version p.line_encoding.default_is_stmt) p.items);
   goes = goes-none;
   refused = refused-none;

@@ -11,7 +11,7 @@ returns-in-None-clause-none c = λ _.
     let start = c.rows-rows.result in
     let h = c.header.result.now.meaning in
     let l =
-    looked_up start c.run_to_file.new.rows h c.args.number c.header.ensures.header c.header.ensures.files c.run_to_file.ensures.fixed
+    looked_up start c.run_to_file.new.rows h c.args.number c.header.ensures.header.fixed c.header.ensures.files c.run_to_file.ensures.fixed
     c.in-Ok-run_to_file.ensures.file in
     record {
       header = complete start;
@@ -25,7 +25,7 @@ returns-clause-found c = λ _.
     let start = c.rows-rows.result in
     let h = c.header.result.now.meaning in
     let l =
-    looked_up start c.run_to_file.new.rows h c.args.number c.header.ensures.header c.header.ensures.files c.run_to_file.ensures.fixed
+    looked_up start c.run_to_file.new.rows h c.args.number c.header.ensures.header.fixed c.header.ensures.files c.run_to_file.ensures.fixed
     c.in-Ok-run_to_file.ensures.file in (
       c.bytes_of-path_bytes.result.now,
       c.bytes_of-directory_bytes.result.now,
@@ -51,7 +51,7 @@ returns-then-path_bytes-path-clause-larger c = λ _.
     let start = c.rows-rows.result in
     let h = c.header.result.now.meaning in
     let l =
-    looked_up start c.run_to_file.new.rows h c.args.number c.header.ensures.header c.header.ensures.files c.run_to_file.ensures.fixed
+    looked_up start c.run_to_file.new.rows h c.args.number c.header.ensures.header.fixed c.header.ensures.files c.run_to_file.ensures.fixed
     c.in-Ok-run_to_file.ensures.file in (
       c.bytes_of-path_bytes.result.now,
       c.bytes_of-directory_bytes.result.now,

@@ -13,7 +13,7 @@ returns-in-None-clause-err c = λ other.
     let start = c.rows-rows.result in
     let h = c.header-header.result.now.meaning in
     let l =
-    looked_up start c.run_to_file.new.rows h c.args.number c.header-header.ensures.header c.header-header.ensures.files c.run_to_file.ensures.fixed
+    looked_up start c.run_to_file.new.rows h c.args.number c.header-header.ensures.header.fixed c.header-header.ensures.files c.run_to_file.ensures.fixed
     c.in-Ok-run_to_file.ensures.file in
     inl (
       refl,
@@ -29,7 +29,7 @@ returns-clause-ok c =
     let start = c.rows-rows.result in
     let h = c.header-header.result.now.meaning in
     let l =
-    looked_up start c.run_to_file.new.rows h c.args.number c.header-header.ensures.header c.header-header.ensures.files c.run_to_file.ensures.fixed
+    looked_up start c.run_to_file.new.rows h c.args.number c.header-header.ensures.header.fixed c.header-header.ensures.files c.run_to_file.ensures.fixed
     c.in-Ok-run_to_file.ensures.file in
     let seen = file_seen (λ s. s.slice.now) (λ n. n) c.in-Some.entry.now in
     ok_more c.path_in_header.result (λ path is. record {
@@ -47,7 +47,7 @@ returns-clause-err c =
     let start = c.rows-rows.result in
     let h = c.header-header.result.now.meaning in
     let l =
-    looked_up start c.run_to_file.new.rows h c.args.number c.header-header.ensures.header c.header-header.ensures.files c.run_to_file.ensures.fixed
+    looked_up start c.run_to_file.new.rows h c.args.number c.header-header.ensures.header.fixed c.header-header.ensures.files c.run_to_file.ensures.fixed
     c.in-Ok-run_to_file.ensures.file in
     let seen = file_seen (λ s. s.slice.now) (λ n. n) c.in-Some.entry.now in
     err_more c.path_in_header.result (λ status is other. let told = is other in inr (inl (

@@ -8,17 +8,7 @@ use Rattle.gimli_line.specs.run.Events.{Event, row, is_given}
 use Rattle.gimli_line.specs.declared.run.row.LineRow.{LineRow}
 use Rattle.gimli_line.specs.run.RunState.{RunState}
 use Rattle.gimli_line.specs.run.Progress.{with_reset_row, Progress}
-use Rattle.gimli_line.specs.run.Rows.{event_of, live_made, made_left, FaultIs, IsOfOneOrder}
-
--- the header is the same but for its files, whose readers keep the order of its program; readers
--- that were handed in keep theirs
-pub record KeepsRun (old new : RunState) : Type 0 where
-  pub fixed : new.fixed ≡ old.fixed
-  pub appends : new.appends ≡ old.appends
-  pub notation : new.notation ≡ old.notation
-  pub offset : new.offset ≡ old.offset
-  pub order : IsOfOneOrder old → IsOfOneOrder new
-  pub handed : new.orders.handed ≡ old.orders.handed
+use Rattle.gimli_line.specs.run.Rows.{event_of, live_made, made_left, FaultIs, KeepsRun}
 
 -- instructions were executed, and nothing came of them
 pub record ReadsOn (old new : RunState) : Type 0 where

@@ -1,7 +1,7 @@
 use Rattle.std.proofs.Common.{[], ◌∷◌, ◌++◌, List, length, refl, ap, ◌∙◌, inl, inr, arith}
 use Rattle.std.proofs.lemmas.Result.{err_from_is_err_and}
 use Rattle.gimli_line.specs.header.File.{File}
-use Rattle.gimli_line.specs.header.Orders.{header_orders}
+use Rattle.gimli_line.specs.header.Orders.{source_of}
 use Rattle.gimli_line.specs.run.Rows.{events_left}
 use Rattle.gimli_lookup.proofs.Cuts.{passes_none}
 use Rattle.gimli_lookup.proofs.Files.{row_keeps, defines}
@@ -26,9 +26,9 @@ returns-in_err-row-clause-err g c =
     rw (p.1, p.2) (elim fault [
       | inl memory ↦ inr (
         memory.0,
-        defines program.notation program.meaning (g.R.Offset.ReaderOffset.number program.offset.0) (header_orders g.R.Reader.big program) first c.rows.rows new
+        defines program.meaning (source_of g.R.Reader.big g.R.Offset.ReaderOffset.number program) first c.rows.rows new
             c.rows-rows.ensures.start
-            i.at_end i.files c.next_row.follows.holds-at-none.0.appends memory.1,
+            i.at_end i.files c.next_row.follows.holds-at-none.0.run.appends memory.1,
       )
       | inr next ↦
           inl (first_fault program.notation program.meaning (events_left first) (events_left c.rows.rows) i.passed.0 c.rows-rows.ensures.events i.passed.1

@@ -1,6 +1,8 @@
 use Rattle.std.proofs.Common.{List, sym, subst}
 use Rattle.gimli_line.specs.declared.run.row.LineRow.{LineRow}
-use Rattle.gimli_line.specs.header.Orders.{header_orders}
+use Rattle.gimli_line.specs.header.Orders.{source_of}
+use Rattle.gimli_line.specs.run.RunState.{RunState}
+use Rattle.gimli_line.specs.run.Rows.{KeepsRun}
 use Rattle.gimli_lookup.specs.RowsTaken.{header_of}
 use Rattle.gimli_lookup.specs.inside.RowsTaken.{AreTaken}
 use Rattle.gimli_lookup.specs.UnitRun.{IsKept}
@@ -16,9 +18,8 @@ returns-clause-kept g c =
     let taken = subst (λ (from : SequenceCut). AreTaken old new fault from c.take_rows.new.cut) c.new-cut.ensures c.in_ok-fault.ensures.ok in
     subst (λ (kept : List (List LineRow)). IsKept c.args.program.notation c.args.lowest c.args.program.meaning (header_of new) fault kept)
     (sym c.into_parts.ensures)
-    (is_kept c.args.program.notation c.args.lowest c.args.program.meaning (g.R.Offset.ReaderOffset.number c.args.program.offset.0)
-    (header_orders g.R.Reader.big c.args.program)
+    (is_kept c.args.lowest c.args.program.meaning (source_of g.R.Reader.big g.R.Offset.ReaderOffset.number c.args.program)
     old new fault c.take_rows.new.cut c.rows-run.ensures.start c.rows-run.ensures.made c.rows-run.ensures.files taken)
 
-pub returns-clause-order : goal.returns-clause-order
-returns-clause-order g c = λ has. c.in_ok-fault.ensures.ok.keeps.order (c.rows-run.ensures.order has)
+pub returns-clause-run : goal.returns-clause-run
+returns-clause-run g c = subst (λ (a : RunState). KeepsRun a c.take_rows.new.run) c.rows-run.ensures.start c.in_ok-fault.ensures.ok.keeps.run

@@ -1,6 +1,7 @@
-use Rattle.std.proofs.Common.{take, refl, sym, ap, subst, ◌∙◌}
-use Rattle.gimli_line.specs.header.Orders.{header_orders}
+use Rattle.std.proofs.Common.{take, refl, sym, subst}
+use Rattle.gimli_line.specs.header.Orders.{source_of}
 use Rattle.gimli_line.specs.run.RunState.{RunState}
+use Rattle.gimli_line.specs.run.Rows.{KeepsRun}
 use Rattle.gimli_lookup.specs.inside.SequenceCut.{no_rows}
 use Rattle.gimli_lookup.specs.inside.UnitSearch.{UnitSearch, Sees}
 use Rattle.gimli_lookup.proofs.UnitRuns.{is_kept}
@@ -14,8 +15,7 @@ returns-clause-found g c =
     let start = subst (λ (s : UnitSearch). Sees c.args.unit addresses (no_rows c.args.lowest) s) (sym c.new-search.ensures)
     (starts_searching c.args.unit c.args.lowest addresses) in
     let end = c.in_ok-fault.ensures.ok c.args.unit (no_rows c.args.lowest) start in
-    let kept = is_kept c.args.program.notation c.args.lowest c.args.program.meaning (g.R.Offset.ReaderOffset.number c.args.program.offset.0)
-    (header_orders g.R.Reader.big c.args.program)
+    let kept = is_kept c.args.lowest c.args.program.meaning (source_of g.R.Reader.big g.R.Offset.ReaderOffset.number c.args.program)
     old c.search_rows.new.run c.in_ok-fault.fault end.0 c.rows-run.ensures.start c.rows-run.ensures.made c.rows-run.ensures.files end.1 in (
       take end.0.ended end.0.parts,
       kept,
@@ -23,23 +23,9 @@ returns-clause-found g c =
           c.into_pairs.ensures,
     )
 
-pub returns-clause-notation : goal.returns-clause-notation
-returns-clause-notation g c =
+pub returns-clause-run : goal.returns-clause-run
+returns-clause-run g c =
     let start = subst (λ (s : UnitSearch). Sees c.args.unit c.args.addresses.now (no_rows c.args.lowest) s) (sym c.new-search.ensures)
     (starts_searching c.args.unit c.args.lowest c.args.addresses.now) in
     let end = c.in_ok-fault.ensures.ok c.args.unit (no_rows c.args.lowest) start in
-    end.1.keeps.notation ∙ ap (λ (a : RunState). a.notation) c.rows-run.ensures.start
-
-pub returns-clause-offset : goal.returns-clause-offset
-returns-clause-offset g c =
-    let start = subst (λ (s : UnitSearch). Sees c.args.unit c.args.addresses.now (no_rows c.args.lowest) s) (sym c.new-search.ensures)
-    (starts_searching c.args.unit c.args.lowest c.args.addresses.now) in
-    let end = c.in_ok-fault.ensures.ok c.args.unit (no_rows c.args.lowest) start in
-    end.1.keeps.offset ∙ ap (λ (a : RunState). a.offset) c.rows-run.ensures.start
-
-pub returns-clause-order : goal.returns-clause-order
-returns-clause-order g c =
-    let start = subst (λ (s : UnitSearch). Sees c.args.unit c.args.addresses.now (no_rows c.args.lowest) s) (sym c.new-search.ensures)
-    (starts_searching c.args.unit c.args.lowest c.args.addresses.now) in
-    let end = c.in_ok-fault.ensures.ok c.args.unit (no_rows c.args.lowest) start in
-    λ has. end.1.keeps.order (c.rows-run.ensures.order has)
+    subst (λ (a : RunState). KeepsRun a c.search_rows.new.run) c.rows-run.ensures.start end.1.keeps.run

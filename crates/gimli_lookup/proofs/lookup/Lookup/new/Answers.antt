@@ -1,7 +1,6 @@
 use Rattle.std.proofs.Common.{map}
 use Rattle.std.proofs.lemmas.Result.{err_from_is_err_and}
 use Rattle.gimli_line.specs.run.Sequences.{part_of}
-use Rattle.gimli_line.proofs.Order.{are_one_order}
 use Rattle.gimli_lookup.proofs.KeptCut.{are_cut}
 use Rattle.gimli_lookup.proofs.KeptRows.{are_joined}
 use Rattle.gimli_lookup.proofs.lookup.Lookup.new.Goals as goal
@@ -27,6 +26,3 @@ pub returns-clause-cut : goal.returns-clause-cut
 returns-clause-cut g c =
     are_cut c.args.program.notation c.args.program.meaning c.in_ok-program.program.meaning (map part_of c.in_ok-program.sequences.items) c.in_ok-rows.rows.items
     c.in_ok-program.ensures.ok (returns-clause-each g c)
-
-pub returns-clause-order : goal.returns-clause-order
-returns-clause-order g c = λ has. are_one_order g.R.Reader.big c.in_ok-program.program (c.in_ok-program.ensures.order has)

@@ -3,6 +3,7 @@ use Rattle.gimli_lookup.specs.declared.section_lookup.CoveringRows.{CoveringRows
 use Rattle.gimli_lookup.specs.inside.SectionSearch.{bare_unit}
 use Rattle.gimli_lookup.specs.inside.UnitSearch.{AreKeptBehind}
 use Rattle.gimli_lookup.proofs.SectionSearches.{none_is, refused, searched}
+use Rattle.gimli_line.proofs.Sources.{still_one}
 use Rattle.gimli_lookup.proofs.section_unit.UnitLookup.search.Goals as goal
 
 pub returns-in-Err-clause-searched : goal.returns-in-Err-clause-searched
@@ -24,14 +25,16 @@ returns-then-is_none-clause-searched g c =
     let bare = c.bare-then-is_none.ensures ∙ ap (λ o. bare_unit offset o) (sym none) in
     rw c.in-Ok.is
     (searched c.args.lowest c.args.index c.args.addresses.now c.in-Ok.program found.run offset found.fault c.bare-then-is_none.result old found.pairs.items new
-    parts.0 parts.1 c.in_ok-found-in-Ok.ensures.notation parts.2 kept (inr (omega (arith, before, after, c.if-len-before.true), none, bare)))
+    parts.0 parts.1 c.in_ok-found-in-Ok.ensures.run.source.notation parts.2 kept (inr (omega (arith, before, after, c.if-len-before.true), none, bare)))
 
 pub invariant_of-result : goal.invariant_of-result
 invariant_of-result g c =
     let order = rw c.in-Ok.is at c.requires.order in
     let same = rw c.in-Ok.is at c.requires.offset in
-    rw c.in_ok-boxed.ensures.ok
-    (c.in_ok-found-in-Ok.ensures.order order, c.in_ok-found-in-Ok.ensures.offset ∙ ap (λ o. g.R.Offset.ReaderOffset.number o.0) same)
+    rw c.in_ok-boxed.ensures.ok (
+      still_one _ _ c.in_ok-found-in-Ok.ensures.run (record { readers = order; unread = λ adds. refl }),
+      c.in_ok-found-in-Ok.ensures.run.source.offset ∙ ap (λ o. g.R.Offset.ReaderOffset.number o.0) same,
+    )
 
 pub returns-clause-searched : goal.returns-clause-searched
 returns-clause-searched g c =
@@ -43,4 +46,4 @@ returns-clause-searched g c =
     rw (c.in-Ok.is, c.in_ok-boxed.ensures.ok)
     (searched c.args.lowest c.args.index c.args.addresses.now c.in-Ok.program found.run (g.R.Offset.ReaderOffset.number c.args.offset.0) found.fault _ old
     found.pairs.items new
-    parts.0 parts.1 c.in_ok-found-in-Ok.ensures.notation parts.2 kept (inl refl))
+    parts.0 parts.1 c.in_ok-found-in-Ok.ensures.run.source.notation parts.2 kept (inl refl))

@@ -4,7 +4,7 @@ use Rattle.std.proofs.lemmas.Result.{err_from_is_err_and}
 use Rattle.gimli_core.specs.declared.attribute_value.AttributeValue.TheVariants.{String}
 use Rattle.gimli_line.specs.header.Parameters.{Parameters}
 use Rattle.gimli_line.specs.header.HeaderGrammar.{handed_value}
-use Rattle.gimli_line.proofs.Order.{values_kept, files_kept}
+use Rattle.gimli_line.proofs.Order.{values_kept, files_kept, values_mapped, files_mapped}
 use Rattle.gimli_line.proofs.Fields.{parameters_end, counts_end, directories_end, files_end, fields_done}
 use Rattle.gimli_line.proofs.header.program_header.LineProgramHeader.parse_fields.Goals as goal
 
@@ -15,8 +15,8 @@ returns-clause-order g c =
     let files = c.parse_directory_table.ensures.order ∙ directories in
     record {
       operand_counts = c.in_ok-standard_opcode_lengths.ensures.part ∙ counts;
-      directories = values_kept g.R.Reader.big _ _ _ directories c.in_ok-directory_entry_format.ensures.parts;
-      files = files_kept g.R.Reader.big _ _ _ files c.in_ok-file_name_entry_format.ensures.parts;
+      directories = values_mapped g.R.Reader.big _ _ (values_kept g.R.Reader.big _ _ _ directories c.in_ok-directory_entry_format.ensures.parts);
+      files = files_mapped g.R.Reader.big _ _ (files_kept g.R.Reader.big _ _ _ files c.in_ok-file_name_entry_format.ensures.parts);
     }
 
 pub returns-clause-directory : goal.returns-clause-directory

@@ -1,7 +1,6 @@
-use Rattle.std.proofs.Common.{true, refl, ap, ◌∙◌}
-use Rattle.gimli_line.specs.header.Orders.{header_orders}
+use Rattle.std.proofs.Common.{true, ap, ◌∙◌}
+use Rattle.gimli_line.specs.header.Orders.{source_of}
 use Rattle.gimli_line.specs.run.Unread.{Unread}
-use Rattle.gimli_line.proofs.Order.{are_one_order}
 use Rattle.gimli_line.proofs.EventsWithFilesLaws.{started_events, started_files, started_made}
 use Rattle.gimli_line.proofs.run.rows.IncompleteLineProgram+R.rows.Goals as goal
 
@@ -12,8 +11,7 @@ returns-clause-events g c =
       c.start.ensures,
       c.instructions-instructions.ensures ∙ ap (λ v. (let s : Unread = record { bytes = v.meaning.program; notation = v.notation } in s)) c.self.view_is,
     )
-    (started_events true c.args.self.meaning c.args.self.notation (g.R.Offset.ReaderOffset.number c.args.self.offset.0)
-    (header_orders g.R.Reader.big c.args.self) s)
+    (started_events true c.args.self.meaning (source_of g.R.Reader.big g.R.Offset.ReaderOffset.number c.args.self) s)
 
 pub returns-clause-made : goal.returns-clause-made
 returns-clause-made g c =
@@ -22,8 +20,7 @@ returns-clause-made g c =
       c.start.ensures,
       c.instructions-instructions.ensures ∙ ap (λ v. (let s : Unread = record { bytes = v.meaning.program; notation = v.notation } in s)) c.self.view_is,
     )
-    (started_made true c.args.self.meaning c.args.self.notation (g.R.Offset.ReaderOffset.number c.args.self.offset.0) (header_orders g.R.Reader.big c.args.self)
-    s)
+    (started_made true c.args.self.meaning (source_of g.R.Reader.big g.R.Offset.ReaderOffset.number c.args.self) s)
 
 pub returns-clause-files : goal.returns-clause-files
 returns-clause-files g c =
@@ -32,13 +29,4 @@ returns-clause-files g c =
       c.start.ensures,
       c.instructions-instructions.ensures ∙ ap (λ v. (let s : Unread = record { bytes = v.meaning.program; notation = v.notation } in s)) c.self.view_is,
     )
-    (started_files true c.args.self.meaning c.args.self.notation (g.R.Offset.ReaderOffset.number c.args.self.offset.0)
-    (header_orders g.R.Reader.big c.args.self) s)
-
-pub returns-clause-order : goal.returns-clause-order
-returns-clause-order g c = λ has.
-    rw (
-      c.start.ensures,
-      c.instructions-instructions.ensures ∙ ap (λ v. (let s : Unread = record { bytes = v.meaning.program; notation = v.notation } in s)) c.self.view_is,
-    )
-    (record { readers = are_one_order g.R.Reader.big c.args.self has; unread = λ adds. refl })
+    (started_files true c.args.self.meaning (source_of g.R.Reader.big g.R.Offset.ReaderOffset.number c.args.self) s)

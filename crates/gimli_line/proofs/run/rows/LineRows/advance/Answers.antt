@@ -6,7 +6,7 @@ use Rattle.gimli_line.specs.run.Progress.{with_reset_row, Progress}
 use Rattle.gimli_line.specs.run.Rows.{live_events}
 use Rattle.gimli_line.proofs.GivenRows.{fault_given, fewer_made, hidden, none_given, seen}
 use Rattle.gimli_line.proofs.Runs.{passes_none, passes_both, refused_after, same_end}
-use Rattle.gimli_line.proofs.Steps.{keeps_both, keeps_same}
+use Rattle.gimli_line.proofs.Sources.{keeps_both, keeps_same}
 use Rattle.gimli_line.proofs.run.rows.LineRows.advance.Goals as goal
 
 pub rows-init : goal.rows-init

@@ -1,6 +1,5 @@
 use Rattle.std.proofs.Common.{◌≡◌, [], length}
-use Rattle.gimli_line.specs.inside.run.Rows.{KeepsRun}
-use Rattle.gimli_line.specs.run.Rows.{live_made, made_left}
+use Rattle.gimli_line.specs.run.Rows.{live_made, made_left, KeepsRun}
 use Rattle.gimli_line.specs.run.Progress.{Progress, with_reset_row}
 use Rattle.gimli_line.proofs.run.rows.LineRows.advance_any.Given as goal
 

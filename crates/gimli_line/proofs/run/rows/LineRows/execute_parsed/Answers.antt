@@ -24,9 +24,8 @@ returns-then-not-made g c =
     rw (← c.self.view_is)
     (step_quiet _ _ _ c.header.ensures.meaning _ _ (refl, refl, refl) _ n c.in-Ok-Some.ensures.notation _ c.in-Ok.ensures.files c.in-Ok.ensures.fits
     (sym c.in-Ok.ensures.made ∙ c.if-not-made.true) c.in-Ok.ensures.step (refl, refl, refl)
-    (keeps_run _ _ _ _ _ (refl, refl, refl) (refl, refl, refl) (ap without_files c.in-Ok.ensures.files) c.execute.ensures.notation c.execute.ensures.offset
-    c.execute.ensures.handed c.in-Ok-Some.ensures.notation
-    (λ big. InsHasOrder g.R.Reader.big big c.in-Ok-Some.instruction) c.execute.ensures.order operands))
+    (keeps_run _ _ _ _ _ (refl, refl, refl) (refl, refl, refl) (ap without_files c.in-Ok.ensures.files) c.in-Ok-Some.ensures.notation
+    (λ big. InsHasOrder g.R.Reader.big big c.in-Ok-Some.instruction) c.execute.ensures.source operands))
 
 pub returns : goal.returns
 returns g c =
@@ -35,9 +34,8 @@ returns g c =
     rw (← c.self.view_is)
     (step_made _ _ _ c.header.ensures.meaning _ _ (refl, refl, refl) _ n c.in-Ok-Some.ensures.notation _ c.in-Ok.ensures.files c.in-Ok.ensures.fits
     (sym c.in-Ok.ensures.made ∙ c.if-not-made.false) c.in-Ok.ensures.step (refl, refl, refl)
-    (keeps_run _ _ _ _ _ (refl, refl, refl) (refl, refl, refl) (ap without_files c.in-Ok.ensures.files) c.execute.ensures.notation c.execute.ensures.offset
-    c.execute.ensures.handed c.in-Ok-Some.ensures.notation
-    (λ big. InsHasOrder g.R.Reader.big big c.in-Ok-Some.instruction) c.execute.ensures.order operands))
+    (keeps_run _ _ _ _ _ (refl, refl, refl) (refl, refl, refl) (ap without_files c.in-Ok.ensures.files) c.in-Ok-Some.ensures.notation
+    (λ big. InsHasOrder g.R.Reader.big big c.in-Ok-Some.instruction) c.execute.ensures.source operands))
 
 pub returns-in-OutOfMemory : goal.returns-in-OutOfMemory
 returns-in-OutOfMemory g c =
@@ -47,10 +45,9 @@ returns-in-OutOfMemory g c =
     rw (c.in-OutOfMemory.is, ← c.self.view_is)
     (step_wants _ _ _ c.header.ensures.meaning _ _ (refl, refl, refl) _ c.next_instruction.new.self n m.2 _ c.in-Err-execute.ensures.kept m.1
     (ap (λ (s : Unread). s.bytes) c.clear.ensures) (refl, refl, refl)
-    (keeps_run _ _ _ _ _ (refl, refl, refl) (refl, refl, refl) (ap without_files c.in-Err-execute.ensures.kept) c.execute.ensures.notation
-    c.execute.ensures.offset c.execute.ensures.handed
+    (keeps_run _ _ _ _ _ (refl, refl, refl) (refl, refl, refl) (ap without_files c.in-Err-execute.ensures.kept)
     (ap (λ (u : Unread). u.notation) c.clear.ensures ∙ c.in-Ok-Some.ensures.notation)
-    (λ big. InsHasOrder g.R.Reader.big big c.in-Ok-Some.instruction) c.execute.ensures.order operands))
+    (λ big. InsHasOrder g.R.Reader.big big c.in-Ok-Some.instruction) c.execute.ensures.source operands))
 
 pub returns-in_default : goal.returns-in_default
 returns-in_default g c =
@@ -60,6 +57,5 @@ returns-in_default g c =
     let o = c.in-Err-execute.ensures.overflow over in
     rw (over, ← c.self.view_is) (step_overflows _ _ _ c.header.ensures.meaning _ _ (refl, refl, refl) _ n c.in-Ok-Some.ensures.notation _
     c.in-Err-execute.ensures.kept o.0 o.1 (refl, refl, refl)
-    (keeps_run _ _ _ _ _ (refl, refl, refl) (refl, refl, refl) (ap without_files c.in-Err-execute.ensures.kept) c.execute.ensures.notation
-    c.execute.ensures.offset c.execute.ensures.handed c.in-Ok-Some.ensures.notation
-    (λ big. InsHasOrder g.R.Reader.big big c.in-Ok-Some.instruction) c.execute.ensures.order operands))
+    (keeps_run _ _ _ _ _ (refl, refl, refl) (refl, refl, refl) (ap without_files c.in-Err-execute.ensures.kept) c.in-Ok-Some.ensures.notation
+    (λ big. InsHasOrder g.R.Reader.big big c.in-Ok-Some.instruction) c.execute.ensures.source operands))

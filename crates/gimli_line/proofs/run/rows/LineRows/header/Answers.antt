@@ -1,10 +1,6 @@
-use Rattle.std.proofs.Common.{ap}
-use Rattle.gimli_line.proofs.Order.{has_one_order}
+use Rattle.std.proofs.Common.{refl}
+use Rattle.gimli_line.proofs.Sources.{sees_lent}
 use Rattle.gimli_line.proofs.run.rows.LineRows.header.Goals as goal
 
-pub returns-clause-order : goal.returns-clause-order
-returns-clause-order g c = λ so.
-    let p = c.self.inside.program in
-    let so = rw (← c.self.view_is) at so in
-    has_one_order g.R.Reader.big _ (g.P.LineProgram.notation p).big (g.P.LineProgram.orders p) c.header.ensures.orders
-    (ap (λ n. n.big) c.header.ensures.notation) so.readers
+pub returns-clause-header : goal.returns-clause-header
+returns-clause-header g c = rw (← c.self.view_is) (sees_lent _ _ _ _ _ refl c.header.ensures.meaning c.header.ensures.source)

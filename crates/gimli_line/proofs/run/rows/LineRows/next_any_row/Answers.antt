@@ -3,28 +3,20 @@ use Rattle.gimli_line.specs.run.Progress.{with_reset_row}
 use Rattle.gimli_line.specs.run.Rows.{KeepsHeader}
 use Rattle.gimli_line.proofs.GivenRows.{any_rest_alone, fault_given, none_given}
 use Rattle.gimli_line.proofs.RowsAlone.{end_alone, never_refused_alone}
+use Rattle.gimli_line.proofs.Sources.{sees_after}
 use Rattle.gimli_line.proofs.run.rows.LineRows.next_any_row.Goals as goal
 
 pub returns-in-Ok-true : goal.returns-in-Ok-true
 returns-in-Ok-true g c =
     let r = rw c.in-Ok-true.field-0-test at c.in-Ok-true.ensures.row in
     let keeps : KeepsHeader c.args.self.now c.advance_any.new.self = record {
-      fixed = c.in-Ok-true.ensures.keeps.fixed;
-      appends = c.in-Ok-true.ensures.keeps.appends;
-      notation = c.in-Ok-true.ensures.keeps.notation;
-      offset = c.in-Ok-true.ensures.keeps.offset;
-      order = c.in-Ok-true.ensures.keeps.order;
-      handed = c.in-Ok-true.ensures.keeps.handed;
+      run = c.in-Ok-true.ensures.keeps;
       alone = any_rest_alone c.args.self.now c.advance_any.new.self _ _ r c.in-Ok-true.ensures.keeps.appends;
     } in (
       (refl, λ _. tt, (keeps, rw (c.current.ensures.row, c.current.ensures.files) r)),
       record {
         after = tt;
-        header = c.current.ensures.header ∙ c.in-Ok-true.ensures.keeps.fixed;
-        notation = c.current.ensures.notation ∙ c.in-Ok-true.ensures.keeps.notation;
-        offset = c.current.ensures.offset ∙ c.in-Ok-true.ensures.keeps.offset;
-        order = λ so. c.current.ensures.order (c.in-Ok-true.ensures.keeps.order so);
-        handed = c.current.ensures.handed ∙ c.in-Ok-true.ensures.keeps.handed;
+        header = sees_after _ _ _ _ _ c.in-Ok-true.ensures.keeps c.current.ensures.header;
       },
     )
 
@@ -32,34 +24,20 @@ pub returns-in-Ok-false : goal.returns-in-Ok-false
 returns-in-Ok-false g c =
     let none = rw c.in-Ok-false.field-0-test at c.in-Ok-false.ensures.row in
     let keeps : KeepsHeader c.args.self.now c.advance_any.new.self = record {
-      fixed = c.in-Ok-false.ensures.keeps.fixed;
-      appends = c.in-Ok-false.ensures.keeps.appends;
-      notation = c.in-Ok-false.ensures.keeps.notation;
-      offset = c.in-Ok-false.ensures.keeps.offset;
-      order = c.in-Ok-false.ensures.keeps.order;
-      handed = c.in-Ok-false.ensures.keeps.handed;
+      run = c.in-Ok-false.ensures.keeps;
       alone = end_alone c.args.self.now c.advance_any.new.self c.in-Ok-false.ensures.keeps.appends (none_given c.advance_any.new.self none.1);
     } in (
       (refl, λ _. tt, (keeps, none)),
       record {
         after = tt;
         header = tt;
-        notation = tt;
-        offset = tt;
-        order = λ so. tt;
-        handed = tt;
       },
     )
 
 pub returns-in-Err : goal.returns-in-Err
 returns-in-Err g c =
     let keeps : KeepsHeader c.args.self.now c.advance_any.new.self = record {
-      fixed = c.in-Err.ensures.keeps.fixed;
-      appends = c.in-Err.ensures.keeps.appends;
-      notation = c.in-Err.ensures.keeps.notation;
-      offset = c.in-Err.ensures.keeps.offset;
-      order = c.in-Err.ensures.keeps.order;
-      handed = c.in-Err.ensures.keeps.handed;
+      run = c.in-Err.ensures.keeps;
       alone = λ alone.
           absurd (never_refused_alone c.args.self.now c.advance_any.new.self c.in-Err.e c.in-Err.ensures.keeps.appends
           (fault_given (with_reset_row c.args.self.now) c.advance_any.new.self c.in-Err.e c.in-Err.ensures.err) alone);
@@ -68,9 +46,5 @@ returns-in-Err g c =
       record {
         after = tt;
         header = tt;
-        notation = tt;
-        offset = tt;
-        order = λ so. tt;
-        handed = tt;
       },
     )

@@ -1,6 +1,5 @@
 use Rattle.std.proofs.Common.{false}
-use Rattle.gimli_line.specs.header.Orders.{header_orders}
-use Rattle.gimli_line.proofs.Order.{are_one_order}
+use Rattle.gimli_line.specs.header.Orders.{source_of}
 use Rattle.gimli_line.proofs.EventsWithFilesLaws.{started_events, started_files}
 use Rattle.gimli_line.proofs.ResumedRuns.{gives_run, gives_rows_alone}
 use Rattle.gimli_line.proofs.run.sequences.CompleteLineProgram+R.resume_from.Goals as goal
@@ -9,27 +8,23 @@ pub returns-clause-events : goal.returns-clause-events
 returns-clause-events g c =
     let p = c.args.self.now in
     rw (c.start.ensures, c.clone.ensures)
-    (started_events false p.meaning p.notation (g.R.Offset.ReaderOffset.number p.offset.0) (header_orders g.R.Reader.big p) c.args.sequence.now.instructions)
+    (started_events false p.meaning (source_of g.R.Reader.big g.R.Offset.ReaderOffset.number p) c.args.sequence.now.instructions)
 
 pub returns-clause-files : goal.returns-clause-files
 returns-clause-files g c =
     let p = c.args.self.now in
-    rw (c.start.ensures, c.clone.ensures) (started_files false p.meaning p.notation (g.R.Offset.ReaderOffset.number p.offset.0) (header_orders g.R.Reader.big p)
+    rw (c.start.ensures, c.clone.ensures) (started_files false p.meaning (source_of g.R.Reader.big g.R.Offset.ReaderOffset.number p)
     c.args.sequence.now.instructions).given
-
--- a complete program adds no file
-pub returns-clause-order : goal.returns-clause-order
-returns-clause-order g c = λ has. rw c.start.ensures (record { readers = are_one_order g.R.Reader.big c.args.self.now has; unread = λ adds. absurd cc })
 
 -- what the bytes give by looking back is what is to come
 pub returns-clause-run : goal.returns-clause-run
 returns-clause-run g c = λ run has.
     let p = c.args.self.now in
     rw (c.start.ensures, c.clone.ensures)
-    (gives_run p.meaning p.notation (g.R.Offset.ReaderOffset.number p.offset.0) (header_orders g.R.Reader.big p) c.args.sequence.now.instructions run has)
+    (gives_run p.meaning (source_of g.R.Reader.big g.R.Offset.ReaderOffset.number p) c.args.sequence.now.instructions run has)
 
 pub returns-clause-unrefused : goal.returns-clause-unrefused
 returns-clause-unrefused g c = λ alone.
     let p = c.args.self.now in
-    rw (c.start.ensures, c.clone.ensures) (gives_rows_alone p.meaning p.notation (g.R.Offset.ReaderOffset.number p.offset.0) (header_orders g.R.Reader.big p)
+    rw (c.start.ensures, c.clone.ensures) (gives_rows_alone p.meaning (source_of g.R.Reader.big g.R.Offset.ReaderOffset.number p)
     c.args.sequence.now.instructions alone.rows alone.given)

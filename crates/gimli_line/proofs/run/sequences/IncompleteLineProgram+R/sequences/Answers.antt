@@ -1,49 +1,33 @@
-use Rattle.std.proofs.Common.{[], ◌∷◌, ◌++◌, true, map, List, refl, sym, ap, subst, ◌∙◌, inl, inr}
-use Rattle.std.proofs.lemmas.List.{map-append, append-nil}
+use Rattle.std.proofs.Common.{[], ◌∷◌, map, ap, ◌∙◌}
 use Rattle.std.proofs.lemmas.Result.{err_from_is_err_and}
-use Rattle.gimli_line.specs.run.Events.{Event, row}
-use Rattle.gimli_line.specs.header.Orders.{header_orders}
-use Rattle.gimli_line.specs.inside.header.Orders.{no_orders}
 use Rattle.gimli_line.specs.header.Header.{without_files}
+use Rattle.gimli_line.specs.run.Events.{row}
+use Rattle.gimli_line.specs.header.Orders.{source_of}
 use Rattle.gimli_line.specs.run.Unread.{Unread}
-use Rattle.gimli_line.specs.run.Progress.{Progress, with_reset_row}
-use Rattle.gimli_line.specs.run.Rows.{start_of_run}
+use Rattle.gimli_line.specs.run.Progress.{with_reset_row}
 use Rattle.gimli_line.specs.run.Sequences.{part_of}
-use Rattle.gimli_line.proofs.Runs.{passes_still, passes_both}
-use Rattle.gimli_line.proofs.Order.{has_one_order}
 use Rattle.gimli_line.proofs.ResumedRuns.{resume_to_rows}
-use Rattle.gimli_line.proofs.SequenceLaws.{starts_splitting, goes_splitting, has_front, row_takes, are_sequences, has_first_fault}
+use Rattle.gimli_line.proofs.SequenceLaws.{split_starts, split_goes, split_faults, split_source, split_ends, has_front, row_takes}
+use Rattle.gimli_line.proofs.SequenceLaws.{Splitting, starts_splitting, goes_splitting}
 use Rattle.gimli_line.proofs.run.sequences.IncompleteLineProgram+R.sequences.Goals as goal
 
 pub rows-init : goal.rows-init
 rows-init g c =
     let h = c.args.self.meaning in
-    let at_offset = g.R.Offset.ReaderOffset.number c.args.self.offset.0 in
+    let source = source_of g.R.Reader.big g.R.Offset.ReaderOffset.number c.args.self in
     let unread : Unread = record { bytes = h.program; notation = c.args.self.notation } in
-    let first = with_reset_row (start_of_run true h c.args.self.notation at_offset no_orders unread) in
-    record {
-      after = (
-        [],
-        rw (c.new-split.ensures, c.clone.ensures ∙ c.instructions.ensures, c.rows-rows.ensures.start)
-            (starts_splitting h c.args.self.notation at_offset (header_orders g.R.Reader.big c.args.self) unread),
-        rw c.rows-rows.ensures.start (passes_still first _ refl refl refl refl refl),
-      );
-      notation = rw c.rows-rows.ensures.start refl;
-      offset = rw c.rows-rows.ensures.start refl;
-      order = c.rows-rows.ensures.order;
-      handed = rw c.rows-rows.ensures.start refl;
-    }
+    split_starts h source _ c.rows-rows.result c.rows-rows.ensures.start
+    (rw (
+      c.new-split.ensures,
+      c.clone.ensures ∙ c.instructions.ensures,
+      c.rows-rows.ensures.start,
+    ) (starts_splitting h source unread))
 
 pub returns-in_err-advance-clause-err : goal.returns-in_err-advance-clause-err
 returns-in_err-advance-clause-err g c =
     let p = err_from_is_err_and c.from_residual.result c.from_residual.ensures.1 in
-    let b = c.rows.invariant.after in
-    rw (p.1, p.2) (λ other. elim c.in_err-advance.ensures.err [
-      | inl m ↦ absurd (other m.0)
-      | inr f ↦
-          has_first_fault c.args.self.notation (g.R.Offset.ReaderOffset.number c.args.self.offset.0) c.args.self.meaning b.0 c.rows.rows c.advance.new.self _
-          b.2 f.0
-    ])
+    rw (p.1, p.2) (λ other.
+    split_faults _ _ _ _ c.advance.new.self c.rows.invariant c.in_err-advance.ensures.keeps _ other c.in_err-advance.ensures.err)
 
 pub returns-in_err-row-clause-err : goal.returns-in_err-row-clause-err
 returns-in_err-row-clause-err g c =
@@ -53,8 +37,8 @@ returns-in_err-row-clause-err g c =
 pub row-requires-in-rows : goal.row-requires-in-rows
 row-requires-in-rows g c =
     let m = rw c.if-branch.true at c.in_ok-advance.ensures.passes in
-    let b = c.rows.invariant.after in
-    rw c.instructions-in-rows.ensures (has_front c.args.self.meaning c.rows.split b.0 (with_reset_row c.rows.rows) c.advance.new.self b.1 m)
+    rw c.instructions-in-rows.ensures (has_front c.args.self.meaning c.rows.split _ (with_reset_row c.rows.rows) c.advance.new.self
+    c.rows.invariant.split m)
 
 pub rows-smaller : goal.rows-smaller
 rows-smaller g c =
@@ -63,65 +47,25 @@ rows-smaller g c =
 
 pub rows-preserved : goal.rows-preserved
 rows-preserved g c =
-    let h = c.args.self.meaning in
-    let at_offset = g.R.Offset.ReaderOffset.number c.args.self.offset.0 in
-    let unread : Unread = record { bytes = h.program; notation = c.args.self.notation } in
     let m = rw c.if-branch.true at c.in_ok-advance.ensures.passes in
-    let b = c.rows.invariant.after in
-    let next = c.advance.new.self in
-    record {
-      after = (
-        b.0 ++ next.row ∷ [],
-        rw (c.in_ok-row.ensures.ok, c.row.ensures, c.instructions-in-rows.ensures) (goes_splitting h c.rows.split b.0 (with_reset_row c.rows.rows) next b.1 m),
-        subst (λ (es : List Event). Progress (with_reset_row (start_of_run true h c.args.self.notation at_offset no_orders unread)) (with_reset_row next) es)
-            (sym (map-append row b.0 (next.row ∷ [])))
-            (passes_both (with_reset_row (start_of_run true h c.args.self.notation at_offset no_orders unread)) (with_reset_row c.rows.rows)
-            (with_reset_row next) (map row b.0) (row next.row ∷ []) b.2 m),
-      );
-      notation = c.in_ok-advance.ensures.keeps.notation ∙ c.rows.invariant.notation;
-      offset = c.in_ok-advance.ensures.keeps.offset ∙ c.rows.invariant.offset;
-      order = λ has. c.in_ok-advance.ensures.keeps.order (c.rows.invariant.order has);
-      handed = c.in_ok-advance.ensures.keeps.handed ∙ c.rows.invariant.handed;
-    }
+    let i = c.rows.invariant in
+    split_goes _ _ _ c.rows.rows c.advance.new.self i c.in_ok-advance.ensures.keeps _ m
+    (rw (c.in_ok-row.ensures.ok, c.row.ensures, c.instructions-in-rows.ensures)
+    (goes_splitting c.args.self.meaning c.rows.split _ (with_reset_row c.rows.rows) c.advance.new.self i.split m))
 
 pub returns-clause-ok : goal.returns-clause-ok
 returns-clause-ok g c =
-    let h = c.args.self.meaning in
-    let at_offset = g.R.Offset.ReaderOffset.number c.args.self.offset.0 in
-    let unread : Unread = record { bytes = h.program; notation = c.args.self.notation } in
     let m = rw c.if-branch.false at c.in_ok-advance.ensures.passes in
-    let b = c.rows.invariant.after in
-    let last = c.advance.new.self in
-    let whole =
-    subst (λ (es : List Event). Progress (with_reset_row (start_of_run true h c.args.self.notation at_offset no_orders unread)) last es)
-    (append-nil (map row b.0))
-    (passes_both (with_reset_row (start_of_run true h c.args.self.notation at_offset no_orders unread)) (with_reset_row c.rows.rows) last (map row b.0) [] b.2
-    m.1) in
+    let i = c.rows.invariant in
     rw c.into_sequences.ensures
-    (are_sequences c.args.self.notation at_offset h c.header.inside.header.meaning c.rows.split b.0 (with_reset_row c.rows.rows) last b.1 whole m.0
+    (split_ends _ _ _ c.rows.rows c.advance.new.self i c.in_ok-advance.ensures.keeps c.header.inside.header.meaning c.rows.split i.split m.0 m.1
     (ap (λ v. without_files v.meaning) c.header.view_is ∙ c.into_program.ensures.header)
     (ap (λ v. v.meaning.files) c.header.view_is ∙ c.into_program.ensures.files))
 
-pub returns-clause-notation : goal.returns-clause-notation
-returns-clause-notation g c =
-    ap (λ v. v.notation) c.header.view_is ∙ c.into_program.ensures.notation ∙ c.in_ok-advance.ensures.keeps.notation ∙ c.rows.invariant.notation
-
-pub returns-clause-offset : goal.returns-clause-offset
-returns-clause-offset g c =
-    ap (λ v. g.R.Offset.ReaderOffset.number v.offset.0) c.header.view_is ∙ c.into_program.ensures.offset ∙ c.in_ok-advance.ensures.keeps.offset
-    ∙ c.rows.invariant.offset
-
-pub returns-clause-order : goal.returns-clause-order
-returns-clause-order g c = λ has.
-    let last = c.advance.new.self in
-    let so = c.in_ok-advance.ensures.keeps.order (c.rows.invariant.order has) in
-    has_one_order g.R.Reader.big _ last.notation.big last.orders (ap (λ v. header_orders g.R.Reader.big v) c.header.view_is ∙ c.into_program.ensures.orders)
-    (ap (λ v. v.notation.big) c.header.view_is ∙ ap (λ n. n.big) c.into_program.ensures.notation) so.readers
-
-pub returns-clause-handed : goal.returns-clause-handed
-returns-clause-handed g c =
-    ap (λ v. (header_orders g.R.Reader.big v).handed) c.header.view_is ∙ ap (λ o. o.handed) c.into_program.ensures.orders ∙ c.in_ok-advance.ensures.keeps.handed
-    ∙ c.rows.invariant.handed
+pub returns-clause-source : goal.returns-clause-source
+returns-clause-source g c =
+    split_source _ _ _ c.rows.rows c.advance.new.self c.rows.invariant c.in_ok-advance.ensures.keeps _
+    (ap (source_of g.R.Reader.big g.R.Offset.ReaderOffset.number) c.header.view_is ∙ c.into_program.ensures.source)
 
 pub returns-clause-unrefused : goal.returns-clause-unrefused
 returns-clause-unrefused g c =
