@@ -1,9 +1,9 @@
 -- The order of the statements of an index.
-use Rattle.std.proofs.Common.{◌≡◌, ◌≢◌, ◌⊎◌, ◌∙◌, ◌<◌, ◌≤◌, ◌+◌, ◌-◌, ◌*◌, ℕ, zero, suc, Bool, true, false, cond, nat_eq, nat_lt, not, ◌&&◌, ◌||◌, List}
-use Rattle.std.proofs.Common.{[], ◌∷◌, ◌++◌, drop, get_or, length, map, Option, Some, None, Ok, Err, Result, refl, sym, ap, subst, arith, inl, inr, eqb}
-use Rattle.std.specs.Prelude.{flat_map, is_some, min, slice_get, IfSome, MatchOption}
+use Rattle.std.proofs.Common.{◌≡◌, ◌≢◌, ◌⊎◌, ◌∙◌, ◌<◌, ◌≤◌, ◌+◌, ◌-◌, ℕ, zero, suc, Bool, true, cond, List}
+use Rattle.std.proofs.Common.{get_or, length, map, Option, Some, None, sym, ap, subst, arith, inl, inr, eqb}
+use Rattle.std.specs.Prelude.{is_some, min, IfSome, MatchOption}
 use Rattle.std.specs.List.{count_by, list_any, range_with_len, IsDistinct}
-use Rattle.std.specs.Option.{option_and_then, option_map_or}
+use Rattle.std.specs.Option.{option_and_then}
 use Rattle.std.proofs.Math.Nat.{le-min, min-eq_left, min-le_left, min-le_right}
 use Rattle.std.proofs.lemmas.Bool.{cases_lt, cases_order, false≢true}
 use Rattle.std.proofs.lemmas.Bool.Decides.{Decides-eqb}
@@ -171,9 +171,6 @@ module _ (f : ℕ → Start) (n : ℕ) where
     | inl within ↦ (within, ap is_some_of (sym (value_at f n i within)) ∙ is)
     | inr past ↦ absurd (false≢true (ap is_some_of (sym (no_value_at f n i past)) ∙ is))
   ]
-
-  pub is_there : (i : ℕ) → i < n → is_statement (f i) ≡ true → is_some (statement_at starts i) ≡ true
-  is_there i within is = ap is_some_of (value_at f n i within) ∙ is
 
   apart : (i j : ℕ) → i ≢ j → is_statement (f i) ≡ true → is_statement (f j) ≡ true → below i ≢ below j
   apart i j other first second same = elim (cases_order i j) [

@@ -1,11 +1,10 @@
 -- The addresses of a line by the order of the statements.
-use Rattle.std.proofs.Common.{◌≡◌, ◌≢◌, ◌∙◌, ◌<◌, ◌≤◌, ◌+◌, ◌-◌, ◌*◌, ℕ, zero, suc, Bool, true, false, nat_eq, nat_lt, not, ◌&&◌, ◌||◌, List, [], ◌∷◌}
-use Rattle.std.proofs.Common.{◌++◌, drop, length, length-append, map, Option, Some, None, Ok, Err, Result, refl, sym, ap, subst, arith, inl, inr, if◌then◌else◌}
-use Rattle.std.specs.Prelude.{flat_map, is_some, min, ◌==◌, ◌^◌}
-use Rattle.std.specs.List.{list_any, range_with_len, starts_with}
+use Rattle.std.proofs.Common.{◌≡◌, ◌≢◌, ◌∙◌, ◌<◌, ◌≤◌, ◌+◌, ◌-◌, ℕ, zero, suc, Bool, true, false, nat_eq, nat_lt, not, ◌&&◌, ◌||◌, List, [], ◌∷◌}
+use Rattle.std.proofs.Common.{◌++◌, drop, length, length-append, Option, Some, None, Ok, Err, Result, refl, sym, ap, arith, inl, inr, if◌then◌else◌}
+use Rattle.std.specs.Prelude.{flat_map, is_some, ◌==◌}
+use Rattle.std.specs.List.{range_with_len}
 use Rattle.std.specs.Option.{option_and_then, option_map_or}
 use Rattle.std.specs.Str.{bytes_eq}
-use Rattle.std.proofs.Math.Nat.{min-eq_left}
 use Rattle.std.proofs.lemmas.Bool.{cases_lt, false≢true}
 use Rattle.std.proofs.lemmas.Bool.Decides.{Decides-eqb, nat_tests}
 use Rattle.std.proofs.lemmas.List.Folds.{Any-from_list_any, list_any_at}
@@ -15,7 +14,8 @@ use Rattle.gimli_lookup.specs.Components.{components}
 use Rattle.gimli_lookup.specs.Statements.{addresses_in, is_of_line}
 use Rattle.gimli_lookup.specs.inside.StatementLines.{has_statement, is_statement, IsFirstWith}
 use Rattle.gimli_lookup.proofs.StatementRuns.{addresses_on, at_end, of_first, of_given, of_no_statement, of_none}
-use Rattle.gimli_index.specs.Lines.{address_begun, addresses_from, begins_at, begins_with, file_number, is_begun, is_named, place_row, row_of, rows_of, start_row}
+use Rattle.gimli_index.specs.Lines.{address_begun, addresses_from, begins_at, begins_with, file_number, is_begun, is_named, place_row, row_of, rows_of}
+use Rattle.gimli_index.specs.Lines.{start_row}
 use Rattle.gimli_index.specs.Meaning.{Place, Start, start_at, starts_of}
 use Rattle.gimli_index.specs.Order.{if_statement, key_of, last_number, ordered_number, path_number, place_key, statement_at, statement_key, IsOrdered}
 use Rattle.gimli_index.specs.Parts.{Index}
@@ -95,7 +95,8 @@ module _ (path : List ℕ) (line : ℕ) (index : Index) where
       ap (addresses_on (nat_eq 1) line (is_begun line row k)) (row_here index path k within)
       ∙ by_row (is_of_line (nat_eq 1) line (row k)) (row k).is_stmt (is_begun line row k) refl refl refl
       (ap (λ g. addresses_on (nat_eq 1) line g (drop (k + 1) rows)) (sym (begun_next k)) ∙ from_row m (k + 1) (omega (arith, ends)))
-      ∙ ap (λ b. (if b && begins_at line row k then (start_at index k).address ∷ [] else []) ++ flat_map (address_begun path line index) (range_with_len (k + 1) m))
+      ∙ ap (λ b.
+      (if b && begins_at line row k then (start_at index k).address ∷ [] else []) ++ flat_map (address_begun path line index) (range_with_len (k + 1) m))
       (sym inside)
     where
       rest : List LineRow
@@ -112,17 +113,20 @@ module _ (path : List ℕ) (line : ℕ) (index : Index) where
           ∙ ap (λ b. addresses_on (nat_eq 1) line (b && ((row k).is_stmt || is_begun line row k)) rest) (sym p) ∙ then_
       by_row true false given p q r then_ =
           of_no_statement (nat_eq 1) line given (row k) rest p q
-          ∙ ap (λ b. addresses_on (nat_eq 1) line b rest) (sym (ap (λ b. b && ((row k).is_stmt || is_begun line row k)) p ∙ ap (λ b. b || is_begun line row k) q ∙ r))
+          ∙ ap (λ b. addresses_on (nat_eq 1) line b rest)
+          (sym (ap (λ b. b && ((row k).is_stmt || is_begun line row k)) p ∙ ap (λ b. b || is_begun line row k) q ∙ r))
           ∙ then_
       by_row true true true p q r then_ =
           of_given (nat_eq 1) line (row k) rest p
-          ∙ ap (λ b. addresses_on (nat_eq 1) line b rest) (sym (ap (λ b. b && ((row k).is_stmt || is_begun line row k)) p ∙ ap (λ b. b || is_begun line row k) q))
+          ∙ ap (λ b. addresses_on (nat_eq 1) line b rest)
+          (sym (ap (λ b. b && ((row k).is_stmt || is_begun line row k)) p ∙ ap (λ b. b || is_begun line row k) q))
           ∙ then_
       by_row true true false p q r then_ =
           of_first (nat_eq 1) line (row k) rest p q
           ∙ ap (λ (a : ℕ). a ∷ addresses_on (nat_eq 1) line true rest) (row_address path (start_at index k).address (start_at index k).place)
           ∙ ap (λ xs. (start_at index k).address ∷ xs)
-          (ap (λ b. addresses_on (nat_eq 1) line b rest) (sym (ap (λ b. b && ((row k).is_stmt || is_begun line row k)) p ∙ ap (λ b. b || is_begun line row k) q))
+          (ap (λ b. addresses_on (nat_eq 1) line b rest)
+          (sym (ap (λ b. b && ((row k).is_stmt || is_begun line row k)) p ∙ ap (λ b. b || is_begun line row k) q))
           ∙ then_)
 
   -- whether a run has a statement before a row that isn't the first one
@@ -263,7 +267,8 @@ module _ (path : List ℕ) (line : ℕ) (index : Index) (ordered : IsOrdered ind
   pub addresses_are : (place end : ℕ) → end ≤ index.ordered → place < index.ordered → key place ≡ line_key
       → ((k : ℕ) → k < place → is_statement (nat_eq 1) line (row_of path (start_at index (number k))) ≡ false)
       → ((k : ℕ) → k < end → key k < line_key + 1) → ((k : ℕ) → end ≤ k → k < index.ordered → line_key + 1 ≤ key k)
-      → flat_map (λ k. address_begun path line index (number k)) (range_with_len place (end - place)) ≡ addresses_in (nat_eq 1) line (rows_of path (starts_of index))
+      → flat_map (λ k. address_begun path line index (number k)) (range_with_len place (end - place))
+      ≡ addresses_in (nat_eq 1) line (rows_of path (starts_of index))
   addresses_are place end end_within within key_here none_before low high =
       in_order (address_begun path line index) number index.starts index.starts 0 (end - place) place (omega arith)
       (λ q le lt. (omega arith, (there (start_at index) index.starts (number q) (ordered.statements q (omega arith))).0))
@@ -382,7 +387,8 @@ module _ (path : List ℕ) (index : Index) (ordered : IsOrdered index) (asked pl
         → is_statement (nat_eq 1) m (row_of path (start_at index (ordered_number index place))) ≡ false
     not_of_it m not_of =
         let its = its_row path index (ordered_number index place) p is in
-        ap (is_statement (nat_eq 1) m) its.0 ∙ no_line_of path (start_at index (ordered_number index place)).address p m (not_of (start_at index (ordered_number index place)).address)
+        ap (is_statement (nat_eq 1) m) its.0
+        ∙ no_line_of path (start_at index (ordered_number index place)).address p m (not_of (start_at index (ordered_number index place)).address)
 
     -- one place more
     pub one_more : ((m a : ℕ) → asked ≤ m → is_of_line (nat_eq 1) m (place_row path a p) ≡ false) → (k m : ℕ) → k < place + 1 → asked ≤ m

@@ -1,11 +1,11 @@
 -- The ranks of the statements of an index in the making, and their order.
-use Rattle.std.proofs.Common.{◌≡◌, ◌≢◌, ◌⊎◌, ◌∙◌, ◌<◌, ◌≤◌, ◌+◌, ◌*◌, ◌%◌, ◌^◌, ℕ, Bool, true, false, List, [], ◌∷◌, ◌++◌, get_or, length, map, take, Option}
-use Rattle.std.proofs.Common.{Some, None, refl, sym, ap, subst, arith, inl, inr, eqb, if◌then◌else◌, length-append}
+use Rattle.std.proofs.Common.{◌≡◌, ◌≢◌, ◌∙◌, ◌<◌, ◌≤◌, ◌+◌, ◌*◌, ◌%◌, ◌^◌, ℕ, Bool, true, false, List, [], ◌∷◌, ◌++◌, get_or, length, map, take, Option}
+use Rattle.std.proofs.Common.{Some, None, refl, sym, ap, subst, arith, inl, inr, eqb, length-append}
 use Rattle.std.specs.Prelude.{is_some, slice_get, slice_index, All, AllPairs}
 use Rattle.std.specs.List.{count_by, IsDistinct}
-use Rattle.std.specs.List.Sorted.{IsNonDecreasing, IsPermutation, IsStrictlyIncreasing}
+use Rattle.std.specs.List.Sorted.{IsNonDecreasing, IsPermutation}
 use Rattle.std.specs.Option.{option_and_then, option_map, option_map_or}
-use Rattle.std.proofs.lemmas.Bool.{cases_lt, cases_order}
+use Rattle.std.proofs.lemmas.Bool.{cases_order}
 use Rattle.std.proofs.lemmas.Bool.Decides.{Decides-eqb}
 use Rattle.std.proofs.lemmas.List.{get_or-map, length-map, take_all}
 use Rattle.std.proofs.lemmas.List.Elements.{All-push}
@@ -89,13 +89,6 @@ module _ (starts : List Start) (count : ℕ) (ranks : List ℕ) (s : Start) (the
       by_place : (o : Option Place) → option_map place_key o ≡ Some key → (p : Place) × (o ≡ Some p) × (place_key p ≡ key)
       by_place None is = absurd cc
       by_place (Some p) is = let same : place_key p ≡ key = cc in (p, refl, same)
-
-pub no_ranks : (starts : List Start) → AreRanks starts 0 []
-no_ranks starts = record { each = λ k d within. absurd (omega arith); distinct = λ i j d less within. absurd (omega arith); all = sym (none_of starts) }
-  where
-    none_of : (ss : List Start) → count_by is_statement (take 0 ss) ≡ 0
-    none_of [] = refl
-    none_of (s ∷ ss) = refl
 
 -- ---- sorted ranks
 

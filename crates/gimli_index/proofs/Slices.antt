@@ -85,4 +85,5 @@ seventh_part a b c d e g h r from to first end =
     after_bytes a (b ++ (c ++ (d ++ (e ++ (g ++ (h ++ r)))))) from to (length b + length c + length d + length e + length g)
     (length b + length c + length d + length e + length g + length h)
     (omega arith) (omega arith)
-    ∙ sixth_part b c d e g h r (length b + length c + length d + length e + length g) (length b + length c + length d + length e + length g + length h) refl refl
+    ∙ sixth_part b c d e g h r (length b + length c + length d + length e + length g) (length b + length c + length d + length e + length g + length h) refl
+    refl

@@ -1,8 +1,11 @@
 -- The order of the statements of an index: by the names of their files, and of one name by their
--- lines (docs/INDEX.md, "Order"). Code of a line begins at statements alone (DWARF 5, section 6.2.2).
-use Rattle.std.specs.Prelude.{◌≡◌, ◌⊎◌, ◌<◌, ℕ, ◌+◌, ◌*◌, ◌%◌, ◌^◌, Bool, true, List, [], ◌∷◌, map, fold}
-use Rattle.std.specs.Prelude.{min, slice_get, if◌then◌else◌, Option, Some, None, is_some, Result, Ok, Err}
-use Rattle.std.specs.List.{count_by, range_with_len}
+-- lines (docs/INDEX.md, "Order"). Code of a line begins at statements alone (DWARF 5, section
+-- 6.2.2).
+use Rattle.std.specs.Prelude.{◌≡◌, ◌⊎◌, ◌<◌, ℕ, ◌+◌, ◌*◌, ◌%◌, ◌^◌, Bool, true, List, [], ◌∷◌}
+use Rattle.std.specs.Prelude.{fold}
+use Rattle.std.specs.Prelude.{min, slice_get, if◌then◌else◌, Option, Some, None, is_some, Result}
+use Rattle.std.specs.Prelude.{Ok, Err}
+use Rattle.std.specs.List.{count_by}
 use Rattle.std.specs.Option.{option_and_then, option_map_or}
 use Rattle.gimli_lookup.specs.Components.{components}
 use Rattle.gimli_index.specs.Meaning.{Place, Start, starts_of}

@@ -178,7 +178,8 @@ impl<'a> LineIndex<'a> {
     /// of the line in files of the same name, and at the starts of their runs. It returns on any
     /// bytes; what it returns is known where the order is that of the statements, which
     /// [`check`](LineIndex::check) tells, and which holds for each index that this crate made. The
-    /// starts that [`write_index`](crate::write_index) makes have the addresses that its lookup has.
+    /// starts that [`write_index`](crate::write_index) makes have the addresses that its lookup
+    /// has.
     pub fn addresses_of<'p>(&self, path: &'p [u8], line: u64) -> Option<Addresses<'a, 'p>>
         ensures { IsOrdered (index_of self.now) → AreAddressesFrom
             (addresses_of path.now (starts_of (index_of self.now))) line result }

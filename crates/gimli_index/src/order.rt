@@ -28,7 +28,8 @@ fn name_number(name: &[u8]) -> u64
     number
 }
 
-/// The number of the name of a file, which is the last component of its path; 0 where there is none.
+/// The number of the name of a file, which is the last component of its path; 0 where there is
+/// none.
 pub(crate) fn path_number(path: Result<&[u8], NoPath>) -> u64
     ensures number { result ≡ path_number (result_map (λ own. own.now) path.entry) }
     ensures few { result < 2 ^ 31 }

@@ -1,5 +1,6 @@
 -- The ranks of the statements of an index in the making: a key, and below it the index of a start.
-use Rattle.std.specs.Prelude.{◌≡◌, ◌≢◌, ◌<◌, ℕ, ◌+◌, ◌*◌, ◌^◌, List, length, take, is_some, true, All}
+use Rattle.std.specs.Prelude.{◌≡◌, ◌≢◌, ◌<◌, ℕ, ◌+◌, ◌*◌, ◌^◌, List, length, take, is_some, true}
+use Rattle.std.specs.Prelude.{All}
 use Rattle.std.specs.Prelude.{AllPairs}
 use Rattle.std.specs.List.{count_by}
 use Rattle.gimli_index.specs.Meaning.{Start}

@@ -1,4 +1,4 @@
-use Rattle.std.proofs.Common.{◌≡◌, ◌≤◌, ◌%◌, ◌^◌, ℕ, List, [], arith, length, map, subst, sym, Ok, Err, Result, ◌∙◌, ap}
+use Rattle.std.proofs.Common.{◌%◌, ◌^◌, ℕ, List, [], arith, length, map, subst, sym, Ok, Err, Result, ◌∙◌, ap}
 use Rattle.std.specs.Prelude.{slice_index, IfOk}
 use Rattle.std.specs.List.Sorted.{IsNonDecreasing}
 use Rattle.std.proofs.lemmas.List.{length-map}

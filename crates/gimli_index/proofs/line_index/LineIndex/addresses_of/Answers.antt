@@ -1,4 +1,4 @@
-use Rattle.std.proofs.Common.{◌≡◌, ◌∙◌, ap, sym, subst, arith, refl}
+use Rattle.std.proofs.Common.{◌≡◌, ◌∙◌, ap, sym, subst, arith}
 use Rattle.gimli_lookup.specs.Components.{components}
 use Rattle.gimli_index.specs.Lines.{addresses_of, rows_of, AreAddressesFrom}
 use Rattle.gimli_index.specs.Meaning.{starts_of}

@@ -1,4 +1,4 @@
-use Rattle.std.proofs.Common.{◌≡◌, ◌<◌, ◌-◌, ◌+◌}
+use Rattle.std.proofs.Common.{◌≡◌, ◌<◌, ◌-◌}
 use Rattle.std.specs.Prelude.{MatchOption}
 use Rattle.gimli_index.specs.Meaning.{starts_of}
 use Rattle.gimli_index.specs.Order.{ordered_number, statement_key}

@@ -1,4 +1,4 @@
-use Rattle.std.proofs.Common.{◌≡◌, ◌∙◌, ◌+◌, ℕ, cond, sym, ap, arith}
+use Rattle.std.proofs.Common.{◌≡◌, ◌∙◌, ℕ, cond, sym, ap, arith}
 use Rattle.gimli_index.specs.Meaning.{start_at}
 use Rattle.gimli_index.specs.Order.{is_statement}
 use Rattle.gimli_index.specs.Views.{index_of}
