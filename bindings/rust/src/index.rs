@@ -161,11 +161,11 @@ impl<'a> Index<'a> {
         })
     }
 
-    /// Checks an index that nobody vouches for. It looks at each range and each path.
+    /// Checks an index that nobody vouches for. It looks at each range, each path and the order.
     ///
     /// # Errors
     ///
-    /// [`Error::INDEX_DISORDERED`] where the ranges don't ascend, [`Error::INDEX_PATH_OUTSIDE`] where a path isn't inside the index.
+    /// [`Error::INDEX_DISORDERED`] where the ranges don't ascend or the statements aren't in order, [`Error::INDEX_PATH_OUTSIDE`] where a path isn't inside the index.
     pub fn check(&self) -> Result<(), Error> {
         // The pointer is that of a slice.
         Error::of(unsafe { call!(gimli_line_index_check([self.bytes])) })

@@ -91,10 +91,10 @@ fn what_is_no_index_is_refused() {
     assert_eq!(Index::open(&bytes).map(|_| ()), Err(Error::INDEX_HEADER));
     bytes[12] = 8;
     // The third start is below the second; then a path that ends behind the part of paths.
-    bytes[40 + 48 + 8] = 8;
+    bytes[48 + 48 + 8] = 8;
     assert_eq!(Index::open(&bytes).expect("it is an index").check(), Err(Error::INDEX_DISORDERED));
-    bytes[40 + 48 + 8] = 0x20;
-    bytes[40 + 12] = 5;
+    bytes[48 + 48 + 8] = 0x20;
+    bytes[48 + 12] = 5;
     let index = Index::open(&bytes).expect("it is an index");
     assert_eq!(index.check(), Err(Error::INDEX_PATH_OUTSIDE));
     assert_eq!(index.find(0x1000).map(|place| place.path), Some(Err(NoPath::Outside)));

@@ -105,7 +105,7 @@ uint32_t gimli_line_version(void);
     X(UNKNOWN_INDEX_VERSION, 35, "the version of an index is unknown") \
     X(INDEX_CUT, 36, "an index ends before its parts do") \
     X(INDEX_HEADER, 37, "a size or the base in the header of an index is one that can't be") \
-    X(INDEX_DISORDERED, 38, "the ranges of an index don't ascend") \
+    X(INDEX_DISORDERED, 38, "the ranges of an index don't ascend, or its order is another") \
     X(INDEX_PATH_OUTSIDE, 39, "a path isn't inside its index") \
     X(NO_CODE, 41, "no line from the one asked for on has code") \
     X(NO_COMP_DIR, 42, "no unit of .debug_info tells the directory of the compilation") \
@@ -297,7 +297,8 @@ typedef struct gimli_line_index {
 gimli_line_status gimli_line_index_open(const void *index, size_t length, gimli_line_index *found) GIMLI_LINE_CALL GIMLI_LINE_NONNULL;
 
 /* Checks an index that nobody vouches for: that its ranges ascend (GIMLI_LINE_INDEX_DISORDERED), and that each path is inside it
- * (GIMLI_LINE_INDEX_PATH_OUTSIDE). Looks at each range and each path. */
+ * (GIMLI_LINE_INDEX_PATH_OUTSIDE), and that its statements are in order (GIMLI_LINE_INDEX_DISORDERED). Looks at each range, each path
+ * and the order. */
 gimli_line_status gimli_line_index_check(const void *index, size_t length) GIMLI_LINE_CALL GIMLI_LINE_NONNULL;
 
 /* Where code comes from, by an index. */
@@ -334,8 +335,8 @@ gimli_line_status gimli_line_index_find_all(const void *index, size_t length, gi
  * has; *found_line is that line. They go into addresses[0] and so on, ascending; *count is how many there are. GIMLI_LINE_NO_ROOM where
  * `room` is less: *count is written then, and nothing else. GIMLI_LINE_NO_CODE where no line from it on has any; one of
  * GIMLI_LINE_NO_INDEX to GIMLI_LINE_INDEX_HEADER where the bytes begin with no index. Where another number than these is answered, nothing
- * is written. Looks at each range three times, twice for GIMLI_LINE_NO_ROOM. In an index that this library made these are the addresses
- * that the rows of the program give, if no two of its sequences overlap (docs/INDEX.md). */
+ * is written. Searches the order of the statements by halves, and looks at those of the line. In an index that this library made these are the
+ * addresses that the rows of the program give, if no two of its sequences overlap (docs/INDEX.md). */
 gimli_line_status gimli_line_index_addresses_of(const void *index, size_t length, const char *path, size_t path_length, uint64_t line,
                                                 uint64_t *found_line, uint64_t *addresses, size_t room, size_t *count) GIMLI_LINE_CALL;
 

@@ -11,5 +11,4 @@ pub mod CompDirs
 pub mod PathsOfFiles
 pub mod Indexes
 pub mod MadeIndexes
-pub mod LineCounts
 pub mod TakenOne

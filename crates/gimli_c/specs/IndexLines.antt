@@ -3,19 +3,20 @@
 use Rattle.std.specs.Prelude.{◌≡◌, ◌<◌, ℕ, List, length}
 use Rattle.gimli_index.specs.Lines.{addresses_of}
 use Rattle.gimli_index.specs.Meaning.{starts_of}
+use Rattle.gimli_index.specs.Order.{IsOrdered}
 use Rattle.gimli_index.specs.Parts.{Index}
 use Rattle.gimli_lookup.specs.Statements.{HasNoLine, IsFirstLine}
 use Rattle.gimli_c.specs.Indexed.{IsIndex}
 use Rattle.gimli_c.specs.Written.{IsPut}
 
 -- the addresses of the first line from the asked one on that has any, of the files that a path
--- names
+-- names, where the statements of the index are in order
 pub record GivesIndexAddresses (bytes path : List ℕ) (asked line : ℕ) (addresses : List ℕ)
     : Type 0 where
   pub index : Index
   pub is : IsIndex bytes index
-  pub is_first : IsFirstLine (addresses_of path (starts_of index)) asked line
-  pub addresses_are : addresses ≡ addresses_of path (starts_of index) line
+  pub is_first : IsOrdered index → IsFirstLine (addresses_of path (starts_of index)) asked line
+  pub addresses_are : IsOrdered index → addresses ≡ addresses_of path (starts_of index) line
 
 -- those addresses at the front of an array of the caller, and how many there are
 abbrev pub WritesIndexAddresses : List ℕ → List ℕ → ℕ → ℕ → List ℕ → List ℕ → ℕ → Type 0
@@ -29,8 +30,9 @@ NeedsAddressRoom bytes path asked old count =
     (line : ℕ) × (addresses : List ℕ) × GivesIndexAddresses bytes path asked line addresses
     × (length old < length addresses) × (count ≡ length addresses)
 
--- no line from the asked one on has an address in the files that a path names
+-- no line from the asked one on has an address in the files that a path names, where the statements
+-- of the index are in order
 pub record HasNoIndexAddress (bytes path : List ℕ) (asked : ℕ) : Type 0 where
   pub index : Index
   pub is : IsIndex bytes index
-  pub none : HasNoLine (addresses_of path (starts_of index)) asked
+  pub none : IsOrdered index → HasNoLine (addresses_of path (starts_of index)) asked

@@ -10,6 +10,7 @@ use Rattle.gimli_index.specs.declared.error.IndexError.{IndexError}
 use Rattle.gimli_index.specs.declared.error.IndexError.TheVariants.{NotIndex, HeaderCut, Version}
 use Rattle.gimli_index.specs.declared.error.IndexError.TheVariants.{AddressSize, StartSize, Base}
 use Rattle.gimli_index.specs.declared.error.IndexError.TheVariants.{Cut, NotAscending, PathOutside}
+use Rattle.gimli_index.specs.declared.error.IndexError.TheVariants.{NotInOrder}
 use Rattle.gimli_index.specs.declared.place.NoPath.{NoPath}
 use Rattle.gimli_index.specs.declared.place.NoPath.TheVariants.{Reason, Outside}
 use Rattle.gimli_c.specs.declared.index.header.GimliIndex.{GimliIndex}
@@ -28,6 +29,7 @@ index_status (StartSize _) = 37
 index_status (Base _) = 37
 index_status NotAscending = 38
 index_status PathOutside = 39
+index_status NotInOrder = 38
 
 -- the bytes begin with this index
 abbrev pub IsIndex : List ℕ → Index → Type 0
@@ -39,7 +41,8 @@ pub record IsNoIndex (bytes : List ℕ) (status : ℕ) : Type 0 where
   pub refused : index_at bytes ≡ Err error
   pub status_is : status ≡ index_status error
 
--- they begin with an index whose ranges ascend, and whose paths are inside
+-- they begin with an index whose ranges ascend, whose paths are inside, and whose statements are in
+-- order
 pub record IsSoundIndex (bytes : List ℕ) : Type 0 where
   pub index : Index
   pub is : IsIndex bytes index

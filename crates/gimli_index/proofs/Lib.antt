@@ -8,6 +8,9 @@ mod Slices
 mod ReadBack
 mod Puts
 mod OneFound
+mod Ordered
+mod OrderedLines
+mod Ranks
 mod LastComponents
 mod Starts
 mod NamedRows

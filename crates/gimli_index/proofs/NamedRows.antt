@@ -1,58 +1,15 @@
 -- The first line of which starts have a statement.
-use Rattle.std.proofs.Common.{◌≡◌, ◌≢◌, ◌≤◌, ◌||◌, ◌&&◌, ℕ, Bool, true, false, not, nat_eq, nat_lt, List, [], ◌∷◌, Option, Some, None, refl, sym, ap}
-use Rattle.std.proofs.Common.{◌∙◌, arith}
+use Rattle.std.proofs.Common.{◌≡◌, ◌||◌, ◌&&◌, ℕ, true, false, nat_eq, List, [], ◌∷◌, Some, None, sym, ap}
+use Rattle.std.proofs.Common.{◌∙◌}
 use Rattle.std.proofs.Common.{append-nil}
-use Rattle.std.specs.Prelude.{◌==◌}
-use Rattle.std.proofs.lemmas.Bool.Decides.{nat_tests}
 use Rattle.gimli_line.specs.declared.run.row.LineRow.{LineRow}
-use Rattle.gimli_lookup.specs.Ranges.{IsBefore}
 use Rattle.gimli_lookup.specs.Statements.{addresses_in, is_of_line, HasNoLine, IsFirstLine}
 use Rattle.gimli_lookup.specs.inside.StatementLines.{has_statement, is_statement, IsFirstWith}
 use Rattle.gimli_lookup.proofs.StatementRuns.{first_line, no_line}
-use Rattle.gimli_index.specs.Lines.{file_number, place_row}
+use Rattle.gimli_index.specs.Lines.{place_row}
 use Rattle.gimli_index.specs.Meaning.{Place}
 
-or_false : (a b : Bool) → a ≡ false → b ≡ false → (a || b) ≡ false
-or_false a b p q = ap (λ x. x || b) p ∙ q
-
-or_true : (a b : Bool) → b ≡ true → (a || b) ≡ true
-or_true true b q = refl
-or_true false b q = q
-
-true_or : (a b : Bool) → a ≡ true → (a || b) ≡ true
-true_or a b p = ap (λ x. x || b) p
-
-module _ (has other : ℕ → Bool) (asked : ℕ) where
-  -- another test that no line passes below the first one changes nothing
-  pub first_stays : (first : Option ℕ) → IsFirstWith has asked first → ((l : ℕ) → asked ≤ l → IsBefore l first → other l ≡ false)
-      → IsFirstWith (λ l. has l || other l) asked first
-  first_stays None none fails = λ l from. or_false (has l) (other l) (none l from) (fails l from tt)
-  first_stays (Some f) is fails = (is.0, true_or (has f) (other f) is.1, λ l from before. or_false (has l) (other l) (is.2 l from before) (fails l from before))
-
-  -- one that a line passes below the first one, and no other, has that line first
-  pub first_becomes : (first : Option ℕ) (line : ℕ) → IsFirstWith has asked first → asked ≤ line → IsBefore line first → other line ≡ true
-      → ((l : ℕ) → l ≢ line → other l ≡ false) → IsFirstWith (λ l. has l || other l) asked (Some line)
-  first_becomes None line none from before passes fails =
-      (from, or_true (has line) (other line) passes, λ l above below. or_false (has l) (other l) (none l above) (fails l (λ e. omega (arith, e, below))))
-  first_becomes (Some f) line is from before passes fails = (
-    from,
-    or_true (has line) (other line) passes,
-    λ l above below.
-        or_false (has l) (other l) (is.2 l above (omega (arith, below, before))) (fails l (λ e. omega (arith, e, below))),
-  )
-
 -- ---- the row of a place
-
-false_inside : (x y z : Bool) → (((x && false) && y) && z) ≡ false
-false_inside true y z = refl
-false_inside false y z = refl
-
--- a place is a statement of no line but its own
-pub other_line : (path : List ℕ) (a : ℕ) (p : Place) (l : ℕ) → l ≢ p.line → is_statement (nat_eq 1) l (place_row path a p) ≡ false
-other_line path a p l other =
-    let differs : (p.line == l) ≡ false = grind (arith, nat_tests) in
-    ap (λ b. (((not false && nat_lt 0 p.line) && b) && nat_eq 1 (file_number path p.path)) && p.is_stmt) differs
-    ∙ false_inside (not false && nat_lt 0 p.line) (nat_eq 1 (file_number path p.path)) p.is_stmt
 
 pub no_line_of : (path : List ℕ) (a : ℕ) (p : Place) (l : ℕ) → is_of_line (nat_eq 1) l (place_row path a p) ≡ false
     → is_statement (nat_eq 1) l (place_row path a p) ≡ false

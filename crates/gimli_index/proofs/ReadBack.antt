@@ -2,23 +2,24 @@
 use Rattle.std.proofs.Common.{◌≡◌, ℕ, zero, suc, ◌+◌, ◌-◌, ◌*◌, ◌^◌, ◌<◌, ◌≤◌, Bool, true, false, if◌then◌else◌, nat_lt, List, [], ◌∷◌, ◌++◌, length, take}
 use Rattle.std.proofs.Common.{drop, map, Option, Some, None, Result, Ok, Err, slice_get, refl, sym, ap, ◌∙◌, arith, length-append, append_assoc, inl, inr}
 use Rattle.std.proofs.Common.{subst, nat_eq}
-use Rattle.std.specs.Prelude.{All, flat_map, nat_le, slice_range}
+use Rattle.std.specs.Prelude.{All, flat_map, nat_le, slice_index, slice_range}
 use Rattle.std.specs.Option.{option_map, option_and_then}
 use Rattle.std.proofs.lemmas.Bool.Decides.{nat_tests}
-use Rattle.std.proofs.lemmas.Option.{slice_get_cases}
+use Rattle.std.proofs.lemmas.Option.{slice_get-get_or, slice_get_cases}
 use Rattle.std.proofs.lemmas.List.Elements.{All-get_or}
 use Rattle.gimli_core.specs.Numbers.{is_address_size, le_value}
 use Rattle.gimli_index.specs.Numbers.{number_at}
 use Rattle.gimli_index.specs.Steps.{◌>>=◌}
 use Rattle.gimli_index.specs.Header.{size_of, highest_base, address_size_of, start_size_of, base_of, fields_at, header_at}
-use Rattle.gimli_index.specs.Parts.{Index, index_at, parts_at, starts_offset, entries_offset, paths_offset, identity_offset, end_offset}
+use Rattle.gimli_index.specs.Parts.{Index, index_at, parts_at, starts_offset, entries_offset, order_offset, paths_offset, identity_offset, end_offset}
 use Rattle.gimli_index.specs.declared.place.NoPath.{NoPath}
 use Rattle.gimli_index.specs.declared.place.NoPath.TheVariants.{Reason}
 use Rattle.gimli_index.specs.Meaning.{column_in, is_statement_in}
 use Rattle.gimli_index.specs.Meaning.{AreAscending, Place, Start, path_in, entry_place, place_from, start_at, start_number, starts_of, path_of}
 use Rattle.gimli_index.specs.Contents.{Contents, Fits, FitsLine, FitsPlace, FitsSource, IsNear, entry_start, line_place, line_in, header_bytes, source_bytes}
 use Rattle.gimli_index.specs.Contents.{column_word, start_bytes, line_bytes, place_bytes, entry_bytes, index_bytes, le_bytes}
-use Rattle.gimli_index.specs.Made.{EntriesAscend, SaysWhat}
+use Rattle.gimli_index.specs.Made.{EntriesAscend, HasOrder, SaysWhat}
+use Rattle.gimli_index.specs.Order.{ordered_number, IsOrder, IsOrdered}
 use Rattle.gimli_index.specs.declared.contents.Entry.{Entry}
 use Rattle.gimli_index.specs.declared.contents.Source.{Source}
 use Rattle.gimli_index.specs.declared.contents.SourceLine.{SourceLine}
@@ -28,7 +29,8 @@ use Rattle.gimli_index.specs.declared.header.Header.{Header}
 use Rattle.gimli_index.specs.declared.header.StartSize.{StartSize}
 use Rattle.gimli_index.specs.declared.header.StartSize.TheVariants.{Four, Eight}
 use Rattle.gimli_index.proofs.Numerals.{number_read}
-use Rattle.gimli_index.proofs.Slices.{element_at, elements_length, same_values, second_part, third_part, fourth_part, fifth_part, sixth_part}
+use Rattle.gimli_index.proofs.Ordered.{same_order}
+use Rattle.gimli_index.proofs.Slices.{element_at, elements_length, same_values, second_part, third_part, fourth_part, fifth_part, sixth_part, seventh_part}
 
 -- ---- the header
 
@@ -41,26 +43,40 @@ header_of c = record {
   sources = length c.sources;
   paths = length c.paths;
   identity = length c.identity;
+  ordered = length c.order;
+}
+
+abbrev with_fields : ℕ → StartSize → ℕ → ℕ → ℕ → ℕ → ℕ → ℕ → Header
+with_fields address_size start_size base starts sources paths identity ordered = record {
+  address_size = address_size;
+  start_size = start_size;
+  base = base;
+  starts = starts;
+  sources = sources;
+  paths = paths;
+  identity = identity;
+  ordered = ordered;
 }
 
 -- the header of its fields
-abbrev fields_by : ℕ → ℕ → ℕ → ℕ → ℕ → ℕ → ℕ → Result Header IndexError
-fields_by address start base starts sources paths identity =
+abbrev fields_by : ℕ → ℕ → ℕ → ℕ → ℕ → ℕ → ℕ → ℕ → Result Header IndexError
+fields_by address start base starts sources paths identity ordered =
     address_size_of address >>= λ address_size.
     start_size_of start >>= λ start_size.
     base_of start_size base >>= λ base.
-    Ok (record { address_size = address_size; start_size = start_size; base = base; starts = starts; sources = sources; paths = paths; identity = identity })
+    Ok (with_fields address_size start_size base starts sources paths identity ordered)
 
-same_fields : (a a' b b' c c' d d' e e' g g' h h' : ℕ) → a ≡ a' → b ≡ b' → c ≡ c' → d ≡ d' → e ≡ e' → g ≡ g' → h ≡ h'
-    → fields_by a b c d e g h ≡ fields_by a' b' c' d' e' g' h'
-same_fields a a' b b' c c' d d' e e' g g' h h' p q r s t u v =
-    ap (λ x. fields_by x b c d e g h) p
-    ∙ ap (λ x. fields_by a' x c d e g h) q
-    ∙ ap (λ x. fields_by a' b' x d e g h) r
-    ∙ ap (λ x. fields_by a' b' c' x e g h) s
-    ∙ ap (λ x. fields_by a' b' c' d' x g h) t
-    ∙ ap (λ x. fields_by a' b' c' d' e' x h) u
-    ∙ ap (λ x. fields_by a' b' c' d' e' g' x) v
+same_fields : (a a' b b' c c' d d' e e' g g' h h' i i' : ℕ) → a ≡ a' → b ≡ b' → c ≡ c' → d ≡ d' → e ≡ e' → g ≡ g' → h ≡ h' → i ≡ i'
+    → fields_by a b c d e g h i ≡ fields_by a' b' c' d' e' g' h' i'
+same_fields a a' b b' c c' d d' e e' g g' h h' i i' p q r s t u v w =
+    ap (λ x. fields_by x b c d e g h i) p
+    ∙ ap (λ x. fields_by a' x c d e g h i) q
+    ∙ ap (λ x. fields_by a' b' x d e g h i) r
+    ∙ ap (λ x. fields_by a' b' c' x e g h i) s
+    ∙ ap (λ x. fields_by a' b' c' d' x g h i) t
+    ∙ ap (λ x. fields_by a' b' c' d' e' x h i) u
+    ∙ ap (λ x. fields_by a' b' c' d' e' g' x i) v
+    ∙ ap (λ x. fields_by a' b' c' d' e' g' h' x) w
 
 base_fits : (size : StartSize) (base : ℕ) → base ≤ highest_base size → base_of size base ≡ Ok base
 base_fits size base low =
@@ -72,23 +88,24 @@ start_size_is Four = refl
 start_size_is Eight = refl
 
 fields_are : (c : Contents) → Fits c
-    → fields_by c.address_size (size_of c.start_size) c.base (length c.entries) (length c.sources) (length c.paths) (length c.identity) ≡ Ok (header_of c)
+    → fields_by c.address_size (size_of c.start_size) c.base (length c.entries) (length c.sources) (length c.paths) (length c.identity) (length c.order)
+    ≡ Ok (header_of c)
 fields_are c fits =
     let starts = length c.entries in
     let sources = length c.sources in
     let paths = length c.paths in
     let identity = length c.identity in
+    let ordered = length c.order in
     let address : address_size_of c.address_size
     ≡ Ok c.address_size = ap (λ (b : Bool). if b then Ok c.address_size else Err (AddressSize c.address_size)) fits.address_size in
     ap (λ (r : Result ℕ IndexError). r >>= λ address_size. start_size_of (size_of c.start_size) >>= λ start_size. base_of start_size c.base >>= λ base.
-    Ok (record { address_size = address_size; start_size = start_size; base = base; starts = starts; sources = sources; paths = paths; identity = identity }))
+    Ok (with_fields address_size start_size base starts sources paths identity ordered))
     address
     ∙ ap (λ (r : Result StartSize IndexError). r >>= λ start_size. base_of start_size c.base >>= λ base.
-    Ok (record { address_size = c.address_size; start_size = start_size; base = base; starts = starts; sources = sources; paths = paths; identity = identity }))
+    Ok (with_fields c.address_size start_size base starts sources paths identity ordered))
     (start_size_is c.start_size)
     ∙ ap (λ (r : Result ℕ IndexError). r >>= λ base.
-    Ok
-    (record { address_size = c.address_size; start_size = c.start_size; base = base; starts = starts; sources = sources; paths = paths; identity = identity }))
+    Ok (with_fields c.address_size c.start_size base starts sources paths identity ordered))
     (base_fits c.start_size c.base fits.base)
 
 size_fits : (size : StartSize) → size_of size < 256 ^ 2
@@ -99,16 +116,17 @@ base_is_long : (size : StartSize) (base : ℕ) → base ≤ highest_base size �
 base_is_long Four base low = omega arith
 base_is_long Eight base low = omega arith
 
-header_length : (c : Contents) → length (header_bytes c) ≡ 40
+header_length : (c : Contents) → length (header_bytes c) ≡ 48
 header_length c = refl
 
 header_read : (c : Contents) (rest : List ℕ) → c.address_size < 2 ^ 16 → Fits c → header_at (header_bytes c ++ rest) ≡ Ok (header_of c)
 header_read c rest half fits =
     let bytes = header_bytes c ++ rest in
-    let enough : 40 ≤ length bytes = omega (arith, length-append (header_bytes c) rest, header_length c) in
-    let whole : nat_lt (length bytes) 40 ≡ false = grind (arith, nat_tests) in
+    let enough : 48 ≤ length bytes = omega (arith, length-append (header_bytes c) rest, header_length c) in
+    let whole : nat_lt (length bytes) 48 ≡ false = grind (arith, nat_tests) in
     ap (λ (b : Bool). if b then Err HeaderCut else fields_at bytes) whole
-    ∙ same_fields _ c.address_size _ (size_of c.start_size) _ c.base _ (length c.entries) _ (length c.sources) _ (length c.paths) _ (length c.identity)
+    ∙ same_fields _ c.address_size _ (size_of c.start_size) _ c.base _ (length c.entries) _ (length c.sources) _ (length c.paths) _ (length c.identity) _
+    (length c.order)
     (number_read 2 c.address_size (omega arith))
     (number_read 2 (size_of c.start_size) (size_fits c.start_size))
     (number_read 8 c.base (base_is_long c.start_size c.base fits.base))
@@ -116,6 +134,7 @@ header_read c rest half fits =
     (number_read 4 (length c.sources) (omega (arith, fits.counts.sources)))
     (number_read 4 (length c.paths) (omega (arith, fits.counts.paths)))
     (number_read 4 (length c.identity) (omega (arith, fits.counts.identity)))
+    (number_read 4 (length c.order) (omega (arith, fits.counts.order)))
     ∙ fields_are c fits
 
 -- ---- the parts
@@ -129,6 +148,9 @@ starts_part c = flat_map (start_bytes c.start_size c.base) c.entries
 abbrev entries_part : Contents → List ℕ
 entries_part c = flat_map entry_bytes c.entries
 
+abbrev order_part : Contents → List ℕ
+order_part c = flat_map (le_bytes 4) c.order
+
 -- the index that is read
 abbrev index_of_contents : Contents → Index
 index_of_contents c = record {
@@ -137,9 +159,11 @@ index_of_contents c = record {
   base = c.base;
   starts = length c.entries;
   sources = length c.sources;
+  ordered = length c.order;
   source_bytes = sources_part c;
   start_bytes = starts_part c;
   entry_bytes = entries_part c;
+  order_bytes = order_part c;
   path_bytes = c.paths;
   identity = c.identity;
 }
@@ -158,91 +182,99 @@ entry_length e = of_place e.place
 source_length : (s : Source) → length (source_bytes s) ≡ 24
 source_length s = refl
 
--- six parts and what follows them
-grouped : (a b c d e g r : List ℕ) → (a ++ b ++ c ++ d ++ e ++ g) ++ r ≡ a ++ (b ++ (c ++ (d ++ (e ++ (g ++ r)))))
-grouped a b c d e g r =
-    append_assoc (a ++ b ++ c ++ d ++ e) g r
-    ∙ append_assoc (a ++ b ++ c ++ d) e (g ++ r)
-    ∙ append_assoc (a ++ b ++ c) d (e ++ (g ++ r))
-    ∙ append_assoc (a ++ b) c (d ++ (e ++ (g ++ r)))
-    ∙ append_assoc a b (c ++ (d ++ (e ++ (g ++ r))))
+-- seven parts and what follows them
+grouped : (a b c d e g h r : List ℕ) → (a ++ b ++ c ++ d ++ e ++ g ++ h) ++ r ≡ a ++ (b ++ (c ++ (d ++ (e ++ (g ++ (h ++ r))))))
+grouped a b c d e g h r =
+    append_assoc (a ++ b ++ c ++ d ++ e ++ g) h r
+    ∙ append_assoc (a ++ b ++ c ++ d ++ e) g (h ++ r)
+    ∙ append_assoc (a ++ b ++ c ++ d) e (g ++ (h ++ r))
+    ∙ append_assoc (a ++ b ++ c) d (e ++ (g ++ (h ++ r)))
+    ∙ append_assoc (a ++ b) c (d ++ (e ++ (g ++ (h ++ r))))
+    ∙ append_assoc a b (c ++ (d ++ (e ++ (g ++ (h ++ r)))))
 
-abbrev index_of_parts : Contents → List ℕ → List ℕ → List ℕ → List ℕ → List ℕ → Index
-index_of_parts c sources starts entries paths identity = record (index_of_contents c) {
+abbrev index_of_parts : Contents → List ℕ → List ℕ → List ℕ → List ℕ → List ℕ → List ℕ → Index
+index_of_parts c sources starts entries order paths identity = record (index_of_contents c) {
   source_bytes = sources;
   start_bytes = starts;
   entry_bytes = entries;
+  order_bytes = order;
   path_bytes = paths;
   identity = identity;
 }
 
-same_parts : (c : Contents) (a a' b b' d d' e e' g g' : List ℕ) → a ≡ a' → b ≡ b' → d ≡ d' → e ≡ e' → g ≡ g'
-    → index_of_parts c a b d e g ≡ index_of_parts c a' b' d' e' g'
-same_parts c a a' b b' d d' e e' g g' p q r s t =
-    ap (λ x. index_of_parts c x b d e g) p
-    ∙ ap (λ x. index_of_parts c a' x d e g) q
-    ∙ ap (λ x. index_of_parts c a' b' x e g) r
-    ∙ ap (λ x. index_of_parts c a' b' d' x g) s
-    ∙ ap (λ x. index_of_parts c a' b' d' e' x) t
+same_parts : (c : Contents) (a a' b b' d d' e e' g g' h h' : List ℕ) → a ≡ a' → b ≡ b' → d ≡ d' → e ≡ e' → g ≡ g' → h ≡ h'
+    → index_of_parts c a b d e g h ≡ index_of_parts c a' b' d' e' g' h'
+same_parts c a a' b b' d d' e e' g g' h h' p q r s t u =
+    ap (λ x. index_of_parts c x b d e g h) p
+    ∙ ap (λ x. index_of_parts c a' x d e g h) q
+    ∙ ap (λ x. index_of_parts c a' b' x e g h) r
+    ∙ ap (λ x. index_of_parts c a' b' d' x g h) s
+    ∙ ap (λ x. index_of_parts c a' b' d' e' x h) t
+    ∙ ap (λ x. index_of_parts c a' b' d' e' g' x) u
 
 -- what follows the header
 abbrev tail_of : Contents → List ℕ → List ℕ
-tail_of c rest = sources_part c ++ (starts_part c ++ (entries_part c ++ (c.paths ++ (c.identity ++ rest))))
+tail_of c rest = sources_part c ++ (starts_part c ++ (entries_part c ++ (order_part c ++ (c.paths ++ (c.identity ++ rest)))))
 
 bytes_are : (c : Contents) (rest : List ℕ) → index_bytes c ++ rest ≡ header_bytes c ++ tail_of c rest
-bytes_are c rest = grouped (header_bytes c) (sources_part c) (starts_part c) (entries_part c) c.paths c.identity rest
+bytes_are c rest = grouped (header_bytes c) (sources_part c) (starts_part c) (entries_part c) (order_part c) c.paths c.identity rest
 
 part_lengths : (c : Contents)
     → (length (sources_part c) ≡ 24 * length c.sources) × (length (starts_part c) ≡ size_of c.start_size * length c.entries)
-    × (length (entries_part c) ≡ 12 * length c.entries)
+    × (length (entries_part c) ≡ 12 * length c.entries) × (length (order_part c) ≡ 4 * length c.order)
 part_lengths c = (
   elements_length source_bytes 24 source_length c.sources,
   elements_length (start_bytes c.start_size c.base) (size_of c.start_size) (start_length c.start_size c.base) c.entries,
   elements_length entry_bytes 12 entry_length c.entries,
+  elements_length (le_bytes 4) 4 (λ n. refl) c.order,
 )
 
-whole_length : (h s t e p i r : List ℕ)
-    → length (h ++ (s ++ (t ++ (e ++ (p ++ (i ++ r)))))) ≡ length h + length s + length t + length e + length p + length i + length r
-whole_length h s t e p i r = omega (
+whole_length : (h s t e o p i r : List ℕ)
+    → length (h ++ (s ++ (t ++ (e ++ (o ++ (p ++ (i ++ r))))))) ≡ length h + length s + length t + length e + length o + length p + length i + length r
+whole_length h s t e o p i r = omega (
   arith,
-  length-append h (s ++ (t ++ (e ++ (p ++ (i ++ r))))),
-  length-append s (t ++ (e ++ (p ++ (i ++ r)))),
-  length-append t (e ++ (p ++ (i ++ r))),
-  length-append e (p ++ (i ++ r)),
+  length-append h (s ++ (t ++ (e ++ (o ++ (p ++ (i ++ r)))))),
+  length-append s (t ++ (e ++ (o ++ (p ++ (i ++ r))))),
+  length-append t (e ++ (o ++ (p ++ (i ++ r)))),
+  length-append e (o ++ (p ++ (i ++ r))),
+  length-append o (p ++ (i ++ r)),
   length-append p (i ++ r),
   length-append i r,
 )
 
 -- the parts of these bytes, where a header of these numbers stands before them
-parts_by : (c : Contents) (h s t e p i r : List ℕ) → length h ≡ 40 → length s ≡ 24 * length c.sources → length t ≡ size_of c.start_size * length c.entries
-    → length e ≡ 12 * length c.entries → length p ≡ length c.paths → length i ≡ length c.identity
-    → parts_at (h ++ (s ++ (t ++ (e ++ (p ++ (i ++ r)))))) (header_of c) ≡ Ok (index_of_parts c s t e p i)
-parts_by c h s t e p i r in_header in_sources in_starts in_entries in_paths in_identity =
+parts_by : (c : Contents) (h s t e o p i r : List ℕ) → length h ≡ 48 → length s ≡ 24 * length c.sources → length t ≡ size_of c.start_size * length c.entries
+    → length e ≡ 12 * length c.entries → length o ≡ 4 * length c.order → length p ≡ length c.paths → length i ≡ length c.identity
+    → parts_at (h ++ (s ++ (t ++ (e ++ (o ++ (p ++ (i ++ r))))))) (header_of c) ≡ Ok (index_of_parts c s t e o p i)
+parts_by c h s t e o p i r in_header in_sources in_starts in_entries in_order in_paths in_identity =
     let header = header_of c in
-    let flat : List ℕ = h ++ (s ++ (t ++ (e ++ (p ++ (i ++ r))))) in
-    let all = whole_length h s t e p i r in
+    let flat : List ℕ = h ++ (s ++ (t ++ (e ++ (o ++ (p ++ (i ++ r)))))) in
+    let all = whole_length h s t e o p i r in
     let enough : end_offset header ≤ length flat = omega (arith, all) in
     let whole : nat_lt (length flat) (end_offset header) ≡ false = grind (arith, nat_tests) in
     ap (λ (b : Bool).
-    if b then Err Cut else Ok (index_of_parts c (slice_range flat 40 (starts_offset header)) (slice_range flat (starts_offset header) (entries_offset header))
-    (slice_range flat (entries_offset header) (paths_offset header)) (slice_range flat (paths_offset header) (identity_offset header))
+    if b then Err Cut else Ok (index_of_parts c (slice_range flat 48 (starts_offset header)) (slice_range flat (starts_offset header) (entries_offset header))
+    (slice_range flat (entries_offset header) (order_offset header)) (slice_range flat (order_offset header) (paths_offset header))
+    (slice_range flat (paths_offset header) (identity_offset header))
     (slice_range flat (identity_offset header) (end_offset header))))
     whole
     ∙ ap (λ (index : Index). Ok index)
-    (same_parts c (slice_range flat 40 (starts_offset header)) s (slice_range flat (starts_offset header) (entries_offset header)) t
-    (slice_range flat (entries_offset header) (paths_offset header)) e (slice_range flat (paths_offset header) (identity_offset header)) p
+    (same_parts c (slice_range flat 48 (starts_offset header)) s (slice_range flat (starts_offset header) (entries_offset header)) t
+    (slice_range flat (entries_offset header) (order_offset header)) e (slice_range flat (order_offset header) (paths_offset header)) o
+    (slice_range flat (paths_offset header) (identity_offset header)) p
     (slice_range flat (identity_offset header) (end_offset header)) i
-    (second_part h s (t ++ (e ++ (p ++ (i ++ r)))) 40 (starts_offset header) (omega arith) (omega arith))
-    (third_part h s t (e ++ (p ++ (i ++ r))) (starts_offset header) (entries_offset header) (omega arith) (omega arith))
-    (fourth_part h s t e (p ++ (i ++ r)) (entries_offset header) (paths_offset header) (omega arith) (omega arith))
-    (fifth_part h s t e p (i ++ r) (paths_offset header) (identity_offset header) (omega arith) (omega arith))
-    (sixth_part h s t e p i r (identity_offset header) (end_offset header) (omega arith) (omega arith)))
+    (second_part h s (t ++ (e ++ (o ++ (p ++ (i ++ r))))) 48 (starts_offset header) (omega arith) (omega arith))
+    (third_part h s t (e ++ (o ++ (p ++ (i ++ r)))) (starts_offset header) (entries_offset header) (omega arith) (omega arith))
+    (fourth_part h s t e (o ++ (p ++ (i ++ r))) (entries_offset header) (order_offset header) (omega arith) (omega arith))
+    (fifth_part h s t e o (p ++ (i ++ r)) (order_offset header) (paths_offset header) (omega arith) (omega arith))
+    (sixth_part h s t e o p (i ++ r) (paths_offset header) (identity_offset header) (omega arith) (omega arith))
+    (seventh_part h s t e o p i r (identity_offset header) (end_offset header) (omega arith) (omega arith)))
 
 parts_read : (c : Contents) (rest : List ℕ) → parts_at (header_bytes c ++ tail_of c rest) (header_of c) ≡ Ok (index_of_contents c)
 parts_read c rest =
     let lengths = part_lengths c in
-    parts_by c (header_bytes c) (sources_part c) (starts_part c) (entries_part c) c.paths c.identity rest (header_length c) lengths.0 lengths.1 lengths.2 refl
-    refl
+    parts_by c (header_bytes c) (sources_part c) (starts_part c) (entries_part c) (order_part c) c.paths c.identity rest (header_length c) lengths.0 lengths.1
+    lengths.2 lengths.3 refl refl
 
 -- ---- the starts
 
@@ -423,12 +455,25 @@ index_read c rest fits =
     ap (λ (r : Result Header IndexError). r >>= λ h. parts_at bytes h) (header_read c (tail_of c rest) (small_address c.address_size fits.address_size) fits)
     ∙ parts_read c rest
 
+-- the order is read as it was
+number_is : (c : Contents) → Fits c → (k : ℕ) → k < length c.order → slice_index c.order k ≡ ordered_number (index_of_contents c) k
+number_is c fits k within =
+    let here = element_at (le_bytes 4) 4 (λ n. refl) c.order k (slice_index c.order k) (slice_get-get_or c.order k 0 within) in
+    let low : slice_index c.order k < 2 ^ 32 = fits.order k 0 within in
+    sym (ap (λ bytes. le_value (take 4 bytes)) here.1 ∙ number_read 4 (slice_index c.order k) (omega (arith, low)))
+
+ordered_as : (c : Contents) → Fits c → HasOrder c → IsOrdered (index_of_contents c)
+ordered_as c fits order =
+    subst (λ (starts : List Start). IsOrder starts (length c.order) (ordered_number (index_of_contents c))) (sym (starts_are c fits))
+    (same_order (map (entry_start c) c.entries) (length c.order) (slice_index c.order) (ordered_number (index_of_contents c)) (number_is c fits) order)
+
 pub read_back : (c : Contents) (rest : List ℕ) → Fits c → SaysWhat c (index_at (index_bytes c ++ rest))
 read_back c rest fits = record {
   index = index_of_contents c;
   is_read = ap index_at (bytes_are c rest) ∙ index_read c rest fits;
   starts = starts_are c fits;
   ascending = λ ascend. subst (λ (starts : List Start). AreAscending starts) (sym (starts_are c fits)) (starts_ascend c ascend);
+  ordered = ordered_as c fits;
   address_size = refl;
   identity = refl;
 }

@@ -46,7 +46,7 @@ same_values f g (x ∷ xs) first each =
     let later = same_values f g xs (first + 1) (λ i y there. let same : first + 1 + i ≡ first + suc i = omega arith in ap f same ∙ each (suc i) y there) in
     ap (λ y. y ∷ map f (range_with_len (first + 1) (length xs))) here ∙ ap (λ ys. g x ∷ ys) later
 
--- ---- the second to the sixth of some parts
+-- ---- the second to the seventh of some parts
 
 pub second_part : (a b r : List ℕ) (from to : ℕ) → from ≡ length a → to ≡ length a + length b → slice_range (a ++ (b ++ r)) from to ≡ b
 second_part a b r from to first end =
@@ -77,3 +77,13 @@ sixth_part a b c d e g r from to first end =
     (length b + length c + length d + length e + length g)
     (omega arith) (omega arith)
     ∙ fifth_part b c d e g r (length b + length c + length d + length e) (length b + length c + length d + length e + length g) refl refl
+
+pub seventh_part : (a b c d e g h r : List ℕ) (from to : ℕ) → from ≡ length a + length b + length c + length d + length e + length g
+    → to ≡ length a + length b + length c + length d + length e + length g + length h
+    → slice_range (a ++ (b ++ (c ++ (d ++ (e ++ (g ++ (h ++ r))))))) from to ≡ h
+seventh_part a b c d e g h r from to first end =
+    after_bytes a (b ++ (c ++ (d ++ (e ++ (g ++ (h ++ r)))))) from to (length b + length c + length d + length e + length g)
+    (length b + length c + length d + length e + length g + length h)
+    (omega arith) (omega arith)
+    ∙ sixth_part b c d e g h r (length b + length c + length d + length e + length g) (length b + length c + length d + length e + length g + length h) refl
+    refl

@@ -1,5 +1,5 @@
 -- Worked indexes: what the definitions say of bytes that were written by hand.
-use Rattle.std.proofs.Common.{◌≡◌, ℕ, Bool, true, false, List, [], ◌∷◌, ◌++◌, Option, Some, None, Result, Ok, Err, refl}
+use Rattle.std.proofs.Common.{◌≡◌, ◌+◌, ◌*◌, ℕ, Bool, true, false, List, [], ◌∷◌, ◌++◌, Option, Some, None, Result, Ok, Err, refl}
 use Rattle.std.specs.Prelude.{replicate, take, slice_set}
 use Rattle.gimli_core.specs.Reading.{result_map}
 use Rattle.gimli_line.specs.declared.run.row.LineRow.{LineRow}
@@ -8,6 +8,7 @@ use Rattle.gimli_index.specs.Parts.{index_at}
 use Rattle.gimli_index.specs.Found.{Texts}
 use Rattle.gimli_index.specs.Lines.{addresses_of}
 use Rattle.gimli_index.specs.Meaning.{Place, Start, place_at, starts_of}
+use Rattle.gimli_index.specs.Order.{ordered_number, path_number}
 use Rattle.gimli_index.specs.Ranges.{ranges_of}
 use Rattle.gimli_index.specs.inside.Turns.{starts_of_rows}
 use Rattle.gimli_index.specs.declared.error.IndexError.{IndexError}
@@ -27,7 +28,8 @@ place_in a bytes = result_map (place_at a) (starts_in bytes)
 abbrev header_4 : List ℕ
 header_4 =
     0x4c ∷ 0x49 ∷ 0x4e ∷ 0x45 ∷ 0x49 ∷ 0x44 ∷ 0x58 ∷ 0 ∷ 1 ∷ 0 ∷ 0 ∷ 0 ∷ 8 ∷ 0 ∷ 4 ∷ 0
-    ∷ 0 ∷ 0x10 ∷ 0x40 ∷ 0 ∷ 0 ∷ 0 ∷ 0 ∷ 0 ∷ 3 ∷ 0 ∷ 0 ∷ 0 ∷ 2 ∷ 0 ∷ 0 ∷ 0 ∷ 4 ∷ 0 ∷ 0 ∷ 0 ∷ 2 ∷ 0 ∷ 0 ∷ 0 ∷ []
+    ∷ 0 ∷ 0x10 ∷ 0x40 ∷ 0 ∷ 0 ∷ 0 ∷ 0 ∷ 0 ∷ 3 ∷ 0 ∷ 0 ∷ 0 ∷ 2 ∷ 0 ∷ 0 ∷ 0 ∷ 4 ∷ 0 ∷ 0 ∷ 0 ∷ 2 ∷ 0 ∷ 0 ∷ 0
+    ∷ 1 ∷ 0 ∷ 0 ∷ 0 ∷ 0 ∷ 0 ∷ 0 ∷ 0 ∷ []
 
 -- /a.c of the unit at 0, and a file of the unit at 0x123 whose header has no such file
 abbrev sources_4 : List ℕ
@@ -45,11 +47,15 @@ entries_4 =
     ∷ 0xff ∷ 0xff ∷ 0xff ∷ 0xff ∷ replicate 8 0
     ++ 1 ∷ 0 ∷ 0 ∷ 0 ∷ 2 ∷ 1 ∷ 0 ∷ 0 ∷ 0 ∷ 0 ∷ 0 ∷ 0x80 ∷ []
 
+-- the third start is a statement
+abbrev order_4 : List ℕ
+order_4 = 2 ∷ 0 ∷ 0 ∷ 0 ∷ []
+
 abbrev paths_4 : List ℕ
 paths_4 = 0x2f ∷ 0x61 ∷ 0x2e ∷ 0x63 ∷ []
 
 abbrev index_4 : List ℕ
-index_4 = header_4 ++ sources_4 ++ starts_4 ++ entries_4 ++ paths_4 ++ 0xab ∷ 0xcd ∷ []
+index_4 = header_4 ++ sources_4 ++ starts_4 ++ entries_4 ++ order_4 ++ paths_4 ++ 0xab ∷ 0xcd ∷ []
 
 abbrev first_place : Place
 first_place = record { path = Ok paths_4; line = 3; column = 5; is_stmt = false; unit = 0 }
@@ -67,6 +73,13 @@ three_starts = refl
 -- the identity comes last, and what follows the index isn't looked at
 pub identity_4 : result_map (λ index. index.identity) (index_at (index_4 ++ 0xff ∷ [])) ≡ Ok (0xab ∷ 0xcd ∷ [])
 identity_4 = refl
+
+pub number_in_order : result_map (λ index. ordered_number index 0) (index_at index_4) ≡ Ok 2
+number_in_order = refl
+
+-- the number of a.c: 97, 46 and 99
+pub number_of_name : path_number (Ok paths_4) ≡ (97 * 31 + 46) * 31 + 99
+number_of_name = refl
 
 -- an address is of the last start that isn't above it
 pub at_start : place_in 0x40_1000 index_4 ≡ Ok (Some first_place)
@@ -93,7 +106,7 @@ above_all = refl
 abbrev index_8 : List ℕ
 index_8 =
     take 14 header_4 ++ 8 ∷ 0 ∷ replicate 8 0 ++ 1 ∷ 0 ∷ 0 ∷ 0 ∷ 1 ∷ 0 ∷ 0 ∷ 0 ∷ 4 ∷ 0 ∷ 0 ∷ 0 ∷ 0 ∷ 0 ∷ 0 ∷ 0
-    ∷ replicate 8 0 ++ 0 ∷ 0 ∷ 0 ∷ 0 ∷ 5 ∷ 0 ∷ 0 ∷ 0 ∷ replicate 8 0
+    ∷ replicate 16 0 ++ 0 ∷ 0 ∷ 0 ∷ 0 ∷ 5 ∷ 0 ∷ 0 ∷ 0 ∷ replicate 8 0
     ++ 1 ∷ 0 ∷ 0 ∷ 0 ∷ 0 ∷ 0 ∷ 0 ∷ 0x80
     ∷ 0 ∷ 0 ∷ 0 ∷ 0 ∷ 1 ∷ 0 ∷ 0 ∷ 0 ∷ 0 ∷ 0 ∷ 0 ∷ 0 ∷ paths_4
 
@@ -109,7 +122,7 @@ not_index = refl
 pub short_magic : starts_in (take 7 index_4) ≡ Err NotIndex
 short_magic = refl
 
-pub short_header : starts_in (take 39 index_4) ≡ Err HeaderCut
+pub short_header : starts_in (take 47 index_4) ≡ Err HeaderCut
 short_header = refl
 
 pub version_2 : starts_in (slice_set index_4 8 2) ≡ Err (Version 2)
@@ -126,16 +139,16 @@ pub base_1 : starts_in (slice_set index_8 16 1) ≡ Err (Base 1)
 base_1 = refl
 
 -- the highest base where they have 4, and the one above it
-pub highest : starts_in (take 16 header_4 ++ 0 ∷ 0 ∷ 0 ∷ 0 ∷ 0xff ∷ 0xff ∷ 0xff ∷ 0xff ∷ replicate 16 0) ≡ Ok []
+pub highest : starts_in (take 16 header_4 ++ 0 ∷ 0 ∷ 0 ∷ 0 ∷ 0xff ∷ 0xff ∷ 0xff ∷ 0xff ∷ replicate 24 0) ≡ Ok []
 highest = refl
 
-pub above_highest : starts_in (take 16 header_4 ++ 1 ∷ 0 ∷ 0 ∷ 0 ∷ 0xff ∷ 0xff ∷ 0xff ∷ 0xff ∷ replicate 16 0) ≡ Err (Base 0xffff_ffff_0000_0001)
+pub above_highest : starts_in (take 16 header_4 ++ 1 ∷ 0 ∷ 0 ∷ 0 ∷ 0xff ∷ 0xff ∷ 0xff ∷ 0xff ∷ replicate 24 0) ≡ Err (Base 0xffff_ffff_0000_0001)
 above_highest = refl
 
-pub cut : starts_in (take 141 index_4) ≡ Err Cut
+pub cut : starts_in (take 153 index_4) ≡ Err Cut
 cut = refl
 
-pub whole : result_map (λ index. index.starts) (index_at (take 142 index_4)) ≡ Ok 3
+pub whole : result_map (λ index. index.starts) (index_at (take 154 index_4)) ≡ Ok 3
 whole = refl
 
 -- ---- optimised code: lines 10 and 11 at 0x1000, line 12 at 0x1004, and an end at 0x1008. No code is between the first two rows, and

@@ -6,7 +6,7 @@ use Rattle.std.proofs.lemmas.List.{length-map}
 use Rattle.std.proofs.lemmas.Option.{slice_get_within}
 use Rattle.gimli_index.specs.Contents.{Contents, Fits, HasColumn, entry_start, index_bytes, line_in}
 use Rattle.gimli_index.specs.Found.{Given, AreContentsOf, IsAppended, IsIndexAppended, IsIndexOf, SayWhatIsFound, SayWhereLinesBegin}
-use Rattle.gimli_index.specs.Made.{EntriesAscend, IsMakeFault}
+use Rattle.gimli_index.specs.Made.{EntriesAscend, HasOrder, IsMakeFault}
 use Rattle.gimli_index.specs.Meaning.{Start, place_at}
 use Rattle.gimli_index.specs.Refused.{IsIndexFault}
 use Rattle.gimli_index.specs.Short.{HasPathsOnce, IsShort}
@@ -20,9 +20,9 @@ use Rattle.gimli_index.specs.inside.Table.{Entered, Table, starts_in}
 use Rattle.gimli_index.proofs.Lists.{get_inside}
 use Rattle.gimli_index.proofs.ReadBack.{read_back, starts_ascend}
 
-pub with_ok : {T E : Type 0} (r : Result T E) (A B C P : Type 0) → OnOk r A → OnOk r B → OnOk r C → (A → B → C → P) → OnOk r P
-with_ok (Ok x) A B C P a b c f = f a b c
-with_ok (Err e) A B C P a b c f = tt
+pub with_ok : {T E : Type 0} (r : Result T E) (A P : Type 0) → OnOk r A → (A → P) → OnOk r P
+with_ok (Ok x) A P a f = f a
+with_ok (Err e) A P a f = tt
 
 drop_front : (xs ys : List ℕ) → drop (length xs) (xs ++ ys) ≡ ys
 drop_front [] [] = refl
@@ -36,6 +36,7 @@ index_of given c rest are =
       index = read.index;
       is_read = read.is_read;
       ascending = read.ascending are.ascending;
+      ordered = read.ordered are.ordered;
       says = λ a found is. ap (place_at a) read.starts ∙ are.says a found is;
       lines = subst (SayWhereLinesBegin given.texts given.units) (sym read.starts) are.lines;
       short = subst IsShort (sym read.starts) are.short;
@@ -90,10 +91,11 @@ module _ (given : Given) {limit : ℕ} (table : Table) (entries : List Entry) (c
         (h.are.each k key.0 s key.1 at).span zero_is;
   }
 
-  pub contents_are : Fits c → c.address_size ≡ given.size → c.identity ≡ given.name → AreContentsOf given c
-  contents_are fits size name = record {
+  pub contents_are : Fits c → HasOrder c → c.address_size ≡ given.size → c.identity ≡ given.name → AreContentsOf given c
+  contents_are fits ordered size name = record {
     fits = fits;
     ascending = ascends;
+    ordered = ordered;
     says = says;
     lines = say_lines;
     short = short;

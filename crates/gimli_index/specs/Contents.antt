@@ -19,6 +19,8 @@ pub record Contents : Type 0 where
   pub base : ℕ
   pub sources : List Source
   pub entries : List Entry
+  -- the numbers of the entries that are statements, in order
+  pub order : List ℕ
   pub paths : List ℕ
   pub identity : List ℕ
 
@@ -61,6 +63,8 @@ header_bytes c =
     ++ le_bytes 4 (length c.sources)
     ++ le_bytes 4 (length c.paths)
     ++ le_bytes 4 (length c.identity)
+    ++ le_bytes 4 (length c.order)
+    ++ le_bytes 4 0
 
 abbrev pub source_bytes : Source → List ℕ
 source_bytes s =
@@ -92,6 +96,7 @@ index_bytes c =
     ++ flat_map source_bytes c.sources
     ++ flat_map (start_bytes c.start_size c.base) c.entries
     ++ flat_map entry_bytes c.entries
+    ++ flat_map (le_bytes 4) c.order
     ++ c.paths
     ++ c.identity
 
@@ -120,6 +125,7 @@ pub record FitsCounts (c : Contents) : Type 0 where
   pub sources : length c.sources < 2 ^ 32
   pub paths : length c.paths < 2 ^ 32
   pub identity : length c.identity < 2 ^ 32
+  pub order : length c.order < 2 ^ 32
 
 -- the numbers fit their fields
 pub record Fits (c : Contents) : Type 0 where
@@ -129,3 +135,4 @@ pub record Fits (c : Contents) : Type 0 where
   pub near : All (IsNear c.start_size c.base) c.entries
   pub places : All (λ e. FitsPlace e.place) c.entries
   pub sources : All FitsSource c.sources
+  pub order : All (λ i. i < 2 ^ 32) c.order

@@ -8,8 +8,9 @@ use Rattle.std.specs.Option.{option_map, option_map_or}
 use Rattle.gimli_compilation.specs.Directories.{directory_for}
 use Rattle.gimli_index.specs.Contents.{Contents, Fits, entry_start, index_bytes}
 use Rattle.gimli_index.specs.Lines.{addresses_of, is_named}
-use Rattle.gimli_index.specs.Made.{EntriesAscend}
+use Rattle.gimli_index.specs.Made.{EntriesAscend, HasOrder}
 use Rattle.gimli_index.specs.Meaning.{Place, Start, AreAscending, place_at, starts_of}
+use Rattle.gimli_index.specs.Order.{IsOrdered}
 use Rattle.gimli_index.specs.Parts.{Index, index_at}
 use Rattle.gimli_index.specs.Short.{HasPathsOnce, IsShort}
 use Rattle.gimli_index.specs.declared.place.NoPath.{NoPath}
@@ -173,6 +174,7 @@ pub record Given : Type 0 where
 pub record AreContentsOf (given : Given) (c : Contents) : Type 0 where
   pub fits : Fits c
   pub ascending : EntriesAscend c.entries
+  pub ordered : HasOrder c
   pub says : SayWhatIsFound given.texts given.units (map (entry_start c) c.entries)
   pub lines : SayWhereLinesBegin given.texts given.units (map (entry_start c) c.entries)
   pub short : IsShort (map (entry_start c) c.entries)
@@ -193,6 +195,7 @@ pub record IsIndexOf (given : Given) (bytes : List ℕ) : Type 0 where
   pub index : Index
   pub is_read : index_at bytes ≡ Ok index
   pub ascending : AreAscending (starts_of index)
+  pub ordered : IsOrdered index
   pub says : SayWhatIsFound given.texts given.units (starts_of index)
   pub lines : SayWhereLinesBegin given.texts given.units (starts_of index)
   pub short : IsShort (starts_of index)

@@ -1,4 +1,4 @@
--- The header of an index: its first 40 bytes (docs/INDEX.md, "Header").
+-- The header of an index: its first 48 bytes (docs/INDEX.md, "Header").
 use Rattle.std.specs.Prelude.{ℕ, List, [], ◌∷◌, length, nat_eq, nat_lt, not, if◌then◌else◌, Result}
 use Rattle.std.specs.Prelude.{Ok, Err}
 use Rattle.std.specs.List.{starts_with}
@@ -58,12 +58,13 @@ fields_at bytes =
       sources = number_at 4 28 bytes;
       paths = number_at 4 32 bytes;
       identity = number_at 4 36 bytes;
+      ordered = number_at 4 40 bytes;
     })
 
 -- the header that bytes begin with
 abbrev pub header_at : List ℕ → Result Header IndexError
 header_at bytes =
     if not (starts_with nat_eq bytes magic) then Err NotIndex
-    else (if nat_lt (length bytes) 40 then Err HeaderCut
+    else (if nat_lt (length bytes) 48 then Err HeaderCut
     else (if nat_eq (number_at 4 8 bytes) 1 then fields_at bytes
     else Err (Version (number_at 4 8 bytes))))

@@ -5,6 +5,7 @@ pub mod Parts
 pub mod Meaning
 pub mod Views
 pub mod Spans
+pub mod Order
 pub mod Sound
 pub mod Lines
 pub mod Ranges

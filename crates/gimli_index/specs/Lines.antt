@@ -1,15 +1,16 @@
 -- Where the code of a line begins, by the starts of an index: the rule for breakpoints of DWARF 5,
 -- section 6.2.2, with the starts as the rows of one sequence.
-use Rattle.std.specs.Prelude.{◌≡◌, ℕ, Bool, true, false, List, [], ◌∷◌, map, drop, nat_eq}
-use Rattle.std.specs.Prelude.{if◌then◌else◌, Option, Some, None}
+use Rattle.std.specs.Prelude.{◌≡◌, ℕ, zero, suc, ◌-◌, Bool, true, false, not, ◌&&◌, ◌||◌, List, []}
+use Rattle.std.specs.Prelude.{◌∷◌, map, nat_eq, nat_lt, if◌then◌else◌, Option, Some, None}
 use Rattle.std.specs.Prelude.{flat_map, Result, Ok, Err}
-use Rattle.std.specs.List.{starts_with}
+use Rattle.std.specs.List.{range_with_len, starts_with}
 use Rattle.std.specs.Str.{bytes_eq}
 use Rattle.gimli_line.specs.declared.run.row.LineRow.{LineRow}
 use Rattle.gimli_lookup.specs.Components.{components}
-use Rattle.gimli_lookup.specs.Statements.{addresses_in, first_statement, runs, HasNoLine}
-use Rattle.gimli_lookup.specs.Statements.{IsFirstLine}
-use Rattle.gimli_index.specs.Meaning.{Place, Start, starts_of}
+use Rattle.gimli_lookup.specs.Statements.{addresses_in, is_of_line, HasNoLine, IsFirstLine}
+use Rattle.gimli_index.specs.Meaning.{Place, Start, start_at}
+use Rattle.gimli_index.specs.Order.{ordered_number}
+use Rattle.gimli_index.specs.Parts.{Index}
 use Rattle.gimli_index.specs.Views.{index_of}
 use Rattle.gimli_index.specs.declared.addresses.Addresses.{Addresses}
 use Rattle.gimli_index.specs.declared.place.NoPath.{NoPath}
@@ -78,17 +79,33 @@ rows_of path starts = map (row_of path) starts
 abbrev pub addresses_of : List ℕ → List Start → ℕ → List ℕ
 addresses_of path starts line = addresses_in (nat_eq 1) line (rows_of path starts)
 
--- the addresses that rows give, where the run that they go on with has given its own already
-abbrev pub addresses_on : ℕ → Bool → List LineRow → List ℕ
-addresses_on line given rows =
-    let left = runs (nat_eq 1) line rows in
-    flat_map first_statement (if given then drop 1 left else left)
+-- whether a run of the line that goes on at a row has a statement before that row
+abbrev pub is_begun : ℕ → (ℕ → LineRow) → ℕ → Bool
+is_begun line row zero = false
+is_begun line row (suc i) =
+    is_of_line (nat_eq 1) line (row i) && ((row i).is_stmt || is_begun line row i)
 
--- the addresses that are left of an answer
+-- whether code of the line begins at a row: it is the first statement of its run
+abbrev pub begins_at : ℕ → (ℕ → LineRow) → ℕ → Bool
+begins_at line row i =
+    is_of_line (nat_eq 1) line (row i) && (row i).is_stmt && not (is_begun line row i)
+
+-- the address of the start of an index, if code of a line begins there
+abbrev pub address_begun : List ℕ → ℕ → Index → ℕ → List ℕ
+address_begun path line index i =
+    if nat_lt i index.starts && begins_at line (λ k. row_of path (start_at index k)) i
+    then (start_at index i).address ∷ [] else []
+
+-- the addresses of an answer, of the starts from a place of the order on
+abbrev pub addresses_from : Addresses → ℕ → List ℕ
+addresses_from found place =
+    let index = index_of found.index in
+    flat_map (λ k. address_begun found.path.now found.line index (ordered_number index k))
+    (range_with_len place (found.end - place))
+
+-- those that are left
 abbrev pub addresses_left : Addresses → List ℕ
-addresses_left found =
-    let rows = rows_of found.path.now (starts_of (index_of found.index)) in
-    addresses_on found.line found.given (drop found.next rows)
+addresses_left found = addresses_from found found.next
 
 -- the answer for a line: the first line from it on that has an address, with all its addresses;
 -- None where no line has any

@@ -1,11 +1,12 @@
 -- The index of a list of entries, and what keeps it from being made.
 use Rattle.std.specs.Prelude.{◌≡◌, ◌≤◌, ◌<◌, ℕ, ◌-◌, ◌^◌, min, nat_lt, if◌then◌else◌, List, length}
-use Rattle.std.specs.Prelude.{map, slice_get, unwrap_or, Some, Result, Ok, All}
+use Rattle.std.specs.Prelude.{map, slice_get, slice_index, unwrap_or, Some, Result, Ok, All, ◌++◌}
 use Rattle.std.specs.Option.{option_map}
 use Rattle.gimli_index.specs.Header.{highest_base}
 use Rattle.gimli_index.specs.Parts.{Index}
 use Rattle.gimli_index.specs.Meaning.{AreAscending, starts_of}
-use Rattle.gimli_index.specs.Contents.{Contents, HasColumn, entry_start}
+use Rattle.gimli_index.specs.Contents.{Contents, Fits, HasColumn, entry_start, index_bytes}
+use Rattle.gimli_index.specs.Order.{IsOrder, IsOrdered}
 use Rattle.gimli_index.specs.declared.contents.Contents.{Contents as Made}
 use Rattle.gimli_index.specs.declared.contents.Entry.{Entry}
 use Rattle.gimli_index.specs.declared.error.IndexError.{IndexError}
@@ -38,9 +39,9 @@ size_for first last = if nat_lt (last - first) (2 ^ 32) then Four else Eight
 abbrev pub base_for : StartSize → ℕ → ℕ
 base_for size first = min first (highest_base size)
 
--- the contents, with the size of starts and the base that its entries need
-abbrev pub contents_of : Made → Contents
-contents_of c =
+-- the contents, with the size of starts and the base that its entries need, and an order
+abbrev pub contents_of : Made → List ℕ → Contents
+contents_of c order =
     let entries = c.entries.now in
     let size = size_for (first_address entries) (last_address entries) in
     record {
@@ -49,6 +50,7 @@ contents_of c =
       base = base_for size (first_address entries);
       sources = c.sources.now;
       entries = entries;
+      order = order;
       paths = c.paths.now;
       identity = c.identity.now;
     }
@@ -64,11 +66,23 @@ IsMakeFault c LineTooLarge = ⊥
 IsMakeFault c ColumnTooLarge = All (λ e. HasColumn e.place) c.entries → ⊥
 IsMakeFault c OutOfMemory = Unit {0}
 
+-- the order of contents is that of their statements
+abbrev pub HasOrder : Contents → Type 0
+HasOrder c = IsOrder (map (entry_start c) c.entries) (length c.order) (slice_index c.order)
+
+-- the bytes of contents were appended, with the order of their statements
+pub record IsWritten (c : Made) (old new : List ℕ) : Type 0 where
+  pub order : List ℕ
+  pub bytes : new ≡ old ++ index_bytes (contents_of c order)
+  pub fits : Fits (contents_of c order)
+  pub ordered : HasOrder (contents_of c order)
+
 -- bytes are read as an index that says what the entries say
 pub record SaysWhat (c : Contents) (read : Result Index IndexError) : Type 0 where
   pub index : Index
   pub is_read : read ≡ Ok index
   pub starts : starts_of index ≡ map (entry_start c) c.entries
   pub ascending : EntriesAscend c.entries → AreAscending (starts_of index)
+  pub ordered : HasOrder c → IsOrdered index
   pub address_size : index.address_size ≡ c.address_size
   pub identity : index.identity ≡ c.identity

@@ -16,22 +16,28 @@ pub record Index : Type 0 where
   -- how many starts there are, and how many sources
   pub starts : ℕ
   pub sources : ℕ
+  -- how many of the starts are in order
+  pub ordered : ℕ
   -- the bytes of the parts
   pub source_bytes : List ℕ
   pub start_bytes : List ℕ
   pub entry_bytes : List ℕ
+  pub order_bytes : List ℕ
   pub path_bytes : List ℕ
   pub identity : List ℕ
 
 -- where the parts begin: the sources come right after the header
 abbrev pub starts_offset : Header → ℕ
-starts_offset h = 40 + 24 * h.sources
+starts_offset h = 48 + 24 * h.sources
 
 abbrev pub entries_offset : Header → ℕ
 entries_offset h = starts_offset h + size_of h.start_size * h.starts
 
+abbrev pub order_offset : Header → ℕ
+order_offset h = entries_offset h + 12 * h.starts
+
 abbrev pub paths_offset : Header → ℕ
-paths_offset h = entries_offset h + 12 * h.starts
+paths_offset h = order_offset h + 4 * h.ordered
 
 abbrev pub identity_offset : Header → ℕ
 identity_offset h = paths_offset h + h.paths
@@ -50,9 +56,11 @@ parts_at bytes h =
       base = h.base;
       starts = h.starts;
       sources = h.sources;
-      source_bytes = slice_range bytes 40 (starts_offset h);
+      ordered = h.ordered;
+      source_bytes = slice_range bytes 48 (starts_offset h);
       start_bytes = slice_range bytes (starts_offset h) (entries_offset h);
-      entry_bytes = slice_range bytes (entries_offset h) (paths_offset h);
+      entry_bytes = slice_range bytes (entries_offset h) (order_offset h);
+      order_bytes = slice_range bytes (order_offset h) (paths_offset h);
       path_bytes = slice_range bytes (paths_offset h) (identity_offset h);
       identity = slice_range bytes (identity_offset h) (end_offset h);
     })

@@ -11,7 +11,8 @@ use Rattle.gimli_index.specs.declared.span.PlaceSpan.{PlaceSpan}
 -- where the part of paths begins, from the first byte of the index on
 abbrev pub paths_begin : Index → ℕ
 paths_begin index =
-    40 + 24 * index.sources + size_of index.start_size * index.starts + 12 * index.starts
+    48 + 24 * index.sources + size_of index.start_size * index.starts + 12 * index.starts
+    + 4 * index.ordered
 
 -- where the identity begins: right after the paths
 abbrev pub identity_begin : Index → ℕ

@@ -14,9 +14,11 @@ index_of a = record {
   base = a.base;
   starts = a.starts;
   sources = a.sources;
+  ordered = a.ordered;
   source_bytes = a.source_bytes.now;
   start_bytes = a.start_bytes.now;
   entry_bytes = a.entry_bytes.now;
+  order_bytes = a.order_bytes.now;
   path_bytes = a.path_bytes.now;
   identity = a.identity.now;
 }

@@ -1,6 +1,7 @@
 //! What an index is made of.
 
-ghost use Rattle.std.specs.Prelude.{◌≡◌, ◌≢◌, ◌≤◌, ◌<◌, ◌+◌, ◌^◌, ◌++◌, true, false, length};
+ghost use Rattle.std.specs.Prelude.{◌≡◌, ◌≢◌, ◌≤◌, ◌<◌, ◌+◌, ◌^◌, ◌++◌, true, false, length, ℕ};
+ghost use Rattle.std.specs.Prelude.{List, []};
 ghost use Rattle.std.specs.Prelude.{◌↔◌, flat_map, All, IfErr, IsTrue, OnOk};
 ghost use Rattle.gimli_core.specs.Numbers.{is_address_size};
 ghost use Rattle.gimli_index.specs.Contents.{entry_bytes, header_bytes, index_bytes, le_bytes};
@@ -9,13 +10,13 @@ ghost use Rattle.gimli_index.specs.Contents.{Fits, FitsCounts, FitsLine, FitsPla
 ghost use Rattle.gimli_index.specs.Contents.{IsNear, HasColumn, column_word};
 ghost use Rattle.gimli_index.specs.Header.{magic, size_of};
 ghost use Rattle.gimli_index.specs.Made.{base_for, first_address, last_address, size_for};
-ghost use Rattle.gimli_index.specs.Made.{EntriesAscend, IsMakeFault};
+ghost use Rattle.gimli_index.specs.Made.{EntriesAscend, IsMakeFault, IsWritten};
 ghost use Rattle.gimli_index.specs.declared.error.MakeError.TheVariants.{OutOfMemory};
 ghost use Rattle.gimli_index.specs.declared.header.StartSize.TheVariants.{Four};
 
 use crate::error::MakeError;
 use crate::header::{MAGIC, StartSize, VERSION};
-use std::alloc::AllocError;
+use std::alloc::{AllocError, Global};
 
 /// The number of a source that none has: that of a gap.
 pub(crate) const NO_SOURCE: u32 = 0xffff_ffff;
@@ -213,6 +214,18 @@ fn put_entries(out: &mut Vec<u8>, entries: &[Entry]) -> Result<(), AllocError>
     Ok(())
 }
 
+/// Appends the numbers of an order.
+fn put_order(out: &mut Vec<u8>, order: &[u32]) -> Result<(), AllocError>
+    ensures bytes { OnOk result
+        (out.new.items ≡ out.old.items ++ flat_map (le_bytes 4) order.now) }
+    ensures fits { OnOk result (All (λ i. i < 2 ^ 32) order.now) }
+{
+    for number in order {
+        put_word(out, *number)?;
+    }
+    Ok(())
+}
+
 /// Whether the column of a place has 31 bits.
 fn has_column(place: Option<SourceLine>) -> bool
     ensures { IsTrue result ↔ HasColumn place }
@@ -331,13 +344,11 @@ impl Contents<'_> {
     /// (`ColumnTooLarge`), before it appends anything. Where it
     /// fails with `OutOfMemory`, a part of the bytes may be appended. Requires an address size of
     /// 1, 2, 4 or 8 bytes.
-    pub fn write(&self, out: &mut Vec<u8>) -> Result<(), MakeError>
+    pub fn write(&self, alloc: Global, out: &mut Vec<u8>) -> Result<(), MakeError>
         requires { IsTrue (is_address_size self.now.address_size) }
-        ensures bytes { OnOk result
-            (out.new.items ≡ out.old.items ++ index_bytes (contents_of self.now)) }
-        ensures fits { OnOk result (Fits (contents_of self.now)) }
+        ensures written { OnOk result (IsWritten self.now out.old.items out.new.items) }
         ensures ascending { OnOk result (EntriesAscend self.now.entries.now) }
-        ensures err { IfErr result (IsMakeFault (contents_of self.now)) }
+        ensures err { IfErr result (IsMakeFault (contents_of self.now [])) }
         ensures kept { IfErr result (λ e. e ≢ OutOfMemory → out.new.items ≡ out.old.items) }
     {
         self.check_sizes()?;
@@ -350,10 +361,13 @@ impl Contents<'_> {
         let first = first_address(self.entries);
         let size = size_for(first, last_address(self.entries));
         let base = base_for(size, first);
-        self.put_header(out, size, base)?;
+        let order = self.order(alloc)?;
+        let numbers = order.as_slice();
+        self.put_header(out, size, base, numbers.len())?;
         put_sources(out, self.sources)?;
         put_starts(out, size, base, self.entries)?;
         put_entries(out, self.entries)?;
+        put_order(out, numbers)?;
         out.extend_from_slice(self.paths)?;
         out.extend_from_slice(self.identity)?;
         Ok(())
@@ -361,8 +375,8 @@ impl Contents<'_> {
 
     /// Refuses what 32 bits don't count.
     fn check_sizes(&self) -> Result<(), MakeError>
-        ensures ok { OnOk result (FitsCounts (contents_of self.now)) }
-        ensures err { IfErr result (IsMakeFault (contents_of self.now)) }
+        ensures ok { OnOk result (FitsCounts (contents_of self.now [])) }
+        ensures err { IfErr result (IsMakeFault (contents_of self.now [])) }
     {
         if self.entries.len() > MOST {
             return Err(MakeError::TooManyEntries);
@@ -379,18 +393,26 @@ impl Contents<'_> {
         Ok(())
     }
 
-    /// Appends the header.
-    fn put_header(&self, out: &mut Vec<u8>, size: StartSize, base: u64) -> Result<(), AllocError>
-        requires counts { FitsCounts (contents_of self.now) }
-        requires size { size ≡ (contents_of self.now).start_size }
-        requires base { base ≡ (contents_of self.now).base }
-        ensures { OnOk result
-            (out.new.items ≡ out.old.items ++ header_bytes (contents_of self.now)) }
+    /// Appends the header, with so many numbers in order.
+    fn put_header(
+        &self,
+        out: &mut Vec<u8>,
+        size: StartSize,
+        base: u64,
+        ordered: usize,
+    ) -> Result<(), AllocError>
+        requires counts { FitsCounts (contents_of self.now []) }
+        requires ordered { ordered < 2 ^ 32 }
+        requires size { size ≡ (contents_of self.now []).start_size }
+        requires base { base ≡ (contents_of self.now []).base }
+        ensures { OnOk result ((order : List ℕ) → ordered ≡ length order
+            → out.new.items ≡ out.old.items ++ header_bytes (contents_of self.now order)) }
     {
         put_magic(out)?;
         put_sizes(out, self.address_size, size, base)?;
         put_words(out, self.entries.len() as u32, self.sources.len() as u32)?;
         put_words(out, self.paths.len() as u32, self.identity.len() as u32)?;
+        put_words(out, ordered as u32, 0)?;
         Ok(())
     }
 }

@@ -27,6 +27,8 @@ pub enum IndexError {
     NotAscending,
     /// The path of a source isn't inside the part of paths.
     PathOutside,
+    /// The order isn't that of the statements.
+    NotInOrder,
 }
 
 impl fmt::Display for IndexError {
@@ -43,6 +45,7 @@ impl fmt::Display for IndexError {
             IndexError::Cut => write!(f, "the index ends before its parts do"),
             IndexError::NotAscending => write!(f, "the starts of the index do not ascend"),
             IndexError::PathOutside => write!(f, "a path of the index is outside of it"),
+            IndexError::NotInOrder => write!(f, "the statements of the index are not in order"),
         }
     }
 }

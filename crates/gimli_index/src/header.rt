@@ -14,7 +14,7 @@ pub(crate) const MAGIC: [u8; 8] = [b'L', b'I', b'N', b'E', b'I', b'D', b'X', 0];
 pub(crate) const VERSION: u32 = 1;
 
 /// The bytes of the header.
-pub(crate) const HEADER_SIZE: usize = 40;
+pub(crate) const HEADER_SIZE: usize = 48;
 
 /// The bytes of a start.
 #[derive(Clone, Copy, Debug)]
@@ -37,6 +37,8 @@ pub(crate) struct Header {
     pub(crate) paths: u32,
     /// The bytes of the identity.
     pub(crate) identity: u32,
+    /// How many of the starts are in order.
+    pub(crate) ordered: u32,
 }
 
 /// A size of addresses.
@@ -116,7 +118,7 @@ impl Header {
     /// The fields after the version.
     #[inline(always)]
     fn fields(bytes: &[u8]) -> Result<Header, IndexError>
-        requires { 40 ≤ length bytes.now }
+        requires { 48 ≤ length bytes.now }
         ensures fields { result ≡ fields_at bytes.now }
         ensures low { IfOk result (λ header. header.base ≤ highest_base header.start_size) }
     {
@@ -131,6 +133,7 @@ impl Header {
             sources: word(bytes, 28),
             paths: word(bytes, 32),
             identity: word(bytes, 36),
+            ordered: word(bytes, 40),
         })
     }
 }

@@ -9,6 +9,7 @@ ghost use Rattle.gimli_index.specs.Parts.{index_at, parts_at};
 ghost use Rattle.gimli_index.specs.Meaning.{entry_place, path_in, path_of, place_at, place_from};
 ghost use Rattle.gimli_index.specs.Meaning.{source_at, start_at, start_number, starts_of};
 ghost use Rattle.gimli_index.specs.Meaning.{AreAscending, column_in, is_statement_in};
+ghost use Rattle.gimli_index.specs.Order.{ordered_number};
 ghost use Rattle.gimli_index.specs.Spans.{StandsIn};
 ghost use Rattle.gimli_index.specs.inside.Numbers.{NumbersAscend};
 
@@ -24,6 +25,9 @@ pub(crate) const ENTRY_SIZE: usize = 12;
 /// The bytes of a source: the offset of its unit, where its path is, and why there is none.
 const SOURCE_SIZE: usize = 24;
 
+/// The bytes of a number of the order.
+const NUMBER_SIZE: usize = 4;
+
 /// An index of the lines of a program, as it lies in its bytes. Any number of threads may ask one.
 ///
 /// <!-- part of crates/uses/src/line_index.rt -->
@@ -38,20 +42,24 @@ pub struct LineIndex<'a> {
     pub(crate) base: u64,
     pub(crate) starts: usize,
     pub(crate) sources: usize,
+    /// How many of the starts are in order.
+    pub(crate) ordered: usize,
     source_bytes: &'a [u8],
     start_bytes: &'a [u8],
     pub(crate) entry_bytes: &'a [u8],
+    order_bytes: &'a [u8],
     pub(crate) path_bytes: &'a [u8],
     identity: &'a [u8],
     pub(crate) paths_offset: usize,
     pub(crate) identity_offset: usize,
     ghost identity_there: { identity_offset ≡ paths_offset + length path_bytes.now },
     ghost paths_there: { paths_offset
-        ≡ 40 + 24 * sources + size_of start_size * starts + 12 * starts },
+        ≡ 48 + 24 * sources + size_of start_size * starts + 12 * starts + 4 * ordered },
     ghost low: { base ≤ highest_base start_size },
     ghost all_sources: { length source_bytes.now ≡ 24 * sources },
     ghost all_starts: { length start_bytes.now ≡ size_of start_size * starts },
     ghost all_entries: { length entry_bytes.now ≡ 12 * starts },
+    ghost all_ordered: { length order_bytes.now ≡ 4 * ordered },
 }
 
 /// The column of its word.
@@ -73,7 +81,7 @@ pub(crate) fn is_statement_in(word: u32) -> bool
 }
 
 /// The path in these bytes of the part of paths.
-fn path_in(paths: &[u8], first: u32, size: u32) -> Result<&[u8], NoPath>
+pub(crate) fn path_in(paths: &[u8], first: u32, size: u32) -> Result<&[u8], NoPath>
     ensures { result_map (λ path. path.now) result ≡ path_in paths.now first size }
 {
     let first = first as usize;
@@ -122,7 +130,8 @@ impl<'a> LineIndex<'a> {
     {
         let starts = HEADER_SIZE + SOURCE_SIZE * header.sources as usize;
         let entries = starts + header.start_size.bytes_of(header.starts);
-        let paths = entries + ENTRY_SIZE * header.starts as usize;
+        let order = entries + ENTRY_SIZE * header.starts as usize;
+        let paths = order + NUMBER_SIZE * header.ordered as usize;
         let identity = paths + header.paths as usize;
         let end = identity + header.identity as usize;
         if bytes.len() < end {
@@ -134,9 +143,11 @@ impl<'a> LineIndex<'a> {
             base: header.base,
             starts: header.starts as usize,
             sources: header.sources as usize,
+            ordered: header.ordered as usize,
             source_bytes: &bytes[HEADER_SIZE..starts],
             start_bytes: &bytes[starts..entries],
-            entry_bytes: &bytes[entries..paths],
+            entry_bytes: &bytes[entries..order],
+            order_bytes: &bytes[order..paths],
             path_bytes: &bytes[paths..identity],
             identity: &bytes[identity..end],
             paths_offset: paths,
@@ -190,6 +201,14 @@ impl<'a> LineIndex<'a> {
         ensures { result ≡ (start_at (index_of self.now) index).address }
     {
         self.base + self.start_number(index)
+    }
+
+    /// The index of the start that stands at a place of the order.
+    pub(crate) fn ordered_number(&self, place: usize) -> usize
+        requires { place < self.now.ordered }
+        ensures { result ≡ ordered_number (index_of self.now) place }
+    {
+        word(self.order_bytes, NUMBER_SIZE * place) as usize
     }
 
     /// The bytes from a source on.

@@ -299,7 +299,7 @@ fn write_entries<R: Reader>(
         paths: table.paths(),
         identity,
     }
-    .write(out)
+    .write(origin.alloc, out)
 }
 
 /// Appends the bytes of the index of a lookup: what [`SectionLookup::find`] says of each address,

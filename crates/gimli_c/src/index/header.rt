@@ -43,6 +43,7 @@ fn index_status(error: IndexError) -> u32
         IndexError::Base(_) => INDEX_HEADER,
         IndexError::NotAscending => INDEX_DISORDERED,
         IndexError::PathOutside => INDEX_PATH_OUTSIDE,
+        IndexError::NotInOrder => INDEX_DISORDERED,
     }
 }
 
@@ -82,8 +83,9 @@ pub extern "C" fn gimli_line_index_open(stored: &[u8], found: &mut GimliIndex) -
     }
 }
 
-/// Checks an index that nobody vouches for: that its ranges ascend, and that each path is inside
-/// it. Looks at each range and each path. Takes no memory.
+/// Checks an index that nobody vouches for: that its ranges ascend, that each path is inside it,
+/// and that its statements are in order. Looks at each range, each path and the order. Takes no
+/// memory.
 #[unsafe(no_mangle)]
 pub extern "C" fn gimli_line_index_check(stored: &[u8]) -> u32
     ensures sound { result ≡ OK → IsSoundIndex stored.now }

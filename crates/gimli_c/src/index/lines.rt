@@ -44,8 +44,9 @@ fn put_addresses(found: Addresses<'_, '_>, most: usize, room: &mut [u64]) -> usi
 /// is a whole one; one without a component names none; `.` and `..` are resolved by text. `NO_ROOM`
 /// where `addresses` has fewer places than there are: then `count` alone is written. `NO_CODE`
 /// where no line from it on has any; the number of the refusal where the bytes begin with no index.
-/// Where another number than these is returned, nothing is written. Takes no memory, and looks at
-/// each range three times, and twice for `NO_ROOM`.
+/// Where another number than these is returned, nothing is written. Takes no memory, searches the
+/// order of the statements by halves, and then looks at those of the line. What is told means
+/// something where that order is right, as it is in each index that this library made.
 #[unsafe(no_mangle)]
 pub extern "C" fn gimli_line_proved_index_addresses_of(
     stored: &[u8],
@@ -73,11 +74,11 @@ pub extern "C" fn gimli_line_proved_index_addresses_of(
     let Some(found) = index.addresses_of(path, line) else {
         return NO_CODE;
     };
-    *count = put_addresses(found, index.len(), &mut []);
+    *count = put_addresses(found, found.most(), &mut []);
     if *count > addresses.len() {
         return NO_ROOM;
     }
     *found_line = found.line();
-    put_addresses(found, index.len(), addresses);
+    put_addresses(found, found.most(), addresses);
     OK
 }

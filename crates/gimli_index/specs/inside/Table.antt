@@ -87,6 +87,7 @@ with_table table = record {
   base = 0;
   sources = table.sources;
   entries = [];
+  order = [];
   paths = table.paths.bytes;
   identity = [];
 }

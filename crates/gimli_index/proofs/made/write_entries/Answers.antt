@@ -1,7 +1,6 @@
-use Rattle.std.proofs.Common.{◌≡◌, ◌++◌, refl}
-use Rattle.gimli_index.specs.Contents.{Fits, index_bytes}
+use Rattle.std.proofs.Common.{[], refl}
 use Rattle.gimli_index.specs.Found.{Given, texts_of, IsAppended}
-use Rattle.gimli_index.specs.Made.{EntriesAscend, IsMakeFault, contents_of}
+use Rattle.gimli_index.specs.Made.{IsMakeFault, IsWritten, contents_of}
 use Rattle.gimli_index.specs.Refused.{IsIndexFault}
 use Rattle.gimli_index.specs.declared.contents.Contents.{Contents as Parts}
 use Rattle.gimli_index.proofs.WrittenIndex.{contents_are, contents_fault, on_fault, with_ok, within}
@@ -19,21 +18,20 @@ returns-clause-bytes g c =
       paths = c.paths.result;
       identity = c.args.identity;
     } in
-    let contents = contents_of parts in
     let old = c.args.out.now.items in
     let new = c.write.new.out.items in
-    with_ok c.write.result (new ≡ old ++ index_bytes contents) (Fits contents) (EntriesAscend contents.entries)
-    (IsAppended given c.args.origin.now.limit old new)
-    c.write.ensures.bytes c.write.ensures.fits c.write.ensures.ascending
-    (λ bytes fits ascending. record {
+    with_ok c.write.result (IsWritten parts old new) (IsAppended given c.args.origin.now.limit old new) c.write.ensures.written
+    (λ written.
+    let contents = contents_of parts written.order in
+    record {
       contents = contents;
       within = within given c.entries_of.new.table c.in_ok-entries.entries.items contents c.in_ok-entries.ensures.entered c.in_ok-entries.ensures.lines
           c.sources.ensures c.as_slice.ensures.value c.paths.ensures;
-      bytes = bytes;
+      bytes = written.bytes;
       are =
           contents_are given c.entries_of.new.table c.in_ok-entries.entries.items contents c.in_ok-entries.ensures.entered c.in_ok-entries.ensures.lines
           c.sources.ensures
-          c.as_slice.ensures.value c.paths.ensures fits refl refl;
+          c.as_slice.ensures.value c.paths.ensures written.fits written.ordered refl refl;
     })
 
 pub returns-clause-err : goal.returns-clause-err
@@ -48,7 +46,7 @@ returns-clause-err g c =
       paths = c.paths.result;
       identity = c.args.identity;
     } in
-    let contents = contents_of parts in
+    let contents = contents_of parts [] in
     on_fault c.write.result (IsMakeFault contents) (IsIndexFault given c.args.origin.now.limit) (λ e fault.
     contents_fault given c.entries_of.new.table c.in_ok-entries.entries.items contents c.in_ok-entries.ensures.entered c.in_ok-entries.ensures.lines
     c.sources.ensures

@@ -16,9 +16,5 @@ returns-clause-index g c =
     let given : Given = record { texts = t; units = c.args.lookup.now; size = c.args.address_size; name = c.args.identity.now } in
     let old = c.args.out.now.items in
     let new = c.write_entries.new.out.items in
-    let appended = c.write_entries.ensures.bytes in
-    with_ok c.write_entries.result (IsAppended given c.args.limit old new) (IsAppended given c.args.limit old new) (IsAppended given c.args.limit old new)
-    (IsIndexAppended given old new) appended
-    appended
-    appended
-    (λ a b d. index_appended given old new a)
+    with_ok c.write_entries.result (IsAppended given c.args.limit old new) (IsIndexAppended given old new) c.write_entries.ensures.bytes
+    (index_appended given old new)

@@ -10,4 +10,5 @@ pub returns-clause-ok : goal.returns-clause-ok
 returns-clause-ok c = record {
   ascending = starts_ascend (index_of c.args.self.now) (c.starts_ascend.ensures.yes c.if-not-starts_ascend.false);
   inside = c.paths_are_inside.ensures.yes c.if-not-paths_are_inside.false;
+  ordered = c.is_ordered.ensures.yes c.if-not-is_ordered.false;
 }

@@ -3,7 +3,7 @@ use Rattle.std.specs.List.{starts_with}
 use Rattle.std.specs.Str.{bytes_eq}
 use Rattle.gimli_lookup.specs.Components.{components}
 use Rattle.gimli_index.specs.Lines.{begins_with}
-use Rattle.gimli_index.proofs.addresses.ends_in.Goals as goal
+use Rattle.gimli_index.proofs.lines.ends_in.Goals as goal
 
 pub returns-in-Some : goal.returns-in-Some
 returns-in-Some c =
