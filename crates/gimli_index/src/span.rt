@@ -92,6 +92,7 @@ impl<'a> LineIndex<'a> {
     }
 
     /// What the entry of an index says.
+    #[inline(always)]
     fn entry_span(&self, index: usize) -> Option<PlaceSpan>
         requires { index < self.now.starts }
         ensures place { option_map (place_among self.now.path_bytes.now) result
@@ -122,6 +123,7 @@ impl<'a> LineIndex<'a> {
     /// What [`find`](LineIndex::find) says, with the path as a part of the bytes: for callers that
     /// hold the bytes and hand out no borrow of them. The path begins at
     /// [`paths_offset`](LineIndex::paths_offset) and `first`.
+    #[inline(always)]
     pub fn find_span(&self, address: u64) -> Option<PlaceSpan>
         ensures place { let starts = starts_of (index_of self.now) in AreAscending starts →
             option_map (place_among self.now.path_bytes.now) result ≡ place_at address starts }
