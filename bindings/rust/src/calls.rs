@@ -213,6 +213,7 @@ declared! {
     gimli_line_index_open([index: u8], found: *mut Index);
     gimli_line_index_check([index: u8]);
     gimli_line_index_find([index: u8], address: u64, place: *mut Place);
+    gimli_line_index_range([index: u8], number: usize, place: *mut Place);
     gimli_line_proved_index_find_all([index: u8], [mut places: Place]);
     gimli_line_proved_index_addresses_of(
         [index: u8], [path: u8], line: u64, found_line: *mut u64, [mut addresses: u64], count: *mut usize

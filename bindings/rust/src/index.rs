@@ -32,6 +32,43 @@ pub struct Place<'a> {
     pub end: Option<u64>,
 }
 
+/// Addresses of which an index says one thing.
+#[derive(Clone, Copy, Debug, PartialEq, Eq, Hash)]
+pub struct Range<'a> {
+    /// The first address.
+    pub first: u64,
+    /// The address after the last one; None where they go on up to the greatest address.
+    pub end: Option<u64>,
+    /// Where their code comes from; None where nothing is known of it.
+    pub place: Option<Place<'a>>,
+}
+
+/// The ranges of an index, ascending: an iterator.
+#[derive(Clone, Debug)]
+pub struct Ranges<'a> {
+    index: Index<'a>,
+    next: usize,
+}
+
+impl<'a> Iterator for Ranges<'a> {
+    type Item = Range<'a>;
+
+    fn next(&mut self) -> Option<Range<'a>> {
+        while self.next < self.index.ranges {
+            let mut place = calls::Place::default();
+            // The pointers are those of a slice and of a local. The bytes are an index that has this start: so it is there.
+            let _ok = unsafe { call!(gimli_line_index_range([self.index.bytes], self.next, &mut place)) };
+            self.next += 1;
+            let end = (self.next < self.index.ranges).then_some(place.end);
+            // Of several starts at one address the last holds.
+            if end != Some(place.first) {
+                return Some(Range { first: place.first, end, place: place.known.then(|| self.index.place(&place)) });
+            }
+        }
+        None
+    }
+}
+
 /// The addresses for a breakpoint.
 #[derive(Clone, Debug, PartialEq, Eq)]
 pub struct Addresses {
@@ -206,6 +243,12 @@ impl<'a> Index<'a> {
         // The pointers are those of a slice and of a vector.
         let _ok = unsafe { call!(gimli_line_proved_index_find_all([self.bytes], [mut places])) };
         places.iter().map(|place| place.known.then(|| self.place(place))).collect()
+    }
+
+    /// All ranges of addresses of which the index says one thing, from the first start on, one after the other. A gap is a range
+    /// without a place. Each step takes constant time, and no memory.
+    pub fn ranges(&self) -> Ranges<'a> {
+        Ranges { index: *self, next: 0 }
     }
 
     /// The addresses for a breakpoint at a line of the files that a path names, ascending, or at the next line that has any. None

@@ -24,9 +24,9 @@ pub use compilation::CompilationSections;
 pub use elf::Elf;
 pub use error::Error;
 pub use file::{File, Text};
-pub use index::{Addresses, Index, Place, NoPath};
+pub use index::{Addresses, Index, NoPath, Place, Range, Ranges};
 pub use row::{ColumnType, LineRow, Unit, Units};
-pub use write::{Addends, Contents, Encoding, RelocatableUnit, Relocation, Symbol};
+pub use write::{Addends, Contents, Encoding, FileDetails, RelocatableUnit, Relocation, Symbol};
 
 /// The sections of a linked program that lines are read from. One that a program lacks is of no bytes.
 #[derive(Clone, Copy, Debug)]

@@ -42,6 +42,17 @@ impl Encoding {
     }
 }
 
+/// What a unit has of a file besides its path.
+#[derive(Clone, Copy, Debug, Default, PartialEq, Eq, Hash)]
+pub struct FileDetails {
+    /// When the file was last changed, in a measure of the producer's own.
+    pub timestamp: Option<u64>,
+    /// The size in bytes.
+    pub size: Option<u64>,
+    /// The MD5 digest, from version 5 on.
+    pub md5: Option<[u8; 16]>,
+}
+
 /// What a unit has: directories, files and rows. Numbers are those of rows: up to version 4 from 1 on, in version 5 from 0 on.
 ///
 /// ```
@@ -82,6 +93,8 @@ impl Encoding {
 pub struct Contents {
     encoding: Encoding,
     big_endian: bool,
+    /// What a file of the unit has: its time is 1, its size 2, its MD5 digest 4.
+    details: u64,
     texts: Vec<u8>,
     directories: Vec<calls::Name>,
     files: Vec<calls::FileName>,
@@ -94,6 +107,7 @@ impl Contents {
         Contents {
             encoding,
             big_endian: false,
+            details: 0,
             texts: Vec::new(),
             directories: Vec::new(),
             files: Vec::new(),
@@ -120,8 +134,17 @@ impl Contents {
 
     /// Adds a file in the directory of a number; up to version 4 that of number 0 is the directory of the compilation.
     pub fn file(&mut self, path: &[u8], directory: u64) {
+        self.file_with(path, directory, FileDetails::default());
+    }
+
+    /// Adds a file with what is known of it. Version 5 has for all files what one of them has, and zeros where it isn't known; each
+    /// version before has a time and a size for each file, and no MD5 digest.
+    pub fn file_with(&mut self, path: &[u8], directory: u64, details: FileDetails) {
         let path = self.name(path);
-        self.files.push(calls::FileName { path, directory, ..Default::default() });
+        let FileDetails { timestamp, size, md5 } = details;
+        self.details |= u64::from(timestamp.is_some()) | u64::from(size.is_some()) << 1 | u64::from(md5.is_some()) << 2;
+        let (timestamp, size, md5) = (timestamp.unwrap_or(0), size.unwrap_or(0), md5.unwrap_or_default());
+        self.files.push(calls::FileName { path, directory, timestamp, size, md5 });
     }
 
     /// Adds a row. A sequence begins with the first row, and after each that ends one.
@@ -141,7 +164,8 @@ impl Contents {
             // The pointers are those of slices and of locals.
             Error::of(unsafe {
                 call!(gimli_line_proved_write(
-                    &self.encoding, self.big_endian, 0, [self.texts], [self.directories], [self.files], [self.rows], [mut unit], size
+                    &self.encoding, self.big_endian, self.details, [self.texts], [self.directories], [self.files], [self.rows],
+                    [mut unit], size
                 ))
             })
         })
@@ -164,8 +188,8 @@ impl Contents {
             // The pointers are those of slices and of locals.
             let answer = Error::of(unsafe {
                 call!(gimli_line_proved_write_relocatable(
-                    &self.encoding, self.big_endian, 0, in_place, [self.texts], [self.directories], [self.files], [self.rows], [symbols],
-                    [mut unit], size, [mut relocations], &mut count
+                    &self.encoding, self.big_endian, self.details, in_place, [self.texts], [self.directories], [self.files], [self.rows],
+                    [symbols], [mut unit], size, [mut relocations], &mut count
                 ))
             });
             relocations.resize(count, calls::Relocation::default());

@@ -47,6 +47,24 @@ fn places_are_those_of_the_index() {
 }
 
 #[test]
+fn ranges_are_those_of_the_index() {
+    let mut bytes = small_index();
+    let ranges = |bytes: &[u8]| -> Vec<_> {
+        let index = Index::open(bytes).expect("it is an index");
+        index.ranges().map(|range| (range.first, range.end, range.place.map(|place| (place.line, place.path.ok().map(<[u8]>::to_vec))))).collect()
+    };
+    let (first, second) = (Some((5, Some(b"/a.c".to_vec()))), Some((6, None)));
+    let wanted = [(0x1000, Some(0x1010), first), (0x1010, Some(0x1020), second.clone()), (0x1020, None, None)];
+    assert_eq!(ranges(&bytes), wanted);
+    // The first two starts have one address: the second holds. They stand from byte 88 on.
+    bytes[92] = 0;
+    assert_eq!(ranges(&bytes), [(0x1000, Some(0x1020), second.clone()), (0x1020, None, None)]);
+    // And that address is 0, since the base at byte 16 is.
+    bytes[17] = 0;
+    assert_eq!(ranges(&bytes), [(0, Some(0x20), second), (0x20, None, None)]);
+}
+
+#[test]
 fn addresses_of_a_line_are_those_of_the_index() {
     let bytes = small_index();
     let index = Index::open(&bytes).expect("it is an index");

@@ -2,7 +2,7 @@
 //! ends well.
 
 use gimli_line_proved::{
-    Addends, CompilationSections, Contents, Encoding, Error, LineRow, Index, Relocation, Sections, Symbol,
+    Addends, CompilationSections, Contents, Encoding, Error, FileDetails, Index, LineRow, Relocation, Sections, Symbol,
 };
 use std::fs;
 use std::path::{Path, PathBuf};
@@ -60,6 +60,30 @@ fn a_unit_is_read_back() {
         let unit = contents(version).write().expect("it is written");
         assert_eq!(rows(&unit), wanted(0x1000, 0x2000));
     }
+}
+
+#[test]
+fn details_of_files_are_read_back() {
+    let first = FileDetails { timestamp: None, size: Some(9), md5: Some([7; 16]) };
+    // Up to version 4 each file has a time and a size, and none has a digest; in version 5 each has what the first has.
+    for (version, timestamp, md5) in [(2, Some(0), None), (4, Some(0), None), (5, None, Some([7; 16]))] {
+        let mut contents = contents(version);
+        contents.file_with(b"first.c", 0, first);
+        contents.file(b"second.c", 0);
+        let unit = contents.write().expect("it is written");
+        let sections = Sections { debug_line: &unit, debug_line_str: &[], debug_str: &[], big_endian: false, address_size: 8 };
+        let number = 1 + u64::from(version < 5);
+        for (number, size, md5) in [(number, 9, md5), (number + 1, 0, md5.map(|_| [0; 16]))] {
+            let file = sections.file(0, number).expect("there is a file");
+            assert_eq!((file.timestamp, file.size, file.md5), (timestamp, Some(size), md5), "{version}: {number}");
+        }
+    }
+    let mut contents = contents(5);
+    contents.file_with(b"first.c", 0, FileDetails { timestamp: Some(11), ..FileDetails::default() });
+    let unit = contents.write().expect("it is written");
+    let sections = Sections { debug_line: &unit, debug_line_str: &[], debug_str: &[], big_endian: false, address_size: 8 };
+    let file = sections.file(0, 1).expect("there is a file");
+    assert_eq!((file.timestamp, file.size, file.md5), (Some(11), None, None));
 }
 
 /// Does what a linker does: the symbol of a number `n` is at `0x40_0000 + 0x100 * n`.

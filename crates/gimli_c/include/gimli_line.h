@@ -320,14 +320,22 @@ typedef struct gimli_line_place {
 #define GIMLI_LINE_NO_PATH_OUTSIDE UINT32_C(0xffffffff)
 
 /* Tells where the code at an address comes from. GIMLI_LINE_NO_ROW where the index says nothing of it; one of GIMLI_LINE_NO_INDEX to
- * GIMLI_LINE_INDEX_HEADER where the bytes begin with no index. Where another number than 0 is answered, nothing is written. Looks at as
- * many ranges as their number has binary digits. */
+ * GIMLI_LINE_INDEX_HEADER where the bytes begin with no index. Where another number than 0 is answered, nothing is written. Looks at no
+ * more than three ranges above as many as their number has binary digits. */
 gimli_line_status gimli_line_index_find(const void *index, size_t length, uint64_t address,
                                         gimli_line_place *place) GIMLI_LINE_CALL GIMLI_LINE_NONNULL;
 
 /* Asks for `count` addresses, each as gimli_line_index_find does: that of places[0] and so on. Where the index says nothing of an address,
  * `known` and all other numbers of its place are 0. Where another number than 0 is answered, nothing is written. */
 gimli_line_status gimli_line_index_find_all(const void *index, size_t length, gimli_line_place *places, size_t count) GIMLI_LINE_CALL;
+
+/* Tells what an index says from the start of a number on, so that ranges are listed by 0, 1 and so on. `address` and `first` are its
+ * address, and `end` that of the next start; 0 where it is the last one. A range that isn't the last has no address where both are the
+ * same. Where nothing is known from there on, `known` and all other numbers of the place are 0. GIMLI_LINE_NO_ROW where there is no such
+ * start; one of GIMLI_LINE_NO_INDEX to GIMLI_LINE_INDEX_HEADER where the bytes begin with no index. Where another number than 0 is
+ * answered, nothing is written. Looks at two starts. */
+gimli_line_status gimli_line_index_range(const void *index, size_t length, size_t number,
+                                         gimli_line_place *place) GIMLI_LINE_CALL GIMLI_LINE_NONNULL;
 
 /* Tells the addresses for a breakpoint at a line of the files that a path names: by its last components (stl_map.h, bits/stl_map.h), or
  * whole where it begins with a separator; one without a component names none; `.` and `..` are resolved by text. Of each run of ranges of

@@ -1,9 +1,10 @@
 -- What an index says (docs/INDEX.md), as C sees it.
 use Rattle.std.specs.Prelude.{◌≡◌, ◌≤◌, ◌⊎◌, ℕ, ◌+◌, List, length, slice_range, Option, Some, None}
-use Rattle.std.specs.Prelude.{Result, Ok, Err, true, false}
+use Rattle.std.specs.Prelude.{Result, Ok, Err, true, false, drop, slice_get, MatchOption}
 use Rattle.std.specs.List.{AllZip}
-use Rattle.gimli_index.specs.Meaning.{place_at, starts_of, AreAscending, Place}
+use Rattle.gimli_index.specs.Meaning.{place_at, starts_of, AreAscending, Place, Start}
 use Rattle.gimli_index.specs.Parts.{index_at, Index}
+use Rattle.gimli_index.specs.Ranges.{first_start}
 use Rattle.gimli_index.specs.Sound.{IsSound, IsFaultOf}
 use Rattle.gimli_index.specs.Spans.{HoldsAround}
 use Rattle.gimli_index.specs.declared.error.IndexError.{IndexError}
@@ -115,9 +116,9 @@ pub record HasNoPlace (bytes : List ℕ) (address : ℕ) : Type 0 where
   pub is : IsIndex bytes index
   pub said : AreAscending (starts_of index) → place_at address (starts_of index) ≡ None
 
--- what is answered then: all numbers but the address are 0
-abbrev pub no_index_place : ℕ → GimliPlace
-no_index_place address = record {
+-- addresses of which nothing is known: all other numbers are 0
+abbrev pub unknown_place : ℕ → ℕ → ℕ → GimliPlace
+unknown_place address first end = record {
   address = address;
   unit = 0;
   path = 0;
@@ -127,9 +128,13 @@ no_index_place address = record {
   no_path = 0;
   known = false;
   is_stmt = false;
-  first = 0;
-  end = 0;
+  first = first;
+  end = end;
 }
+
+-- what is answered then: all numbers but the address are 0
+abbrev pub no_index_place : ℕ → GimliPlace
+no_index_place address = unknown_place address 0 0
 
 abbrev pub IsIndexAnswer : List ℕ → ℕ → GimliPlace → Type 0
 IsIndexAnswer bytes address seen =
@@ -139,3 +144,22 @@ IsIndexAnswer bytes address seen =
 abbrev pub WritesIndexAnswers : List ℕ → List GimliPlace → List GimliPlace → Type 0
 WritesIndexAnswers bytes old new =
     AllZip (λ asked seen. IsIndexAnswer bytes asked.address seen) old new
+
+-- ---- what it says from a start on
+
+-- the start of a number, and where the next one is
+pub record SeesStart (bytes : List ℕ) (number : ℕ) (seen : GimliPlace) : Type 0 where
+  pub index : Index
+  pub is : IsIndex bytes index
+  pub start : Start
+  pub there : slice_get (starts_of index) number ≡ Some start
+  pub first : seen.first ≡ start.address
+  pub end : seen.end ≡ end_seen (first_start (drop (number + 1) (starts_of index)))
+  pub place : MatchOption start.place (seen ≡ unknown_place start.address start.address seen.end)
+      (λ p. SeesPlace bytes start.address p seen)
+
+-- there is no such start
+pub record HasNoStart (bytes : List ℕ) (number : ℕ) : Type 0 where
+  pub index : Index
+  pub is : IsIndex bytes index
+  pub none : slice_get (starts_of index) number ≡ None

@@ -8,10 +8,12 @@ mod ask;
 mod header;
 mod lines;
 mod place;
+mod range;
 mod write;
 
 pub use ask::{gimli_line_index_find, gimli_line_proved_index_find_all};
 pub use header::{GimliIndex, gimli_line_index_check, gimli_line_index_open};
 pub use lines::gimli_line_proved_index_addresses_of;
 pub use place::{GimliPlace, NO_PATH_OUTSIDE};
+pub use range::gimli_line_index_range;
 pub use write::{GimliIndexOptions, OPTIONS_SIZE, gimli_line_proved_index_write};

@@ -42,7 +42,7 @@ pub use file::{
 pub use find::gimli_line_proved_find_row;
 pub use index::{
     GimliIndex, GimliIndexOptions, GimliPlace, NO_PATH_OUTSIDE, OPTIONS_SIZE,
-    gimli_line_index_check, gimli_line_index_find, gimli_line_index_open,
+    gimli_line_index_check, gimli_line_index_find, gimli_line_index_open, gimli_line_index_range,
     gimli_line_proved_index_addresses_of, gimli_line_proved_index_find_all,
     gimli_line_proved_index_write,
 };

@@ -1,9 +1,9 @@
 -- Starts ascend as their numbers do.
-use Rattle.std.proofs.Common.{◌≡◌, sym, ◌∙◌, ap, ℕ, ◌+◌, ◌<◌, Some, None, slice_get, inl, inr, arith}
+use Rattle.std.proofs.Common.{◌≡◌, sym, ◌∙◌, ap, ℕ, ◌+◌, ◌<◌, ◌≤◌, Some, None, slice_get, inl, inr, arith}
 use Rattle.std.proofs.lemmas.Bool.{cases_lt}
 use Rattle.gimli_index.specs.Parts.{Index}
 use Rattle.gimli_index.specs.Meaning.{Start, AreAscending, start_at, start_number, starts_of}
-use Rattle.gimli_index.specs.inside.Numbers.{NumbersAscend}
+use Rattle.gimli_index.specs.inside.Numbers.{CountIsBetween, NumbersAscend}
 use Rattle.gimli_index.proofs.Values.{value_at, no_value_at}
 
 pub numbers_ascend : (index : Index) → AreAscending (starts_of index) → NumbersAscend index
@@ -31,3 +31,38 @@ starts_ascend index ascend i j x y lt first second =
     let one = address_is index i x first in
     let other = address_is index j y second in
     omega (arith, one.1, other.1, ascend i j lt other.0)
+
+pub all_between : (index : Index) (number : ℕ) → CountIsBetween index number 0 index.starts
+all_between index number = record {
+  order = omega arith;
+  within = omega arith;
+  before = λ ascend k lt. absurd (omega (arith, lt));
+  after = λ ascend k le there. absurd (omega (arith, le, there));
+}
+
+-- a start between says on which side of it the count is
+module _ (index : Index) (number low high i : ℕ) (b : CountIsBetween index number low high) (from : low ≤ i) (to : i < high) where
+  within : i < index.starts
+  within = omega (arith, to, b.within)
+
+  pub count_above : start_number index i ≤ number → CountIsBetween index number (i + 1) high
+  count_above le = record {
+    order = omega (arith, to);
+    within = b.within;
+    before = λ ascend k lt. elim (cases_lt k i) [
+      | inl below ↦ omega (arith, ascend k i below within, le)
+      | inr here ↦ let same : k ≡ i = omega arith in omega (arith, ap (start_number index) same, le)
+    ];
+    after = b.after;
+  }
+
+  pub count_below : number < start_number index i → CountIsBetween index number low i
+  count_below lt = record {
+    order = from;
+    within = omega (arith, within);
+    before = b.before;
+    after = λ ascend k le there. elim (cases_lt i k) [
+      | inl above ↦ omega (arith, ascend i k above there, lt)
+      | inr here ↦ let same : k ≡ i = omega arith in omega (arith, ap (start_number index) same, lt)
+    ];
+  }

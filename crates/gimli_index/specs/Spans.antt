@@ -1,12 +1,13 @@
 -- Where the paths of an index stand in its bytes (docs/INDEX.md, "Parts").
 use Rattle.std.specs.Prelude.{◌≡◌, ◌<◌, ◌≤◌, ℕ, ◌+◌, ◌*◌, List, length, slice_range, Option}
-use Rattle.std.specs.Prelude.{IfSome, MatchOption}
+use Rattle.std.specs.Prelude.{IfSome, MatchOption, option_map}
 use Rattle.gimli_core.specs.Reading.{result_map}
 use Rattle.gimli_index.specs.Header.{size_of}
 use Rattle.gimli_index.specs.Parts.{Index}
 use Rattle.gimli_index.specs.Meaning.{Place, Start, place_at, start_at}
 use Rattle.gimli_index.specs.declared.span.Span.{Span}
 use Rattle.gimli_index.specs.declared.span.PlaceSpan.{PlaceSpan}
+use Rattle.gimli_index.specs.declared.span.StartSpan.{StartSpan}
 
 -- where the part of paths begins, from the first byte of the index on
 abbrev pub paths_begin : Index → ℕ
@@ -39,6 +40,10 @@ place_among paths p = record {
   is_stmt = p.is_stmt;
   unit = p.unit;
 }
+
+-- the start whose path is among these bytes
+abbrev pub start_among : List ℕ → StartSpan → Start
+start_among paths s = record { address = s.first; place = option_map (place_among paths) s.place }
 
 -- the addresses from the start of an index on, up to the next start where there is one
 abbrev pub IsRangeOf : Index → ℕ → ℕ → Option ℕ → Type 0

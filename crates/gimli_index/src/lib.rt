@@ -40,4 +40,4 @@ pub use made::write_index;
 pub use path_end::PathEnd;
 pub use place::{NoPath, Place, Start};
 pub use ranges::{PlaceRange, PlaceRanges};
-pub use span::{PlaceSpan, Span};
+pub use span::{PlaceSpan, Span, StartSpan};

@@ -11,7 +11,7 @@ ghost use Rattle.gimli_index.specs.Meaning.{source_at, start_at, start_number, s
 ghost use Rattle.gimli_index.specs.Meaning.{AreAscending, column_in, is_statement_in};
 ghost use Rattle.gimli_index.specs.Order.{ordered_number};
 ghost use Rattle.gimli_index.specs.Spans.{StandsIn};
-ghost use Rattle.gimli_index.specs.inside.Numbers.{NumbersAscend};
+ghost use Rattle.gimli_index.specs.inside.Numbers.{CountIsBetween};
 
 use crate::contents::STATEMENT;
 use crate::error::IndexError;
@@ -27,6 +27,9 @@ const SOURCE_SIZE: usize = 24;
 
 /// The bytes of a number of the order.
 const NUMBER_SIZE: usize = 4;
+
+/// A search looks at a guess first, and then at a start that is this part of all starts away.
+const NEAR: usize = 512;
 
 /// An index of the lines of a program, as it lies in its bytes. Any number of threads may ask one.
 ///
@@ -78,6 +81,18 @@ pub(crate) fn is_statement_in(word: u32) -> bool
     ensures { result ≡ is_statement_in word }
 {
     STATEMENT <= word
+}
+
+/// How many of so many numbers, which lie evenly in a whole, are in its first part; fewer than all.
+/// A guess: where the product passes 64 bits it is a bad one.
+#[inline(always)]
+fn even_share(part: u64, whole: u64, count: usize) -> usize
+    requires whole { 0 < whole }
+    requires count { 0 < count }
+    ensures { result < count }
+{
+    let share = part.wrapping_mul(count as u64) / whole;
+    (share as usize).min(count - 1)
 }
 
 /// The path in these bytes of the part of paths.
@@ -264,18 +279,53 @@ impl<'a> LineIndex<'a> {
         })
     }
 
-    /// How many starts are at most so far above the base, where they ascend.
-    pub(crate) fn starts_up_to(&self, number: u64) -> usize
-        ensures within { result ≤ self.now.starts }
-        ensures before { NumbersAscend (index_of self.now) → (k : ℕ) → k < result
-            → start_number (index_of self.now) k ≤ number }
-        ensures after { NumbersAscend (index_of self.now) → (k : ℕ) → result ≤ k
-            → k < self.now.starts → number < start_number (index_of self.now) k }
+    /// Two counts between which the count of the starts up to a number is, if they ascend: those
+    /// given, or nearer ones, by a look at the start of an index between them.
+    #[inline(always)]
+    fn narrowed(&self, number: u64, low: usize, high: usize, at: usize) -> (usize, usize)
+        requires between { CountIsBetween (index_of self.now) number low high }
+        requires above { low ≤ at }
+        ensures { CountIsBetween (index_of self.now) number result.0 result.1 }
     {
-        let mut low = 0;
-        let mut high = self.starts;
+        if high <= at {
+            (low, high)
+        } else if self.start_number(at) <= number {
+            (at + 1, high)
+        } else {
+            (low, at)
+        }
+    }
+
+    /// Two counts between which the count of the starts up to a number is, if they ascend. They are
+    /// near each other where the starts lie evenly.
+    #[inline(always)]
+    fn count_between(&self, number: u64) -> (usize, usize)
+        ensures { CountIsBetween (index_of self.now) number result.0 result.1 }
+    {
+        let Some(last) = self.starts.checked_sub(1) else {
+            return (0, 0);
+        };
+        let whole = self.start_number(last);
+        if whole <= number {
+            return (self.starts, self.starts);
+        }
+        let guess = even_share(number, whole, self.starts);
+        let near = self.starts / NEAR;
+        if self.start_number(guess) <= number {
+            self.narrowed(number, guess + 1, self.starts, guess + 1 + near)
+        } else {
+            self.narrowed(number, 0, guess, guess.saturating_sub(near + 1))
+        }
+    }
+
+    /// How many starts are at most so far above the base, where they ascend.
+    #[inline(always)]
+    pub(crate) fn starts_up_to(&self, number: u64) -> usize
+        ensures { CountIsBetween (index_of self.now) number result result }
+    {
+        let (mut low, mut high) = self.count_between(number);
         while low < high {
-            let middle = low + (high - low) / 2;
+            let middle = (low + high) / 2;
             if self.start_number(middle) <= number {
                 low = middle + 1;
             } else {
@@ -287,9 +337,10 @@ impl<'a> LineIndex<'a> {
 
     /// Where the code at an address comes from; None where the index says nothing of it.
     ///
-    /// Takes no memory, changes nothing, and looks at as many starts as their number has binary
-    /// digits. It returns on any bytes; what it returns is known where the starts ascend, which
-    /// [`check`](LineIndex::check) tells, and which holds for each index that this crate made.
+    /// Takes no memory, changes nothing, and looks at no more than three starts above as many as
+    /// their number has binary digits. It returns on any bytes; what it returns is known where the
+    /// starts ascend, which [`check`](LineIndex::check) tells, and which holds for each index that
+    /// this crate made.
     pub fn find(&self, address: u64) -> Option<Place<'a>>
         ensures { let starts = starts_of (index_of self.now) in
             AreAscending starts → option_map place_of result ≡ place_at address starts }

@@ -43,7 +43,7 @@ impl<'a> LineIndex<'a> {
     }
 
     /// The address of the start of an index, if there is such a start.
-    fn address_from(&self, index: usize) -> Option<u64>
+    pub(crate) fn address_from(&self, index: usize) -> Option<u64>
         ensures { result ≡ first_start (drop index (starts_of (index_of self.now))) }
     {
         if index < self.starts {

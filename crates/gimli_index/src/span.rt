@@ -1,12 +1,13 @@
 //! Where code comes from, with its path as a part of the bytes.
 
 ghost use Rattle.std.specs.Prelude.{◌≡◌, ◌+◌, ◌*◌, ◌<◌, ◌≤◌, drop, length, option_map, IfOk};
-ghost use Rattle.std.specs.Prelude.{IfSome};
+ghost use Rattle.std.specs.Prelude.{IfSome, slice_get};
 ghost use Rattle.gimli_core.specs.Reading.{result_map};
 ghost use Rattle.gimli_index.specs.Meaning.{entry_place, path_of, place_at, starts_of};
 ghost use Rattle.gimli_index.specs.Meaning.{AreAscending};
+ghost use Rattle.gimli_index.specs.Ranges.{first_start};
 ghost use Rattle.gimli_index.specs.Spans.{identity_begin, paths_begin, path_at, place_among};
-ghost use Rattle.gimli_index.specs.Spans.{HoldsAround, IsRangeOf};
+ghost use Rattle.gimli_index.specs.Spans.{start_among, HoldsAround, IsRangeOf};
 
 use crate::line_index::{ENTRY_SIZE, LineIndex, column_in, is_statement_in};
 use crate::number::{long, word};
@@ -39,6 +40,18 @@ pub struct PlaceSpan {
     pub first: u64,
     /// The address after the last one of them; None where they go on up to the greatest address.
     pub end: Option<u64>,
+}
+
+/// What holds from an address on, up to that of the next start, with the path as a part of the
+/// bytes: a [`Start`](crate::Start) that borrows nothing.
+#[derive(Clone, Copy, Debug)]
+pub struct StartSpan {
+    /// The first address.
+    pub first: u64,
+    /// The address of the next start; None where this is the last one.
+    pub end: Option<u64>,
+    /// Where the code from there on comes from; None where nothing is known of it.
+    pub place: Option<PlaceSpan>,
 }
 
 impl<'a> LineIndex<'a> {
@@ -92,6 +105,7 @@ impl<'a> LineIndex<'a> {
     }
 
     /// What the entry of an index says.
+    #[inline(always)]
     fn entry_span(&self, index: usize) -> Option<PlaceSpan>
         requires { index < self.now.starts }
         ensures place { option_map (place_among self.now.path_bytes.now) result
@@ -122,6 +136,7 @@ impl<'a> LineIndex<'a> {
     /// What [`find`](LineIndex::find) says, with the path as a part of the bytes: for callers that
     /// hold the bytes and hand out no borrow of them. The path begins at
     /// [`paths_offset`](LineIndex::paths_offset) and `first`.
+    #[inline(always)]
     pub fn find_span(&self, address: u64) -> Option<PlaceSpan>
         ensures place { let starts = starts_of (index_of self.now) in AreAscending starts →
             option_map (place_among self.now.path_bytes.now) result ≡ place_at address starts }
@@ -133,5 +148,25 @@ impl<'a> LineIndex<'a> {
         let number = address.checked_sub(self.base)?;
         let index = self.starts_up_to(number).checked_sub(1)?;
         self.entry_span(index)
+    }
+
+    /// What [`get`](LineIndex::get) says, with the path as a part of the bytes, and where the next
+    /// start is.
+    pub fn get_span(&self, index: usize) -> Option<StartSpan>
+        ensures start { option_map (start_among self.now.path_bytes.now) result
+            ≡ slice_get (starts_of (index_of self.now)) index }
+        ensures end { IfSome result
+            (λ s. s.end ≡ first_start (drop (index + 1) (starts_of (index_of self.now)))) }
+        ensures inside { IfSome result (λ s. IfSome s.place (λ p. IfOk p.path
+            (λ s. s.first + s.size ≤ length self.now.path_bytes.now))) }
+    {
+        if index >= self.starts {
+            return None;
+        }
+        Some(StartSpan {
+            first: self.address_at(index),
+            end: self.address_from(index + 1),
+            place: self.entry_span(index),
+        })
     }
 }

@@ -220,6 +220,10 @@ static inline uint32_t ask_index(const uint8_t *index, size_t length, uint64_t a
         is(place.path == 0 || (place.path <= length && place.path_size <= length - place.path && place.no_path == 0), "a path");
         is(checked != GIMLI_LINE_OK || place.no_path != GIMLI_LINE_NO_PATH_OUTSIDE, "a path of an index that was checked");
     }
+    for (uint64_t i = 0; i < 4; i++) {
+        uint32_t wanted = opened == GIMLI_LINE_OK && i >= about.ranges ? (uint32_t)GIMLI_LINE_NO_ROW : opened;
+        is(gimli_line_index_range(index, length, i, &place) == wanted, "the status of a range");
+    }
     uint32_t told = gimli_line_index_addresses_of(index, length, "0.c", 3, 1, &line, addresses, 4, &count);
     is(opened != GIMLI_LINE_OK ? told == opened
        : count == 0            ? told == GIMLI_LINE_NO_CODE

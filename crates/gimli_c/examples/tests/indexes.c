@@ -124,6 +124,19 @@ static void ask_lines(bytes index) {
         }
 }
 
+/* All ranges of such an index, one after the other. */
+static void list_ranges(bytes index, size_t ranges, size_t sources) {
+    gimli_line_place place = {.line = 77};
+    is(gimli_line_index_range(index.at, index.length, ranges, &place) == GIMLI_LINE_NO_ROW && place.line == 77, "a range past the last");
+    is(gimli_line_index_range(index.at, index.length, SIZE_MAX, &place) == GIMLI_LINE_NO_ROW, "a range of the greatest number");
+    for (size_t i = 0; i < ranges; i++) {
+        gimli_line_place gap = {.address = base + i * 16, .first = base + i * 16, .end = i + 1 < ranges ? base + i * 16 + 16 : 0};
+        is(gimli_line_index_range(index.at, index.length, i, &place) == GIMLI_LINE_OK, "a range");
+        is(i % 3 == 2 ? memcmp(&place, &gap, sizeof gap) == 0 : place.address == gap.address && is_right(index, ranges, sources, &place),
+           "what holds in a range");
+    }
+}
+
 /* ---- threads, and a handler that asks whatever it interrupts */
 
 static bytes shared;
@@ -234,6 +247,7 @@ int main(int argc, char **argv) {
             is(gimli_line_index_find_all(small.at, small.length, &place, 1) == GIMLI_LINE_OK && is_right(small, 8, 3, &place), "a place");
         }
         ask_lines(small);
+        list_ranges(small, 8, 3);
         asking = 0;
         ask_all_damaged(small);
         free(small.at);

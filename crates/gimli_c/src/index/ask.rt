@@ -7,11 +7,12 @@ ghost use Rattle.gimli_c.specs.Indexed.{HasNoPlace, IsIndex, IsIndexAnswer, IsNo
 ghost use Rattle.gimli_c.specs.Indexed.{WritesIndexAnswers};
 
 use crate::index::header::index_in;
-use crate::index::place::{GimliPlace, no_place, place_seen};
+use crate::index::place::{GimliPlace, place_seen, unknown_place};
 use crate::status::{NO_ROW, OK};
 use gimli_index::LineIndex;
 
 /// The place of an address; none where the index says nothing of it.
+#[inline(always)]
 fn place_in(stored: &[u8], index: &LineIndex<'_>, address: u64) -> Option<GimliPlace>
     requires stored { IsIndex stored.now (index_of index.now) }
     requires stands { StandsIn stored.now (index_of index.now) }
@@ -23,8 +24,8 @@ fn place_in(stored: &[u8], index: &LineIndex<'_>, address: u64) -> Option<GimliP
 
 /// Tells where the code at an address comes from, by an index. `NO_ROW` where the index says
 /// nothing of it; the number of the refusal where the bytes begin with no index. Where another
-/// number than 0 is returned, nothing is written. Takes no memory, and looks at as many ranges as
-/// their number has binary digits.
+/// number than 0 is returned, nothing is written. Takes no memory, and looks at no more than three
+/// ranges above as many as their number has binary digits.
 #[unsafe(no_mangle)]
 pub extern "C" fn gimli_line_index_find(stored: &[u8], address: u64, place: &mut GimliPlace) -> u32
     ensures found { result ≡ OK → SeesPlaceAt stored.now address place.new }
@@ -53,7 +54,7 @@ fn answer_in(stored: &[u8], index: &LineIndex<'_>, address: u64) -> GimliPlace
 {
     match place_in(stored, index, address) {
         Some(place) => place,
-        None => no_place(address),
+        None => unknown_place(address, 0, 0),
     }
 }
 

@@ -4,7 +4,7 @@ ghost use Rattle.std.specs.Prelude.{◌≡◌, ◌+◌, ◌≤◌, ◌<◌, ◌^
 ghost use Rattle.gimli_core.specs.Reading.{result_map};
 ghost use Rattle.gimli_index.specs.Spans.{identity_begin, path_at, place_among, StandsIn};
 ghost use Rattle.gimli_index.specs.Views.{index_of};
-ghost use Rattle.gimli_c.specs.Indexed.{end_seen, no_index_place, SeesPath, SeesPlace};
+ghost use Rattle.gimli_c.specs.Indexed.{end_seen, unknown_place, SeesPath, SeesPlace};
 
 use gimli_index::{LineIndex, NoPath, PlaceSpan, Span};
 
@@ -40,15 +40,15 @@ pub struct GimliPlace {
 /// Why a place has no path: the index is damaged.
 pub const NO_PATH_OUTSIDE: u32 = 0xffff_ffff;
 
-/// What is answered to an address of which an index says nothing: all else is 0.
-pub(crate) fn no_place(address: u64) -> GimliPlace
-    ensures { result ≡ no_index_place address }
+/// Addresses of which an index says nothing: all else is 0.
+pub(crate) fn unknown_place(address: u64, first: u64, end: u64) -> GimliPlace
+    ensures { result ≡ unknown_place address first end }
 {
     GimliPlace {
         address,
         unit: 0,
-        first: 0,
-        end: 0,
+        first,
+        end,
         path: 0,
         path_size: 0,
         line: 0,

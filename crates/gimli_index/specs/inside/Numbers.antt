@@ -19,3 +19,11 @@ pub record AreInOrder (index : Index) (count : ℕ) : Type 0 where
       → is_some (statement_at (starts_of index) (ordered_number index k)) ≡ true
   pub ascending : (j k : ℕ) → j < k → k < count
       → ComesBefore (starts_of index) (ordered_number index j) (ordered_number index k)
+
+-- how many starts are at most a number is none below `low` and none above `high`, where they ascend
+pub record CountIsBetween (index : Index) (number low high : ℕ) : Type 0 where
+  pub order : low ≤ high
+  pub within : high ≤ index.starts
+  pub before : NumbersAscend index → (k : ℕ) → k < low → start_number index k ≤ number
+  pub after : NumbersAscend index → (k : ℕ) → high ≤ k → k < index.starts
+      → number < start_number index k
