@@ -32,8 +32,8 @@ starts_ascend index ascend i j x y lt first second =
     let other = address_is index j y second in
     omega (arith, one.1, other.1, ascend i j lt other.0)
 
-pub all_between : (index : Index) (number : ℕ) → CountIsBetween index number 0 index.starts
-all_between index number = record {
+pub all_between : {index : Index} {number : ℕ} → CountIsBetween index number 0 index.starts
+all_between = record {
   order = omega arith;
   within = omega arith;
   before = λ ascend k lt. absurd (omega (arith, lt));
@@ -41,7 +41,8 @@ all_between index number = record {
 }
 
 -- a start between says on which side of it the count is
-module _ (index : Index) (number low high i : ℕ) (b : CountIsBetween index number low high) (from : low ≤ i) (to : i < high) where
+module _ {index : Index} {number low high i : ℕ} (b : CountIsBetween index number low high) (from : low ≤ i)
+    (to : i < high) where
   within : i < index.starts
   within = omega (arith, to, b.within)
 

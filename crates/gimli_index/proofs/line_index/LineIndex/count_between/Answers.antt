@@ -1,17 +1,14 @@
 use Rattle.std.proofs.Common.{arith}
-use Rattle.gimli_index.specs.Views.{index_of}
 use Rattle.gimli_index.proofs.Ascending.{all_between, count_above, count_below}
 use Rattle.gimli_index.proofs.line_index.LineIndex.count_between.Goals as goal
 
 pub narrowed-requires-clause-between : goal.narrowed-requires-clause-between
 narrowed-requires-clause-between c =
-    let index = index_of c.args.self.now in
-    count_above index c.args.number 0 index.starts _ (all_between index c.args.number) (omega arith) c.even_share-guess.ensures
+    count_above all_between (omega arith) c.even_share-guess.ensures
     (omega (arith, c.if-start_number-number.true, c.start_number.ensures.number))
 
 pub narrowed-requires-else-start_number-number-clause-between :
     goal.narrowed-requires-else-start_number-number-clause-between
 narrowed-requires-else-start_number-number-clause-between c =
-    let index = index_of c.args.self.now in
-    count_below index c.args.number 0 index.starts _ (all_between index c.args.number) (omega arith) c.even_share-guess.ensures
+    count_below all_between (omega arith) c.even_share-guess.ensures
     (omega (arith, c.if-start_number-number.false, c.start_number.ensures.number))
