@@ -9,6 +9,7 @@ pub mod Order
 pub mod Sound
 pub mod Lines
 pub mod Ranges
+pub mod Files
 pub mod inside
 pub mod Contents
 pub mod Short
