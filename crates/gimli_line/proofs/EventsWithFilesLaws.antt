@@ -1,5 +1,5 @@
 -- What rows at the start of a sequence make and give.
-use Rattle.std.proofs.Common.{◌≡◌, Bool, List, Option, ap}
+use Rattle.std.proofs.Common.{Bool, List, Option, ap}
 use Rattle.gimli_core.specs.declared.error.Error.{Error}
 use Rattle.gimli_line.specs.header.Orders.{Source}
 use Rattle.gimli_line.specs.header.Header.{Header, without_files}

@@ -1,29 +1,23 @@
 -- Instructions that are executed from their bytes do what they do when they are taken and executed.
-use Rattle.std.proofs.Common.{◌≡◌, ◌<◌, ◌≤◌, ℕ, zero, suc, arith, Bool, true, false, not, List, refl, sym, ap, subst, ◌∙◌, Ok, ℤ, inr}
+use Rattle.std.proofs.Common.{◌≡◌, ◌<◌, ◌≤◌, ℕ, zero, suc, arith, Bool, true, false, not, List, refl, sym, ap, subst, Ok, ℤ}
 use Rattle.std.proofs.Math.Dec.{eqb-suc-zero}
 use Rattle.std.proofs.lemmas.Bool.{le-leb, lt-leb}
 use Rattle.std.specs.Prelude.{nat_le}
 use Rattle.gimli_core.specs.Notation.{Notation}
 use Rattle.gimli_core.specs.Reading.{byte_at, unsigned_at, signed_at}
-use Rattle.gimli_core.specs.declared.error.Error.TheVariants.{AddressOverflow}
 use Rattle.gimli_line.specs.declared.run.from_bytes.Executed.{Executed}
 use Rattle.gimli_line.specs.declared.run.from_bytes.Executed.TheVariants.{No, Quiet, Address, Row}
 use Rattle.gimli_line.specs.declared.run.row.LineRow.{LineRow}
-use Rattle.gimli_line.specs.declared.run.rows.Step.TheVariants.{Made, More}
 use Rattle.gimli_line.specs.declared.run.instruction.LineInstruction.TheVariants.{Special, Copy, AdvanceLine, SetFile, SetColumn, NegateStatement, EndSequence}
-use Rattle.gimli_line.specs.declared.run.instruction.LineInstruction.TheVariants.{SetAddress, DefineFile}
-use Rattle.gimli_line.specs.header.Orders.{HeaderOrders}
+use Rattle.gimli_line.specs.declared.run.instruction.LineInstruction.TheVariants.{SetAddress}
 use Rattle.gimli_line.specs.header.Header.{Header}
 use Rattle.gimli_line.specs.header.Parameters.{Parameters}
-use Rattle.gimli_line.specs.run.Instruction.{Ins, makes_row, defines_file, files_after}
+use Rattle.gimli_line.specs.run.Instruction.{Ins, makes_row}
 use Rattle.gimli_line.specs.run.InstructionReading.{standard_at, ins_at}
 use Rattle.gimli_line.specs.run.Machine.{step_of, is_refused}
 use Rattle.gimli_line.specs.run.Registers.{advanced_line}
-use Rattle.gimli_line.specs.run.Execution.{told_of, is_executed, IsExecuted, IsExecutedAs, ExecutesNext, RefusesNext}
-use Rattle.gimli_line.specs.inside.run.Rows.{StepIs}
+use Rattle.gimli_line.specs.run.Execution.{told_of, is_executed, IsExecuted, IsExecutedAs, ExecutesNext}
 use Rattle.gimli_line.specs.run.Unread.{Unread}
-use Rattle.gimli_line.proofs.InstructionLaws.{reads_instruction}
-use Rattle.gimli_line.proofs.Runs.{state, after_quiet, after_made, after_overflow, is_shorter, passes_quiet, passes_made}
 
 -- ---- the standard opcodes that are executed so, from the bytes after them
 

@@ -16,7 +16,7 @@ use Rattle.gimli_line.specs.run.Instruction.{Ins}
 use Rattle.gimli_line.specs.header.File.{File}
 use Rattle.gimli_line.specs.run.InstructionGrammar.{SpellsInstruction}
 use Rattle.gimli_line.specs.run.InstructionReading.{decoded_at}
-use Rattle.gimli_line.specs.run.Events.{Event, row, fault, EventWithFiles, given_of, events_of, program_events, defined_files, past_at_end, ends_sequence}
+use Rattle.gimli_line.specs.run.Events.{Event, row, EventWithFiles, given_of, events_of, program_events, defined_files, past_at_end, ends_sequence}
 use Rattle.gimli_line.specs.run.Events.{through_last_end}
 use Rattle.gimli_line.specs.run.Machine.{initial, reset_row, made_from, run}
 use Rattle.gimli_line.specs.run.Unread.{Unread}

@@ -1,7 +1,7 @@
 -- A header, and a run, that still come from the same source.
 use Rattle.std.proofs.Common.{◌≡◌, Bool, refl, sym, ap, subst, ◌∙◌}
 use Rattle.gimli_line.specs.header.Header.{Header, SeenHeader, without_files}
-use Rattle.gimli_line.specs.header.Orders.{Source, source_of, AreOneOrder, HasOneOrder, KeepsSource}
+use Rattle.gimli_line.specs.header.Orders.{Source, source_of, KeepsSource}
 use Rattle.gimli_line.specs.run.RunState.{RunState}
 use Rattle.gimli_line.specs.run.Rows.{AddsInOrder, IsOfOneOrder, KeepsRun, SeesHeader}
 
@@ -67,9 +67,3 @@ still_one x y keeps one = record {
   readers = rw keeps.source.notation (keeps.source.order x.source.notation.big one.unread one.readers);
   unread = rw keeps.source.notation (still_adds x y keeps x.source.notation.big one.unread);
 }
-
-pub sees_one : {R Offset Endian : Type 0} (big : R → Bool) (number : Offset → _) (x : RunState) (h : SeenHeader R Offset Endian) → SeesHeader big number x h
-    → IsOfOneOrder x → HasOneOrder big h
-sees_one big number x h sees one =
-    subst (λ n. AreOneOrder n.big (source_of big number h).orders) (sym sees.source.notation)
-    (sees.source.order x.source.notation.big one.unread one.readers)

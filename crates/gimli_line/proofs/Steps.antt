@@ -1,8 +1,6 @@
 -- A step of a run: what an instruction does to its state, and steps after one another.
-use Rattle.std.proofs.Common.{◌≡◌, ◌≢◌, ◌∙◌, Bool, true, false, List, ℕ, [], ◌++◌, ap, arith, inl, inr, length, refl, sym, subst, Result, Some, Ok, Err}
-use Rattle.std.specs.Prelude.{IfOk, IfErr}
+use Rattle.std.proofs.Common.{◌≡◌, ◌≢◌, ◌∙◌, Bool, true, false, [], ap, arith, inl, inr, length, refl, sym, subst, Result, Some, Ok, Err}
 use Rattle.std.proofs.lemmas.List.{length-append}
-use Rattle.gimli_core.specs.Notation.{Notation}
 use Rattle.gimli_core.specs.declared.error.Error.{Error}
 use Rattle.gimli_core.specs.declared.error.Error.TheVariants.{AddressOverflow, OutOfMemory}
 use Rattle.gimli_line.specs.declared.run.from_bytes.Executed.{Executed}
@@ -14,20 +12,20 @@ use Rattle.gimli_line.specs.declared.run.rows.Step.TheVariants.{Done, Made, More
 use Rattle.gimli_line.specs.header.Header.{Header, without_files}
 use Rattle.gimli_line.specs.header.Orders.{KeepsSource}
 use Rattle.gimli_line.specs.inside.run.Rows.{given_row, ReadsOn, StepIs, StepsTo}
-use Rattle.gimli_line.specs.run.Execution.{ExecutesNext, IsExecuted, RefusesNext, told_of}
-use Rattle.gimli_line.specs.run.Instruction.{Ins, makes_row, defines_file, files_after, header_after}
+use Rattle.gimli_line.specs.run.Execution.{ExecutesNext, IsExecuted, RefusesNext}
+use Rattle.gimli_line.specs.run.Instruction.{Ins, makes_row, defines_file, header_after}
 use Rattle.gimli_line.specs.run.InstructionReading.{ins_at}
 use Rattle.gimli_line.specs.run.Machine.{step_of, is_refused}
 use Rattle.gimli_line.specs.run.NextInstruction.{TakesNext, EndsByFault}
-use Rattle.gimli_line.specs.run.Progress.{Progress, with_reset_row}
+use Rattle.gimli_line.specs.run.Progress.{with_reset_row}
 use Rattle.gimli_line.specs.run.RunState.{RunState}
 use Rattle.gimli_line.specs.run.Rows.{live_made, FaultComes, AddsInOrder, KeepsRun, WantsMemory}
 use Rattle.gimli_line.specs.run.Unread.{Unread}
 use Rattle.gimli_line.proofs.Executions.{told_row, told_quiet, told_address}
 use Rattle.gimli_line.proofs.InstructionLaws.{reads_instruction}
 use Rattle.gimli_line.proofs.Sources.{source_kept, fits_less, keeps_same, keeps_both}
-use Rattle.gimli_line.proofs.Runs.{state, none_made, after_fault, after_quiet, after_made, after_overflow, is_shorter, only_overflow, passes_none}
-use Rattle.gimli_line.proofs.Runs.{passes_both, passes_quiet, passes_made, source_same, wants, refused_after}
+use Rattle.gimli_line.proofs.Runs.{state, none_made, after_fault, after_quiet, after_made, after_overflow, is_shorter, passes_none}
+use Rattle.gimli_line.proofs.Runs.{passes_both, passes_quiet, passes_made, wants, refused_after}
 
 -- ---- the state of a run whose program has a header
 

@@ -183,7 +183,7 @@ only_overflow appends parameters r files seen (i ∷ list) rest e is =
     later : List EventWithFiles
     later = made_from appends parameters (next_registers parameters i r) (files_after appends i files) list None
 
-    abbrev Next : Type 0
+    Next : Type 0
     Next = given_of later ≡ record { event = fault e; files = seen } ∷ rest → e ≡ AddressOverflow
 
     row_or_next : (b : Bool) → Next

@@ -265,7 +265,7 @@ module _ (encoding : Encoding) (e : LineEncoding) where
   made u n r = record (moved_on e n r) { line = advanced_line (e.line_base +ℤ pos u) r.line }
 
   makes-copy : (r : ReadRow) → r.tombstone ≡ false → Makes r (Copy ∷ []) r
-  makes-copy r shown list = ap (λ (b : Bool). (if b then [] else row r ∷ []) ++ run parameters (reset_row parameters r) list) shown
+  makes-copy r shown list = rw shown refl
 
   -- the last instruction of a row
   makes-row : (r : ReadRow) (u n : ℕ) → CanEncode e → u < e.line_range → r.tombstone ≡ false → r.line < 2 ^ 64 → HasRoom parameters (pointer_of r) n

@@ -3,7 +3,7 @@ use Rattle.gimli_line.specs.header.File.{FileHasOrder}
 use Rattle.gimli_line.specs.header.Header.{without_files}
 use Rattle.gimli_line.specs.run.Unread.{Unread}
 use Rattle.gimli_line.proofs.InstructionLaws.{reads_instruction}
-use Rattle.gimli_line.proofs.Steps.{keeps_run, reads_none, step_quiet, step_wants, steps_after}
+use Rattle.gimli_line.proofs.Steps.{keeps_run, step_quiet, step_wants}
 use Rattle.gimli_line.proofs.run.rows.LineRows.define_file.Goals as goal
 
 pub returns-in-Ok : goal.returns-in-Ok

@@ -1,5 +1,5 @@
 use Rattle.std.proofs.Common.{◌≡◌, refl, sym, ap, ◌∙◌}
-use Rattle.gimli_line.specs.header.Header.{Header, without_files}
+use Rattle.gimli_line.specs.header.Header.{without_files}
 use Rattle.gimli_line.specs.run.Instruction.{InsHasOrder}
 use Rattle.gimli_line.specs.run.Unread.{Unread}
 use Rattle.gimli_line.proofs.Runs.{only_overflow, source_same}

@@ -1,4 +1,4 @@
-use Rattle.std.proofs.Common.{refl, ◌∙◌}
+use Rattle.std.proofs.Common.{refl}
 use Rattle.gimli_line.specs.run.Progress.{with_reset_row}
 use Rattle.gimli_line.specs.run.Rows.{KeepsHeader}
 use Rattle.gimli_line.proofs.GivenRows.{any_rest_alone, fault_given, none_given}

@@ -1,4 +1,4 @@
-use Rattle.std.proofs.Common.{[], ◌∷◌, map, List, subst, sym, ap, ◌∙◌}
+use Rattle.std.proofs.Common.{[], map, List, subst, sym, ap, ◌∙◌}
 use Rattle.std.proofs.lemmas.Result.{err_from_is_err_and}
 use Rattle.gimli_line.specs.header.Header.{without_files}
 use Rattle.gimli_line.specs.run.Events.{Event, row}
@@ -8,7 +8,7 @@ use Rattle.gimli_line.specs.run.Progress.{with_reset_row}
 use Rattle.gimli_line.specs.run.Sequences.{Part, part_of, HaveRuns}
 use Rattle.gimli_line.proofs.ResumedRuns.{resume_to_rows}
 use Rattle.gimli_line.proofs.SequenceLaws.{split_starts, split_goes, split_faults, split_source, split_ends, has_front, row_takes}
-use Rattle.gimli_line.proofs.SequenceLaws.{Keeping, starts_keeping, goes_keeping, kept_runs, runs_are_kept}
+use Rattle.gimli_line.proofs.SequenceLaws.{starts_keeping, goes_keeping, kept_runs, runs_are_kept}
 use Rattle.gimli_line.proofs.run.sequences.IncompleteLineProgram+R.sequences_with_rows.Goals as goal
 
 pub run-init : goal.run-init
