@@ -20,7 +20,7 @@ use Rattle.gimli_line.specs.declared.run.instruction.LineInstruction.TheVariants
 use Rattle.gimli_line.specs.run.Instruction.{Ins, defines_file, makes_row}
 use Rattle.gimli_line.specs.run.InstructionGrammar.{SpellsInstruction, Decodes}
 use Rattle.gimli_line.specs.run.InstructionReading.{decoded_at}
-use Rattle.gimli_line.specs.run.Events.{row, fault, EventWithFiles, with_files, given_of, events_of}
+use Rattle.gimli_line.specs.run.Events.{Event, row, fault, EventWithFiles, with_files, given_of, events_of}
 use Rattle.gimli_line.specs.run.Instruction.{files_after}
 use Rattle.gimli_line.specs.run.Machine.{is_refused, step_of, next_registers, made_from}
 use Rattle.gimli_line.specs.run.RunState.{RunState}
