@@ -6,6 +6,7 @@ use Rattle.gimli_core.specs.Numbers.{word_size}
 use Rattle.gimli_core.specs.declared.common.Encoding.{Encoding}
 use Rattle.gimli_core.specs.declared.common.Format.{Format}
 use Rattle.gimli_core.specs.declared.common.Format.TheVariants.{Dwarf32, Dwarf64}
+use Rattle.gimli_bytes.specs.Hand.{plain}
 use Rattle.gimli_bytes.specs.Number.{uleb}
 use Rattle.gimli_bytes.specs.declared.address.Address.TheVariants.{Constant, Symbol}
 use Rattle.gimli_bytes.specs.declared.error.Error.{Error}
@@ -128,7 +129,7 @@ size_of (Err e) = 0
 abbrev pub unit_length : Bool → Built → StringTables → ℕ
 unit_length big p texts =
     (if nat_le p.encoding.version 4 then 2 else 4) + word_size p.encoding.format
-    + header_length p texts + size_of (program_bytes big p)
+    + header_length p texts + size_of (program_bytes plain big p)
 
 -- the greatest words of the 32-bit format are reserved
 abbrev pub unit_length_cause : Format → ℕ → Option Error

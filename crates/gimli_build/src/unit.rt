@@ -2,7 +2,7 @@
 
 ghost use Rattle.std.specs.Prelude.{◌≡◌, ◌⊎◌, ◌<◌, ◌^◌, length, IsTrue, IfOk, IfErr, OnOk, Err};
 ghost use Rattle.std.specs.Prelude.{None};
-ghost use Rattle.gimli_bytes.specs.Hand.{Placement};
+ghost use Rattle.gimli_bytes.specs.Hand.{Placement, plain};
 ghost use Rattle.gimli_bytes.specs.Relocations.{placed};
 ghost use Rattle.gimli_bytes.specs.Written.{Begins, Appends, AppendsThat};
 ghost use Rattle.gimli_bytes.specs.Texts.{texts_in};
@@ -10,14 +10,13 @@ ghost use Rattle.gimli_build.specs.LineText.{line_text};
 ghost use Rattle.gimli_build.specs.Conditions.{CanWrite};
 ghost use Rattle.gimli_build.specs.inside.Conditions.{IsBuilt};
 ghost use Rattle.gimli_build.specs.inside.EmptySource.{StandsForNone};
-ghost use Rattle.gimli_build.specs.Unit.{version_bytes, opening_bytes, inside_bytes_by};
-ghost use Rattle.gimli_build.specs.Unit.{whole_bytes_by, is_incompatible, unit_bytes};
-ghost use Rattle.gimli_build.specs.Unit.{unit_bytes_by};
+ghost use Rattle.gimli_build.specs.Unit.{version_bytes, opening_bytes, inside_bytes};
+ghost use Rattle.gimli_build.specs.Unit.{whole_bytes, is_incompatible, unit_bytes};
 ghost use Rattle.gimli_build.specs.Cause.{first_cause, IsWriteRefusal};
 ghost use Rattle.gimli_build.specs.ReadsBack.{ReadsBackAs};
 ghost use Rattle.gimli_build.specs.Linked.{placed_program, SumsFit, TextsBeginAtZero};
 ghost use Rattle.gimli_build.specs.WrittenTables.{HaveEmptySource, KeepTables};
-ghost use Rattle.gimli_build.specs.inside.Writes.{Writes, WritesBy};
+ghost use Rattle.gimli_build.specs.inside.Writes.{Writes};
 
 mod header;
 mod writable;
@@ -60,11 +59,11 @@ impl LineProgram {
         ensures ordered { W.big w.new.0 ≡ W.big w.old.0 }
         ensures offset { IfOk result (λ offset. offset.0 ≡ length (W.contents w.old.0)) }
         ensures unit { IsTrue W.keeps_bytes → OnOk result (Appends
-            (unit_bytes (W.big w.old.0) encoding self.now (texts_in strings.old line_strings.old))
+            (unit_bytes plain (W.big w.old.0) encoding self.now (texts_in strings.old line_strings.old))
             (W.contents w.old.0) (W.contents w.new.0)) }
         ensures stays { IsTrue (W.completes w.old.0) → IsTrue (W.completes w.new.0) }
         ensures completed { (at : Placement) → IsTrue (W.completes w.old.0) → OnOk result (Appends
-            (unit_bytes_by (W.hand at) (W.big w.old.0) encoding self.now
+            (unit_bytes (W.hand at) (W.big w.old.0) encoding self.now
             (texts_in strings.old line_strings.old))
             (W.completed at w.old.0) (W.completed at w.new.0)) }
         ensures reads_back { IsTrue W.keeps_bytes → OnOk result (AppendsThat
@@ -84,7 +83,7 @@ impl LineProgram {
             ⊎ IsWriteRefusal (W.big w.old.0) encoding self.now
             (texts_in strings.old line_strings.old) e) }
         ensures completed_own { (at : Placement) → IsTrue (W.completes w.old.0) → IfErr result (λ e.
-            W.refuses e ⊎ (e ≡ Error.OutOfMemory) ⊎ (unit_bytes_by (W.hand at) (W.big w.old.0)
+            W.refuses e ⊎ (e ≡ Error.OutOfMemory) ⊎ (unit_bytes (W.hand at) (W.big w.old.0)
             encoding self.now (texts_in strings.old line_strings.old) ≡ Err e)) }
         ensures incompatible { IsTrue (is_incompatible encoding self.now.encoding) →
             (result ≡ Err Error.IncompatibleLineProgramEncoding) × (w.new ≡ w.old) }
@@ -122,8 +121,8 @@ fn write_whole<W: Writer>(
     requires can { CanWrite program.now (texts_in strings.now line_strings.now) }
     requires empty { StandsForNone program.now (texts_in strings.now line_strings.now)
         (line_text empty.now) }
-    ensures writes { WritesBy W.Sink w.old w.new result
-        (λ hand. whole_bytes_by hand (W.big w.old) program.now
+    ensures writes { Writes W.Sink w.old w.new result
+        (λ hand. whole_bytes hand (W.big w.old) program.now
         (texts_in strings.now line_strings.now)) }
     ensures built { OnOk result (IsBuilt program.now) }
     ensures short { OnOk result (length (W.contents w.new) < 2 ^ 64) }
@@ -149,8 +148,8 @@ fn write_inside<W: Writer>(
     requires can { CanWrite program.now (texts_in strings.now line_strings.now) }
     requires empty { StandsForNone program.now (texts_in strings.now line_strings.now)
         (line_text empty.now) }
-    ensures writes { WritesBy W.Sink w.old w.new result
-        (λ hand. inside_bytes_by hand (W.big w.old) program.now
+    ensures writes { Writes W.Sink w.old w.new result
+        (λ hand. inside_bytes hand (W.big w.old) program.now
         (texts_in strings.now line_strings.now)) }
     ensures built { OnOk result (IsBuilt program.now) }
 {
@@ -166,7 +165,7 @@ fn write_inside<W: Writer>(
 
 /// Appends the version, and in version 5 the address size and a segment selector size of 0.
 fn write_opening<W: Writer>(w: &mut W, encoding: Encoding) -> Result<()>
-    ensures { Writes W.Sink w.old w.new result (opening_bytes (W.big w.old) encoding) }
+    ensures { Writes W.Sink w.old w.new result (λ hand. opening_bytes (W.big w.old) encoding) }
 {
     write_version(w, encoding.version)?;
     if encoding.version <= 4 {
@@ -177,7 +176,7 @@ fn write_opening<W: Writer>(w: &mut W, encoding: Encoding) -> Result<()>
 
 /// Appends the version.
 fn write_version<W: Writer>(w: &mut W, version: u16) -> Result<()>
-    ensures { Writes W.Sink w.old w.new result (version_bytes (W.big w.old) version) }
+    ensures { Writes W.Sink w.old w.new result (λ hand. version_bytes (W.big w.old) version) }
 {
     if !(2..=5).contains(&version) {
         return Err(Error::UnsupportedVersion(version));

@@ -3,6 +3,7 @@ use Rattle.std.proofs.Common.{◌≡◌, ℕ, ◌<◌, ◌≤◌, ◌^◌, Bool,
 use Rattle.std.specs.Prelude.{nat_le}
 use Rattle.gimli_core.specs.Notation.{Notation}
 use Rattle.gimli_core.specs.declared.common.Encoding.{Encoding}
+use Rattle.gimli_bytes.specs.Hand.{plain}
 use Rattle.gimli_bytes.specs.Texts.{AreTexts, byte_count, StringTables}
 use Rattle.gimli_line.specs.header.Header.{UnitEntry}
 use Rattle.gimli_build.specs.Built.{Built}
@@ -19,7 +20,7 @@ use Rattle.gimli_build.proofs.reading.UnitHeader.{whole_written, header-back}
 use Rattle.gimli_build.proofs.reading.EventsBack.{cut-back, rows-back}
 
 -- a unit that is written has a known version
-unit_known : (big : Bool) (p : Built) (texts : StringTables) (unit : List ℕ) → whole_bytes big p texts ≡ Ok unit → p.encoding.version ≤ 5
+unit_known : (big : Bool) (p : Built) (texts : StringTables) (unit : List ℕ) → whole_bytes plain big p texts ≡ Ok unit → p.encoding.version ≤ 5
 unit_known big p texts unit is =
     let w = unit_written big p texts unit is in
     let address : List ℕ = if nat_le p.encoding.version 4 then [] else p.encoding.address_size ∷ 0 ∷ [] in
@@ -30,7 +31,7 @@ pub reads-back : (notation : Notation) (unit_entry : UnitEntry) (sections : Sect
     (old_texts : StringTables) (unit : List ℕ)
     → length unit < 2 ^ 64 → IsBuilt p → CanWrite p old_texts → AreTexts (texts_after p old_texts).strings → AreTexts (texts_after p old_texts).line_strings
     → byte_count (texts_after p old_texts).strings < 2 ^ 64 → byte_count (texts_after p old_texts).line_strings < 2 ^ 64
-    → unit_bytes big unit_encoding p old_texts ≡ Ok unit → IsReadWell notation unit_entry sections big p (texts_after p old_texts) unit
+    → unit_bytes plain big unit_encoding p old_texts ≡ Ok unit → IsReadWell notation unit_entry sections big p (texts_after p old_texts) unit
     → ReadsBack notation unit_entry sections p (texts_after p old_texts) unit
 reads-back notation unit_entry sections big unit_encoding p old_texts unit small built can are_texts are_line_texts short line_short is well =
     let texts = texts_after p old_texts in

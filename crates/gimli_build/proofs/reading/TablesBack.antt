@@ -10,6 +10,7 @@ use Rattle.gimli_core.specs.Notation.{Notation}
 use Rattle.gimli_core.specs.Values.{Value}
 use Rattle.gimli_core.specs.declared.common.Format.TheVariants.{Dwarf64}
 use Rattle.gimli_core.specs.declared.attribute_value.AttributeValue.TheVariants.{String}
+use Rattle.gimli_bytes.specs.Hand.{plain}
 use Rattle.gimli_bytes.specs.Texts.{AreTexts, table_bytes, StringTables}
 use Rattle.gimli_bytes.specs.declared.error.Error.{Error}
 use Rattle.gimli_line.specs.header.Header.{UnitEntry}
@@ -149,7 +150,7 @@ module _ (notation : Notation) (unit_entry : UnitEntry) (sections : Sections) (p
       (are_texts : AreTexts texts.strings) (are_line_texts : AreTexts texts.line_strings) (strings_short : length (table_bytes texts.strings) < 2 ^ 64)
       (line_strings_short : length (table_bytes texts.line_strings) < 2 ^ 64)
       (held : p.encoding.format ≡ Dwarf64 → AreHeld notation.limit p texts) where
-    new_directories_spelled : (bytes : List ℕ) → directory_table_bytes notation.big p.encoding.format texts p ≡ Ok bytes → length bytes < 2 ^ 64
+    new_directories_spelled : (bytes : List ℕ) → directory_table_bytes plain notation.big p.encoding.format texts p ≡ Ok bytes → length bytes < 2 ^ 64
         → (directory_table notation p.encoding).Spells bytes (map read_format (directory_formats p), map path_of (map (directory_entry texts) p.directories))
     new_directories_spelled bytes is small =
         let entries = map (directory_entry texts) p.directories in
@@ -157,7 +158,7 @@ module _ (notation : Notation) (unit_entry : UnitEntry) (sections : Sections) (p
         second-chosen (nat_le p.encoding.version 4) _ _ bytes _ new
         ((map read_format (directory_formats p), entries), bytes, [], sym (append-nil bytes), spelled, (refl, refl))
 
-    new_files_spelled : (bytes : List ℕ) → file_table_bytes notation.big p.encoding.format texts p ≡ Ok bytes → length bytes < 2 ^ 64
+    new_files_spelled : (bytes : List ℕ) → file_table_bytes plain notation.big p.encoding.format texts p ≡ Ok bytes → length bytes < 2 ^ 64
         → (file_table notation p.encoding).Spells bytes (map read_format (file_formats p), map file_of_entry (map (file_entry p texts) p.files))
     new_files_spelled bytes is small =
         let entries = map (file_entry p texts) p.files in
@@ -169,11 +170,11 @@ module _ (notation : Notation) (unit_entry : UnitEntry) (sections : Sections) (p
     new_back = rw new (new-directories-back sections p texts strings_are line_strings_are are_texts are_line_texts p.directories ready.directories)
 
     new_tables : (bytes : List ℕ) → length bytes < 2 ^ 64
-        → result_append (directory_table_bytes notation.big p.encoding.format texts p) (file_table_bytes notation.big p.encoding.format texts p) ≡ Ok bytes
+        → result_append (directory_table_bytes plain notation.big p.encoding.format texts p) (file_table_bytes plain notation.big p.encoding.format texts p) ≡ Ok bytes
         → TablesBack notation unit_entry sections p texts bytes
     new_tables bytes small is =
         let b =
-        both_written (directory_table_bytes notation.big p.encoding.format texts p) (file_table_bytes notation.big p.encoding.format texts p) bytes is in
+        both_written (directory_table_bytes plain notation.big p.encoding.format texts p) (file_table_bytes plain notation.big p.encoding.format texts p) bytes is in
         let whole = ap length b.whole ∙ length-append b.first b.rest in
         record {
           directory_formats = map read_format (directory_formats p);
@@ -205,15 +206,15 @@ module _ (notation : Notation) (unit_entry : UnitEntry) (sections : Sections) (p
     pub line_strings_short : length (table_bytes texts.line_strings) < 2 ^ 64
     pub held : nat_le p.encoding.version 4 ≡ false → p.encoding.format ≡ Dwarf64 → AreHeld notation.limit p texts
 
-  pub tables-back : (bytes : List ℕ) → AreReadWell → length bytes < 2 ^ 64 → tables_bytes notation.big p texts ≡ Ok bytes
+  pub tables-back : (bytes : List ℕ) → AreReadWell → length bytes < 2 ^ 64 → tables_bytes plain notation.big p texts ≡ Ok bytes
       → TablesBack notation unit_entry sections p texts bytes
   tables-back bytes well small is =
       by (nat_le p.encoding.version 4) refl (result_append (directories_bytes p.directories) (files_bytes p.files))
-      (result_append (directory_table_bytes notation.big p.encoding.format texts p) (file_table_bytes notation.big p.encoding.format texts p)) refl refl is
+      (result_append (directory_table_bytes plain notation.big p.encoding.format texts p) (file_table_bytes plain notation.big p.encoding.format texts p)) refl refl is
     where
       by : (b : Bool) → nat_le p.encoding.version 4 ≡ b → (r s : Result (List ℕ) Error)
           → r ≡ result_append (directories_bytes p.directories) (files_bytes p.files)
-          → s ≡ result_append (directory_table_bytes notation.big p.encoding.format texts p) (file_table_bytes notation.big p.encoding.format texts p)
+          → s ≡ result_append (directory_table_bytes plain notation.big p.encoding.format texts p) (file_table_bytes plain notation.big p.encoding.format texts p)
           → (if b then r else s) ≡ Ok bytes → TablesBack notation unit_entry sections p texts bytes
       by true old r s first second is = old_tables old bytes (well.directory old) (sym first ∙ is)
       by false new r s first second is =

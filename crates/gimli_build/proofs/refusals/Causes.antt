@@ -6,6 +6,7 @@ use Rattle.gimli_core.specs.Numbers.{number_bytes, is_address_size}
 use Rattle.gimli_core.specs.Reading.{result_map}
 use Rattle.gimli_core.specs.declared.common.Encoding.{Encoding}
 use Rattle.gimli_core.specs.declared.common.LineEncoding.{LineEncoding}
+use Rattle.gimli_bytes.specs.Hand.{plain}
 use Rattle.gimli_bytes.specs.Number.{udata, uleb, length_word}
 use Rattle.gimli_bytes.specs.Written.{Appends}
 use Rattle.gimli_bytes.specs.declared.address.Address.TheVariants.{Constant, Symbol}
@@ -19,7 +20,6 @@ use Rattle.gimli_build.specs.Built.{Built}
 use Rattle.gimli_build.specs.Rows.{initial_row}
 use Rattle.gimli_build.specs.FormatWord.{format_word}
 use Rattle.gimli_build.specs.Joined.{result_append}
-use Rattle.gimli_build.specs.inside.Joined.{RefusesFor}
 use Rattle.gimli_build.specs.Items.{item_bytes, items_bytes, next_previous}
 use Rattle.gimli_build.specs.Version5Tables.{texts_after}
 use Rattle.gimli_build.specs.Unit.{version_bytes, opening_bytes, operations_bytes, line_encoding_bytes, flag_byte, base_byte, opcode_bytes, tables_bytes}
@@ -103,7 +103,7 @@ seen-refusal view (Ok bytes) = refl
 seen-refusal view (Err e) = refl
 
 item-refusal : (big : Bool) (encoding : Encoding) (e : LineEncoding) (previous : LineRow) → IsTrue (is_address_size encoding.address_size)
-    → (item : BuiltItem) → refusal (item_bytes big encoding e previous item) ≡ item_cause encoding.address_size item
+    → (item : BuiltItem) → refusal (item_bytes plain big encoding e previous item) ≡ item_cause encoding.address_size item
 item-refusal big encoding e previous known (SetAddress (Constant a)) =
     seen-refusal (λ operand. 0 ∷ uleb (encoding.address_size + 1) ++ 0x02 ∷ operand) (udata big a encoding.address_size)
     ∙ address-refusal big a encoding.address_size known
@@ -113,22 +113,22 @@ item-refusal big encoding e previous known (End offset op_index) = refl
 
 items-refusal : (big : Bool) (encoding : Encoding) (e : LineEncoding) → IsTrue (is_address_size encoding.address_size)
     → (previous : LineRow) (items : List BuiltItem)
-    → refusal (items_bytes big encoding e previous items) ≡ first_of (map (item_cause encoding.address_size) items)
+    → refusal (items_bytes plain big encoding e previous items) ≡ first_of (map (item_cause encoding.address_size) items)
 items-refusal big encoding e known previous [] = refl
 items-refusal big encoding e known previous (item ∷ items) =
     let size = encoding.address_size in
     let next = next_previous encoding.version e.default_is_stmt previous item in
-    joined-refusal (item_bytes big encoding e previous item) (items_bytes big encoding e next items)
-    ∙ ap (λ (c : Option Error). or_first c (refusal (items_bytes big encoding e next items))) (item-refusal big encoding e previous known item)
+    joined-refusal (item_bytes plain big encoding e previous item) (items_bytes plain big encoding e next items)
+    ∙ ap (λ (c : Option Error). or_first c (refusal (items_bytes plain big encoding e next items))) (item-refusal big encoding e previous known item)
     ∙ ap (λ (c : Option Error). or_first (item_cause size item) c) (items-refusal big encoding e known next items)
     ∙ sym (first_apart (item_cause size item) (map (item_cause size) items))
 
 -- ---- the unit
 
 module _ (big : Bool) (p : Built) (texts : StringTables) where
-  fields-refusal : refusal (fields_bytes big p texts) ≡ or_first (encoding_cause p) (texts_cause p texts)
+  fields-refusal : refusal (fields_bytes plain big p texts) ≡ or_first (encoding_cause p) (texts_cause p texts)
   fields-refusal =
-      let tables = tables_bytes big p texts in
+      let tables = tables_bytes plain big p texts in
       let rest = result_append (Ok opcode_bytes) tables in
       joined-refusal (line_encoding_bytes p.encoding.version p.line_encoding) rest
       ∙ ap (λ (c : Option Error). or_first c (refusal rest)) (line_encoding-refusal p.encoding.version p.line_encoding)
@@ -138,11 +138,11 @@ module _ (big : Bool) (p : Built) (texts : StringTables) where
   abbrev first_causes : Option Error
   first_causes = or_first (or_first (encoding_cause p) (texts_cause p texts)) (header_cause p texts)
 
-  header-refusal : refusal (header_bytes big p texts) ≡ first_causes
+  header-refusal : refusal (header_bytes plain big p texts) ≡ first_causes
   header-refusal =
       let format = p.encoding.format in
       let cause = header_cause p texts in
-      after-refusal (λ n. format_word big format n) (fields_bytes big p texts) cause
+      after-refusal (λ n. format_word big format n) (fields_bytes plain big p texts) cause
       (λ bytes is. word-refusal big format (length bytes) ∙ ap (word_cause format) (fields_size big p texts bytes is))
       ∙ ap (λ (c : Option Error). or_first c cause) fields-refusal
 
@@ -151,10 +151,10 @@ module _ (big : Bool) (p : Built) (texts : StringTables) where
   inside_cause = or_first (version_cause p) (or_first first_causes (items_cause p))
 
   module _ (known : IsTrue (is_address_size p.encoding.address_size)) where
-    inside-refusal : refusal (inside_bytes big p texts) ≡ inside_cause
+    inside-refusal : refusal (inside_bytes plain big p texts) ≡ inside_cause
     inside-refusal =
-        let program = program_bytes big p in
-        let header = header_bytes big p texts in
+        let program = program_bytes plain big p in
+        let header = header_bytes plain big p texts in
         let rest = result_append header program in
         let first = initial_row p.encoding.version p.line_encoding.default_is_stmt in
         joined-refusal (opening_bytes big p.encoding) rest
@@ -165,37 +165,36 @@ module _ (big : Bool) (p : Built) (texts : StringTables) where
         ∙ ap (λ (c : Option Error). or_first first_causes c)
         (items-refusal big p.encoding p.line_encoding known first p.items))
 
-    whole-refusal : refusal (whole_bytes big p texts) ≡ or_first inside_cause (unit_cause big p texts)
+    whole-refusal : refusal (whole_bytes plain big p texts) ≡ or_first inside_cause (unit_cause big p texts)
     whole-refusal =
         let format = p.encoding.format in
         let cause = unit_cause big p texts in
-        after-refusal (λ n. result_append (Ok (escape_bytes big format)) (length_word big format n)) (inside_bytes big p texts) cause
+        after-refusal (λ n. result_append (Ok (escape_bytes big format)) (length_word big format n)) (inside_bytes plain big p texts) cause
         (λ bytes is. joined-refusal (Ok (escape_bytes big format)) (length_word big format (length bytes))
         ∙ length-refusal big format (length bytes) ∙ ap (unit_length_cause format) (inside_size big p texts bytes is))
         ∙ ap (λ (c : Option Error). or_first c cause) inside-refusal
 
 -- the first cause of a program is what its bytes are refused for
 pub cause-is : (big : Bool) (unit : Encoding) (p : Built) (texts : StringTables) → IsTrue (is_address_size p.encoding.address_size)
-    → first_cause big unit p texts ≡ refusal (unit_bytes big unit p texts)
+    → first_cause big unit p texts ≡ refusal (unit_bytes plain big unit p texts)
 cause-is big unit p texts known =
     let barred = is_incompatible unit p.encoding in
     let bar = cause_if barred IncompatibleLineProgramEncoding in
     let after = texts_after p texts in
     seven_causes bar (version_cause p) (encoding_cause p) (texts_cause p after) (header_cause p after) (items_cause p) (unit_cause big p after)
     ∙ ap (λ (c : Option Error). or_first bar c) (sym (whole-refusal big p after known))
-    ∙ sym (barred-refusal barred IncompatibleLineProgramEncoding (whole_bytes big p after))
+    ∙ sym (barred-refusal barred IncompatibleLineProgramEncoding (whole_bytes plain big p after))
 
 -- ---- what a call knows
 
 -- what was written has no cause
 pub no-cause : (big : Bool) (unit : Encoding) (p : Built) (texts : StringTables) → IsTrue (is_address_size p.encoding.address_size)
-    → (old new : List ℕ) → Appends (unit_bytes big unit p texts) old new → first_cause big unit p texts ≡ None
+    → (old new : List ℕ) → Appends (unit_bytes plain big unit p texts) old new → first_cause big unit p texts ≡ None
 no-cause big unit p texts known old new written =
-    let own = appended_bytes (unit_bytes big unit p texts) old new written in
+    let own = appended_bytes (unit_bytes plain big unit p texts) old new written in
     cause-is big unit p texts known ∙ ap refusal own.1
 
--- what was refused was so for memory, or for the first cause
+-- what was refused was so for the first cause
 pub refused-for : (big : Bool) (unit : Encoding) (p : Built) (texts : StringTables) → IsTrue (is_address_size p.encoding.address_size)
-    → (e : Error) → RefusesFor (unit_bytes big unit p texts) e → (e ≡ OutOfMemory) ⊎ (first_cause big unit p texts ≡ Some e)
-refused-for big unit p texts known e (inl memory) = inl memory
-refused-for big unit p texts known e (inr is) = inr (cause-is big unit p texts known ∙ ap refusal is)
+    → (e : Error) → unit_bytes plain big unit p texts ≡ Err e → first_cause big unit p texts ≡ Some e
+refused-for big unit p texts known e is = cause-is big unit p texts known ∙ ap refusal is

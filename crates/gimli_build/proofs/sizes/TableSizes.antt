@@ -5,6 +5,7 @@ use Rattle.std.proofs.lemmas.List.{length-append}
 use Rattle.std.proofs.lemmas.List.Sums.{sum_by-cons}
 use Rattle.gimli_core.specs.Numbers.{word_size}
 use Rattle.gimli_core.specs.declared.common.Format.{Format}
+use Rattle.gimli_bytes.specs.Hand.{plain}
 use Rattle.gimli_bytes.specs.Number.{uleb}
 use Rattle.gimli_bytes.specs.Texts.{offset_of, StringTables}
 use Rattle.gimli_bytes.specs.declared.error.Error.{Error}
@@ -58,26 +59,26 @@ nothing_first : (n : ℕ) → n ≡ 0 + n
 nothing_first n = omega arith
 
 module _ (big : Bool) (format : Format) (texts : StringTables) where
-  stored_size : (t : LineText) → HasSize (text_bytes big format texts t) (text_size format t)
+  stored_size : (t : LineText) → HasSize (text_bytes plain big format texts t) (text_size format t)
   stored_size (Inline text) = name_size format (Inline text)
   stored_size (InStrings i) = format_word_size big format (offset_of texts.strings i)
   stored_size (InLineStrings i) = format_word_size big format (offset_of texts.line_strings i)
 
   tested_text : (same : Bool) (t : LineText)
-      → HasSize (if same then text_bytes big format texts t else Err LineStringFormMismatch) (text_size format t)
+      → HasSize (if same then text_bytes plain big format texts t else Err LineStringFormMismatch) (text_size format t)
   tested_text true t = stored_size t
   tested_text false t = size_of_none LineStringFormMismatch (text_size format t)
 
-  formed_size : (form : ℕ) (t : LineText) → HasSize (text_in_form big format texts form t) (text_size format t)
+  formed_size : (form : ℕ) (t : LineText) → HasSize (text_in_form plain big format texts form t) (text_size format t)
   formed_size form t = tested_text (nat_eq (text_form t) form) t
 
   -- a source that is written, or none
   source_size : (has : Bool) (form : ℕ) (t : LineText)
-      → HasSize (if has then text_in_form big format texts form t else Ok [])
+      → HasSize (if has then text_in_form plain big format texts form t else Ok [])
       (sum_by (λ (s : ℕ × LineText). text_size format s.1) (if has then (form, t) ∷ [] else []))
   source_size true form t =
       let size = text_size format t in
-      size_as (text_in_form big format texts form t) size (0 + size) (nothing_first size) (formed_size form t)
+      size_as (text_in_form plain big format texts form t) size (0 + size) (nothing_first size) (formed_size form t)
   source_size false form t = size_of_ok []
 
 -- ---- tables of version 5
@@ -94,7 +95,7 @@ path_first : (path details source : ℕ) → path + (details + source) ≡ (path
 path_first path details source = omega arith
 
 module _ (big : Bool) (p : Built) (texts : StringTables) where
-  one_entry_size : (f : File) → HasSize (file_entry_bytes big p.encoding.format texts p f) (entry_size p texts f)
+  one_entry_size : (f : File) → HasSize (file_entry_bytes plain big p.encoding.format texts p f) (entry_size p texts f)
   one_entry_size f =
       let format = p.encoding.format in
       let form = first_form (sources p.files) in
@@ -103,43 +104,43 @@ module _ (big : Bool) (p : Built) (texts : StringTables) where
       let last = if p.file_has_source then (form, source) ∷ [] else [] in
       let path = text_size format f.0.0 in
       let details = length (detail_bytes p f) in
-      let written = source_bytes big format texts p f in
-      size_as (file_entry_bytes big format texts p f) (path + (details + sum_by sized last)) (entry_size p texts f)
+      let written = source_bytes plain big format texts p f in
+      size_as (file_entry_bytes plain big format texts p f) (path + (details + sum_by sized last)) (entry_size p texts f)
       (path_first path details (sum_by sized last) ∙ ap (λ (k : ℕ). k + details) (sym (sum_by-cons sized (first_form (path_texts p.files), f.0.0) last)))
-      (size_joined (text_in_form big format texts (first_form (path_texts p.files)) f.0.0) (result_append (Ok (detail_bytes p f)) written) path
+      (size_joined (text_in_form plain big format texts (first_form (path_texts p.files)) f.0.0) (result_append (Ok (detail_bytes p f)) written) path
       (details + sum_by sized last)
       (formed_size big format texts (first_form (path_texts p.files)) f.0.0)
       (size_joined (Ok (detail_bytes p f)) written details (sum_by sized last) (size_of_ok (detail_bytes p f))
       (source_size big format texts p.file_has_source form source)))
 
-  directory_table_size : HasSize (directory_table_bytes big p.encoding.format texts p)
+  directory_table_size : HasSize (directory_table_bytes plain big p.encoding.format texts p)
       (length (formats_bytes (directory_formats p)) + length (uleb (length p.directories)) + sum_by (text_size p.encoding.format) p.directories)
   directory_table_size =
       let format = p.encoding.format in
       let form = first_form p.directories in
       prefixed_size (formats_bytes (directory_formats p)) (uleb (length p.directories))
-      (result_concat (text_in_form big format texts form) p.directories) (sum_by (text_size format) p.directories)
-      (size_parts (text_in_form big format texts form) (text_size format) (formed_size big format texts form) p.directories)
+      (result_concat (text_in_form plain big format texts form) p.directories) (sum_by (text_size format) p.directories)
+      (size_parts (text_in_form plain big format texts form) (text_size format) (formed_size big format texts form) p.directories)
 
-  file_table_size : HasSize (file_table_bytes big p.encoding.format texts p)
+  file_table_size : HasSize (file_table_bytes plain big p.encoding.format texts p)
       (length (formats_bytes (file_formats p)) + length (uleb (length p.files)) + sum_by (entry_size p texts) p.files)
   file_table_size =
-      let entry = file_entry_bytes big p.encoding.format texts p in
+      let entry = file_entry_bytes plain big p.encoding.format texts p in
       prefixed_size (formats_bytes (file_formats p)) (uleb (length p.files)) (result_concat entry p.files) (sum_by (entry_size p texts) p.files)
       (size_parts entry (entry_size p texts) one_entry_size p.files)
 
   -- ---- both
 
   -- the tables are as long as is said
-  pub tables-size : HasSize (tables_bytes big p texts) (tables_size p texts)
+  pub tables-size : HasSize (tables_bytes plain big p texts) (tables_size p texts)
   tables-size =
       let format = p.encoding.format in
       let old_directories = sum_by (text_size format) (drop 1 p.directories) + 1 in
       let old_files = sum_by (file_size format) p.files + 1 in
       let directories = length (formats_bytes (directory_formats p)) + length (uleb (length p.directories)) + sum_by (text_size format) p.directories in
       let files = length (formats_bytes (file_formats p)) + length (uleb (length p.files)) + sum_by (entry_size p texts) p.files in
-      let directory_table = directory_table_bytes big format texts p in
-      let file_table = file_table_bytes big format texts p in
+      let directory_table = directory_table_bytes plain big format texts p in
+      let file_table = file_table_bytes plain big format texts p in
       size_either (nat_le p.encoding.version 4) (result_append (directories_bytes p.directories) (files_bytes p.files))
       (result_append directory_table file_table)
       (old_directories + old_files) (directories + files)

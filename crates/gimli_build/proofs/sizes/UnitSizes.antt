@@ -4,6 +4,7 @@ use Rattle.std.specs.Prelude.{Result, ◌&&◌}
 use Rattle.gimli_core.specs.Numbers.{number_bytes, word_size}
 use Rattle.gimli_core.specs.declared.common.Encoding.{Encoding}
 use Rattle.gimli_core.specs.declared.common.LineEncoding.{LineEncoding}
+use Rattle.gimli_bytes.specs.Hand.{plain}
 use Rattle.gimli_bytes.specs.declared.error.Error.{Error}
 use Rattle.gimli_bytes.specs.declared.error.Error.TheVariants.{UnsupportedVersion, NeedVersion}
 use Rattle.gimli_bytes.specs.Texts.{StringTables}
@@ -66,34 +67,34 @@ two_and_two a b c d = omega arith
 
 module _ (big : Bool) (p : Built) (texts : StringTables) where
   -- what the header length counts is as long as it says
-  pub fields_size : HasSize (fields_bytes big p texts) (header_length p texts)
+  pub fields_size : HasSize (fields_bytes plain big p texts) (header_length p texts)
   fields_size =
       let encoding = if nat_le 4 p.encoding.version then 5 else 4 in
-      let tables = tables_bytes big p texts in
+      let tables = tables_bytes plain big p texts in
       let count = tables_size p texts in
-      size_as (fields_bytes big p texts) (encoding + (13 + count)) (header_length p texts) (three_parts encoding 13 count)
+      size_as (fields_bytes plain big p texts) (encoding + (13 + count)) (header_length p texts) (three_parts encoding 13 count)
       (size_joined (line_encoding_bytes p.encoding.version p.line_encoding) (result_append (Ok opcode_bytes) tables) encoding (13 + count)
       (line_encoding_size p.encoding.version p.line_encoding)
       (size_joined (Ok opcode_bytes) tables 13 count (size_of_ok opcode_bytes) (tables-size big p texts)))
 
   -- ---- what the unit length counts
 
-  header_size : HasSize (header_bytes big p texts) (word_size p.encoding.format + header_length p texts)
+  header_size : HasSize (header_bytes plain big p texts) (word_size p.encoding.format + header_length p texts)
   header_size =
       let word = word_size p.encoding.format in
-      size_after (λ n. format_word big p.encoding.format n) (fields_bytes big p texts) word (header_length p texts)
+      size_after (λ n. format_word big p.encoding.format n) (fields_bytes plain big p texts) word (header_length p texts)
       (λ n. format_word_size big p.encoding.format n) fields_size
 
   -- what the unit length counts is as long as it says
-  pub inside_size : HasSize (inside_bytes big p texts) (unit_length big p texts)
+  pub inside_size : HasSize (inside_bytes plain big p texts) (unit_length big p texts)
   inside_size =
       let opening = if nat_le p.encoding.version 4 then 2 else 4 in
       let word = word_size p.encoding.format in
-      let program = size_of (program_bytes big p) in
-      let header = header_bytes big p texts in
+      let program = size_of (program_bytes plain big p) in
+      let header = header_bytes plain big p texts in
       let counted = header_length p texts in
-      size_as (inside_bytes big p texts) (opening + ((word + counted) + program)) (unit_length big p texts)
+      size_as (inside_bytes plain big p texts) (opening + ((word + counted) + program)) (unit_length big p texts)
       (two_and_two opening word counted program)
-      (size_joined (opening_bytes big p.encoding) (result_append header (program_bytes big p)) opening ((word + counted) + program)
+      (size_joined (opening_bytes big p.encoding) (result_append header (program_bytes plain big p)) opening ((word + counted) + program)
       (opening_size big p.encoding)
-      (size_joined header (program_bytes big p) (word + counted) program header_size (own_size (program_bytes big p))))
+      (size_joined header (program_bytes plain big p) (word + counted) program header_size (own_size (program_bytes plain big p))))

@@ -16,6 +16,7 @@ use Rattle.gimli_core.specs.Numbers.{SpellsUleb128, SpellsNumber, number_bytes}
 use Rattle.gimli_core.specs.Reading.{result_map}
 use Rattle.gimli_core.specs.Production.{below_limit, unsigned, Each}
 use Rattle.gimli_core.proofs.Written.{number_spelled}
+use Rattle.gimli_bytes.specs.Hand.{plain}
 use Rattle.gimli_bytes.specs.Number.{uleb, sleb}
 use Rattle.gimli_bytes.specs.declared.error.Error.{Error}
 use Rattle.gimli_bytes.specs.declared.error.Error.TheVariants.{ValueTooLarge, UnsupportedWordSize}
@@ -148,7 +149,7 @@ module _ (notation : Notation) (h : Header) (base : h.parameters.opcode_base ≡
       ))
 
   -- a set address that is written
-  address_operand : (a : ℕ) (bytes : List ℕ) → set_address_bytes notation.big (Constant a) h.parameters.encoding.address_size ≡ Ok bytes → Operand a bytes
+  address_operand : (a : ℕ) (bytes : List ℕ) → set_address_bytes plain notation.big (Constant a) h.parameters.encoding.address_size ≡ Ok bytes → Operand a bytes
   address_operand a bytes is = by h.parameters.encoding.address_size refl is
     where
       sized : (size : ℕ) → (nat_eq size 1 || nat_eq size 2 || nat_eq size 3 || nat_eq size 4 || nat_eq size 8) ≡ true → size ≤ 8
@@ -167,12 +168,12 @@ module _ (notation : Notation) (h : Header) (base : h.parameters.opcode_base ≡
       tested size same true false t u is = absurd cc
       tested size same false c t u is = absurd cc
 
-      by : (size : ℕ) → h.parameters.encoding.address_size ≡ size → set_address_bytes notation.big (Constant a) size ≡ Ok bytes → Operand a bytes
+      by : (size : ℕ) → h.parameters.encoding.address_size ≡ size → set_address_bytes plain notation.big (Constant a) size ≡ Ok bytes → Operand a bytes
       by size same is =
           tested size same (nat_eq size 1 || nat_eq size 2 || nat_eq size 3 || nat_eq size 4 || nat_eq size 8) (nat_lt a (256 ^ size)) refl refl is
 
   -- a set address that is written spells it
-  pub address-spelled : (a : ℕ) (bytes : List ℕ) → set_address_bytes notation.big (Constant a) h.parameters.encoding.address_size ≡ Ok bytes
+  pub address-spelled : (a : ℕ) (bytes : List ℕ) → set_address_bytes plain notation.big (Constant a) h.parameters.encoding.address_size ≡ Ok bytes
       → SpellsInstruction notation h bytes (SetAddress a)
   address-spelled a bytes is = address_written a bytes (address_operand a bytes is)
 

@@ -13,6 +13,7 @@ use Rattle.gimli_core.specs.inside.Form.{SpellsForm}
 use Rattle.gimli_core.specs.declared.common.Format.{Format}
 use Rattle.gimli_core.specs.declared.common.Format.TheVariants.{Dwarf64}
 use Rattle.gimli_core.specs.declared.attribute_value.AttributeValue.TheVariants.{String, DebugStrRef, DebugLineStrRef}
+use Rattle.gimli_bytes.specs.Hand.{plain}
 use Rattle.gimli_bytes.specs.Texts.{AreTexts, table_bytes, offset_of, StringTables}
 use Rattle.gimli_bytes.specs.declared.error.Error.{Error}
 use Rattle.gimli_bytes.specs.declared.error.Error.TheVariants.{LineStringFormMismatch}
@@ -63,7 +64,7 @@ pub record IsReady (texts : StringTables) (t : LineText) : Type 0 where
 module _ (notation : Notation) (format : Format) (texts : StringTables)
     (strings_short : length (table_bytes texts.strings) < 2 ^ 64) (line_strings_short : length (table_bytes texts.line_strings) < 2 ^ 64) where
   text_spelled : (t : LineText) (bytes : List ℕ) → HasNoZero t → IsWithin texts t → (format ≡ Dwarf64 → IsOffsetHeld notation.limit texts t)
-      → text_bytes notation.big format texts t ≡ Ok bytes → (form_production notation format (text_form t)).Spells bytes (read_text texts t)
+      → text_bytes plain notation.big format texts t ≡ Ok bytes → (form_production notation format (text_form t)).Spells bytes (read_text texts t)
   text_spelled (Inline text) bytes clean within held is =
       (text, bytes, [], sym (append-nil bytes), (recursion_from_All (λ b. b ≢ 0) text clean, same_written (text ++ 0 ∷ []) bytes is), (refl, refl))
   text_spelled (InStrings i) bytes clean within held is =
@@ -87,12 +88,12 @@ module _ (notation : Notation) (format : Format) (texts : StringTables)
 
   -- a text that has the form of its table
   pub text-spelled : (form : ℕ) (t : LineText) (bytes : List ℕ) → IsReady texts t → (format ≡ Dwarf64 → IsOffsetHeld notation.limit texts t)
-      → text_in_form notation.big format texts form t ≡ Ok bytes
+      → text_in_form plain notation.big format texts form t ≡ Ok bytes
       → SpellsForm notation format form bytes (read_text texts t)
   text-spelled form t bytes ready held is = by (nat_eq (text_form t) form) refl is
     where
       by : (b : Bool) → nat_eq (text_form t) form ≡ b
-          → (let r : Result (List ℕ) Error = if b then text_bytes notation.big format texts t else Err LineStringFormMismatch in r) ≡ Ok bytes
+          → (let r : Result (List ℕ) Error = if b then text_bytes plain notation.big format texts t else Err LineStringFormMismatch in r) ≡ Ok bytes
           → SpellsForm notation format form bytes (read_text texts t)
       by true same is =
           subst (λ (n : ℕ). SpellsForm notation format n bytes (read_text texts t)) (eqb-true (text_form t) form same)
@@ -100,7 +101,7 @@ module _ (notation : Notation) (format : Format) (texts : StringTables)
       by false same is = absurd cc
 
 -- at least one byte is written of a text
-text_long : (big : Bool) (format : Format) (texts : StringTables) (t : LineText) (bytes : List ℕ) → text_bytes big format texts t ≡ Ok bytes → 0 < length bytes
+text_long : (big : Bool) (format : Format) (texts : StringTables) (t : LineText) (bytes : List ℕ) → text_bytes plain big format texts t ≡ Ok bytes → 0 < length bytes
 text_long big format texts (Inline text) bytes is =
     let long = ap length (same_written (text ++ 0 ∷ []) bytes is) ∙ length-append text (0 ∷ []) in
     omega (arith, long)
@@ -108,10 +109,10 @@ text_long big format texts (InStrings i) bytes is = word-long big format (offset
 text_long big format texts (InLineStrings i) bytes is = word-long big format (offset_of texts.line_strings i) bytes is
 
 pub text-long : (big : Bool) (format : Format) (texts : StringTables) (form : ℕ) (t : LineText) (bytes : List ℕ)
-    → text_in_form big format texts form t ≡ Ok bytes → 0 < length bytes
+    → text_in_form plain big format texts form t ≡ Ok bytes → 0 < length bytes
 text-long big format texts form t bytes is = by (nat_eq (text_form t) form) is
   where
-    by : (b : Bool) → (let r : Result (List ℕ) Error = if b then text_bytes big format texts t else Err LineStringFormMismatch in r) ≡ Ok bytes
+    by : (b : Bool) → (let r : Result (List ℕ) Error = if b then text_bytes plain big format texts t else Err LineStringFormMismatch in r) ≡ Ok bytes
         → 0 < length bytes
     by true is = text_long big format texts t bytes is
     by false is = absurd cc

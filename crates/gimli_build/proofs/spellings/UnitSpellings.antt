@@ -8,6 +8,7 @@ use Rattle.gimli_core.specs.Numbers.{number_bytes}
 use Rattle.gimli_core.specs.declared.common.Format.{Format}
 use Rattle.gimli_core.specs.declared.common.Format.TheVariants.{Dwarf32, Dwarf64}
 use Rattle.gimli_core.specs.declared.error.Error.TheVariants.{OpcodeBaseZero}
+use Rattle.gimli_bytes.specs.Hand.{plain}
 use Rattle.gimli_bytes.specs.Number.{length_word}
 use Rattle.gimli_bytes.specs.declared.error.Error.{Error}
 use Rattle.gimli_bytes.specs.Texts.{StringTables}
@@ -39,8 +40,8 @@ pub record UnitWritten (big : Bool) (p : Built) (texts : StringTables) (unit : L
   pub length_is : length_word big p.encoding.format (length inside) ≡ Ok length_bytes
   pub opening_is : opening_bytes big p.encoding ≡ Ok opening
   pub size_is : format_word big p.encoding.format (length fields) ≡ Ok size
-  pub fields_are : fields_bytes big p texts ≡ Ok fields
-  pub program_is : program_bytes big p ≡ Ok program
+  pub fields_are : fields_bytes plain big p texts ≡ Ok fields
+  pub program_is : program_bytes plain big p ≡ Ok program
   pub inside_is : inside ≡ opening ++ ((size ++ fields) ++ program)
   pub whole : unit ≡ (escape_bytes big p.encoding.format ++ length_bytes) ++ inside
 
@@ -53,15 +54,15 @@ rest_in_three : (whole first rest header size fields last : List ℕ) → whole 
     → whole ≡ first ++ ((size ++ fields) ++ last)
 rest_in_three whole first rest header size fields last is parts inner = is ∙ ap (λ (l : List ℕ). first ++ l) (parts ∙ ap (λ (l : List ℕ). l ++ last) inner)
 
-pub unit_written : (big : Bool) (p : Built) (texts : StringTables) (unit : List ℕ) → whole_bytes big p texts ≡ Ok unit → UnitWritten big p texts unit
+pub unit_written : (big : Bool) (p : Built) (texts : StringTables) (unit : List ℕ) → whole_bytes plain big p texts ≡ Ok unit → UnitWritten big p texts unit
 unit_written big p texts unit is =
     let escape = escape_bytes big p.encoding.format in
     let word : ℕ → Result (List ℕ) Error = λ n. length_word big p.encoding.format n in
-    let a = counted_written (λ n. result_append (Ok escape) (word n)) (inside_bytes big p texts) unit is in
+    let a = counted_written (λ n. result_append (Ok escape) (word n)) (inside_bytes plain big p texts) unit is in
     let b = after_written escape (word (length a.inside)) a.size a.size_is in
-    let c = both_written (opening_bytes big p.encoding) (result_append (header_bytes big p texts) (program_bytes big p)) a.inside a.inside_is in
-    let d = both_written (header_bytes big p texts) (program_bytes big p) c.rest c.rest_is in
-    let e = counted_written (λ n. format_word big p.encoding.format n) (fields_bytes big p texts) d.first d.first_is in
+    let c = both_written (opening_bytes big p.encoding) (result_append (header_bytes plain big p texts) (program_bytes plain big p)) a.inside a.inside_is in
+    let d = both_written (header_bytes plain big p texts) (program_bytes plain big p) c.rest c.rest_is in
+    let e = counted_written (λ n. format_word big p.encoding.format n) (fields_bytes plain big p texts) d.first d.first_is in
     record {
       length_bytes = b.rest;
       opening = c.first;
@@ -83,13 +84,13 @@ pub record FieldsWritten (big : Bool) (p : Built) (texts : StringTables) (fields
   encoding : List ℕ
   pub tables : List ℕ
   encoding_is : line_encoding_bytes p.encoding.version p.line_encoding ≡ Ok encoding
-  pub tables_are : tables_bytes big p texts ≡ Ok tables
+  pub tables_are : tables_bytes plain big p texts ≡ Ok tables
   whole : fields ≡ (encoding ++ 13 ∷ []) ++ (operand_counts ++ tables)
 
-pub fields_written : (big : Bool) (p : Built) (texts : StringTables) (fields : List ℕ) → fields_bytes big p texts ≡ Ok fields → FieldsWritten big p texts fields
+pub fields_written : (big : Bool) (p : Built) (texts : StringTables) (fields : List ℕ) → fields_bytes plain big p texts ≡ Ok fields → FieldsWritten big p texts fields
 fields_written big p texts fields is =
-    let a = both_written (line_encoding_bytes p.encoding.version p.line_encoding) (result_append (Ok opcode_bytes) (tables_bytes big p texts)) fields is in
-    let b = after_written opcode_bytes (tables_bytes big p texts) a.rest a.rest_is in
+    let a = both_written (line_encoding_bytes p.encoding.version p.line_encoding) (result_append (Ok opcode_bytes) (tables_bytes plain big p texts)) fields is in
+    let b = after_written opcode_bytes (tables_bytes plain big p texts) a.rest a.rest_is in
     record {
       encoding = a.first;
       tables = b.rest;

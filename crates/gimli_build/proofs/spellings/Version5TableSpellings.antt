@@ -10,6 +10,7 @@ use Rattle.gimli_core.specs.Values.{Value}
 use Rattle.gimli_core.specs.Production.{times}
 use Rattle.gimli_core.specs.declared.common.Format.{Format}
 use Rattle.gimli_core.specs.declared.common.Format.TheVariants.{Dwarf64}
+use Rattle.gimli_bytes.specs.Hand.{plain}
 use Rattle.gimli_bytes.specs.Number.{uleb}
 use Rattle.gimli_bytes.specs.Texts.{AreTexts, table_bytes, StringTables}
 use Rattle.gimli_bytes.specs.declared.error.Error.{Error}
@@ -102,9 +103,9 @@ module _ (notation : Notation) (p : Built) (texts : StringTables) (ready : AreRe
   IsFileReadable f = IsFileReady p texts f × (p.encoding.format ≡ Dwarf64 → IsFileHeld notation.limit p texts f)
 
   abbrev text_written : ℕ → LineText → Result (List ℕ) Error
-  text_written form t = text_in_form notation.big p.encoding.format texts form t
+  text_written form t = text_in_form plain notation.big p.encoding.format texts form t
 
-  pub new-directories-spelled : (bytes : List ℕ) → directory_table_bytes notation.big p.encoding.format texts p ≡ Ok bytes → length bytes < 2 ^ 64
+  pub new-directories-spelled : (bytes : List ℕ) → directory_table_bytes plain notation.big p.encoding.format texts p ≡ Ok bytes → length bytes < 2 ^ 64
       → (table_production notation p.encoding.format).Spells bytes (map read_format (directory_formats p), map (directory_entry texts) p.directories)
   new-directories-spelled bytes is small =
       let form = first_form p.directories in
@@ -115,7 +116,7 @@ module _ (notation : Notation) (p : Built) (texts : StringTables) (ready : AreRe
       p.directories bytes (directory-formats p) (λ i d lt. (ready.directories i d lt, λ wide. (held wide).directories i d lt)) is small
 
   -- the bytes of a source, where it is written
-  source_written : (f : File) (bytes : List ℕ) → source_bytes notation.big p.encoding.format texts p f ≡ Ok bytes
+  source_written : (f : File) (bytes : List ℕ) → source_bytes plain notation.big p.encoding.format texts p f ≡ Ok bytes
       → (p.file_has_source ≡ true → text_written (first_form (sources p.files)) (source_of p texts f) ≡ Ok bytes) × (p.file_has_source ≡ false → bytes ≡ [])
   source_written f bytes is = by p.file_has_source (text_written (first_form (sources p.files)) (source_of p texts f)) is
     where
@@ -124,12 +125,12 @@ module _ (notation : Notation) (p : Built) (texts : StringTables) (ready : AreRe
       by true r is = (λ same. is, λ same. absurd cc)
       by false r is = (λ same. absurd cc, λ same. same_written [] bytes is)
 
-  file_spelled : (f : File) (bytes : List ℕ) → IsFileReadable f → file_entry_bytes notation.big p.encoding.format texts p f ≡ Ok bytes
+  file_spelled : (f : File) (bytes : List ℕ) → IsFileReadable f → file_entry_bytes plain notation.big p.encoding.format texts p f ≡ Ok bytes
       → IsSpelled notation p.encoding.format (file_formats p) bytes (file_entry p texts f)
   file_spelled f bytes own is =
       let path_form = first_form (path_texts p.files) in
       let source_form = first_form (sources p.files) in
-      let source = source_bytes notation.big p.encoding.format texts p f in
+      let source = source_bytes plain notation.big p.encoding.format texts p f in
       let a = both_written (text_written path_form f.0.0) (result_append (Ok (detail_bytes p f)) source) bytes is in
       let b = after_written (detail_bytes p f) source a.rest a.rest_is in
       let s = source_written f b.rest b.rest_is in
@@ -147,18 +148,18 @@ module _ (notation : Notation) (p : Built) (texts : StringTables) (ready : AreRe
       subst (λ (l : List ℕ). IsSpelled notation p.encoding.format list l entry) (sym whole) spelled in
       subst (λ (l : List (ℕ × ℕ)). IsSpelled notation p.encoding.format l bytes entry) (sym (formats-same p)) same
 
-  file_long : (f : File) (bytes : List ℕ) → file_entry_bytes notation.big p.encoding.format texts p f ≡ Ok bytes → 0 < length bytes
+  file_long : (f : File) (bytes : List ℕ) → file_entry_bytes plain notation.big p.encoding.format texts p f ≡ Ok bytes → 0 < length bytes
   file_long f bytes is =
       let form = first_form (path_texts p.files) in
-      let a = both_written (text_written form f.0.0) (result_append (Ok (detail_bytes p f)) (source_bytes notation.big p.encoding.format texts p f)) bytes is in
+      let a = both_written (text_written form f.0.0) (result_append (Ok (detail_bytes p f)) (source_bytes plain notation.big p.encoding.format texts p f)) bytes is in
       let whole = ap length a.whole ∙ length-append a.first a.rest in
       let long = text-long notation.big p.encoding.format texts form f.0.0 a.first a.first_is in
       omega (arith, whole, long)
 
-  pub new-files-spelled : (bytes : List ℕ) → file_table_bytes notation.big p.encoding.format texts p ≡ Ok bytes → length bytes < 2 ^ 64
+  pub new-files-spelled : (bytes : List ℕ) → file_table_bytes plain notation.big p.encoding.format texts p ≡ Ok bytes → length bytes < 2 ^ 64
       → (table_production notation p.encoding.format).Spells bytes (map read_format (file_formats p), map (file_entry p texts) p.files)
   new-files-spelled bytes is small =
-      table_spelled notation p.encoding.format (file_formats p) IsFileReadable (file_entry_bytes notation.big p.encoding.format texts p) (file_entry p texts)
+      table_spelled notation p.encoding.format (file_formats p) IsFileReadable (file_entry_bytes plain notation.big p.encoding.format texts p) (file_entry p texts)
       file_spelled file_long p.files bytes (file-formats p) (λ i d lt. (ready.files i d lt, λ wide. (held wide).files i d lt)) is small
 
 -- ---- what is read stands for what was built

@@ -1,6 +1,6 @@
 -- A length that is written once what it counts is there.
 use Rattle.std.proofs.Common.{◌≡◌, ℕ, ◌+◌, ◌-◌, ◌<◌, ◌^◌, Bool, true, false, List, [], ◌++◌, length, take, drop, refl, sym, ap, ◌∙◌, arith, append_assoc}
-use Rattle.std.proofs.Common.{length-append, nat_lt, if◌then◌else◌, Ok, Err}
+use Rattle.std.proofs.Common.{length-append, nat_lt, if◌then◌else◌, Ok, Err, OnOk, IfErr, ◌⊎◌}
 use Rattle.std.proofs.lemmas.Bool.{le-ltb, lt-ltb}
 use Rattle.std.proofs.lemmas.List.{take_at, drop_at}
 use Rattle.std.specs.Prelude.{Result}
@@ -13,7 +13,9 @@ use Rattle.gimli_bytes.specs.declared.error.Error.{Error}
 use Rattle.gimli_bytes.specs.declared.error.Error.TheVariants.{ValueTooLarge, InitialLengthOverflow}
 use Rattle.gimli_build.specs.FormatWord.{format_word}
 use Rattle.gimli_build.specs.Joined.{result_append, after_length}
+use Rattle.gimli_build.specs.inside.Writes.{Leaves}
 use Rattle.gimli_build.specs.Unit.{escape_bytes}
+use Rattle.gimli_build.proofs.writing.Joined.{on_ok, if_err, or_wanted}
 
 -- other bytes in the middle, as long as those that stand there
 patched_middle : (a b other c : List ℕ) (at : ℕ) → length other ≡ length b → length a ≡ at → overwrite_of (a ++ b ++ c) at other ≡ Ok (a ++ other ++ c)
@@ -55,7 +57,7 @@ module _ (full length_of : ℕ → Result (List ℕ) Error) (escape blank old c1
       ap (λ (l : List ℕ). overwrite_of l position word) (whole bytes is)
       ∙ patched_middle (old ++ escape) blank word bytes position (as_long word so) (length-append old escape ∙ sym at)
 
-  pub framed : patch (length_of n) c2 position ≡ Ok new → Appends (after_length full body) old new
+  framed : patch (length_of n) c2 position ≡ Ok new → Appends (after_length full body) old new
   framed h = by body refl (length_of n) refl h
     where
       by : (b : Result (List ℕ) Error) → body ≡ b → (w : Result (List ℕ) Error) → length_of n ≡ w → patch w c2 position ≡ Ok new
@@ -68,13 +70,18 @@ module _ (full length_of : ℕ → Result (List ℕ) Error) (escape blank old c1
           let same : new ≡ (old ++ escape) ++ word ++ bytes = sym (same_ok ((old ++ escape) ++ word ++ bytes) new (sym (put bytes word is so) ∙ h)) in
           rw shape (same ∙ ap (λ (l : List ℕ). l ++ bytes) (append_assoc old escape word) ∙ append_assoc old (escape ++ word) bytes)
 
-  pub frame_refused : (e : Error) → patch (length_of n) c2 position ≡ Err e → after_length full body ≡ Err e
+  frame_refused : (e : Error) → patch (length_of n) c2 position ≡ Err e → after_length full body ≡ Err e
   frame_refused e h = by body refl (length_of n) refl h
     where
       by : (b : Result (List ℕ) Error) → body ≡ b → (w : Result (List ℕ) Error) → length_of n ≡ w → patch w c2 position ≡ Err e → after_length full body ≡ Err e
       by (Err d) is w so h = absurd (rw is at written)
       by (Ok bytes) is (Err d) so h = known bytes is ∙ ap (λ (r : Result (List ℕ) Error). result_append (result_append (Ok escape) r) (Ok bytes)) so ∙ h
       by (Ok bytes) is (Ok word) so h = absurd (let never = sym (put bytes word is so) ∙ h in cc)
+
+  -- so much of one view of a writer
+  pub framed_leaves : {X : Type 0} {Own : Error → Type 0} {r : Result X Error} → OnOk r (patch (length_of n) c2 position ≡ Ok new)
+      → IfErr r (λ e. Own e ⊎ (patch (length_of n) c2 position ≡ Err e)) → Leaves Own r (after_length full body) old new
+  framed_leaves {r = r} ok err = record { ok = on_ok r framed ok; err = if_err r (λ e. or_wanted (frame_refused e)) err }
 
 -- ---- words
 

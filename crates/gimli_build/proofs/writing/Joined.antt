@@ -9,7 +9,6 @@ use Rattle.std.proofs.lemmas.List.Elements.{All-head, All-drop}
 use Rattle.gimli_bytes.specs.Written.{Begins, Appends}
 use Rattle.gimli_bytes.specs.declared.error.Error.{Error}
 use Rattle.gimli_build.specs.Joined.{result_append, result_concat}
-use Rattle.gimli_build.specs.inside.Joined.{RefusesFor}
 
 pub on_ok : {X : Type 0} (r : Result X Error) {P Q : Type 0} → (P → Q) → OnOk r P → OnOk r Q
 on_ok (Ok x) f p = f p
@@ -28,12 +27,6 @@ pub or_wanted : {A B C : Type 0} → (B → C) → A ⊎ B → A ⊎ C
 or_wanted f (inl own) = inl own
 or_wanted f (inr wanted) = inr (f wanted)
 
--- where bytes are wanted, the refusal is the writer's own
-pub handed_on : {A : Type 0} {e : Error} {xs ys : List ℕ} → A ⊎ ((let r : Result (List ℕ) Error = Ok xs in r) ≡ Err e)
-    → A ⊎ ((let r : Result (List ℕ) Error = Ok ys in r) ≡ Err e)
-handed_on (inl own) = inl own
-handed_on (inr is) = absurd cc
-
 -- ---- two parts
 
 pub appends_joined : (a b : Result (List ℕ) Error) (old new newer : List ℕ) → Appends a old new → Appends b new newer → Appends (result_append a b) old newer
@@ -47,14 +40,6 @@ first_refused a b e is = ap (λ (r : Result (List ℕ) Error). result_append r b
 pub second_refused : (a b : Result (List ℕ) Error) (old new : List ℕ) (e : Error) → Appends a old new → b ≡ Err e → result_append a b ≡ Err e
 second_refused (Ok xs) b old new e first is = ap (λ (r : Result (List ℕ) Error). result_append (Ok xs) r) is
 second_refused (Err d) b old new e first is = absurd first
-
-pub refuses_first : (a b : Result (List ℕ) Error) (e : Error) → RefusesFor a e → RefusesFor (result_append a b) e
-refuses_first a b e (inl memory) = inl memory
-refuses_first a b e (inr is) = inr (first_refused a b e is)
-
-pub refuses_second : (a b : Result (List ℕ) Error) (old new : List ℕ) (e : Error) → Appends a old new → RefusesFor b e → RefusesFor (result_append a b) e
-refuses_second a b old new e first (inl memory) = inl memory
-refuses_second a b old new e first (inr is) = inr (second_refused a b old new e first is)
 
 pub appended_bytes : (r : Result (List ℕ) Error) (old new : List ℕ) → Appends r old new → (bytes : List ℕ) × (r ≡ Ok bytes) × (new ≡ old ++ bytes)
 appended_bytes (Ok bytes) old new h = (bytes, refl, h)
@@ -96,11 +81,6 @@ pub part_refused : {A : Type 0} (part : A → Result (List ℕ) Error) (all left
     → SoFar part all (x ∷ left) old new → part x ≡ Err e → result_concat part all ≡ Err e
 part_refused part all left x old new e so is =
     so.parts ∙ ap (λ (r : Result (List ℕ) Error). result_append (Ok so.done) (result_append r (result_concat part left))) is
-
-pub one_refused : {A : Type 0} (part : A → Result (List ℕ) Error) (all left : List A) (x : A) (old new : List ℕ) (e : Error) → SoFar part all (x ∷ left) old new
-    → RefusesFor (part x) e → RefusesFor (result_concat part all) e
-one_refused part all left x old new e so (inl memory) = inl memory
-one_refused part all left x old new e so (inr is) = inr (part_refused part all left x old new e so is)
 
 pub all_done : {A : Type 0} (part : A → Result (List ℕ) Error) (all : List A) (old new : List ℕ) → SoFar part all [] old new
     → Appends (result_concat part all) old new

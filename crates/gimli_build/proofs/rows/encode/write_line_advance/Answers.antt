@@ -9,7 +9,7 @@ use Rattle.gimli_line.specs.declared.run.instruction.LineInstruction.TheVariants
 use Rattle.gimli_build.specs.Advance.{CanEncode}
 use Rattle.gimli_build.specs.Encode.{is_special_advance, line_part}
 use Rattle.gimli_build.specs.InstructionBytes.{instruction_bytes, instructions_bytes}
-use Rattle.gimli_build.proofs.writing.OneCall.{none_called, answered, refused_alike}
+use Rattle.gimli_build.proofs.writing.Writes.{none_called, answered, refused_alike}
 use Rattle.gimli_build.proofs.rows.encode.write_line_advance.Goals as goal
 
 same_word : (d : ℤ) → FitsSigned w64 d → to_z w64 (of_z w64 d) ≡ d

@@ -3,7 +3,7 @@ use Rattle.std.proofs.lemmas.List.{append-nil}
 use Rattle.std.proofs.lemmas.Result.{err_from_is_err_and}
 use Rattle.gimli_build.specs.Encode.{row_maker, constant_advance, operation_part}
 use Rattle.gimli_build.specs.InstructionBytes.{instruction_bytes, instructions_bytes}
-use Rattle.gimli_build.proofs.writing.OneCall.{refused_alike}
+use Rattle.gimli_build.proofs.writing.Writes.{refused_alike}
 use Rattle.gimli_build.proofs.writing.Joins.{past, found, by_advance, by_constant}
 use Rattle.gimli_build.proofs.writing.Writes.{joins, unwritten}
 use Rattle.gimli_build.proofs.rows.encode.write_operation_advance.Goals as goal

@@ -6,4 +6,4 @@ use Rattle.gimli_build.proofs.rows.instruction.write_long_unsigned.Goals as goal
 pub returns : goal.returns
 returns g c =
     let put = c.write_uleb128.ensures.appends in
-    joins c.in_ok-write_byte.ensures (writes (Ok (uleb c.args.operand)) put)
+    joins c.in_ok-write_byte.ensures (writes (λ hand. Ok (uleb c.args.operand)) put)

@@ -2,7 +2,7 @@ use Rattle.std.proofs.Common.{◌≡◌, length, map, ap, sym, ◌∙◌}
 use Rattle.std.proofs.lemmas.List.{length-map}
 use Rattle.gimli_build.specs.LineText.{line_text}
 use Rattle.gimli_build.specs.Version5Tables.{first_form}
-use Rattle.gimli_build.proofs.writing.Writes.{by_writes, joins_by}
+use Rattle.gimli_build.proofs.writing.Writes.{joins}
 use Rattle.gimli_build.proofs.tables.version_5.write_directory_table.Goals as goal
 
 pub returns : goal.returns
@@ -14,4 +14,4 @@ returns g c =
     ∙ ap length same in
     let first = rw (form, count) at c.in_ok-write_directory_formats.ensures in
     let second = rw (first.ordered, form, c.format.ensures, same) at c.write_texts.ensures in
-    joins_by (by_writes first) second
+    joins first second

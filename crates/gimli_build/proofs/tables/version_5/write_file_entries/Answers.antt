@@ -9,7 +9,7 @@ use Rattle.gimli_build.specs.LineText.{line_text}
 use Rattle.gimli_build.specs.Tables.{File}
 use Rattle.gimli_build.specs.inside.Tables.{FitsFile}
 use Rattle.gimli_build.specs.TableFields.{details}
-use Rattle.gimli_build.specs.Version5Tables.{file_entry_bytes_by}
+use Rattle.gimli_build.specs.Version5Tables.{file_entry_bytes}
 use Rattle.gimli_build.proofs.writing.Joined.{next_at, taken_at}
 use Rattle.gimli_build.proofs.writing.Writes.{none_written, one_written, one_unwritten, all_written}
 use Rattle.gimli_build.proofs.building.EmptySource.{needs-empty}
@@ -27,7 +27,7 @@ pub loop-index-init : goal.loop-index-init
 loop-index-init g c =
     let p = c.args.program.now in
     let part =
-    λ (hand : Hand). file_entry_bytes_by hand (g.W.Sink.big c.args.w.now) p.encoding.format (texts_in c.args.strings.now c.args.line_strings.now) p in
+    λ (hand : Hand). file_entry_bytes hand (g.W.Sink.big c.args.w.now) p.encoding.format (texts_in c.args.strings.now c.args.line_strings.now) p in
     record { so = none_written g.W.Sink part p.files c.args.w.now; fit = All-nil FitsFile }
 
 pub returns-in_err-write_file_entry-clause-writes : goal.returns-in_err-write_file_entry-clause-writes

@@ -4,7 +4,7 @@ use Rattle.gimli_build.specs.Tables.{File}
 use Rattle.gimli_build.specs.Version5Tables.{first_form, path_texts, file_formats}
 use Rattle.gimli_build.proofs.writing.Writes.{joins, same_bytes, unwritten}
 use Rattle.std.proofs.lemmas.Result.{err_from_is_err_and}
-use Rattle.gimli_build.proofs.writing.OneCall.{refused_alike}
+use Rattle.gimli_build.proofs.writing.Writes.{refused_alike}
 use Rattle.gimli_build.proofs.tables.version_5.write_key_formats.Goals as goal
 
 pub returns : goal.returns

@@ -4,7 +4,7 @@ use Rattle.std.proofs.lemmas.Result.{err_from_is_err_and}
 use Rattle.gimli_bytes.specs.Hand.{Hand}
 use Rattle.gimli_bytes.specs.Texts.{texts_in}
 use Rattle.gimli_build.specs.LineText.{line_text, IsWithin}
-use Rattle.gimli_build.specs.Version5Tables.{text_in_form_by}
+use Rattle.gimli_build.specs.Version5Tables.{text_in_form}
 use Rattle.gimli_build.proofs.writing.Joined.{next_seen, all_seen}
 use Rattle.gimli_build.proofs.writing.Writes.{none_written, one_written, one_unwritten, all_written}
 use Rattle.gimli_build.proofs.tables.version_5.write_texts.Goals as goal
@@ -19,7 +19,7 @@ write_line_string-requires g c =
 pub loop-text-init : goal.loop-text-init
 loop-text-init g c =
     let part =
-    λ (hand : Hand). text_in_form_by hand (g.W.Sink.big c.args.w.now) c.args.format (texts_in c.args.strings.now c.args.line_strings.now) c.args.form.0 in
+    λ (hand : Hand). text_in_form hand (g.W.Sink.big c.args.w.now) c.args.format (texts_in c.args.strings.now c.args.line_strings.now) c.args.form.0 in
     record { so = none_written g.W.Sink part (map line_text c.args.texts.now) c.args.w.now }
 
 pub returns-in_err-write_line_string : goal.returns-in_err-write_line_string

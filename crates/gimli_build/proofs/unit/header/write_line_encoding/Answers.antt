@@ -11,5 +11,5 @@ returns g c =
     let flag : c.from.result ≡ flag_byte e.default_is_stmt = search rules in
     let base : c.cast_unsigned.result ≡ base_byte e.line_base = search rules in
     let last = c.write.ensures in
-    let third = rw (flag, base) at (writes (Ok bytes) last) in
+    let third = rw (flag, base) at (writes (λ hand. Ok bytes) last) in
     joins c.in_ok-write_byte.ensures (joins c.in_ok-write_operation_count.ensures third)

@@ -1,12 +1,13 @@
 use Rattle.std.proofs.Common.{rules, ◌≡◌, ◌⊎◌, ◌<◌, ◌^◌, false, length, Ok, Err, inr, ap, sym, ◌∙◌, arith, length-append}
 use Rattle.std.proofs.lemmas.Result.{err_from_is_err_and}
+use Rattle.gimli_bytes.specs.Hand.{plain}
 use Rattle.gimli_bytes.specs.Written.{Appends}
 use Rattle.gimli_bytes.specs.Texts.{AreTexts, byte_count, texts_in}
 use Rattle.gimli_build.specs.inside.Joined.{RefusesFor}
 use Rattle.gimli_build.specs.Version5Tables.{texts_after}
 use Rattle.gimli_bytes.specs.Relocations.{placed}
 use Rattle.gimli_build.specs.Linked.{placed_program, SumsFit}
-use Rattle.gimli_build.specs.Unit.{whole_bytes, whole_bytes_by, unit_bytes, unit_bytes_by, is_incompatible}
+use Rattle.gimli_build.specs.Unit.{whole_bytes, unit_bytes, is_incompatible}
 use Rattle.gimli_build.proofs.writing.Joined.{appended_bytes, or_wanted}
 use Rattle.gimli_build.proofs.building.EmptySource.{can-write-after}
 use Rattle.gimli_build.proofs.reading.ReadBack.{reads-back}
@@ -32,9 +33,9 @@ returns-clause-reads_back g c = λ keeps_bytes.
     let held : byte_count (texts_after p texts).strings < 2 ^ 64 = rw same at c.in_ok-empty.ensures.short in
     let line_held : byte_count (texts_after p texts).line_strings < 2 ^ 64 = rw line_same at c.in_ok-empty.ensures.line_short in
     let written = rw (same, line_same) at (c.in_ok-write_whole.ensures.writes.ok keeps_bytes) in
-    let a = appended_bytes (whole_bytes big p (texts_after p texts)) (contents c.args.w.now.0) (contents c.write_whole.new.w) written in
+    let a = appended_bytes (whole_bytes plain big p (texts_after p texts)) (contents c.args.w.now.0) (contents c.write_whole.new.w) written in
     let compatible : is_incompatible c.args.encoding p.encoding ≡ false = search rules in
-    let is : unit_bytes big c.args.encoding p texts ≡ Ok a.0 = rw compatible a.1 in
+    let is : unit_bytes plain big c.args.encoding p texts ≡ Ok a.0 = rw compatible a.1 in
     let long = ap length a.2 ∙ length-append (contents c.args.w.now.0) a.0 in
     let short : length a.0 < 2 ^ 64 = omega (arith, long, c.in_ok-write_whole.ensures.short) in
     rw (same, line_same) (
@@ -60,10 +61,10 @@ returns-clause-linked g c = λ at completes is_placed fit zero.
     let line_held : byte_count (texts_after p texts).line_strings < 2 ^ 64 = rw line_same at c.in_ok-empty.ensures.line_short in
     let sums : SumsFit at p (texts_after p texts) = rw (same, line_same) at fit in
     let written = rw (same, line_same, is_placed) at (c.in_ok-write_whole.ensures.writes.completed at completes) in
-    let a = appended_bytes (whole_bytes_by (placed at) big p (texts_after p texts)) old new written in
+    let a = appended_bytes (whole_bytes (placed at) big p (texts_after p texts)) old new written in
     let compatible : is_incompatible c.args.encoding p.encoding ≡ false = search rules in
-    let by_hand : unit_bytes_by (placed at) big c.args.encoding p texts ≡ Ok a.0 = rw compatible a.1 in
-    let is : unit_bytes big c.args.encoding (placed_program at p) texts ≡ Ok a.0 =
+    let by_hand : unit_bytes (placed at) big c.args.encoding p texts ≡ Ok a.0 = rw compatible a.1 in
+    let is : unit_bytes plain big c.args.encoding (placed_program at p) texts ≡ Ok a.0 =
     sym (placed-plain at big c.args.encoding p texts sums zero) ∙ by_hand in
     let long = ap length a.2 ∙ length-append old a.0 in
     let short : length a.0 < 2 ^ 64 = omega (arith, long, c.in_ok-write_whole.ensures.completed_short at completes) in
@@ -83,7 +84,7 @@ returns-clause-no_cause g c = λ keeps_bytes.
     let unit = c.args.encoding in
     let compatible : is_incompatible unit p.encoding ≡ false = search rules in
     let written = rw (c.in_ok-empty.ensures.tables.strings, c.in_ok-empty.ensures.tables.line_strings) at (c.in_ok-write_whole.ensures.writes.ok keeps_bytes) in
-    let appended : Appends (unit_bytes big unit p (texts_in c.args.strings.now c.args.line_strings.now)) (contents c.args.w.now.0)
+    let appended : Appends (unit_bytes plain big unit p (texts_in c.args.strings.now c.args.line_strings.now)) (contents c.args.w.now.0)
     (contents c.write_whole.new.w) =
     rw compatible written in
     no-cause big unit p (texts_in c.args.strings.now c.args.line_strings.now) (c.encoding.ensures.accepted c.requires.program).address_size
@@ -99,7 +100,7 @@ returns-in_err-write_whole-clause-err g c = λ keeps_bytes fails_for_memory_alon
     let for_it =
     rw (c.in_ok-empty.ensures.tables.strings, c.in_ok-empty.ensures.tables.line_strings) at
     (c.in_err-write_whole.ensures.writes.err keeps_bytes fails_for_memory_alone) in
-    let refused : RefusesFor (unit_bytes big unit p (texts_in c.args.strings.now c.args.line_strings.now)) c.in_err-write_whole.field-0.0 =
+    let refused : RefusesFor (unit_bytes plain big unit p (texts_in c.args.strings.now c.args.line_strings.now)) c.in_err-write_whole.field-0.0 =
     rw compatible for_it in
     rw (q.1, q.2) (refused-for big unit p (texts_in c.args.strings.now c.args.line_strings.now) (c.encoding.ensures.accepted c.requires.program).address_size
     c.in_err-write_whole.field-0.0 refused)
@@ -114,7 +115,7 @@ returns-in_err-write_whole-clause-own g c = λ keeps_bytes.
     let for_it =
     rw (c.in_ok-empty.ensures.tables.strings, c.in_ok-empty.ensures.tables.line_strings) at (c.in_err-write_whole.ensures.writes.own keeps_bytes) in
     let refused : g.W.Sink.refuses c.in_err-write_whole.field-0.0
-    ⊎ (unit_bytes big unit p (texts_in c.args.strings.now c.args.line_strings.now) ≡ Err c.in_err-write_whole.field-0.0) = rw compatible for_it in
+    ⊎ (unit_bytes plain big unit p (texts_in c.args.strings.now c.args.line_strings.now) ≡ Err c.in_err-write_whole.field-0.0) = rw compatible for_it in
     rw (q.1, q.2) (or_wanted
     (λ is. refused-for big unit p (texts_in c.args.strings.now c.args.line_strings.now) (c.encoding.ensures.accepted c.requires.program).address_size
     c.in_err-write_whole.field-0.0 (inr is))
@@ -139,6 +140,6 @@ returns-in_err-write_whole-clause-completed_own g c = λ at completes.
     let for_it =
     rw (c.in_ok-empty.ensures.tables.strings, c.in_ok-empty.ensures.tables.line_strings) at
     (c.in_err-write_whole.ensures.writes.completed_own at completes) in
-    let refused : g.W.Sink.refuses c.in_err-write_whole.field-0.0 ⊎ (unit_bytes_by hand big unit p texts ≡ Err c.in_err-write_whole.field-0.0) =
+    let refused : g.W.Sink.refuses c.in_err-write_whole.field-0.0 ⊎ (unit_bytes hand big unit p texts ≡ Err c.in_err-write_whole.field-0.0) =
     rw compatible for_it in
     rw (q.1, q.2) (or_wanted inr refused)
