@@ -158,6 +158,7 @@ first_cause big unit p handed =
     ∷ unit_length_cause p.encoding.format (unit_length big p texts)
     ∷ [])
 
--- such a write is refused by this error: memory is missing, or it is the first cause
-abbrev pub IsWriteRefusal : Bool → Encoding → Built → StringTables → Error → Type 0
-IsWriteRefusal big unit p texts e = (e ≡ OutOfMemory) ⊎ (first_cause big unit p texts ≡ Some e)
+-- what bytes are refused for
+abbrev pub refusal : Result (List ℕ) Error → Option Error
+refusal (Ok bytes) = None
+refusal (Err e) = Some e

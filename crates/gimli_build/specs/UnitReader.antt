@@ -38,7 +38,8 @@ AreSpelled u instructions bytes = Each (Spells u) bytes instructions
 -- the bytes of a set address, or their refusal
 abbrev pub bytes_of_address : UnitReader → ℕ → Result (List ℕ) Error
 bytes_of_address u address =
-    set_address_bytes plain u.notation.big (Constant address) u.header.parameters.encoding.address_size
+    set_address_bytes plain u.notation.big (Constant address)
+    u.header.parameters.encoding.address_size
 
 -- the bytes of items, or the first refusal
 abbrev pub bytes_of_items : UnitReader → Run → List BuiltItem → Result (List ℕ) Error

@@ -2,7 +2,7 @@
 
 ghost use Rattle.std.specs.Prelude.{[], ◌∷◌, ◌++◌, Ok};
 ghost use Rattle.gimli_core.specs.Numbers.{word_size};
-ghost use Rattle.gimli_build.specs.inside.Writes.{Writes};
+ghost use Rattle.gimli_build.specs.inside.Writes.{Writes, always};
 
 use gimli_bytes::{Result, Writer};
 use gimli_core::{Format, SectionId};
@@ -10,14 +10,14 @@ use gimli_core::{Format, SectionId};
 /// Appends a byte, which is the same in either order.
 #[inline(always)]
 pub(crate) fn write_byte<W: Writer>(w: &mut W, byte: u8) -> Result<()>
-    ensures { Writes W.Sink w.old w.new result (λ hand. Ok (byte ∷ [])) }
+    ensures { Writes W.Sink w.old w.new result (always (Ok (byte ∷ []))) }
 {
     w.write(&[byte])
 }
 
 /// Appends a text and a zero byte.
 pub(crate) fn write_text<W: Writer>(w: &mut W, text: &[u8]) -> Result<()>
-    ensures { Writes W.Sink w.old w.new result (λ hand. Ok (text.now ++ 0 ∷ [])) }
+    ensures { Writes W.Sink w.old w.new result (always (Ok (text.now ++ 0 ∷ []))) }
 {
     w.write(text)?;
     write_byte(w, 0)

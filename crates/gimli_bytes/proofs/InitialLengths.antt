@@ -45,7 +45,8 @@ opened_32 format short word = rw short (record {
 })
 
 pub opened_64 : {W X Y Z : Type 0} {sink : Ghosts W} {old mid new : W} {x : X} {y : Y} {z : Z} (format : Format) → format ≡ Dwarf64
-    → IsAppend sink old mid (Ok x) (λ hand. Ok (number_bytes (sink.big old) 4 0xffff_ffff)) → IsAppend sink mid new (Ok y) (λ hand. Ok (number_bytes (sink.big mid) 8 0))
+    → IsAppend sink old mid (Ok x) (λ hand. Ok (number_bytes (sink.big old) 4 0xffff_ffff))
+    → IsAppend sink mid new (Ok y) (λ hand. Ok (number_bytes (sink.big mid) 8 0))
     → IsAppendInParts sink old new (Ok z) (open_length (sink.big old) format)
 opened_64 {sink = sink} {old = old} {mid = mid} {new = new} format long escape word = rw long (record {
   keeps = begins_then (sink.contents old) (sink.contents mid) (sink.contents new) escape.keeps word.keeps;

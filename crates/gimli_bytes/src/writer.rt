@@ -59,7 +59,8 @@ pub trait Writer: Sink {
     /// 0x80 of the encoding, by which the pointer is the place of the address, isn't looked at.
     fn write_eh_pointer(&mut self, address: Address, eh_pe: DwEhPe, size: u8) -> Result<()>
         ensures { IsAppend Self.Sink self.old self.new result
-            (λ hand. pointer_at_end (Self.big self.old) (Self.contents self.old) address eh_pe size) }
+            (λ hand. pointer_at_end (Self.big self.old) (Self.contents self.old) address eh_pe
+            size) }
     {
         match address {
             Address::Constant(val) => match eh_pe.application() {
@@ -202,7 +203,8 @@ pub trait Writer: Sink {
     /// Appends an unsigned number of `size` bytes. Refused by `UnsupportedWordSize` where the
     /// size isn't 1, 2, 3, 4 or 8, and by `ValueTooLarge` where the number doesn't fit it.
     fn write_udata(&mut self, val: u64, size: u8) -> Result<()>
-        ensures { IsAppend Self.Sink self.old self.new result (λ hand. udata (Self.big self.old) val size) }
+        ensures { IsAppend Self.Sink self.old self.new result (λ hand.
+            udata (Self.big self.old) val size) }
     {
         match size {
             1 => {
@@ -238,7 +240,8 @@ pub trait Writer: Sink {
     /// `UnsupportedWordSize` where the size isn't 1, 2, 4 or 8, and by `ValueTooLarge` where the
     /// number doesn't fit it.
     fn write_sdata(&mut self, val: i64, size: u8) -> Result<()>
-        ensures { IsAppend Self.Sink self.old self.new result (λ hand. sdata (Self.big self.old) val size) }
+        ensures { IsAppend Self.Sink self.old self.new result (λ hand.
+            sdata (Self.big self.old) val size) }
     {
         match size {
             1 => self.write_u8(bits_of_i8(val)?),

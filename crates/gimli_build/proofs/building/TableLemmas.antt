@@ -16,6 +16,7 @@ use Rattle.std.specs.Map.{lookup}
 use Rattle.std.proofs.lemmas.Slice.Eq.{bytes_eq-Decides}
 use Rattle.indexmap.specs.IndexSet.{insert_key}
 use Rattle.indexmap.specs.IndexMap.{insert_entry, set_value_at}
+use Rattle.gimli_bytes.proofs.TextLemmas.{any-map}
 use Rattle.gimli_build.specs.declared.built.line_string.LineString.{LineString}
 use Rattle.gimli_build.specs.declared.built.line_string.LineString.TheVariants.{String, StringRef, LineStringRef}
 use Rattle.gimli_build.specs.declared.built.files.FileInfo.{FileInfo}
@@ -56,18 +57,6 @@ and_true true b h = (refl, h)
 and_true false b h = absurd (true≢false (sym h))
 
 -- ---- a search in a list
-
-pub any-map : {A B : Type 0} (p : B → Bool) (h : A → B) (ks : List A) → list_any p (map h ks) ≡ list_any (λ k. p (h k)) ks
-any-map p h [] = refl
-any-map p h (k ∷ ks) = ap (λ b. p (h k) || b) (any-map p h ks)
-
--- what an index that a search gave is
-pub index_found : {A : Type 0} (p : A → Bool) (ks : List A) (i : ℕ) → Some i ≡ position p ks → i ≡ position_or_len p ks
-index_found p ks i e = by (nat_lt (position_or_len p ks) (length ks)) e
-  where
-    by : (b : Bool) → Some i ≡ cond b (Some (position_or_len p ks)) None → i ≡ position_or_len p ks
-    by true h = cc
-    by false h = cc
 
 -- ---- directories
 

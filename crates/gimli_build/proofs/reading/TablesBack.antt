@@ -170,11 +170,13 @@ module _ (notation : Notation) (unit_entry : UnitEntry) (sections : Sections) (p
     new_back = rw new (new-directories-back sections p texts strings_are line_strings_are are_texts are_line_texts p.directories ready.directories)
 
     new_tables : (bytes : List ℕ) → length bytes < 2 ^ 64
-        → result_append (directory_table_bytes plain notation.big p.encoding.format texts p) (file_table_bytes plain notation.big p.encoding.format texts p) ≡ Ok bytes
+        → result_append (directory_table_bytes plain notation.big p.encoding.format texts p) (file_table_bytes plain notation.big p.encoding.format texts p)
+        ≡ Ok bytes
         → TablesBack notation unit_entry sections p texts bytes
     new_tables bytes small is =
         let b =
-        both_written (directory_table_bytes plain notation.big p.encoding.format texts p) (file_table_bytes plain notation.big p.encoding.format texts p) bytes is in
+        both_written (directory_table_bytes plain notation.big p.encoding.format texts p) (file_table_bytes plain notation.big p.encoding.format texts p) bytes
+        is in
         let whole = ap length b.whole ∙ length-append b.first b.rest in
         record {
           directory_formats = map read_format (directory_formats p);
@@ -210,11 +212,13 @@ module _ (notation : Notation) (unit_entry : UnitEntry) (sections : Sections) (p
       → TablesBack notation unit_entry sections p texts bytes
   tables-back bytes well small is =
       by (nat_le p.encoding.version 4) refl (result_append (directories_bytes p.directories) (files_bytes p.files))
-      (result_append (directory_table_bytes plain notation.big p.encoding.format texts p) (file_table_bytes plain notation.big p.encoding.format texts p)) refl refl is
+      (result_append (directory_table_bytes plain notation.big p.encoding.format texts p) (file_table_bytes plain notation.big p.encoding.format texts p)) refl
+      refl is
     where
       by : (b : Bool) → nat_le p.encoding.version 4 ≡ b → (r s : Result (List ℕ) Error)
           → r ≡ result_append (directories_bytes p.directories) (files_bytes p.files)
-          → s ≡ result_append (directory_table_bytes plain notation.big p.encoding.format texts p) (file_table_bytes plain notation.big p.encoding.format texts p)
+          → s
+          ≡ result_append (directory_table_bytes plain notation.big p.encoding.format texts p) (file_table_bytes plain notation.big p.encoding.format texts p)
           → (if b then r else s) ≡ Ok bytes → TablesBack notation unit_entry sections p texts bytes
       by true old r s first second is = old_tables old bytes (well.directory old) (sym first ∙ is)
       by false new r s first second is =

@@ -25,8 +25,8 @@ use Rattle.gimli_build.specs.Version5Tables.{texts_after}
 use Rattle.gimli_build.specs.Unit.{version_bytes, opening_bytes, operations_bytes, line_encoding_bytes, flag_byte, base_byte, opcode_bytes, tables_bytes}
 use Rattle.gimli_build.specs.Unit.{fields_bytes, header_bytes, program_bytes, inside_bytes, escape_bytes, whole_bytes, is_incompatible, unit_bytes}
 use Rattle.gimli_build.specs.Cause.{cause_if, first_of, text_cause, item_cause, word_cause, unit_length_cause, header_length, unit_length, emitted_texts}
-use Rattle.gimli_build.specs.Cause.{first_cause}
-use Rattle.gimli_build.proofs.refusals.Refusals.{refusal, or_first, first_before_none, first_apart, joined-refusal, after-refusal, tested-refusal}
+use Rattle.gimli_build.specs.Cause.{first_cause, refusal}
+use Rattle.gimli_build.proofs.refusals.Refusals.{or_first, first_before_none, first_apart, joined-refusal, after-refusal, tested-refusal}
 use Rattle.gimli_build.proofs.refusals.Refusals.{barred-refusal, seven_causes}
 use Rattle.gimli_build.proofs.refusals.NumberRefusals.{not_below, word-refusal, length-refusal, address-refusal}
 use Rattle.gimli_build.proofs.refusals.TableRefusals.{tables-refusal}
@@ -188,13 +188,11 @@ cause-is big unit p texts known =
 -- ---- what a call knows
 
 -- what was written has no cause
-pub no-cause : (big : Bool) (unit : Encoding) (p : Built) (texts : StringTables) → IsTrue (is_address_size p.encoding.address_size)
-    → (old new : List ℕ) → Appends (unit_bytes plain big unit p texts) old new → first_cause big unit p texts ≡ None
-no-cause big unit p texts known old new written =
-    let own = appended_bytes (unit_bytes plain big unit p texts) old new written in
-    cause-is big unit p texts known ∙ ap refusal own.1
+pub no-cause : (cause : Option Error) (wanted : Result (List ℕ) Error) (old new : List ℕ) → cause ≡ refusal wanted → Appends wanted old new → cause ≡ None
+no-cause cause wanted old new is written = is ∙ ap refusal (appended_bytes wanted old new written).1
 
--- what was refused was so for the first cause
-pub refused-for : (big : Bool) (unit : Encoding) (p : Built) (texts : StringTables) → IsTrue (is_address_size p.encoding.address_size)
-    → (e : Error) → unit_bytes plain big unit p texts ≡ Err e → first_cause big unit p texts ≡ Some e
-refused-for big unit p texts known e is = cause-is big unit p texts known ∙ ap refusal is
+-- what was refused was so for the first cause, or for another reason
+pub refused-for : {A : Type 0} (cause : Option Error) (wanted : Result (List ℕ) Error) (e : Error) → cause ≡ refusal wanted → A ⊎ (wanted ≡ Err e)
+    → A ⊎ (cause ≡ Some e)
+refused-for cause wanted e is (inl own) = inl own
+refused-for cause wanted e is (inr wanted_is) = inr (is ∙ ap refusal wanted_is)

@@ -9,8 +9,8 @@ use Rattle.gimli_core.specs.declared.common.Format.TheVariants.{Dwarf32, Dwarf64
 use Rattle.gimli_bytes.specs.Number.{udata, length_word}
 use Rattle.gimli_bytes.specs.declared.error.Error.TheVariants.{ValueTooLarge, UnsupportedWordSize, InitialLengthOverflow}
 use Rattle.gimli_build.specs.FormatWord.{format_word}
-use Rattle.gimli_build.specs.Cause.{cause_if, first_of, word_cause, unit_length_cause}
-use Rattle.gimli_build.proofs.refusals.Refusals.{refusal, tested-refusal}
+use Rattle.gimli_build.specs.Cause.{cause_if, first_of, word_cause, unit_length_cause, refusal}
+use Rattle.gimli_build.proofs.refusals.Refusals.{tested-refusal}
 
 pub not_below : (m n : ℕ) → not (nat_lt m n) ≡ nat_le n m
 not_below m n = by (nat_lt m n) (nat_le n m) refl refl

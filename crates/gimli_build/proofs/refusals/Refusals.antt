@@ -3,12 +3,7 @@ use Rattle.std.proofs.Common.{◌≡◌, ℕ, Bool, true, false, not, List, [], 
 use Rattle.std.specs.Prelude.{Option, Some, None, Result, flat_map}
 use Rattle.gimli_bytes.specs.declared.error.Error.{Error}
 use Rattle.gimli_build.specs.Joined.{result_append, result_concat, after_length}
-use Rattle.gimli_build.specs.Cause.{cause_if, first_of}
-
--- what bytes are refused for
-abbrev pub refusal : Result (List ℕ) Error → Option Error
-refusal (Ok bytes) = None
-refusal (Err e) = Some e
+use Rattle.gimli_build.specs.Cause.{cause_if, first_of, refusal}
 
 -- ---- causes
 

@@ -16,8 +16,8 @@ use Rattle.gimli_build.specs.Version4Tables.{name_bytes, directories_bytes, file
 use Rattle.gimli_build.specs.Version5Tables.{text_form, first_form, path_texts, sources, empty_text, directory_formats, file_formats, formats_bytes}
 use Rattle.gimli_build.specs.Version5Tables.{detail_bytes, text_bytes, text_in_form, directory_table_bytes, source_bytes, file_entry_bytes, file_table_bytes}
 use Rattle.gimli_build.specs.Unit.{tables_bytes}
-use Rattle.gimli_build.specs.Cause.{cause_if, first_of, offset_cause, text_cause, file_texts, emitted_texts}
-use Rattle.gimli_build.proofs.refusals.Refusals.{refusal, or_first, first_before_none, first_apart, first_alone, causes_append, causes_map, causes_flat}
+use Rattle.gimli_build.specs.Cause.{cause_if, first_of, offset_cause, text_cause, file_texts, emitted_texts, refusal}
+use Rattle.gimli_build.proofs.refusals.Refusals.{or_first, first_before_none, first_apart, first_alone, causes_append, causes_map, causes_flat}
 use Rattle.gimli_build.proofs.refusals.Refusals.{joined-refusal, parts-refusal}
 use Rattle.gimli_build.proofs.refusals.NumberRefusals.{word-refusal}
 

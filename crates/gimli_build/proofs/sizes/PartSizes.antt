@@ -1,7 +1,6 @@
 -- How many bytes the parts of what is written are, where they are written.
 use Rattle.std.proofs.Common.{◌≡◌, ℕ, zero, suc, ◌+◌, Bool, true, false, List, [], ◌∷◌, ◌++◌, length, Ok, Err, refl, sym, ap, ◌∙◌, if◌then◌else◌}
 use Rattle.std.specs.Prelude.{Result, sum_by, nat_lt, ◌^◌}
-use Rattle.std.specs.Int.{bytes_low_first, bytes_high_first}
 use Rattle.std.proofs.lemmas.List.{length-append}
 use Rattle.std.proofs.lemmas.List.Sums.{sum_by-cons}
 use Rattle.gimli_core.specs.Numbers.{number_bytes, word_size}
@@ -9,6 +8,7 @@ use Rattle.gimli_core.specs.declared.common.Format.{Format}
 use Rattle.gimli_core.specs.declared.common.Format.TheVariants.{Dwarf32, Dwarf64}
 use Rattle.gimli_bytes.specs.declared.error.Error.{Error}
 use Rattle.gimli_bytes.specs.declared.error.Error.TheVariants.{ValueTooLarge}
+use Rattle.gimli_bytes.proofs.RelocationLemmas.{length-number}
 use Rattle.gimli_build.specs.FormatWord.{format_word}
 use Rattle.gimli_build.specs.Joined.{result_append, result_concat, after_length}
 
@@ -58,21 +58,10 @@ size_after length_of (Err e) m n before counted = size_of_none e (m + n)
 
 -- ---- numbers
 
-low_size : (size i n : ℕ) → length (bytes_low_first i size n) ≡ size
-low_size zero i n = refl
-low_size (suc size) i n = ap suc (low_size size (suc i) n)
-
-high_size : (size n : ℕ) → length (bytes_high_first size n) ≡ size
-high_size zero n = refl
-high_size (suc size) n = ap suc (high_size size n)
-
-pub number_size : (big : Bool) (size n : ℕ) → length (number_bytes big size n) ≡ size
-number_size true size n = high_size size n
-number_size false size n = low_size size 0 n
-
 -- a word of a format
 pub format_word_size : (big : Bool) (format : Format) (n : ℕ) → HasSize (format_word big format n) (word_size format)
 format_word_size big Dwarf32 n =
-    size_as (format_word big Dwarf32 n) (length (number_bytes big 4 n)) 4 (number_size big 4 n)
+    size_as (format_word big Dwarf32 n) (length (number_bytes big 4 n)) 4 (length-number big 4 n)
     (size_tested (nat_lt n (2 ^ 32)) (number_bytes big 4 n) ValueTooLarge)
-format_word_size big Dwarf64 n = size_as (format_word big Dwarf64 n) (length (number_bytes big 8 n)) 8 (number_size big 8 n) (size_of_ok (number_bytes big 8 n))
+format_word_size big Dwarf64 n =
+    size_as (format_word big Dwarf64 n) (length (number_bytes big 8 n)) 8 (length-number big 8 n) (size_of_ok (number_bytes big 8 n))

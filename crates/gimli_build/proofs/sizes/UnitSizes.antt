@@ -8,20 +8,21 @@ use Rattle.gimli_bytes.specs.Hand.{plain}
 use Rattle.gimli_bytes.specs.declared.error.Error.{Error}
 use Rattle.gimli_bytes.specs.declared.error.Error.TheVariants.{UnsupportedVersion, NeedVersion}
 use Rattle.gimli_bytes.specs.Texts.{StringTables}
+use Rattle.gimli_bytes.proofs.RelocationLemmas.{length-number}
 use Rattle.gimli_build.specs.Built.{Built}
 use Rattle.gimli_build.specs.FormatWord.{format_word}
 use Rattle.gimli_build.specs.Joined.{result_append}
 use Rattle.gimli_build.specs.Unit.{version_bytes, opening_bytes, operations_bytes, line_encoding_bytes, flag_byte, base_byte, opcode_bytes, tables_bytes}
 use Rattle.gimli_build.specs.Unit.{fields_bytes, header_bytes, program_bytes, inside_bytes}
 use Rattle.gimli_build.specs.Cause.{tables_size, header_length, size_of, unit_length}
-use Rattle.gimli_build.proofs.sizes.PartSizes.{HasSize, size_of_ok, size_of_none, size_as, size_tested, size_joined, size_after, number_size, format_word_size}
+use Rattle.gimli_build.proofs.sizes.PartSizes.{HasSize, size_of_ok, size_of_none, size_as, size_tested, size_joined, size_after, format_word_size}
 use Rattle.gimli_build.proofs.sizes.TableSizes.{tables-size}
 
 -- ---- the version and what stands with it
 
 version_size : (big : Bool) (version : ℕ) → HasSize (version_bytes big version) 2
 version_size big version =
-    size_as (version_bytes big version) (length (number_bytes big 2 version)) 2 (number_size big 2 version)
+    size_as (version_bytes big version) (length (number_bytes big 2 version)) 2 (length-number big 2 version)
     (size_tested (nat_le 2 version && nat_le version 5) (number_bytes big 2 version) (UnsupportedVersion version))
 
 opened_size : (old : Bool) (version : Result (List ℕ) Error) (address_size : ℕ) → HasSize version 2

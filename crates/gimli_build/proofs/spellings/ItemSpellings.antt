@@ -62,7 +62,8 @@ module _ (notation : Notation) (h : Header) (base : h.parameters.opcode_base ≡
   items-spelled previous (Row r ∷ items) bytes line built fit is =
       let version = h.parameters.encoding.version in
       let p =
-      joined_ok (item_bytes plain notation.big h.parameters.encoding e previous (Row r)) (items_bytes plain notation.big h.parameters.encoding e r items) bytes is in
+      joined_ok (item_bytes plain notation.big h.parameters.encoding e previous (Row r)) (items_bytes plain notation.big h.parameters.encoding e r items) bytes
+      is in
       let own = each-spelled notation h base wide (row_instructions version e previous r) (all_row version e previous r can built.0.0 line fit.0) in
       each_joined p.0 p.1 bytes (row_instructions version e previous r) (items_instructions version e r items) p.4
       (rw (same_bytes (instructions_bytes (row_instructions version e previous r)) p.0 p.2) own) (items-spelled r items p.1 built.0.1 built.1 fit.1 p.3)
@@ -70,7 +71,8 @@ module _ (notation : Notation) (h : Header) (base : h.parameters.opcode_base ≡
       let version = h.parameters.encoding.version in
       let next : LineRow = initial_row version e.default_is_stmt in
       let p =
-      joined_ok (item_bytes plain notation.big h.parameters.encoding e previous (End o i)) (items_bytes plain notation.big h.parameters.encoding e next items) bytes
+      joined_ok (item_bytes plain notation.big h.parameters.encoding e previous (End o i)) (items_bytes plain notation.big h.parameters.encoding e next items)
+      bytes
       is in
       let own = each-spelled notation h base wide (end_instructions e previous o i) (all_end e previous o i built.0) in
       each_joined p.0 p.1 bytes (end_instructions e previous o i) (items_instructions version e next items) p.4

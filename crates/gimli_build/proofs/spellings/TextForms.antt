@@ -101,7 +101,8 @@ module _ (notation : Notation) (format : Format) (texts : StringTables)
       by false same is = absurd cc
 
 -- at least one byte is written of a text
-text_long : (big : Bool) (format : Format) (texts : StringTables) (t : LineText) (bytes : List ℕ) → text_bytes plain big format texts t ≡ Ok bytes → 0 < length bytes
+text_long : (big : Bool) (format : Format) (texts : StringTables) (t : LineText) (bytes : List ℕ) → text_bytes plain big format texts t ≡ Ok bytes
+    → 0 < length bytes
 text_long big format texts (Inline text) bytes is =
     let long = ap length (same_written (text ++ 0 ∷ []) bytes is) ∙ length-append text (0 ∷ []) in
     omega (arith, long)

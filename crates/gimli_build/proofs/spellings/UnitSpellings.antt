@@ -87,9 +87,11 @@ pub record FieldsWritten (big : Bool) (p : Built) (texts : StringTables) (fields
   pub tables_are : tables_bytes plain big p texts ≡ Ok tables
   whole : fields ≡ (encoding ++ 13 ∷ []) ++ (operand_counts ++ tables)
 
-pub fields_written : (big : Bool) (p : Built) (texts : StringTables) (fields : List ℕ) → fields_bytes plain big p texts ≡ Ok fields → FieldsWritten big p texts fields
+pub fields_written : (big : Bool) (p : Built) (texts : StringTables) (fields : List ℕ) → fields_bytes plain big p texts ≡ Ok fields
+    → FieldsWritten big p texts fields
 fields_written big p texts fields is =
-    let a = both_written (line_encoding_bytes p.encoding.version p.line_encoding) (result_append (Ok opcode_bytes) (tables_bytes plain big p texts)) fields is in
+    let a =
+    both_written (line_encoding_bytes p.encoding.version p.line_encoding) (result_append (Ok opcode_bytes) (tables_bytes plain big p texts)) fields is in
     let b = after_written opcode_bytes (tables_bytes plain big p texts) a.rest a.rest_is in
     record {
       encoding = a.first;

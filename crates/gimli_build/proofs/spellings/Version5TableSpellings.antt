@@ -151,7 +151,9 @@ module _ (notation : Notation) (p : Built) (texts : StringTables) (ready : AreRe
   file_long : (f : File) (bytes : List ℕ) → file_entry_bytes plain notation.big p.encoding.format texts p f ≡ Ok bytes → 0 < length bytes
   file_long f bytes is =
       let form = first_form (path_texts p.files) in
-      let a = both_written (text_written form f.0.0) (result_append (Ok (detail_bytes p f)) (source_bytes plain notation.big p.encoding.format texts p f)) bytes is in
+      let a =
+      both_written (text_written form f.0.0) (result_append (Ok (detail_bytes p f)) (source_bytes plain notation.big p.encoding.format texts p f)) bytes
+      is in
       let whole = ap length a.whole ∙ length-append a.first a.rest in
       let long = text-long notation.big p.encoding.format texts form f.0.0 a.first a.first_is in
       omega (arith, whole, long)
@@ -159,7 +161,8 @@ module _ (notation : Notation) (p : Built) (texts : StringTables) (ready : AreRe
   pub new-files-spelled : (bytes : List ℕ) → file_table_bytes plain notation.big p.encoding.format texts p ≡ Ok bytes → length bytes < 2 ^ 64
       → (table_production notation p.encoding.format).Spells bytes (map read_format (file_formats p), map (file_entry p texts) p.files)
   new-files-spelled bytes is small =
-      table_spelled notation p.encoding.format (file_formats p) IsFileReadable (file_entry_bytes plain notation.big p.encoding.format texts p) (file_entry p texts)
+      table_spelled notation p.encoding.format (file_formats p) IsFileReadable (file_entry_bytes plain notation.big p.encoding.format texts p)
+      (file_entry p texts)
       file_spelled file_long p.files bytes (file-formats p) (λ i d lt. (ready.files i d lt, λ wide. (held wide).files i d lt)) is small
 
 -- ---- what is read stands for what was built

@@ -13,9 +13,9 @@ use Rattle.gimli_bytes.specs.declared.error.Error.{Error}
 use Rattle.gimli_bytes.specs.declared.error.Error.TheVariants.{ValueTooLarge, InitialLengthOverflow}
 use Rattle.gimli_build.specs.FormatWord.{format_word}
 use Rattle.gimli_build.specs.Joined.{result_append, after_length}
-use Rattle.gimli_build.specs.inside.Writes.{Leaves}
 use Rattle.gimli_build.specs.Unit.{escape_bytes}
 use Rattle.gimli_build.proofs.writing.Joined.{on_ok, if_err, or_wanted}
+use Rattle.gimli_build.proofs.writing.Writes.{Leaves}
 
 -- other bytes in the middle, as long as those that stand there
 patched_middle : (a b other c : List ℕ) (at : ℕ) → length other ≡ length b → length a ≡ at → overwrite_of (a ++ b ++ c) at other ≡ Ok (a ++ other ++ c)

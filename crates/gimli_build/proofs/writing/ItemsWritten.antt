@@ -93,11 +93,11 @@ written_more {sink = sink} {big = big} {encoding = encoding} {e = e} {whole = wh
   keeps = begins_then _ _ _ so.keeps more.keeps;
   ordered = more.ordered ∙ so.ordered;
   stays = λ completes. more.stays (so.stays completes);
-  held = λ keeps_bytes. standing_more plain big encoding e (whole plain) _ _ _ previous item left (so.held keeps_bytes) (more.held keeps_bytes).ok;
+  held = λ keeps_bytes. standing_more plain big encoding e (whole plain) _ _ _ previous item left (so.held keeps_bytes) (more.ok keeps_bytes);
   linked =
       λ at completes.
       standing_more (sink.hand at) big encoding e (whole (sink.hand at)) _ _ _ previous item left (so.linked at completes)
-      (more.linked at (so.stays completes)).ok;
+      (more.completed at (so.stays completes));
 }
 
 -- a refused item, after those so far

@@ -1,5 +1,5 @@
 -- Calls that append, one after the other.
-use Rattle.std.proofs.Common.{◌≡◌, ◌⊎◌, List, [], ◌∷◌, ℕ, Ok, Err, IsTrue, refl, sym, ap, ◌∙◌, inl, inr, subst, IfErr}
+use Rattle.std.proofs.Common.{◌≡◌, ◌⊎◌, List, [], ◌∷◌, ℕ, Ok, Err, IsTrue, refl, sym, ap, ◌∙◌, inl, inr, subst, OnOk, IfErr}
 use Rattle.std.specs.Prelude.{Result}
 use Rattle.std.proofs.lemmas.List.{append-nil}
 use Rattle.gimli_bytes.specs.Hand.{Hand, Placement, plain}
@@ -8,21 +8,49 @@ use Rattle.gimli_bytes.specs.declared.error.Error.{Error}
 use Rattle.gimli_bytes.specs.declared.error.Error.TheVariants.{OutOfMemory}
 use Rattle.gimli_bytes.specs.declared.sink.Sink.{Ghosts}
 use Rattle.gimli_build.specs.Joined.{result_append, result_concat, after_length}
-use Rattle.gimli_build.specs.inside.Writes.{Leaves, Writes}
+use Rattle.gimli_build.specs.Writes.{WritesOr, OfMemoryOr}
+use Rattle.gimli_build.specs.inside.Writes.{Writes, always}
 use Rattle.gimli_build.proofs.writing.Joined.{SoFar, none_so_far, one_more, all_done, on_ok, if_err, or_wanted, part_refused}
 use Rattle.gimli_build.proofs.writing.Joined.{first_refused, second_refused, appends_joined, begins_self, begins_then}
 
--- the same wanted of one call, or of another
-pub wants : {W X Y : Type 0} {sink : Ghosts W} {old new : W} {r : Result X Error} {s : Result Y Error} {a b : Hand → Result (List ℕ) Error}
-    → ({Own : Error → Type 0} (hand : Hand) (before after : List ℕ) → Leaves Own r (a hand) before after → Leaves Own s (b hand) before after)
-    → Writes sink old new r a → Writes sink old new s b
-wants {sink = sink} f so = record {
+-- what a call leaves in one view of the writer, before and after
+pub record Leaves {X : Type 0} (Own : Error → Type 0) (result : Result X Error) (wanted : Result (List ℕ) Error) (old new : List ℕ) : Type 0 where
+  pub ok : OnOk result (Appends wanted old new)
+  pub err : IfErr result (λ e. Own e ⊎ (wanted ≡ Err e))
+
+-- in each view
+pub record InViews {W X : Type 0} (sink : Ghosts W) (old new : W) (result : Result X Error) (wanted : Hand → Result (List ℕ) Error) : Type 0 where
+  pub keeps : Begins (sink.contents old) (sink.contents new)
+  pub ordered : sink.big new ≡ sink.big old
+  pub stays : IsTrue (sink.completes old) → IsTrue (sink.completes new)
+  pub held : IsTrue sink.keeps_bytes → Leaves sink.refuses result (wanted plain) (sink.contents old) (sink.contents new)
+  pub memory : IsTrue sink.keeps_bytes → IsTrue sink.fails_for_memory_alone
+      → Leaves (λ e. e ≡ OutOfMemory) result (wanted plain) (sink.contents old) (sink.contents new)
+  pub linked : (at : Placement) → IsTrue (sink.completes old)
+      → Leaves sink.refuses result (wanted (sink.hand at)) (sink.completed at old) (sink.completed at new)
+
+pub writes_in : {W X : Type 0} {sink : Ghosts W} {old new : W} {r : Result X Error} {wanted : Hand → Result (List ℕ) Error}
+    → InViews sink old new r wanted → Writes sink old new r wanted
+writes_in so = record {
   keeps = so.keeps;
   ordered = so.ordered;
   stays = so.stays;
-  held = λ keeps_bytes. f plain _ _ (so.held keeps_bytes);
-  memory = λ keeps_bytes memory_alone. f plain _ _ (so.memory keeps_bytes memory_alone);
-  linked = λ at completes. f (sink.hand at) _ _ (so.linked at completes);
+  ok = λ keeps_bytes. (so.held keeps_bytes).ok;
+  err = λ keeps_bytes memory_alone. (so.memory keeps_bytes memory_alone).err;
+  own = λ keeps_bytes. (so.held keeps_bytes).err;
+  completed = λ at completes. (so.linked at completes).ok;
+  completed_own = λ at completes. (so.linked at completes).err;
+}
+
+views_of : {W X : Type 0} {sink : Ghosts W} {old new : W} {r : Result X Error} {wanted : Hand → Result (List ℕ) Error}
+    → Writes sink old new r wanted → InViews sink old new r wanted
+views_of so = record {
+  keeps = so.keeps;
+  ordered = so.ordered;
+  stays = so.stays;
+  held = λ keeps_bytes. record { ok = so.ok keeps_bytes; err = so.own keeps_bytes };
+  memory = λ keeps_bytes memory_alone. record { ok = so.ok keeps_bytes; err = so.err keeps_bytes memory_alone };
+  linked = λ at completes. record { ok = so.completed at completes; err = so.completed_own at completes };
 }
 
 -- one that is refused leaves no bytes to speak of
@@ -40,23 +68,37 @@ leaves_joined {r = r} a b old mid new first second = record {
 
 pub joins : {W X Y : Type 0} {sink : Ghosts W} {old mid new : W} {x : X} {r : Result Y Error} {a b : Hand → Result (List ℕ) Error}
     → Writes sink old mid (Ok x) a → Writes sink mid new r b → Writes sink old new r (λ hand. result_append (a hand) (b hand))
-joins {sink = sink} {a = a} {b = b} first second = record {
-  keeps = begins_then _ _ _ first.keeps second.keeps;
-  ordered = second.ordered ∙ first.ordered;
-  stays = λ completes. second.stays (first.stays completes);
-  held = λ keeps_bytes. leaves_joined (a plain) (b plain) _ _ _ (first.held keeps_bytes) (second.held keeps_bytes);
-  memory =
-      λ keeps_bytes memory_alone.
-      leaves_joined (a plain) (b plain) _ _ _ (first.memory keeps_bytes memory_alone) (second.memory keeps_bytes memory_alone);
-  linked =
-      λ at completes.
-      leaves_joined (a (sink.hand at)) (b (sink.hand at)) _ _ _ (first.linked at completes) (second.linked at (first.stays completes));
-}
+joins {sink = sink} {a = a} {b = b} first second =
+    let one = views_of first in
+    let other = views_of second in
+    writes_in (record {
+      keeps = begins_then _ _ _ first.keeps second.keeps;
+      ordered = second.ordered ∙ first.ordered;
+      stays = λ completes. second.stays (first.stays completes);
+      held = λ keeps_bytes. leaves_joined (a plain) (b plain) _ _ _ (one.held keeps_bytes) (other.held keeps_bytes);
+      memory =
+          λ keeps_bytes memory_alone.
+          leaves_joined (a plain) (b plain) _ _ _ (one.memory keeps_bytes memory_alone) (other.memory keeps_bytes memory_alone);
+      linked =
+          λ at completes.
+          leaves_joined (a (sink.hand at)) (b (sink.hand at)) _ _ _ (one.linked at completes) (other.linked at (first.stays completes));
+    })
 
 -- what is wanted, said otherwise
 pub wanted_alike : {W X : Type 0} {sink : Ghosts W} {old new : W} {r : Result X Error} {a b : Hand → Result (List ℕ) Error} → ((hand : Hand) → a hand ≡ b hand)
     → Writes sink old new r a → Writes sink old new r b
-wanted_alike {r = r} same so = wants (λ {Own} hand before after. subst (λ w. Leaves Own r w before after) (same hand)) so
+wanted_alike {sink = sink} {old = old} {new = new} {r = r} same so =
+    let views = views_of so in
+    let alike = λ (Own : Error → Type 0) (hand : Hand) (before after : List ℕ). subst (λ w. Leaves Own r w before after) (same hand) in
+    writes_in (record {
+      keeps = so.keeps;
+      ordered = so.ordered;
+      stays = so.stays;
+      held = λ keeps_bytes. alike sink.refuses plain (sink.contents old) (sink.contents new) (views.held keeps_bytes);
+      memory = λ keeps_bytes memory_alone.
+          alike (λ e. e ≡ OutOfMemory) plain (sink.contents old) (sink.contents new) (views.memory keeps_bytes memory_alone);
+      linked = λ at completes. alike sink.refuses (sink.hand at) (sink.completed at old) (sink.completed at new) (views.linked at completes);
+    })
 
 for_it : (wanted : Result (List ℕ) Error) (e : Error) → Refuses wanted e → (e ≡ OutOfMemory) ⊎ (wanted ≡ Err e)
 for_it (Ok bytes) e memory = inl memory
@@ -69,62 +111,47 @@ writes {r = r} wanted append = record {
   keeps = append.keeps;
   ordered = append.ordered;
   stays = append.stays;
-  held = λ keeps_bytes. record { ok = append.ok keeps_bytes; err = append.own };
-  memory = λ keeps_bytes memory_alone. record { ok = append.ok keeps_bytes; err = if_err r (for_it (wanted plain)) (append.err memory_alone) };
-  linked = λ at completes. record { ok = append.completed at completes; err = append.completed_own at completes };
+  ok = append.ok;
+  err = λ keeps_bytes memory_alone. if_err r (for_it (wanted plain)) (append.err memory_alone);
+  own = λ keeps_bytes. append.own;
+  completed = append.completed;
+  completed_own = append.completed_own;
 }
 
 -- the same bytes, said otherwise
-pub same_bytes : {W X : Type 0} {sink : Ghosts W} {old new : W} {r : Result X Error} {xs ys : List ℕ} → xs ≡ ys → Writes sink old new r (λ hand. Ok xs)
-    → Writes sink old new r (λ hand. Ok ys)
-same_bytes {sink = sink} {old = old} {new = new} {r = r} same so = subst (λ (l : List ℕ). Writes sink old new r (λ hand. Ok l)) same so
+pub same_bytes : {W X : Type 0} {sink : Ghosts W} {old new : W} {r : Result X Error} {xs ys : List ℕ} → xs ≡ ys → Writes sink old new r (always (Ok xs))
+    → Writes sink old new r (always (Ok ys))
+same_bytes {sink = sink} {old = old} {new = new} {r = r} same so = subst (λ (l : List ℕ). Writes sink old new r (always (Ok l))) same so
+
+-- what is there of all
+pub done_written : {W X : Type 0} {sink : Ghosts W} {old new : W} {y : X} {wanted : Hand → Result (List ℕ) Error}
+    → Begins (sink.contents old) (sink.contents new) → sink.big new ≡ sink.big old → (IsTrue (sink.completes old) → IsTrue (sink.completes new))
+    → (IsTrue sink.keeps_bytes → Appends (wanted plain) (sink.contents old) (sink.contents new))
+    → ((at : Placement) → IsTrue (sink.completes old) → Appends (wanted (sink.hand at)) (sink.completed at old) (sink.completed at new))
+    → Writes sink old new (Ok y) wanted
+done_written begins same stays held linked = record {
+  keeps = begins;
+  ordered = same;
+  stays = stays;
+  ok = held;
+  err = λ keeps_bytes memory_alone. tt;
+  own = λ keeps_bytes. tt;
+  completed = linked;
+  completed_own = λ at completes. tt;
+}
 
 -- the same bytes under another answer
-pub answered : {W X Y : Type 0} {sink : Ghosts W} {old new : W} {x : X} {y : Y} {xs : List ℕ} → Writes sink old new (Ok x) (λ hand. Ok xs)
-    → Writes sink old new (Ok y) (λ hand. Ok xs)
-answered so = wants (λ hand before after leaves. record { ok = leaves.ok; err = tt }) so
+pub answered : {W X Y : Type 0} {sink : Ghosts W} {old new : W} {x : X} {y : Y} {wanted : Hand → Result (List ℕ) Error}
+    → Writes sink old new (Ok x) wanted → Writes sink old new (Ok y) wanted
+answered so = done_written so.keeps so.ordered so.stays so.ok so.completed
 
 -- where nothing is wanted, nothing is called
-pub none_called : {W X : Type 0} {sink : Ghosts W} {w : W} {x : X} → Writes sink w w (Ok x) (λ hand. Ok [])
-none_called {sink = sink} {w = w} = record {
-  keeps = begins_self (sink.contents w);
-  ordered = refl;
-  stays = λ completes. completes;
-  held = λ keeps_bytes. record { ok = sym (append-nil (sink.contents w)); err = tt };
-  memory = λ keeps_bytes memory_alone. record { ok = sym (append-nil (sink.contents w)); err = tt };
-  linked = λ at completes. record { ok = sym (append-nil (sink.completed at w)); err = tt };
-}
+pub none_called : {W X : Type 0} {sink : Ghosts W} {w : W} {x : X} → Writes sink w w (Ok x) (always (Ok []))
+none_called {sink = sink} {w = w} =
+    done_written (begins_self (sink.contents w)) refl (λ completes. completes) (λ keeps_bytes. sym (append-nil (sink.contents w)))
+    (λ at completes. sym (append-nil (sink.completed at w)))
 
 -- ---- refused
-
--- before anything is known of what is wanted after it
-pub first_unwritten : {W X Y : Type 0} {sink : Ghosts W} {old new : W} {e : Error} {a : Hand → Result (List ℕ) Error} (b : Hand → Result (List ℕ) Error)
-    → Writes {X = X} sink old new (Err e) a
-    → Writes {X = Y} sink old new (Err e) (λ hand. result_append (a hand) (b hand))
-first_unwritten {e = e} {a = a} b refused = wants (λ hand before after. refused_for _ _ before after (first_refused (a hand) (b hand) e)) refused
-
--- where bytes are wanted, for memory, or as the writer refuses, whatever is wanted of the whole
-never : {A : Type 0} {e : Error} {xs : List ℕ} → (let r : Result (List ℕ) Error = Ok xs in r) ≡ Err e → A
-never is = absurd cc
-
-pub bytes_unwritten : {W X Y : Type 0} {sink : Ghosts W} {old new : W} {e : Error} {xs : List ℕ} {wanted : Hand → Result (List ℕ) Error}
-    → Writes {X = X} sink old new (Err e) (λ hand. Ok xs) → Writes {X = Y} sink old new (Err e) wanted
-bytes_unwritten refused = wants (λ hand before after. refused_for _ _ before after never) refused
-
-pub refused_alike : {W X Y : Type 0} {sink : Ghosts W} {old new : W} {e : Error} {xs : List ℕ} (ys : List ℕ)
-    → Writes {X = X} sink old new (Err e) (λ hand. Ok xs) → Writes {X = Y} sink old new (Err e) (λ hand. Ok ys)
-refused_alike ys refused = bytes_unwritten refused
-
-pub parts_unwritten : {W X Y : Type 0} {sink : Ghosts W} {old new : W} {e : Error} {xs : List ℕ} {wanted : Hand → Result (List ℕ) Error}
-    → IsAppendInParts {X = X} sink old new (Err e) xs → Writes {X = Y} sink old new (Err e) wanted
-parts_unwritten refused = record {
-  keeps = refused.keeps;
-  ordered = refused.ordered;
-  stays = refused.stays;
-  held = λ keeps_bytes. record { ok = tt; err = inl refused.own };
-  memory = λ keeps_bytes memory_alone. record { ok = tt; err = inl (refused.err memory_alone) };
-  linked = λ at completes. record { ok = tt; err = inl refused.own };
-}
 
 -- after what is written so far: what refuses it, refuses the whole
 pub later_unwritten : {W X Y : Type 0} {sink : Ghosts W} {old mid new : W} {e : Error} (part whole : Hand → Result (List ℕ) Error)
@@ -136,16 +163,58 @@ later_unwritten part whole begins same stays held linked refused = record {
   keeps = begins_then _ _ _ begins refused.keeps;
   ordered = refused.ordered ∙ same;
   stays = λ completes. refused.stays (stays completes);
-  held = λ keeps_bytes. refused_for _ _ _ _ (held keeps_bytes) (refused.held keeps_bytes);
-  memory = λ keeps_bytes memory_alone. refused_for _ _ _ _ (held keeps_bytes) (refused.memory keeps_bytes memory_alone);
-  linked = λ at completes. refused_for _ _ _ _ (linked at completes) (refused.linked at (stays completes));
+  ok = λ keeps_bytes. tt;
+  err = λ keeps_bytes memory_alone. or_wanted (held keeps_bytes) (refused.err keeps_bytes memory_alone);
+  own = λ keeps_bytes. or_wanted (held keeps_bytes) (refused.own keeps_bytes);
+  completed = λ at completes. tt;
+  completed_own = λ at completes. or_wanted (linked at completes) (refused.completed_own at (stays completes));
+}
+
+-- with nothing before it
+only_unwritten : {W X Y : Type 0} {sink : Ghosts W} {old new : W} {e : Error} (part whole : Hand → Result (List ℕ) Error)
+    → ((hand : Hand) → part hand ≡ Err e → whole hand ≡ Err e)
+    → Writes {X = X} sink old new (Err e) part → Writes {X = Y} sink old new (Err e) whole
+only_unwritten {sink = sink} {old = old} part whole why refused =
+    later_unwritten part whole (begins_self (sink.contents old)) refl (λ completes. completes) (λ keeps_bytes. why plain)
+    (λ at completes. why (sink.hand at)) refused
+
+-- before anything is known of what is wanted after it
+pub first_unwritten : {W X Y : Type 0} {sink : Ghosts W} {old new : W} {e : Error} {a : Hand → Result (List ℕ) Error} (b : Hand → Result (List ℕ) Error)
+    → Writes {X = X} sink old new (Err e) a
+    → Writes {X = Y} sink old new (Err e) (λ hand. result_append (a hand) (b hand))
+first_unwritten {e = e} {a = a} b refused =
+    only_unwritten a (λ hand. result_append (a hand) (b hand)) (λ hand. first_refused (a hand) (b hand) e) refused
+
+-- where bytes are wanted, for memory, or as the writer refuses, whatever is wanted of the whole
+never : {A : Type 0} {e : Error} {xs : List ℕ} → (let r : Result (List ℕ) Error = Ok xs in r) ≡ Err e → A
+never is = absurd cc
+
+pub bytes_unwritten : {W X Y : Type 0} {sink : Ghosts W} {old new : W} {e : Error} {xs : List ℕ} {wanted : Hand → Result (List ℕ) Error}
+    → Writes {X = X} sink old new (Err e) (always (Ok xs)) → Writes {X = Y} sink old new (Err e) wanted
+bytes_unwritten {xs = xs} {wanted = wanted} refused = only_unwritten (always (Ok xs)) wanted (λ hand. never) refused
+
+pub refused_alike : {W X Y : Type 0} {sink : Ghosts W} {old new : W} {e : Error} {xs : List ℕ} (ys : List ℕ)
+    → Writes {X = X} sink old new (Err e) (always (Ok xs)) → Writes {X = Y} sink old new (Err e) (always (Ok ys))
+refused_alike ys refused = bytes_unwritten refused
+
+pub parts_unwritten : {W X Y : Type 0} {sink : Ghosts W} {old new : W} {e : Error} {xs : List ℕ} {wanted : Hand → Result (List ℕ) Error}
+    → IsAppendInParts {X = X} sink old new (Err e) xs → Writes {X = Y} sink old new (Err e) wanted
+parts_unwritten refused = record {
+  keeps = refused.keeps;
+  ordered = refused.ordered;
+  stays = refused.stays;
+  ok = λ keeps_bytes. tt;
+  err = λ keeps_bytes memory_alone. inl (refused.err memory_alone);
+  own = λ keeps_bytes. inl refused.own;
+  completed = λ at completes. tt;
+  completed_own = λ at completes. inl refused.own;
 }
 
 pub unwritten : {W X Y Z : Type 0} {sink : Ghosts W} {old mid new : W} {x : X} {e : Error} {first_wanted : Hand → Result (List ℕ) Error} {ys : List ℕ}
-    (zs : List ℕ) → Writes sink old mid (Ok x) first_wanted → Writes {X = Y} sink mid new (Err e) (λ hand. Ok ys)
-    → Writes {X = Z} sink old new (Err e) (λ hand. Ok zs)
+    (zs : List ℕ) → Writes sink old mid (Ok x) first_wanted → Writes {X = Y} sink mid new (Err e) (always (Ok ys))
+    → Writes {X = Z} sink old new (Err e) (always (Ok zs))
 unwritten {ys = ys} zs first refused =
-    later_unwritten (λ hand. Ok ys) (λ hand. Ok zs) first.keeps first.ordered first.stays (λ keeps_bytes. never) (λ at completes. never) refused
+    later_unwritten (always (Ok ys)) (always (Ok zs)) first.keeps first.ordered first.stays (λ keeps_bytes. never) (λ at completes. never) refused
 
 -- what a length counts
 pub counted_unwritten : {W X Y : Type 0} {sink : Ghosts W} {old mid new : W} {e : Error} {body : Hand → Result (List ℕ) Error}
@@ -182,8 +251,8 @@ one_written {sink = sink} {part = part} {all = all} {left = left} {x = x} so mor
   keeps = begins_then _ _ _ so.keeps more.keeps;
   ordered = more.ordered ∙ so.ordered;
   stays = λ completes. more.stays (so.stays completes);
-  held = λ keeps_bytes. one_more (part plain) all left x _ _ _ (so.held keeps_bytes) (more.held keeps_bytes).ok;
-  linked = λ at completes. one_more (part (sink.hand at)) all left x _ _ _ (so.linked at completes) (more.linked at (so.stays completes)).ok;
+  held = λ keeps_bytes. one_more (part plain) all left x _ _ _ (so.held keeps_bytes) (more.ok keeps_bytes);
+  linked = λ at completes. one_more (part (sink.hand at)) all left x _ _ _ (so.linked at completes) (more.completed at (so.stays completes));
 }
 
 pub one_unwritten : {W A X Y : Type 0} {sink : Ghosts W} {part : Hand → A → Result (List ℕ) Error} {all left : List A} {x : A} {old mid new : W} {e : Error}
@@ -194,23 +263,58 @@ one_unwritten {sink = sink} {part = part} {all = all} {left = left} {x = x} {e =
     (λ keeps_bytes. part_refused (part plain) all left x _ _ e (so.held keeps_bytes))
     (λ at completes. part_refused (part (sink.hand at)) all left x _ _ e (so.linked at completes)) refused
 
--- what is there of all
-pub done_written : {W X : Type 0} {sink : Ghosts W} {old new : W} {y : X} {wanted : Hand → Result (List ℕ) Error}
-    → Begins (sink.contents old) (sink.contents new) → sink.big new ≡ sink.big old → (IsTrue (sink.completes old) → IsTrue (sink.completes new))
-    → (IsTrue sink.keeps_bytes → Appends (wanted plain) (sink.contents old) (sink.contents new))
-    → ((at : Placement) → IsTrue (sink.completes old) → Appends (wanted (sink.hand at)) (sink.completed at old) (sink.completed at new))
-    → Writes sink old new (Ok y) wanted
-done_written begins same stays held linked = record {
-  keeps = begins;
-  ordered = same;
-  stays = stays;
-  held = λ keeps_bytes. record { ok = held keeps_bytes; err = tt };
-  memory = λ keeps_bytes memory_alone. record { ok = held keeps_bytes; err = tt };
-  linked = λ at completes. record { ok = linked at completes; err = tt };
-}
-
 pub all_written : {W A X : Type 0} {sink : Ghosts W} {part : Hand → A → Result (List ℕ) Error} {all : List A} {old new : W} {y : X}
     → WritesSoFar sink part all [] old new → Writes sink old new (Ok y) (λ hand. result_concat (part hand) all)
 all_written {sink = sink} {part = part} {all = all} so =
     done_written so.keeps so.ordered so.stays (λ keeps_bytes. all_done (part plain) all _ _ (so.held keeps_bytes))
     (λ at completes. all_done (part (sink.hand at)) all _ _ (so.linked at completes))
+
+-- ---- a call that may be refused for memory of its own
+
+own_or_memory : {A B C : Type 0} → B ⊎ C → (A ⊎ B) ⊎ C
+own_or_memory (inl own) = inl (inr own)
+own_or_memory (inr wanted) = inr wanted
+
+pub written_or_memory : {W X Y : Type 0} {sink : Ghosts W} {old new : W} {x : X} {y : Y} {wanted : Hand → Result (List ℕ) Error}
+    → Writes sink old new (Ok x) wanted → WritesOr sink (OfMemoryOr sink.refuses) old new (Ok y) wanted
+written_or_memory so = record {
+  keeps = so.keeps;
+  ordered = so.ordered;
+  stays = so.stays;
+  ok = so.ok;
+  err = λ keeps_bytes memory_alone. tt;
+  own = λ keeps_bytes. tt;
+  completed = so.completed;
+  completed_own = λ at completes. tt;
+}
+
+pub refused_or_memory : {W X Y : Type 0} {sink : Ghosts W} {old new : W} {e : Error} {wanted : Hand → Result (List ℕ) Error}
+    → Writes {X = X} sink old new (Err e) wanted → WritesOr {X = Y} sink (OfMemoryOr sink.refuses) old new (Err e) wanted
+refused_or_memory so = record {
+  keeps = so.keeps;
+  ordered = so.ordered;
+  stays = so.stays;
+  ok = λ keeps_bytes. tt;
+  err = so.err;
+  own = λ keeps_bytes. own_or_memory (so.own keeps_bytes);
+  completed = λ at completes. tt;
+  completed_own = λ at completes. own_or_memory (so.completed_own at completes);
+}
+
+-- before anything is written
+pub nothing_written : {W X : Type 0} (sink : Ghosts W) (w : W) (e : Error) (wanted : Hand → Result (List ℕ) Error)
+    → ((hand : Hand) → (e ≡ OutOfMemory) ⊎ (wanted hand ≡ Err e)) → WritesOr {X = X} sink (OfMemoryOr sink.refuses) w w (Err e) wanted
+nothing_written sink w e wanted why = record {
+  keeps = begins_self (sink.contents w);
+  ordered = refl;
+  stays = λ completes. completes;
+  ok = λ keeps_bytes. tt;
+  err = λ keeps_bytes memory_alone. why plain;
+  own = λ keeps_bytes. own (why plain);
+  completed = λ at completes. tt;
+  completed_own = λ at completes. own (why (sink.hand at));
+}
+  where
+    own : {A B C : Type 0} → A ⊎ C → (A ⊎ B) ⊎ C
+    own (inl memory) = inl (inl memory)
+    own (inr wanted) = inr wanted

@@ -1,4 +1,4 @@
--- What a call leaves that appends wanted bytes to a writer.
+-- What a call leaves that appends wanted bytes to a writer, with no refusal beside the writer's.
 use Rattle.std.specs.Prelude.{◌≡◌, ◌⊎◌, ℕ, List, Result, Err, IsTrue, OnOk, IfErr}
 use Rattle.gimli_bytes.specs.Hand.{Hand, Placement, plain}
 use Rattle.gimli_bytes.specs.Written.{Begins, Appends}
@@ -6,24 +6,23 @@ use Rattle.gimli_bytes.specs.declared.error.Error.{Error}
 use Rattle.gimli_bytes.specs.declared.error.Error.TheVariants.{OutOfMemory}
 use Rattle.gimli_bytes.specs.declared.sink.Sink.{Ghosts}
 
--- in one view of the writer: the wanted bytes are appended, or the refusal is one of a call's own,
--- or what is wanted
-pub record Leaves {X : Type 0} (Own : Error → Type 0) (result : Result X Error)
-    (wanted : Result (List ℕ) Error) (old new : List ℕ) : Type 0 where
-  pub ok : OnOk result (Appends wanted old new)
-  pub err : IfErr result (λ e. Own e ⊎ (wanted ≡ Err e))
+-- the same wanted of each hand: bytes that no linker changes
+abbrev pub always : Result (List ℕ) Error → Hand → Result (List ℕ) Error
+always wanted hand = wanted
 
--- as `IsAppend`, but for the refusals: a part that is wanted late may be refused, and memory before
--- it. So `memory` asks for a writer that keeps its bytes, and leaves it open which of the two it is
+-- as `WritesOr` has it
 pub record Writes {W X : Type 0} (sink : Ghosts W) (old new : W) (result : Result X Error)
     (wanted : Hand → Result (List ℕ) Error) : Type 0 where
   pub keeps : Begins (sink.contents old) (sink.contents new)
   pub ordered : sink.big new ≡ sink.big old
   pub stays : IsTrue (sink.completes old) → IsTrue (sink.completes new)
-  pub held : IsTrue sink.keeps_bytes
-      → Leaves sink.refuses result (wanted plain) (sink.contents old) (sink.contents new)
-  pub memory : IsTrue sink.keeps_bytes → IsTrue sink.fails_for_memory_alone → Leaves
-      (λ e. e ≡ OutOfMemory) result (wanted plain) (sink.contents old) (sink.contents new)
-  -- and once a linker has completed both
-  pub linked : (at : Placement) → IsTrue (sink.completes old) → Leaves sink.refuses result
-      (wanted (sink.hand at)) (sink.completed at old) (sink.completed at new)
+  pub ok : IsTrue sink.keeps_bytes
+      → OnOk result (Appends (wanted plain) (sink.contents old) (sink.contents new))
+  pub err : IsTrue sink.keeps_bytes → IsTrue sink.fails_for_memory_alone
+      → IfErr result (λ e. (e ≡ OutOfMemory) ⊎ (wanted plain ≡ Err e))
+  pub own : IsTrue sink.keeps_bytes
+      → IfErr result (λ e. sink.refuses e ⊎ (wanted plain ≡ Err e))
+  pub completed : (at : Placement) → IsTrue (sink.completes old) → OnOk result
+      (Appends (wanted (sink.hand at)) (sink.completed at old) (sink.completed at new))
+  pub completed_own : (at : Placement) → IsTrue (sink.completes old)
+      → IfErr result (λ e. sink.refuses e ⊎ (wanted (sink.hand at) ≡ Err e))

@@ -21,7 +21,7 @@ ghost use Rattle.gimli_build.specs.Version5Tables.{source_bytes, file_entry_byte
 ghost use Rattle.gimli_build.specs.Version5Tables.{file_table_bytes};
 ghost use Rattle.gimli_build.specs.WrittenTables.{HaveEmptySource};
 ghost use Rattle.gimli_build.specs.inside.EmptySource.{IsEmptySource, StandsForNone};
-ghost use Rattle.gimli_build.specs.inside.Writes.{Writes};
+ghost use Rattle.gimli_build.specs.inside.Writes.{Writes, always};
 
 use crate::built::files::{DirectoryId, FileInfo, FileTable};
 use crate::built::line_program::LineProgram;
@@ -201,7 +201,7 @@ fn write_directory_table<W: Writer>(
 /// Appends the formats of directories, and their number.
 fn write_directory_formats<W: Writer>(w: &mut W, form: DwForm, count: usize) -> Result<()>
     ensures { Writes W.Sink w.old w.new result
-        (λ hand. Ok (formats_bytes ((0x0001, form.0) ∷ []) ++ uleb count)) }
+        (always (Ok (formats_bytes ((0x0001, form.0) ∷ []) ++ uleb count))) }
 {
     write_byte(w, 1)?;
     write_format(w, constants::DW_LNCT_path, form)?;
@@ -210,7 +210,7 @@ fn write_directory_formats<W: Writer>(w: &mut W, form: DwForm, count: usize) -> 
 
 /// Appends a content type and a form.
 fn write_format<W: Writer>(w: &mut W, content: DwLnct, form: DwForm) -> Result<()>
-    ensures { Writes W.Sink w.old w.new result (λ hand. Ok (uleb content.0 ++ uleb form.0)) }
+    ensures { Writes W.Sink w.old w.new result (always (Ok (uleb content.0 ++ uleb form.0))) }
 {
     w.write_uleb128(u64::from(content.0))?;
     w.write_uleb128(u64::from(form.0))
@@ -297,7 +297,8 @@ fn write_file_formats<W: Writer>(
 ) -> Result<()>
     requires { source_form.0 ≡ first_form (sources program.now.files) }
     ensures { Writes W.Sink w.old w.new result
-        (λ hand. Ok (formats_bytes (file_formats program.now) ++ uleb (length program.now.files))) }
+        (always
+        (Ok (formats_bytes (file_formats program.now) ++ uleb (length program.now.files)))) }
 {
     write_key_formats(w, program)?;
     write_detail_formats(w, program)?;
@@ -313,9 +314,9 @@ fn write_file_formats<W: Writer>(
 /// Appends the number of formats of files, and those of the path and the directory.
 fn write_key_formats<W: Writer>(w: &mut W, program: &LineProgram) -> Result<()>
     ensures { Writes W.Sink w.old w.new result
-        (λ hand. Ok (length (file_formats program.now)
+        (always (Ok (length (file_formats program.now)
         ∷ (uleb 0x0001 ++ uleb (first_form (path_texts program.now.files))) ++ uleb 0x0002
-        ++ uleb 0x0f)) }
+        ++ uleb 0x0f))) }
 {
     write_byte(w, format_count(program))?;
     write_format(w, constants::DW_LNCT_path, path_form(program.tables()))?;
@@ -339,9 +340,9 @@ fn format_count(program: &LineProgram) -> u8
 /// Appends the formats of what else is stored of files, but for their sources.
 fn write_detail_formats<W: Writer>(w: &mut W, program: &LineProgram) -> Result<()>
     ensures { Writes W.Sink w.old w.new result
-        (λ hand. Ok ((if program.now.file_has_timestamp then uleb 0x0003 ++ uleb 0x0f else [])
+        (always (Ok ((if program.now.file_has_timestamp then uleb 0x0003 ++ uleb 0x0f else [])
         ++ (if program.now.file_has_size then uleb 0x0004 ++ uleb 0x0f else [])
-        ++ (if program.now.file_has_md5 then uleb 0x0005 ++ uleb 0x1e else []))) }
+        ++ (if program.now.file_has_md5 then uleb 0x0005 ++ uleb 0x1e else [])))) }
 {
     let udata = constants::DW_FORM_udata;
     let data16 = constants::DW_FORM_data16;
@@ -358,7 +359,7 @@ fn write_detail_formats<W: Writer>(w: &mut W, program: &LineProgram) -> Result<(
 /// Appends a content type and a form, where they are due.
 fn write_format_if<W: Writer>(w: &mut W, due: bool, content: DwLnct, form: DwForm) -> Result<()>
     ensures { Writes W.Sink w.old w.new result
-        (λ hand. Ok (if due then uleb content.0 ++ uleb form.0 else [])) }
+        (always (Ok (if due then uleb content.0 ++ uleb form.0 else []))) }
 {
     if !due {
         return Ok(());
@@ -439,10 +440,10 @@ fn write_details<W: Writer>(
     info: &FileInfo,
 ) -> Result<()>
     ensures writes { Writes W.Sink w.old w.new result
-        (λ hand. Ok (uleb directory
+        (always (Ok (uleb directory
         ++ (if program.now.file_has_timestamp then uleb info.now.timestamp else [])
         ++ (if program.now.file_has_size then uleb info.now.size else [])
-        ++ (if program.now.file_has_md5 then info.now.md5 else []))) }
+        ++ (if program.now.file_has_md5 then info.now.md5 else [])))) }
     ensures fit { OnOk result (FitsFile ((Inline [], directory), details info.now)) }
 {
     w.write_uleb128(directory.index() as u64)?;
@@ -453,7 +454,7 @@ fn write_details<W: Writer>(
 
 /// Appends a number as LEB128, where it is due.
 fn write_number_if<W: Writer>(w: &mut W, due: bool, number: u64) -> Result<()>
-    ensures { Writes W.Sink w.old w.new result (λ hand. Ok (if due then uleb number else [])) }
+    ensures { Writes W.Sink w.old w.new result (always (Ok (if due then uleb number else []))) }
 {
     if !due {
         return Ok(());
@@ -463,7 +464,7 @@ fn write_number_if<W: Writer>(w: &mut W, due: bool, number: u64) -> Result<()>
 
 /// Appends a digest, where it is due.
 fn write_digest_if<W: Writer>(w: &mut W, due: bool, digest: &[u8; 16]) -> Result<()>
-    ensures { Writes W.Sink w.old w.new result (λ hand. Ok (if due then digest.now else [])) }
+    ensures { Writes W.Sink w.old w.new result (always (Ok (if due then digest.now else []))) }
 {
     if !due {
         return Ok(());

@@ -8,7 +8,7 @@ ghost use Rattle.gimli_build.specs.Conditions.{CanWrite};
 ghost use Rattle.gimli_build.specs.inside.EmptySource.{StandsForNone};
 ghost use Rattle.gimli_build.specs.Unit.{operations_bytes, line_encoding_bytes, tables_bytes};
 ghost use Rattle.gimli_build.specs.Unit.{fields_bytes, header_bytes};
-ghost use Rattle.gimli_build.specs.inside.Writes.{Writes};
+ghost use Rattle.gimli_build.specs.inside.Writes.{Writes, always};
 
 use crate::built::line_program::LineProgram;
 use crate::built::line_string::LineString;
@@ -71,7 +71,8 @@ fn write_line_encoding<W: Writer>(
     version: u16,
     line_encoding: LineEncoding,
 ) -> Result<()>
-    ensures { Writes W.Sink w.old w.new result (λ hand. line_encoding_bytes version line_encoding) }
+    ensures { Writes W.Sink w.old w.new result
+        (always (line_encoding_bytes version line_encoding)) }
 {
     write_byte(w, line_encoding.minimum_instruction_length)?;
     write_operation_count(w, version, line_encoding.maximum_operations_per_instruction)?;
@@ -84,7 +85,7 @@ fn write_line_encoding<W: Writer>(
 
 /// Appends how many operations an instruction has, which before version 4 is one, and isn't said.
 fn write_operation_count<W: Writer>(w: &mut W, version: u16, operations: u8) -> Result<()>
-    ensures { Writes W.Sink w.old w.new result (λ hand. operations_bytes version operations) }
+    ensures { Writes W.Sink w.old w.new result (always (operations_bytes version operations)) }
 {
     if version >= 4 {
         return write_byte(w, operations);

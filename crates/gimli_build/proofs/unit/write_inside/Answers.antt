@@ -24,7 +24,7 @@ returns-clause-built g c = on_ok c.write_items.result (λ fit. record {
 pub returns-in_err-write_opening-clause-writes : goal.returns-in_err-write_opening-clause-writes
 returns-in_err-write_opening-clause-writes g c =
     let p = err_from_is_err_and c.from_residual.result c.from_residual.ensures.1 in
-    rw (p.1, p.2) (first_unwritten _ ((rw c.encoding.ensures.encoding at c.in_err-write_opening.ensures)))
+    rw (p.1, p.2) (first_unwritten _ (rw c.encoding.ensures.encoding at c.in_err-write_opening.ensures))
 
 pub returns-in_err-write_header-clause-writes : goal.returns-in_err-write_header-clause-writes
 returns-in_err-write_header-clause-writes g c =

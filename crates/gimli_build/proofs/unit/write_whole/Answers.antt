@@ -11,7 +11,7 @@ use Rattle.std.proofs.lemmas.Result.{err_from_is_err_and}
 use Rattle.gimli_build.proofs.writing.Joined.{on_ok, if_err, begins_then, begins_before}
 use Rattle.gimli_build.proofs.linking.Lengths.{patched_length}
 use Rattle.gimli_build.proofs.writing.Frames.{framed_leaves, open_word, escape_is, escape_long, length_word_long}
-use Rattle.gimli_build.proofs.writing.Writes.{counted_unwritten, parts_unwritten}
+use Rattle.gimli_build.proofs.writing.Writes.{writes_in, counted_unwritten, parts_unwritten}
 use Rattle.gimli_build.proofs.unit.write_whole.Goals as goal
 
 pub returns-clause-writes : goal.returns-clause-writes
@@ -39,8 +39,8 @@ returns-clause-writes g c =
     let held = λ (keeps_bytes : IsTrue sink.keeps_bytes).
     framed plain (contents c.args.w.now) (contents opened) (contents filled) (contents closed)
     (rw c.format-format.ensures at (opening.appends.ok keeps_bytes)) (rw c.format-format.ensures at (opening.place keeps_bytes))
-    (rw opening.appends.ordered at (inside.held keeps_bytes).ok) (omega (arith, c.len.ensures.contents, c.len-start.ensures.contents)) in
-    record {
+    (rw opening.appends.ordered at (inside.ok keeps_bytes)) (omega (arith, c.len.ensures.contents, c.len-start.ensures.contents)) in
+    writes_in (record {
       keeps =
           begins_before (contents c.args.w.now) (contents filled) (contents closed) c.in_ok-length.length.0
           (begins_then _ _ _ opening.appends.keeps inside.keeps) opening.after call.before;
@@ -53,11 +53,11 @@ returns-clause-writes g c =
       linked = λ at completes.
           framed (sink.hand at) (sink.completed at c.args.w.now) (sink.completed at opened) (sink.completed at filled) (sink.completed at closed)
           (rw c.format-format.ensures at (opening.appends.completed at completes)) (rw c.format-format.ensures at (opening.completed at completes))
-          (rw opening.appends.ordered at (inside.linked at (there completes)).ok)
+          (rw opening.appends.ordered at (inside.completed at (there completes)))
           (omega (arith, c.len.ensures.completed at (inside.stays (there completes)), c.len-start.ensures.completed at (there completes)))
           (rw (ordered, c.format-format.ensures) at (call.completed at (inside.stays (there completes))))
           (rw (ordered, c.format-format.ensures) at (call.completed_own at (inside.stays (there completes))));
-    }
+    })
 
 pub returns-clause-completed_short : goal.returns-clause-completed_short
 returns-clause-completed_short g c = λ at completes.

@@ -8,9 +8,10 @@ use Rattle.gimli_bytes.specs.Texts.{texts_in}
 use Rattle.gimli_build.specs.FormatWord.{format_word}
 use Rattle.gimli_build.specs.Unit.{fields_bytes}
 use Rattle.std.proofs.lemmas.Result.{err_from_is_err_and}
+use Rattle.gimli_build.specs.inside.Writes.{always}
 use Rattle.gimli_build.proofs.writing.Joined.{if_err, begins_then, begins_before}
 use Rattle.gimli_build.proofs.writing.Frames.{framed_leaves, open_word, word_is, zero_word, no_escape, header_word_long}
-use Rattle.gimli_build.proofs.writing.Writes.{bytes_unwritten, counted_unwritten, writes}
+use Rattle.gimli_build.proofs.writing.Writes.{writes_in, bytes_unwritten, counted_unwritten, writes}
 use Rattle.gimli_build.proofs.unit.header.write_header.Goals as goal
 
 pub returns-clause-writes : goal.returns-clause-writes
@@ -41,8 +42,8 @@ returns-clause-writes g c =
     let held = λ (keeps_bytes : IsTrue sink.keeps_bytes).
     framed plain (contents c.args.w.now) (contents opened) (contents filled) (contents closed)
     (rw (c.word_size-size.ensures, c.format.ensures, zero_word big format) at (zero.ok keeps_bytes)) (omega (arith, c.len-length.ensures.contents))
-    (rw zero.ordered at (fields.held keeps_bytes).ok) (omega (arith, c.len.ensures.contents, c.len-start.ensures.contents)) in
-    record {
+    (rw zero.ordered at (fields.ok keeps_bytes)) (omega (arith, c.len.ensures.contents, c.len-start.ensures.contents)) in
+    writes_in (record {
       keeps =
           begins_before (contents c.args.w.now) (contents filled) (contents closed) start (begins_then _ _ _ zero.keeps fields.keeps) le call.before;
       ordered = call.ordered ∙ ordered;
@@ -54,11 +55,11 @@ returns-clause-writes g c =
       linked = λ at completes.
           framed (sink.hand at) (sink.completed at c.args.w.now) (sink.completed at opened) (sink.completed at filled) (sink.completed at closed)
           (rw (c.word_size-size.ensures, c.format.ensures, zero_word big format) at (zero.completed at completes))
-          (omega (arith, c.len-length.ensures.completed at completes)) (rw zero.ordered at (fields.linked at (there completes)).ok)
+          (omega (arith, c.len-length.ensures.completed at completes)) (rw zero.ordered at (fields.completed at (there completes)))
           (omega (arith, c.len.ensures.completed at (fields.stays (there completes)), c.len-start.ensures.completed at (there completes)))
           (rw (ordered, c.word_size-size.ensures, c.format.ensures, known) at (call.completed at (fields.stays (there completes))))
           (rw (ordered, c.word_size-size.ensures, c.format.ensures, known) at (call.completed_own at (fields.stays (there completes))));
-    }
+    })
 
 pub returns-in_err-write_udata-clause-writes : goal.returns-in_err-write_udata-clause-writes
 returns-in_err-write_udata-clause-writes g c =
@@ -66,7 +67,7 @@ returns-in_err-write_udata-clause-writes g c =
     let big = g.W.Sink.big c.args.w.now in
     let format = c.args.program.now.encoding.format in
     let put = rw (c.word_size-size.ensures, c.format.ensures, zero_word big format) at c.in_err-write_udata.ensures in
-    rw (p.1, p.2) (bytes_unwritten (writes (λ hand. Ok (open_word big format)) put))
+    rw (p.1, p.2) (bytes_unwritten (writes (always (Ok (open_word big format))) put))
 
 pub returns-in_err-write_fields-clause-writes : goal.returns-in_err-write_fields-clause-writes
 returns-in_err-write_fields-clause-writes g c =

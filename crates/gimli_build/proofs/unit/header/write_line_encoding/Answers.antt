@@ -1,5 +1,6 @@
 use Rattle.std.proofs.Common.{◌≡◌, [], ◌∷◌, Ok, rules}
 use Rattle.gimli_build.specs.Unit.{flag_byte, base_byte}
+use Rattle.gimli_build.specs.inside.Writes.{always}
 use Rattle.gimli_build.proofs.writing.Writes.{joins, writes}
 use Rattle.gimli_build.proofs.unit.header.write_line_encoding.Goals as goal
 
@@ -11,5 +12,5 @@ returns g c =
     let flag : c.from.result ≡ flag_byte e.default_is_stmt = search rules in
     let base : c.cast_unsigned.result ≡ base_byte e.line_base = search rules in
     let last = c.write.ensures in
-    let third = rw (flag, base) at (writes (λ hand. Ok bytes) last) in
+    let third = rw (flag, base) at (writes (always (Ok bytes)) last) in
     joins c.in_ok-write_byte.ensures (joins c.in_ok-write_operation_count.ensures third)

@@ -3,7 +3,8 @@ use Rattle.gimli_build.specs.declared.built.files.FileInfo.{FileInfo}
 use Rattle.gimli_build.specs.Tables.{File, Tables, with_file}
 use Rattle.gimli_build.specs.TableFields.{details}
 use Rattle.gimli_build.specs.inside.TableFields.{key, directories_of, files_of}
-use Rattle.gimli_build.proofs.building.TableLemmas.{files_insert, index_of_equal_file, index_found, pair_eq, file_found, with_file-AreTables, with_file-kept}
+use Rattle.gimli_bytes.proofs.TextLemmas.{index_found}
+use Rattle.gimli_build.proofs.building.TableLemmas.{files_insert, index_of_equal_file, pair_eq, file_found, with_file-AreTables, with_file-kept}
 use Rattle.gimli_build.proofs.building.TableLemmas.{with_file-new}
 use Rattle.gimli_build.proofs.built.files.FileTable.keep_file.Goals as goal
 
