@@ -45,11 +45,11 @@ spelled_under : (notation : Notation) (h : Header) (encoding : Encoding) (e : Li
     → items_bytes plain notation.big encoding e (initial_row encoding.version e.default_is_stmt) items ≡ Ok bytes
     → Each (SpellsInstruction notation h) bytes (items_instructions encoding.version e (initial_row encoding.version e.default_is_stmt) items)
 spelled_under notation h encoding e items bytes same base wide can built fit written =
-    subst (λ (x : Encoding). AreFit x.version items
+    subst (λ x. AreFit x.version items
     → items_bytes plain notation.big x e (initial_row x.version e.default_is_stmt) items ≡ Ok bytes
     → Each (SpellsInstruction notation h) bytes (items_instructions x.version e (initial_row x.version e.default_is_stmt) items))
     same
-    (items-spelled notation h base wide e can (initial_row h.parameters.encoding.version e.default_is_stmt) items bytes (lit< tt) built)
+    (items-spelled notation h base wide e can _ _ _ (lit< tt) built)
     fit written
 
 -- the instructions of a written program
@@ -58,10 +58,10 @@ pub cut-back : (notation : Notation) (h : Header) (p : Built) → IsBuilt p → 
     → Decodes notation h h.program
     (items_instructions p.encoding.version p.line_encoding (initial_row p.encoding.version p.line_encoding.default_is_stmt) p.items) None
 cut-back notation h p built wide parameters written =
-    cut_whole notation h h.program
-    (items_instructions p.encoding.version p.line_encoding (initial_row p.encoding.version p.line_encoding.default_is_stmt) p.items)
-    (spelled_under notation h p.encoding p.line_encoding p.items h.program (ap (λ (r : Parameters). r.encoding) parameters)
-    (ap (λ (r : Parameters). r.opcode_base) parameters) wide built.is.lines built.is.items_built built.items_fit written)
+    cut_whole _ h _
+    _
+    (spelled_under _ h _ _ _ _ (ap (λ r. r.encoding) parameters)
+    (ap (λ r. r.opcode_base) parameters) wide built.is.lines built.is.items_built built.items_fit written)
 
 -- ---- the rows
 

@@ -24,10 +24,10 @@ use Rattle.gimli_build.proofs.reading.EventsBack.{cut-back, rows-back}
 -- a unit that is written has a known version
 unit_known : (big : Bool) (p : Built) (texts : StringTables) (unit : List ℕ) → whole_bytes plain big p texts ≡ Ok unit → p.encoding.version ≤ 5
 unit_known big p texts unit is =
-    let w = unit_written big p texts unit is in
+    let w = unit_written _ p _ _ is in
     let address : List ℕ = if nat_le p.encoding.version 4 then [] else p.encoding.address_size ∷ 0 ∷ [] in
-    let b = before_written (version_bytes big p.encoding.version) address w.opening w.opening_is in
-    version-known big p.encoding.version b.front b.front_is
+    let b = before_written _ _ _ w.opening_is in
+    version-known _ _ _ b.front_is
 
 reads-back : (notation : Notation) (unit_entry : UnitEntry) (sections : Sections) (big : Bool) (unit_encoding : Encoding) (p : Built)
     (old_texts : StringTables) (unit : List ℕ)

@@ -40,7 +40,7 @@ pub whole_written : (big : Bool) (unit_encoding : Encoding) (p : Built) (old_tex
     → unit_bytes plain big unit_encoding p old_texts ≡ Ok unit
     → whole_bytes plain big p (texts_after p old_texts) ≡ Ok unit
 whole_written big unit_encoding p old_texts unit is =
-    by (is_incompatible unit_encoding p.encoding) (whole_bytes plain big p (texts_after p old_texts)) is
+    by _ _ is
   where
     by : (b : Bool) (r : Result (List ℕ) Error) → (let s : Result (List ℕ) Error = if b then Err IncompatibleLineProgramEncoding else r in s) ≡ Ok unit
         → r ≡ Ok unit

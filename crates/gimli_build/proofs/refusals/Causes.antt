@@ -62,16 +62,16 @@ opening-refusal : (big : Bool) (encoding : Encoding)
     → refusal (opening_bytes big encoding) ≡ cause_if (not (nat_le 2 encoding.version && nat_le encoding.version 5)) (UnsupportedVersion encoding.version)
 opening-refusal big encoding =
     let version = encoding.version in
-    joined-refusal (version_bytes big version) (Ok (if nat_le version 4 then [] else encoding.address_size ∷ 0 ∷ []))
-    ∙ first_before_none (refusal (version_bytes big version))
-    ∙ tested-refusal (nat_le 2 version && nat_le version 5) (number_bytes big 2 version) (UnsupportedVersion version)
+    joined-refusal _ _
+    ∙ first_before_none _
+    ∙ tested-refusal _ _ _
 
 -- ---- what the header length counts
 
 operations-refusal : (version operations : ℕ) → refusal (operations_bytes version operations) ≡ operations_cause version operations
 operations-refusal version operations =
-    by (nat_le 4 version) (nat_eq operations 1)
-    ∙ ap (λ (b : Bool). cause_if (b && not (nat_eq operations 1)) (NeedVersion 4)) (sym below)
+    by _ _
+    ∙ ap (λ b. cause_if (b && not (nat_eq operations 1)) (NeedVersion 4)) (sym below)
   where
     by : (fourth one : Bool)
         → refusal (if fourth then Ok (operations ∷ []) else (if one then Ok [] else Err (NeedVersion 4))) ≡ cause_if (not fourth && not one) (NeedVersion 4)
@@ -84,7 +84,7 @@ operations-refusal version operations =
     twice false c h = ap not h
 
     below : nat_lt version 4 ≡ not (nat_le 4 version)
-    below = twice (nat_lt version 4) (nat_le 4 version) (not_below version 4)
+    below = twice _ _ (not_below _ 4)
 
 line_encoding-refusal : (version : ℕ) (e : LineEncoding)
     → refusal (line_encoding_bytes version e) ≡ operations_cause version e.maximum_operations_per_instruction
@@ -93,7 +93,7 @@ line_encoding-refusal version e =
     let numbers = flag_byte e.default_is_stmt ∷ base_byte e.line_base ∷ e.line_range ∷ [] in
     joined-refusal (Ok (e.minimum_instruction_length ∷ [])) (result_append operations (Ok numbers))
     ∙ joined-refusal operations (Ok numbers)
-    ∙ first_before_none (refusal operations)
+    ∙ first_before_none _
     ∙ operations-refusal version e.maximum_operations_per_instruction
 
 -- ---- items
@@ -105,8 +105,8 @@ seen-refusal view (Err e) = refl
 item-refusal : (big : Bool) (encoding : Encoding) (e : LineEncoding) (previous : LineRow) → IsTrue (is_address_size encoding.address_size)
     → (item : BuiltItem) → refusal (item_bytes plain big encoding e previous item) ≡ item_cause encoding.address_size item
 item-refusal big encoding e previous known (SetAddress (Constant a)) =
-    seen-refusal (λ operand. 0 ∷ uleb (encoding.address_size + 1) ++ 0x02 ∷ operand) (udata big a encoding.address_size)
-    ∙ address-refusal big a encoding.address_size known
+    seen-refusal _ _
+    ∙ address-refusal _ a _ known
 item-refusal big encoding e previous known (SetAddress (Symbol symbol addend)) = refl
 item-refusal big encoding e previous known (Row r) = refl
 item-refusal big encoding e previous known (End offset op_index) = refl
@@ -118,9 +118,9 @@ items-refusal big encoding e known previous [] = refl
 items-refusal big encoding e known previous (item ∷ items) =
     let size = encoding.address_size in
     let next = next_previous encoding.version e.default_is_stmt previous item in
-    joined-refusal (item_bytes plain big encoding e previous item) (items_bytes plain big encoding e next items)
-    ∙ ap (λ (c : Option Error). or_first c (refusal (items_bytes plain big encoding e next items))) (item-refusal big encoding e previous known item)
-    ∙ ap (λ (c : Option Error). or_first (item_cause size item) c) (items-refusal big encoding e known next items)
+    joined-refusal _ _
+    ∙ ap (λ c. or_first c (refusal (items_bytes plain big encoding e next items))) (item-refusal big encoding e previous known item)
+    ∙ ap (λ c. or_first (item_cause size item) c) (items-refusal big encoding e known next items)
     ∙ sym (first_apart (item_cause size item) (map (item_cause size) items))
 
 -- ---- the unit
@@ -189,7 +189,7 @@ cause-is big unit p texts known =
 
 -- what was written has no cause
 pub no-cause : (cause : Option Error) (wanted : Result (List ℕ) Error) (old new : List ℕ) → cause ≡ refusal wanted → Appends wanted old new → cause ≡ None
-no-cause cause wanted old new is written = is ∙ ap refusal (appended_bytes wanted old new written).1
+no-cause cause wanted old new is written = is ∙ ap refusal (appended_bytes _ _ _ written).1
 
 -- what was refused was so for the first cause, or for another reason
 pub refused-for : {A : Type 0} (cause : Option Error) (wanted : Result (List ℕ) Error) (e : Error) → cause ≡ refusal wanted → A ⊎ (wanted ≡ Err e)

@@ -39,21 +39,21 @@ module _ (format : Format) (texts : StringTables) where
 
   directories-refusal : (directories : List LineText) → refusal (directories_bytes directories) ≡ first_of (map name_cause (drop 1 directories))
   directories-refusal directories =
-      joined-refusal (result_concat name_bytes (drop 1 directories)) (Ok (0 ∷ []))
-      ∙ first_before_none (refusal (result_concat name_bytes (drop 1 directories)))
-      ∙ parts-refusal name_bytes name_cause name-refusal (drop 1 directories)
+      joined-refusal _ _
+      ∙ first_before_none _
+      ∙ parts-refusal _ _ name-refusal (drop 1 directories)
 
   file-refusal : (f : File) → refusal (file_bytes f) ≡ name_cause f.0.0
   file-refusal f =
-      joined-refusal (name_bytes f.0.0) (Ok (uleb f.0.1 ++ uleb f.1.timestamp ++ uleb f.1.size))
-      ∙ first_before_none (refusal (name_bytes f.0.0))
-      ∙ name-refusal f.0.0
+      joined-refusal _ _
+      ∙ first_before_none _
+      ∙ name-refusal _
 
   files-refusal : (files : List File) → refusal (files_bytes files) ≡ first_of (map name_cause (path_texts files))
   files-refusal files =
-      joined-refusal (result_concat file_bytes files) (Ok (0 ∷ []))
-      ∙ first_before_none (refusal (result_concat file_bytes files))
-      ∙ parts-refusal file_bytes (λ (f : File). name_cause f.0.0) file-refusal files
+      joined-refusal _ _
+      ∙ first_before_none _
+      ∙ parts-refusal _ _ file-refusal files
       ∙ sym (causes_map name_cause (λ (f : File). f.0.0) files)
 
   old-refusal : (directories : List LineText) (files : List File)
@@ -62,9 +62,9 @@ module _ (format : Format) (texts : StringTables) where
   old-refusal directories files =
       let named = drop 1 directories in
       let paths = path_texts files in
-      joined-refusal (directories_bytes directories) (files_bytes files)
-      ∙ ap (λ (c : Option Error). or_first c (refusal (files_bytes files))) (directories-refusal directories)
-      ∙ ap (λ (c : Option Error). or_first (first_of (map name_cause named)) c) (files-refusal files)
+      joined-refusal _ _
+      ∙ ap (λ c. or_first c (refusal (files_bytes files))) (directories-refusal directories)
+      ∙ ap (λ c. or_first (first_of (map name_cause named)) c) (files-refusal files)
       ∙ sym (causes_append name_cause named paths)
       ∙ sym (causes_map cause_of (λ (t : LineText). (0x08, t)) (named ++ paths))
 
@@ -81,13 +81,13 @@ module _ (format : Format) (texts : StringTables) where
       where
         by : (same : Bool) (written : Result (List ℕ) Error) (cause : Option Error) → refusal written ≡ cause
             → refusal (if same then written else Err LineStringFormMismatch) ≡ first_of (cause_if (not same) LineStringFormMismatch ∷ cause ∷ [])
-        by true written cause h = h ∙ sym (first_alone cause)
+        by true written cause h = h ∙ sym (first_alone _)
         by false written cause h = refl
 
     -- a source that is written, or none
     source-refusal : (has : Bool) (form : ℕ) (t : LineText)
         → refusal (if has then text_in_form plain big format texts form t else Ok []) ≡ first_of (map cause_of (if has then (form, t) ∷ [] else []))
-    source-refusal true form t = formed-refusal form t ∙ sym (first_alone (cause_of (form, t)))
+    source-refusal true form t = formed-refusal _ t ∙ sym (first_alone _)
     source-refusal false form t = refl
 
 -- ---- tables of version 5
@@ -122,9 +122,9 @@ module _ (big : Bool) (p : Built) (texts : StringTables) where
       let format = p.encoding.format in
       let form = first_form p.directories in
       let text = text_in_form plain big format texts form in
-      after-refusal (formats_bytes (directory_formats p) ++ uleb (length p.directories)) (result_concat text p.directories)
-      (first_of (map own_cause (map (λ (t : LineText). (form, t)) p.directories)))
-      (parts-refusal text (λ (t : LineText). own_cause (form, t)) (formed-refusal format texts big form) p.directories
+      after-refusal (formats_bytes (directory_formats p) ++ uleb (length p.directories)) _
+      _
+      (parts-refusal _ _ (formed-refusal format texts big form) p.directories
       ∙ sym (causes_map own_cause (λ (t : LineText). (form, t)) p.directories))
 
   file_table-refusal : refusal (file_table_bytes plain big p.encoding.format texts p)
@@ -132,9 +132,9 @@ module _ (big : Bool) (p : Built) (texts : StringTables) where
   file_table-refusal =
       let entry = file_entry_bytes plain big p.encoding.format texts p in
       let own = file_texts p texts in
-      after-refusal (formats_bytes (file_formats p) ++ uleb (length p.files)) (result_concat entry p.files)
-      (first_of (map own_cause (flat_map own p.files)))
-      (parts-refusal entry (λ (f : File). first_of (map own_cause (own f))) entry-refusal p.files
+      after-refusal (formats_bytes (file_formats p) ++ uleb (length p.files)) _
+      _
+      (parts-refusal _ _ entry-refusal _
       ∙ sym (causes_flat own_cause own p.files))
 
   new-refusal : refusal (result_append (directory_table_bytes plain big p.encoding.format texts p) (file_table_bytes plain big p.encoding.format texts p))

@@ -25,15 +25,15 @@ use Rattle.gimli_build.proofs.sizes.PartSizes.{HasSize, size_of_ok, size_of_none
 
 name_size : (format : Format) (t : LineText) → HasSize (name_bytes t) (text_size format t)
 name_size format (Inline text) =
-    size_as (Ok (text ++ 0 ∷ [])) (length (text ++ 0 ∷ [])) (length text + 1) (length-append text (0 ∷ [])) (size_of_ok (text ++ 0 ∷ []))
-name_size format (InStrings i) = size_of_none LineStringFormMismatch (word_size format)
-name_size format (InLineStrings i) = size_of_none LineStringFormMismatch (word_size format)
+    size_as _ _ _ (length-append text (0 ∷ [])) (size_of_ok _)
+name_size format (InStrings i) = size_of_none _ _
+name_size format (InLineStrings i) = size_of_none _ _
 
 directories_size : (format : Format) (directories : List LineText)
     → HasSize (directories_bytes directories) (sum_by (text_size format) (drop 1 directories) + 1)
 directories_size format directories =
-    size_joined (result_concat name_bytes (drop 1 directories)) (Ok (0 ∷ [])) (sum_by (text_size format) (drop 1 directories)) 1
-    (size_parts name_bytes (text_size format) (name_size format) (drop 1 directories)) (size_of_ok (0 ∷ []))
+    size_joined _ _ _ 1
+    (size_parts _ _ (name_size format) (drop 1 directories)) (size_of_ok (0 ∷ []))
 
 three_lengths : (a b c : List ℕ) (n : ℕ) → n + length (a ++ b ++ c) ≡ n + length a + length b + length c
 three_lengths a b c n =
@@ -45,13 +45,13 @@ one_file_size : (format : Format) (f : File) → HasSize (file_bytes f) (file_si
 one_file_size format f =
     let numbers = uleb f.0.1 ++ uleb f.1.timestamp ++ uleb f.1.size in
     let path = text_size format f.0.0 in
-    size_as (file_bytes f) (path + length numbers) (file_size format f) (three_lengths (uleb f.0.1) (uleb f.1.timestamp) (uleb f.1.size) path)
-    (size_joined (name_bytes f.0.0) (Ok numbers) path (length numbers) (name_size format f.0.0) (size_of_ok numbers))
+    size_as _ _ _ (three_lengths _ _ _ _)
+    (size_joined _ _ _ _ (name_size _ _) (size_of_ok _))
 
 files_size : (format : Format) (files : List File) → HasSize (files_bytes files) (sum_by (file_size format) files + 1)
 files_size format files =
-    size_joined (result_concat file_bytes files) (Ok (0 ∷ [])) (sum_by (file_size format) files) 1
-    (size_parts file_bytes (file_size format) (one_file_size format) files) (size_of_ok (0 ∷ []))
+    size_joined _ _ _ 1
+    (size_parts _ _ (one_file_size format) files) (size_of_ok (0 ∷ []))
 
 -- ---- texts of version 5
 
@@ -61,16 +61,16 @@ nothing_first n = omega arith
 module _ (big : Bool) (format : Format) (texts : StringTables) where
   stored_size : (t : LineText) → HasSize (text_bytes plain big format texts t) (text_size format t)
   stored_size (Inline text) = name_size format (Inline text)
-  stored_size (InStrings i) = format_word_size big format (offset_of texts.strings i)
-  stored_size (InLineStrings i) = format_word_size big format (offset_of texts.line_strings i)
+  stored_size (InStrings i) = format_word_size _ _ _
+  stored_size (InLineStrings i) = format_word_size _ _ _
 
   tested_text : (same : Bool) (t : LineText)
       → HasSize (if same then text_bytes plain big format texts t else Err LineStringFormMismatch) (text_size format t)
   tested_text true t = stored_size t
-  tested_text false t = size_of_none LineStringFormMismatch (text_size format t)
+  tested_text false t = size_of_none _ _
 
   formed_size : (form : ℕ) (t : LineText) → HasSize (text_in_form plain big format texts form t) (text_size format t)
-  formed_size form t = tested_text (nat_eq (text_form t) form) t
+  formed_size form t = tested_text _ t
 
   -- a source that is written, or none
   source_size : (has : Bool) (form : ℕ) (t : LineText)
@@ -78,8 +78,8 @@ module _ (big : Bool) (format : Format) (texts : StringTables) where
       (sum_by (λ (s : ℕ × LineText). text_size format s.1) (if has then (form, t) ∷ [] else []))
   source_size true form t =
       let size = text_size format t in
-      size_as (text_in_form plain big format texts form t) size (0 + size) (nothing_first size) (formed_size form t)
-  source_size false form t = size_of_ok []
+      size_as _ _ _ (nothing_first _) (formed_size _ t)
+  source_size false form t = size_of_ok _
 
 -- ---- tables of version 5
 
@@ -87,9 +87,9 @@ module _ (big : Bool) (format : Format) (texts : StringTables) where
 prefixed_size : (formats number : List ℕ) (rest : Result (List ℕ) Error) (n : ℕ) → HasSize rest n
     → HasSize (result_append (Ok (formats ++ number)) rest) (length formats + length number + n)
 prefixed_size formats number rest n size =
-    size_as (result_append (Ok (formats ++ number)) rest) (length (formats ++ number) + n) (length formats + length number + n)
-    (ap (λ (k : ℕ). k + n) (length-append formats number))
-    (size_joined (Ok (formats ++ number)) rest (length (formats ++ number)) n (size_of_ok (formats ++ number)) size)
+    size_as _ _ _
+    (ap (λ k. k + n) (length-append formats number))
+    (size_joined _ _ _ n (size_of_ok _) size)
 
 path_first : (path details source : ℕ) → path + (details + source) ≡ (path + source) + details
 path_first path details source = omega arith
@@ -119,15 +119,15 @@ module _ (big : Bool) (p : Built) (texts : StringTables) where
       let format = p.encoding.format in
       let form = first_form p.directories in
       prefixed_size (formats_bytes (directory_formats p)) (uleb (length p.directories))
-      (result_concat (text_in_form plain big format texts form) p.directories) (sum_by (text_size format) p.directories)
-      (size_parts (text_in_form plain big format texts form) (text_size format) (formed_size big format texts form) p.directories)
+      _ _
+      (size_parts _ _ (formed_size big format texts form) p.directories)
 
   file_table_size : HasSize (file_table_bytes plain big p.encoding.format texts p)
       (length (formats_bytes (file_formats p)) + length (uleb (length p.files)) + sum_by (entry_size p texts) p.files)
   file_table_size =
       let entry = file_entry_bytes plain big p.encoding.format texts p in
-      prefixed_size (formats_bytes (file_formats p)) (uleb (length p.files)) (result_concat entry p.files) (sum_by (entry_size p texts) p.files)
-      (size_parts entry (entry_size p texts) one_entry_size p.files)
+      prefixed_size (formats_bytes (file_formats p)) (uleb (length p.files)) _ _
+      (size_parts _ _ one_entry_size _)
 
   -- ---- both
 

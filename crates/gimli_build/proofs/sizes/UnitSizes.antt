@@ -22,24 +22,24 @@ use Rattle.gimli_build.proofs.sizes.TableSizes.{tables-size}
 
 version_size : (big : Bool) (version : ℕ) → HasSize (version_bytes big version) 2
 version_size big version =
-    size_as (version_bytes big version) (length (number_bytes big 2 version)) 2 (length-number big 2 version)
-    (size_tested (nat_le 2 version && nat_le version 5) (number_bytes big 2 version) (UnsupportedVersion version))
+    size_as _ _ 2 (length-number _ 2 _)
+    (size_tested _ _ _)
 
 opened_size : (old : Bool) (version : Result (List ℕ) Error) (address_size : ℕ) → HasSize version 2
     → HasSize (result_append version (Ok (if old then [] else address_size ∷ 0 ∷ []))) (if old then 2 else 4)
-opened_size true version address_size size = size_joined version (Ok []) 2 0 size (size_of_ok [])
-opened_size false version address_size size = size_joined version (Ok (address_size ∷ 0 ∷ [])) 2 2 size (size_of_ok (address_size ∷ 0 ∷ []))
+opened_size true version address_size size = size_joined _ _ 2 0 size (size_of_ok _)
+opened_size false version address_size size = size_joined _ _ 2 2 size (size_of_ok _)
 
 opening_size : (big : Bool) (encoding : Encoding) → HasSize (opening_bytes big encoding) (if nat_le encoding.version 4 then 2 else 4)
 opening_size big encoding =
-    opened_size (nat_le encoding.version 4) (version_bytes big encoding.version) encoding.address_size (version_size big encoding.version)
+    opened_size _ _ encoding.address_size (version_size big encoding.version)
 
 -- ---- what the header length counts
 
 operations_size : (fourth one : Bool) (operations : ℕ)
     → HasSize (if fourth then Ok (operations ∷ []) else (if one then Ok [] else Err (NeedVersion 4))) (if fourth then 1 else 0)
-operations_size true one operations = size_of_ok (operations ∷ [])
-operations_size false one operations = size_tested one [] (NeedVersion 4)
+operations_size true one operations = size_of_ok _
+operations_size false one operations = size_tested _ _ _
 
 encoding_count : (fourth : Bool) → 1 + ((if fourth then 1 else 0) + 3) ≡ (if fourth then 5 else 4)
 encoding_count true = refl
@@ -50,17 +50,17 @@ line_encoding_size version e =
     let fourth = nat_le 4 version in
     let operations = operations_bytes version e.maximum_operations_per_instruction in
     let numbers = flag_byte e.default_is_stmt ∷ base_byte e.line_base ∷ e.line_range ∷ [] in
-    size_as (line_encoding_bytes version e) (1 + ((if fourth then 1 else 0) + 3)) (if fourth then 5 else 4) (encoding_count fourth)
-    (size_joined (Ok (e.minimum_instruction_length ∷ [])) (result_append operations (Ok numbers)) 1 ((if fourth then 1 else 0) + 3)
+    size_as _ _ _ (encoding_count _)
+    (size_joined _ _ 1 _
     (size_of_ok (e.minimum_instruction_length ∷ []))
-    (size_joined operations (Ok numbers) (if fourth then 1 else 0) 3
-    (operations_size fourth (nat_eq e.maximum_operations_per_instruction 1) e.maximum_operations_per_instruction) (size_of_ok numbers)))
+    (size_joined _ _ _ 3
+    (operations_size _ _ _) (size_of_ok _)))
 
 three_parts : (a b c : ℕ) → a + (b + c) ≡ a + b + c
 three_parts a b c = omega arith
 
 own_size : (written : Result (List ℕ) Error) → HasSize written (size_of written)
-own_size (Ok own) = size_of_ok own
+own_size (Ok own) = size_of_ok _
 own_size (Err e) = size_of_none e 0
 
 two_and_two : (a b c d : ℕ) → a + ((b + c) + d) ≡ a + b + c + d

@@ -38,10 +38,10 @@ module _ (notation : Notation) (h : Header) (base : h.parameters.opcode_base ≡
 
   each_append : (a b : List ℕ) (is js : List Ins) → Spelled a is → Spelled b js → Spelled (a ++ b) (is ++ js)
   each_append a b [] js p q = rw p q
-  each_append a b (i ∷ is) js p q = (p.0, p.1 ++ b, ap (λ (l : List ℕ). l ++ b) p.2 ∙ append_assoc p.0 p.1 b, p.3, each_append p.1 b is js p.4 q)
+  each_append a b (i ∷ is) js p q = (p.0, p.1 ++ b, ap (λ l. l ++ b) p.2 ∙ append_assoc p.0 p.1 b, p.3, each_append p.1 b is js p.4 q)
 
   each_joined : (a b bytes : List ℕ) (is js : List Ins) → bytes ≡ a ++ b → Spelled a is → Spelled b js → Spelled bytes (is ++ js)
-  each_joined a b bytes is js whole p q = rw whole (each_append a b is js p q)
+  each_joined a b bytes is js whole p q = rw whole (each_append a b _ _ p q)
 
   same_bytes : (a b : List ℕ) → ◌≡◌ {A = Result (List ℕ) Error} (Ok a) (Ok b) → b ≡ a
   same_bytes a b e = let p : a ≡ b = cc in sym p
@@ -86,10 +86,10 @@ pub items-spelled-under : (notation : Notation) (h : Header) (encoding : Encodin
     → AreFit encoding.version items → items_bytes plain notation.big encoding e previous items ≡ Ok bytes
     → Each (SpellsInstruction notation h) bytes (items_instructions encoding.version e previous items)
 items-spelled-under notation h encoding e previous items bytes same base wide can line built fit written =
-    subst (λ (x : Encoding).
+    subst (λ x.
     AreFit x.version items → items_bytes plain notation.big x e previous items ≡ Ok bytes
     → Each (SpellsInstruction notation h) bytes (items_instructions x.version e previous items))
-    same (items-spelled notation h base wide e can previous items bytes line built) fit written
+    same (items-spelled notation h base wide e can _ _ _ line built) fit written
 
 -- what is true of bytes wherever they are written
 pub if_written : (written : Result (List ℕ) Error) (Is : List ℕ → Type 0) → ((bytes : List ℕ) → written ≡ Ok bytes → Is bytes) → IfOk written Is

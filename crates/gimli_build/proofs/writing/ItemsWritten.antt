@@ -36,12 +36,12 @@ pub standing_more : (hand : Hand) (big : Bool) (encoding : Encoding) (e : LineEn
     → Standing hand big encoding e whole old new previous (item ∷ left) → Appends (item_bytes hand big encoding e previous item) new newer
     → Standing hand big encoding e whole old newer (next_previous encoding.version e.default_is_stmt previous item) left
 standing_more hand big encoding e whole old new newer previous item left so more =
-    let a = appended_bytes (item_bytes hand big encoding e previous item) new newer more in
+    let a = appended_bytes _ _ _ more in
     let rest = items_bytes hand big encoding e (next_previous encoding.version e.default_is_stmt previous item) left in
     record {
       done = so.done ++ a.0;
-      written = a.2 ∙ ap (λ (l : List ℕ). l ++ a.0) so.written ∙ append_assoc old so.done a.0;
-      parts = so.parts ∙ ap (λ (r : Result (List ℕ) Error). result_append (Ok so.done) (result_append r rest)) a.1 ∙ joined-joined so.done a.0 rest;
+      written = a.2 ∙ ap (λ l. l ++ a.0) so.written ∙ append_assoc old so.done a.0;
+      parts = so.parts ∙ ap (λ r. result_append (Ok so.done) (result_append r rest)) a.1 ∙ joined-joined _ _ _;
     }
 
 -- a refused item is what refuses
@@ -52,7 +52,7 @@ pub standing_refused : (hand : Hand) (big : Bool) (encoding : Encoding) (e : Lin
 standing_refused hand big encoding e whole old new previous item left d so refused =
     so.parts
     ∙ ap
-    (λ (r : Result (List ℕ) Error). result_append (Ok so.done)
+    (λ r. result_append (Ok so.done)
     (result_append r (items_bytes hand big encoding e (next_previous encoding.version e.default_is_stmt previous item) left)))
     refused
 
@@ -60,7 +60,7 @@ standing_refused hand big encoding e whole old new previous item left d so refus
 pub standing_end : (hand : Hand) (big : Bool) (encoding : Encoding) (e : LineEncoding) (whole : Result (List ℕ) Error) (old new : List ℕ) (previous : LineRow)
     → Standing hand big encoding e whole old new previous [] → Appends whole old new
 standing_end hand big encoding e whole old new previous so =
-    let all : whole ≡ Ok so.done = so.parts ∙ ap (λ (l : List ℕ). let s : Result (List ℕ) Error = Ok l in s) (append-nil so.done) in
+    let all : whole ≡ Ok so.done = so.parts ∙ ap (λ l. let s : Result (List ℕ) Error = Ok l in s) (append-nil so.done) in
     rw all so.written
 
 pub standing_start : (hand : Hand) (big : Bool) (encoding : Encoding) (e : LineEncoding) (old : List ℕ) (previous : LineRow) (items : List BuiltItem)
@@ -68,7 +68,7 @@ pub standing_start : (hand : Hand) (big : Bool) (encoding : Encoding) (e : LineE
 standing_start hand big encoding e old previous items = record {
   done = [];
   written = sym (append-nil old);
-  parts = nothing (items_bytes hand big encoding e previous items);
+  parts = nothing _;
 }
   where
     nothing : (r : Result (List ℕ) Error) → r ≡ result_append (Ok []) r
@@ -93,10 +93,10 @@ written_more {sink = sink} {big = big} {encoding = encoding} {e = e} {whole = wh
   keeps = begins_then _ _ _ so.keeps more.keeps;
   ordered = more.ordered ∙ so.ordered;
   stays = λ completes. more.stays (so.stays completes);
-  held = λ keeps_bytes. standing_more plain big encoding e (whole plain) _ _ _ previous item left (so.held keeps_bytes) (more.ok keeps_bytes);
+  held = λ keeps_bytes. standing_more _ _ _ e _ _ _ _ _ _ _ (so.held keeps_bytes) (more.ok keeps_bytes);
   linked =
       λ at completes.
-      standing_more (sink.hand at) big encoding e (whole (sink.hand at)) _ _ _ previous item left (so.linked at completes)
+      standing_more _ _ _ e _ _ _ _ _ _ _ (so.linked at completes)
       (more.completed at (so.stays completes));
 }
 
@@ -106,25 +106,25 @@ pub items_unwritten : {W X Y : Type 0} {sink : Ghosts W} {old mid new : W} {d : 
     → Written sink big encoding e whole old mid previous (item ∷ left)
     → Writes {X = X} sink mid new (Err d) (λ hand. item_bytes hand big encoding e previous item) → Writes {X = Y} sink old new (Err d) whole
 items_unwritten {sink = sink} {d = d} {big = big} {encoding = encoding} {e = e} {whole = whole} {previous = previous} {item = item} {left = left} so refused =
-    later_unwritten (λ hand. item_bytes hand big encoding e previous item) whole so.keeps so.ordered so.stays
-    (λ keeps_bytes. standing_refused plain big encoding e (whole plain) _ _ previous item left d (so.held keeps_bytes))
-    (λ at completes. standing_refused (sink.hand at) big encoding e (whole (sink.hand at)) _ _ previous item left d (so.linked at completes)) refused
+    later_unwritten _ _ so.keeps so.ordered so.stays
+    (λ keeps_bytes. standing_refused _ _ _ e _ _ _ _ _ _ d (so.held keeps_bytes))
+    (λ at completes. standing_refused _ _ _ e _ _ _ _ _ _ d (so.linked at completes)) refused
 
 -- all items
 pub items_written : {W X : Type 0} {sink : Ghosts W} {old new : W} {x : X} {big : Bool} {encoding : Encoding} {e : LineEncoding}
     {whole : Hand → Result (List ℕ) Error} {previous : LineRow} → Written sink big encoding e whole old new previous [] → Writes sink old new (Ok x) whole
 items_written {sink = sink} {big = big} {encoding = encoding} {e = e} {whole = whole} {previous = previous} so =
-    done_written so.keeps so.ordered so.stays (λ keeps_bytes. standing_end plain big encoding e (whole plain) _ _ previous (so.held keeps_bytes))
-    (λ at completes. standing_end (sink.hand at) big encoding e (whole (sink.hand at)) _ _ previous (so.linked at completes))
+    done_written so.keeps so.ordered so.stays (λ keeps_bytes. standing_end _ _ _ e _ _ _ _ (so.held keeps_bytes))
+    (λ at completes. standing_end _ _ _ e _ _ _ _ (so.linked at completes))
 
 pub none_standing : {W : Type 0} (sink : Ghosts W) (big : Bool) (encoding : Encoding) (e : LineEncoding) (old : W) (previous : LineRow) (items : List BuiltItem)
     → Written sink big encoding e (λ hand. items_bytes hand big encoding e previous items) old old previous items
 none_standing sink big encoding e old previous items = record {
-  keeps = begins_self (sink.contents old);
+  keeps = begins_self _;
   ordered = refl;
   stays = λ completes. completes;
-  held = λ keeps_bytes. standing_start plain big encoding e (sink.contents old) previous items;
-  linked = λ at completes. standing_start (sink.hand at) big encoding e (sink.completed at old) previous items;
+  held = λ keeps_bytes. standing_start _ _ _ e _ _ _;
+  linked = λ at completes. standing_start _ _ _ e _ _ _;
 }
 
 -- where the walk is, and what is left can still be built

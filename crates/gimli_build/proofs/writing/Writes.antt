@@ -62,8 +62,8 @@ refused_for old new before after f so = record { ok = tt; err = or_wanted f so.e
 leaves_joined : {X Y : Type 0} {Own : Error → Type 0} {x : X} {r : Result Y Error} (a b : Result (List ℕ) Error) (old mid new : List ℕ)
     → Leaves Own (let s : Result X Error = Ok x in s) a old mid → Leaves Own r b mid new → Leaves Own r (result_append a b) old new
 leaves_joined {r = r} a b old mid new first second = record {
-  ok = on_ok r (appends_joined a b old mid new first.ok) second.ok;
-  err = if_err r (λ e. or_wanted (second_refused a b old mid e first.ok)) second.err;
+  ok = on_ok r (appends_joined a b _ _ _ first.ok) second.ok;
+  err = if_err r (λ e. or_wanted (second_refused a b _ _ e first.ok)) second.err;
 }
 
 pub joins : {W X Y : Type 0} {sink : Ghosts W} {old mid new : W} {x : X} {r : Result Y Error} {a b : Hand → Result (List ℕ) Error}
@@ -75,13 +75,13 @@ joins {sink = sink} {a = a} {b = b} first second =
       keeps = begins_then _ _ _ first.keeps second.keeps;
       ordered = second.ordered ∙ first.ordered;
       stays = λ completes. second.stays (first.stays completes);
-      held = λ keeps_bytes. leaves_joined (a plain) (b plain) _ _ _ (one.held keeps_bytes) (other.held keeps_bytes);
+      held = λ keeps_bytes. leaves_joined _ _ _ _ _ (one.held keeps_bytes) (other.held keeps_bytes);
       memory =
           λ keeps_bytes memory_alone.
-          leaves_joined (a plain) (b plain) _ _ _ (one.memory keeps_bytes memory_alone) (other.memory keeps_bytes memory_alone);
+          leaves_joined _ _ _ _ _ (one.memory keeps_bytes memory_alone) (other.memory keeps_bytes memory_alone);
       linked =
           λ at completes.
-          leaves_joined (a (sink.hand at)) (b (sink.hand at)) _ _ _ (one.linked at completes) (other.linked at (first.stays completes));
+          leaves_joined _ _ _ _ _ (one.linked at completes) (other.linked at (first.stays completes));
     })
 
 -- what is wanted, said otherwise
@@ -102,7 +102,7 @@ wanted_alike {sink = sink} {old = old} {new = new} {r = r} same so =
 
 for_it : (wanted : Result (List ℕ) Error) (e : Error) → Refuses wanted e → (e ≡ OutOfMemory) ⊎ (wanted ≡ Err e)
 for_it (Ok bytes) e memory = inl memory
-for_it (Err d) e is = inr (ap (λ (x : Error). let s : Result (List ℕ) Error = Err x in s) (sym is))
+for_it (Err d) e is = inr (ap (λ x. let s : Result (List ℕ) Error = Err x in s) (sym is))
 
 -- a call of the writer itself
 pub writes : {W X : Type 0} {sink : Ghosts W} {old new : W} {r : Result X Error} (wanted : Hand → Result (List ℕ) Error)
@@ -112,7 +112,7 @@ writes {r = r} wanted append = record {
   ordered = append.ordered;
   stays = append.stays;
   ok = append.ok;
-  err = λ keeps_bytes memory_alone. if_err r (for_it (wanted plain)) (append.err memory_alone);
+  err = λ keeps_bytes memory_alone. if_err r (for_it _) (append.err memory_alone);
   own = λ keeps_bytes. append.own;
   completed = append.completed;
   completed_own = append.completed_own;
@@ -121,7 +121,7 @@ writes {r = r} wanted append = record {
 -- the same bytes, said otherwise
 pub same_bytes : {W X : Type 0} {sink : Ghosts W} {old new : W} {r : Result X Error} {xs ys : List ℕ} → xs ≡ ys → Writes sink old new r (always (Ok xs))
     → Writes sink old new r (always (Ok ys))
-same_bytes {sink = sink} {old = old} {new = new} {r = r} same so = subst (λ (l : List ℕ). Writes sink old new r (always (Ok l))) same so
+same_bytes {sink = sink} {old = old} {new = new} {r = r} same so = subst (λ l. Writes sink old new r (always (Ok l))) same so
 
 -- what is there of all
 pub done_written : {W X : Type 0} {sink : Ghosts W} {old new : W} {y : X} {wanted : Hand → Result (List ℕ) Error}
@@ -148,7 +148,7 @@ answered so = done_written so.keeps so.ordered so.stays so.ok so.completed
 -- where nothing is wanted, nothing is called
 pub none_called : {W X : Type 0} {sink : Ghosts W} {w : W} {x : X} → Writes sink w w (Ok x) (always (Ok []))
 none_called {sink = sink} {w = w} =
-    done_written (begins_self (sink.contents w)) refl (λ completes. completes) (λ keeps_bytes. sym (append-nil (sink.contents w)))
+    done_written (begins_self _) refl (λ completes. completes) (λ keeps_bytes. sym (append-nil (sink.contents w)))
     (λ at completes. sym (append-nil (sink.completed at w)))
 
 -- ---- refused
@@ -175,7 +175,7 @@ only_unwritten : {W X Y : Type 0} {sink : Ghosts W} {old new : W} {e : Error} (p
     → ((hand : Hand) → part hand ≡ Err e → whole hand ≡ Err e)
     → Writes {X = X} sink old new (Err e) part → Writes {X = Y} sink old new (Err e) whole
 only_unwritten {sink = sink} {old = old} part whole why refused =
-    later_unwritten part whole (begins_self (sink.contents old)) refl (λ completes. completes) (λ keeps_bytes. why plain)
+    later_unwritten _ _ (begins_self _) refl (λ completes. completes) (λ keeps_bytes. why plain)
     (λ at completes. why (sink.hand at)) refused
 
 -- before anything is known of what is wanted after it
@@ -183,7 +183,7 @@ pub first_unwritten : {W X Y : Type 0} {sink : Ghosts W} {old new : W} {e : Erro
     → Writes {X = X} sink old new (Err e) a
     → Writes {X = Y} sink old new (Err e) (λ hand. result_append (a hand) (b hand))
 first_unwritten {e = e} {a = a} b refused =
-    only_unwritten a (λ hand. result_append (a hand) (b hand)) (λ hand. first_refused (a hand) (b hand) e) refused
+    only_unwritten a _ (λ hand. first_refused _ _ e) refused
 
 -- where bytes are wanted, for memory, or as the writer refuses, whatever is wanted of the whole
 never : {A : Type 0} {e : Error} {xs : List ℕ} → (let r : Result (List ℕ) Error = Ok xs in r) ≡ Err e → A
@@ -191,7 +191,7 @@ never is = absurd cc
 
 pub bytes_unwritten : {W X Y : Type 0} {sink : Ghosts W} {old new : W} {e : Error} {xs : List ℕ} {wanted : Hand → Result (List ℕ) Error}
     → Writes {X = X} sink old new (Err e) (always (Ok xs)) → Writes {X = Y} sink old new (Err e) wanted
-bytes_unwritten {xs = xs} {wanted = wanted} refused = only_unwritten (always (Ok xs)) wanted (λ hand. never) refused
+bytes_unwritten {xs = xs} {wanted = wanted} refused = only_unwritten _ _ (λ hand. never) refused
 
 pub refused_alike : {W X Y : Type 0} {sink : Ghosts W} {old new : W} {e : Error} {xs : List ℕ} (ys : List ℕ)
     → Writes {X = X} sink old new (Err e) (always (Ok xs)) → Writes {X = Y} sink old new (Err e) (always (Ok ys))
@@ -214,7 +214,7 @@ pub unwritten : {W X Y Z : Type 0} {sink : Ghosts W} {old mid new : W} {x : X} {
     (zs : List ℕ) → Writes sink old mid (Ok x) first_wanted → Writes {X = Y} sink mid new (Err e) (always (Ok ys))
     → Writes {X = Z} sink old new (Err e) (always (Ok zs))
 unwritten {ys = ys} zs first refused =
-    later_unwritten (always (Ok ys)) (always (Ok zs)) first.keeps first.ordered first.stays (λ keeps_bytes. never) (λ at completes. never) refused
+    later_unwritten _ _ first.keeps first.ordered first.stays (λ keeps_bytes. never) (λ at completes. never) refused
 
 -- what a length counts
 pub counted_unwritten : {W X Y : Type 0} {sink : Ghosts W} {old mid new : W} {e : Error} {body : Hand → Result (List ℕ) Error}
@@ -222,7 +222,7 @@ pub counted_unwritten : {W X Y : Type 0} {sink : Ghosts W} {old mid new : W} {e 
     → (IsTrue (sink.completes old) → IsTrue (sink.completes mid)) → Writes {X = X} sink mid new (Err e) body
     → Writes {X = Y} sink old new (Err e) (λ hand. after_length full (body hand))
 counted_unwritten {body = body} full begins same stays refused =
-    later_unwritten body (λ hand. after_length full (body hand)) begins same stays (λ keeps_bytes. ap (after_length full))
+    later_unwritten _ _ begins same stays (λ keeps_bytes. ap (after_length full))
     (λ at completes. ap (after_length full)) refused
 
 -- ---- the parts of a list
@@ -238,11 +238,11 @@ pub record WritesSoFar {W A : Type 0} (sink : Ghosts W) (part : Hand → A → R
 pub none_written : {W A : Type 0} (sink : Ghosts W) (part : Hand → A → Result (List ℕ) Error) (all : List A) (old : W)
     → WritesSoFar sink part all all old old
 none_written sink part all old = record {
-  keeps = begins_self (sink.contents old);
+  keeps = begins_self _;
   ordered = refl;
   stays = λ completes. completes;
-  held = λ keeps_bytes. none_so_far (part plain) all (sink.contents old);
-  linked = λ at completes. none_so_far (part (sink.hand at)) all (sink.completed at old);
+  held = λ keeps_bytes. none_so_far _ _ _;
+  linked = λ at completes. none_so_far _ _ _;
 }
 
 pub one_written : {W A X : Type 0} {sink : Ghosts W} {part : Hand → A → Result (List ℕ) Error} {all left : List A} {x : A} {old mid new : W} {y : X}
@@ -251,23 +251,23 @@ one_written {sink = sink} {part = part} {all = all} {left = left} {x = x} so mor
   keeps = begins_then _ _ _ so.keeps more.keeps;
   ordered = more.ordered ∙ so.ordered;
   stays = λ completes. more.stays (so.stays completes);
-  held = λ keeps_bytes. one_more (part plain) all left x _ _ _ (so.held keeps_bytes) (more.ok keeps_bytes);
-  linked = λ at completes. one_more (part (sink.hand at)) all left x _ _ _ (so.linked at completes) (more.completed at (so.stays completes));
+  held = λ keeps_bytes. one_more _ _ _ x _ _ _ (so.held keeps_bytes) (more.ok keeps_bytes);
+  linked = λ at completes. one_more _ _ _ x _ _ _ (so.linked at completes) (more.completed at (so.stays completes));
 }
 
 pub one_unwritten : {W A X Y : Type 0} {sink : Ghosts W} {part : Hand → A → Result (List ℕ) Error} {all left : List A} {x : A} {old mid new : W} {e : Error}
     → WritesSoFar sink part all (x ∷ left) old mid → Writes {X = X} sink mid new (Err e) (λ hand. part hand x)
     → Writes {X = Y} sink old new (Err e) (λ hand. result_concat (part hand) all)
 one_unwritten {sink = sink} {part = part} {all = all} {left = left} {x = x} {e = e} so refused =
-    later_unwritten (λ hand. part hand x) (λ hand. result_concat (part hand) all) so.keeps so.ordered so.stays
-    (λ keeps_bytes. part_refused (part plain) all left x _ _ e (so.held keeps_bytes))
-    (λ at completes. part_refused (part (sink.hand at)) all left x _ _ e (so.linked at completes)) refused
+    later_unwritten _ _ so.keeps so.ordered so.stays
+    (λ keeps_bytes. part_refused _ _ _ x _ _ e (so.held keeps_bytes))
+    (λ at completes. part_refused _ _ _ x _ _ e (so.linked at completes)) refused
 
 pub all_written : {W A X : Type 0} {sink : Ghosts W} {part : Hand → A → Result (List ℕ) Error} {all : List A} {old new : W} {y : X}
     → WritesSoFar sink part all [] old new → Writes sink old new (Ok y) (λ hand. result_concat (part hand) all)
 all_written {sink = sink} {part = part} {all = all} so =
-    done_written so.keeps so.ordered so.stays (λ keeps_bytes. all_done (part plain) all _ _ (so.held keeps_bytes))
-    (λ at completes. all_done (part (sink.hand at)) all _ _ (so.linked at completes))
+    done_written so.keeps so.ordered so.stays (λ keeps_bytes. all_done _ _ _ _ (so.held keeps_bytes))
+    (λ at completes. all_done _ _ _ _ (so.linked at completes))
 
 -- ---- a call that may be refused for memory of its own
 
@@ -305,7 +305,7 @@ refused_or_memory so = record {
 pub nothing_written : {W X : Type 0} (sink : Ghosts W) (w : W) (e : Error) (wanted : Hand → Result (List ℕ) Error)
     → ((hand : Hand) → (e ≡ OutOfMemory) ⊎ (wanted hand ≡ Err e)) → WritesOr {X = X} sink (OfMemoryOr sink.refuses) w w (Err e) wanted
 nothing_written sink w e wanted why = record {
-  keeps = begins_self (sink.contents w);
+  keeps = begins_self _;
   ordered = refl;
   stays = λ completes. completes;
   ok = λ keeps_bytes. tt;

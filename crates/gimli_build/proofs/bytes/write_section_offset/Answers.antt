@@ -6,4 +6,4 @@ use Rattle.gimli_build.proofs.bytes.write_section_offset.Goals as goal
 pub returns : goal.returns
 returns g c =
     let put = rw c.word_size.ensures at c.write_offset.ensures in
-    writes (λ (hand : Hand). hand.offset (g.W.Sink.big c.args.w.now) c.args.section c.args.offset (word_size c.args.format)) put
+    writes _ put

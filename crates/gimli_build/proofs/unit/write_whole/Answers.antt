@@ -4,6 +4,7 @@ use Rattle.gimli_bytes.specs.Number.{length_word, open_length, escape_size}
 use Rattle.gimli_bytes.specs.Hand.{Hand, plain}
 use Rattle.gimli_bytes.specs.Written.{Appends}
 use Rattle.gimli_bytes.specs.declared.error.Error.{Error}
+use Rattle.gimli_bytes.specs.declared.error.Error.TheVariants.{OutOfMemory}
 use Rattle.gimli_bytes.specs.Texts.{texts_in}
 use Rattle.gimli_build.specs.Joined.{result_append}
 use Rattle.gimli_build.specs.Unit.{escape_bytes, inside_bytes}
@@ -31,13 +32,13 @@ returns-clause-writes g c =
     let whole : ℕ → Result (List ℕ) Error = λ k. result_append (Ok (escape_bytes big format)) (length_word big format k) in
     let bytes = λ (hand : Hand). inside_bytes hand big c.args.program.now (texts_in c.args.strings.now c.args.line_strings.now) in
     let ordered = inside.ordered ∙ opening.appends.ordered in
-    let framed = λ (hand : Hand) (old c1 c2 c3 : List ℕ) (opens : c1 ≡ old ++ open_length big format)
+    let framed = λ (own : Error → Type 0) (hand : Hand) (old c1 c2 c3 : List ℕ) (opens : c1 ≡ old ++ open_length big format)
     (at : c.in_ok-length.length.0 ≡ length old + escape_size format) (written : Appends (bytes hand) c1 c2) (counted : n ≡ length c2 - length c1).
     framed_leaves whole (length_word big format) (escape_bytes big format) (open_word big format) old c1 c2 c3 c.in_ok-length.length.0 n (bytes hand)
     (λ k. refl) (opens ∙ ap (λ l. old ++ l) (escape_is big format) ∙ sym (append_assoc old (escape_bytes big format) (open_word big format)))
-    (at ∙ ap (λ k. length old + k) (sym (escape_long big format))) written counted (λ word is. length_word_long big format n word is) in
-    let held = λ (keeps_bytes : IsTrue sink.keeps_bytes).
-    framed plain (contents c.args.w.now) (contents opened) (contents filled) (contents closed)
+    (at ∙ ap (λ k. length old + k) (sym (escape_long big format))) written counted (λ word is. length_word_long big format n word is) {Own = own} {r = c.write_initial_length_at.result} in
+    let held = λ (own : Error → Type 0) (keeps_bytes : IsTrue sink.keeps_bytes).
+    framed own plain (contents c.args.w.now) (contents opened) (contents filled) (contents closed)
     (rw c.format-format.ensures at (opening.appends.ok keeps_bytes)) (rw c.format-format.ensures at (opening.place keeps_bytes))
     (rw opening.appends.ordered at (inside.ok keeps_bytes)) (omega (arith, c.len.ensures.contents, c.len-start.ensures.contents)) in
     writes_in (record {
@@ -46,12 +47,12 @@ returns-clause-writes g c =
           (begins_then _ _ _ opening.appends.keeps inside.keeps) opening.after call.before;
       ordered = call.ordered ∙ ordered;
       stays = λ completes. call.stays (inside.stays (there completes));
-      held = λ keeps_bytes. held keeps_bytes (rw (ordered, c.format-format.ensures) at (call.ok keeps_bytes))
+      held = λ keeps_bytes. held sink.refuses keeps_bytes (rw (ordered, c.format-format.ensures) at (call.ok keeps_bytes))
           (rw (ordered, c.format-format.ensures) at call.own);
-      memory = λ keeps_bytes memory_alone. held keeps_bytes (rw (ordered, c.format-format.ensures) at (call.ok keeps_bytes))
+      memory = λ keeps_bytes memory_alone. held (λ e. e ≡ OutOfMemory) keeps_bytes (rw (ordered, c.format-format.ensures) at (call.ok keeps_bytes))
           (if_err c.write_initial_length_at.result (λ e. inr) (rw (ordered, c.format-format.ensures) at (call.err memory_alone)));
       linked = λ at completes.
-          framed (sink.hand at) (sink.completed at c.args.w.now) (sink.completed at opened) (sink.completed at filled) (sink.completed at closed)
+          framed sink.refuses (sink.hand at) (sink.completed at c.args.w.now) (sink.completed at opened) (sink.completed at filled) (sink.completed at closed)
           (rw c.format-format.ensures at (opening.appends.completed at completes)) (rw c.format-format.ensures at (opening.completed at completes))
           (rw opening.appends.ordered at (inside.completed at (there completes)))
           (omega (arith, c.len.ensures.completed at (inside.stays (there completes)), c.len-start.ensures.completed at (there completes)))

@@ -15,8 +15,8 @@ loop-item-init g c =
       fit = tt;
       way = rw c.initial-initial.ensures (record { position = start_position e c.requires.can; line = lit< tt; built = c.requires.built });
       so =
-          rw c.initial-initial.ensures (none_standing g.W.Sink (g.W.Sink.big c.args.w.now) c.args.encoding e c.args.w.now
-          (initial_row c.args.encoding.version e.default_is_stmt) c.args.items.now);
+          rw c.initial-initial.ensures (none_standing _ _ _ e _
+          _ _);
     }
 
 pub loop-item-preserved : goal.loop-item-preserved
@@ -28,15 +28,15 @@ loop-item-preserved g c =
     let i = c.loop-item.item-index in
     let previous = at_position c.loop-item.position c.loop-item.previous.now in
     let lt : i < length items = omega arith in
-    let split = next_left items i item lt c.item-item.is in
+    let split = next_left _ i _ lt c.item-item.is in
     let way = rw split at c.loop-item.invariant.way in
     let so = rw split at c.loop-item.invariant.so in
     let next = c.next_row-next.ensures version e.default_is_stmt c.loop-item.position c.initial-initial.ensures in
     let moved : at_position c.position-next_position.result c.next_row-next.result.now ≡ next_previous version e.default_is_stmt previous item =
-    ap (λ (p : ℕ × ℕ). at_position p c.next_row-next.result.now) c.position-next_position.ensures ∙ next in
+    ap (λ p. at_position p c.next_row-next.result.now) c.position-next_position.ensures ∙ next in
     record {
-      fit = rw (taken_next items i item lt c.item-item.is) (fit_more version (take i items) item c.loop-item.invariant.fit c.in_ok-write_item.ensures.fit);
-      way = rw moved (way_on version e c.requires.can previous item (drop (i + 1) items) way);
+      fit = rw (taken_next items i item lt c.item-item.is) (fit_more _ _ _ c.loop-item.invariant.fit c.in_ok-write_item.ensures.fit);
+      way = rw moved (way_on _ e c.requires.can _ _ _ way);
       so = rw moved (written_more so (rw so.ordered at c.in_ok-write_item.ensures.writes));
     }
 

@@ -31,7 +31,7 @@ returns-in_err-write_byte-2 g c =
 pub returns : goal.returns
 returns g c =
     let put = c.in_ok-write_uleb128.ensures.appends in
-    let second = rw (c.bytes.ensures, c.unsigned-operand.ensures) at (writes (always (Ok (uleb (length c.bytes.result.now + 1)))) put) in
+    let second = rw (c.bytes.ensures, c.unsigned-operand.ensures) at (writes _ put) in
     let last = c.write.ensures in
-    let fourth = rw (c.bytes-2.ensures, c.unsigned-operand.ensures) at (writes (always (Ok c.bytes-2.result.now)) last) in
+    let fourth = rw (c.bytes-2.ensures, c.unsigned-operand.ensures) at (writes _ last) in
     joins c.in_ok-write_byte.ensures (joins second (joins c.in_ok-write_byte-2.ensures fourth))

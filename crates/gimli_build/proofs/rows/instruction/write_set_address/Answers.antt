@@ -13,12 +13,12 @@ returns g c =
     let size = c.args.size in
     let first = c.in_ok-write_byte.ensures in
     let put = c.in_ok-write_uleb128.ensures.appends in
-    let second = rw c.from.ensures at (writes (always (Ok (uleb (c.from.result + 1)))) put) in
+    let second = rw c.from.ensures at (writes _ put) in
     let third = c.in_ok-write_byte-2.ensures in
     let last = c.write_address.ensures in
-    let address = writes (λ (hand : Hand). hand.address (big c.write_byte-2.new.w) c.args.address.now size) last in
+    let address = writes _ last in
     let fourth = rw (third.ordered ∙ put.ordered ∙ first.ordered) at address in
-    wanted_alike (λ (hand : Hand). address_parts (uleb (size + 1)) (hand.address (big c.args.w.now) c.args.address.now size))
+    wanted_alike (λ hand. address_parts _ _)
     (joins first (joins second (joins third fourth)))
 
 pub returns-in_err-write_byte : goal.returns-in_err-write_byte

@@ -13,7 +13,7 @@ use Rattle.gimli_build.proofs.writing.Writes.{none_written, one_written, one_unw
 use Rattle.gimli_build.proofs.tables.version_4.write_each_file.Goals as goal
 
 pub loop-index-init : goal.loop-index-init
-loop-index-init g c = record { so = none_written g.W.Sink (λ (hand : Hand). file_bytes) c.args.tables.now.files c.args.w.now; fit = All-nil FitsFile }
+loop-index-init g c = record { so = none_written _ _ _ _; fit = All-nil FitsFile }
 
 pub returns-in_err-write_file-clause-writes : goal.returns-in_err-write_file-clause-writes
 returns-in_err-write_file-clause-writes g c =
@@ -33,7 +33,7 @@ loop-index-preserved g c =
     record {
       so = one_written so c.in_ok-write_file.ensures.writes;
       fit =
-          rw (taken_at files i file c.file-directory.ensures) (All-push FitsFile (take i files) file c.loop-index.invariant.fit c.in_ok-write_file.ensures.fit);
+          rw (taken_at files i file c.file-directory.ensures) (All-push FitsFile _ _ c.loop-index.invariant.fit c.in_ok-write_file.ensures.fit);
     }
 
 pub returns-clause-writes : goal.returns-clause-writes

@@ -9,7 +9,7 @@ use Rattle.gimli_build.proofs.writing.Writes.{none_written, one_written, one_unw
 use Rattle.gimli_build.proofs.tables.version_4.write_names.Goals as goal
 
 pub loop-name-init : goal.loop-name-init
-loop-name-init g c = record { so = none_written g.W.Sink (λ (hand : Hand). name_bytes) (map line_text c.args.names.now) c.args.w.now }
+loop-name-init g c = record { so = none_written _ _ _ _ }
 
 pub returns-in_err-write_name : goal.returns-in_err-write_name
 returns-in_err-write_name g c =

@@ -45,5 +45,5 @@ returns-in_err-write_number_if-2-clause-writes g c =
 pub returns-clause-writes : goal.returns-clause-writes
 returns-clause-writes g c =
     let put = c.in_ok-write_uleb128.ensures.appends in
-    let first = rw c.index.ensures at (writes (always (Ok (uleb c.index.result))) put) in
+    let first = rw c.index.ensures at (writes _ put) in
     rw (← c.program.view_is) (joins (joins (joins first c.in_ok-write_number_if.ensures) c.in_ok-write_number_if-2.ensures) c.write_digest_if.ensures)

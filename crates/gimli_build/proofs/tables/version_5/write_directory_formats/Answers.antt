@@ -12,8 +12,8 @@ returns g c =
     let format = uleb 0x0001 ++ uleb c.args.form.0 in
     let count = uleb c.args.count in
     let last = c.write_uleb128.ensures.appends in
-    let third = writes (always (Ok count)) last in
-    same_bytes (ap (λ (l : List ℕ). (1 ∷ l) ++ count) (sym (append-nil format)))
+    let third = writes _ last in
+    same_bytes (ap (λ l. (1 ∷ l) ++ count) (sym (append-nil format)))
     (joins (joins c.in_ok-write_byte.ensures c.in_ok-write_format.ensures) third)
 
 pub returns-in_err-write_byte : goal.returns-in_err-write_byte

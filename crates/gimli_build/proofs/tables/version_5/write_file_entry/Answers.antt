@@ -8,7 +8,7 @@ use Rattle.gimli_build.proofs.tables.version_5.write_file_entry.Goals as goal
 
 pub returns-clause-writes : goal.returns-clause-writes
 returns-clause-writes g c =
-    let form = c.path_form-form.ensures ∙ ap (λ (files : List File). first_form (path_texts files)) c.tables.ensures.files in
+    let form = c.path_form-form.ensures ∙ ap (λ files. first_form (path_texts files)) c.tables.ensures.files in
     let first = rw (form, c.format.ensures) at c.in_ok-write_line_string.ensures in
     let third = rw (c.in_ok-write_details.ensures.writes.ordered ∙ c.in_ok-write_line_string.ensures.ordered) at c.write_source.ensures in
     joins first (joins c.in_ok-write_details.ensures.writes third)

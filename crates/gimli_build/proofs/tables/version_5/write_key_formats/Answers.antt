@@ -12,7 +12,7 @@ returns g c =
     let p = c.args.program.now in
     let path = first_form (path_texts p.files) in
     let first = rw c.format_count.ensures at c.in_ok-write_byte.ensures in
-    let form = c.path_form.ensures ∙ ap (λ (files : List File). first_form (path_texts files)) c.tables.ensures.files in
+    let form = c.path_form.ensures ∙ ap (λ files. first_form (path_texts files)) c.tables.ensures.files in
     let second = rw form at c.in_ok-write_format.ensures in
     same_bytes (sym (append_assoc (length (file_formats p) ∷ (uleb 0x0001 ++ uleb path)) (uleb 0x0002) (uleb 0x0f)))
     (joins (joins first second) c.write_format-2.ensures)

@@ -13,14 +13,14 @@ pub write_line_string-requires : goal.write_line_string-requires
 write_line_string-requires g c =
     let texts = c.args.texts.now in
     let lt : c.loop-text.text-index < length texts = omega arith in
-    all_seen (IsWithin (texts_in c.args.strings.now c.args.line_strings.now)) line_text texts c.loop-text.text-index c.text-item.result lt c.text-item.is
+    all_seen (IsWithin (texts_in c.args.strings.now c.args.line_strings.now)) _ _ _ _ lt c.text-item.is
     c.requires
 
 pub loop-text-init : goal.loop-text-init
 loop-text-init g c =
     let part =
     λ (hand : Hand). text_in_form hand (g.W.Sink.big c.args.w.now) c.args.format (texts_in c.args.strings.now c.args.line_strings.now) c.args.form.0 in
-    record { so = none_written g.W.Sink part (map line_text c.args.texts.now) c.args.w.now }
+    record { so = none_written _ _ _ _ }
 
 pub returns-in_err-write_line_string : goal.returns-in_err-write_line_string
 returns-in_err-write_line_string g c =

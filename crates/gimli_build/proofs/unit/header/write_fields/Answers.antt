@@ -9,7 +9,7 @@ pub returns-clause-writes : goal.returns-clause-writes
 returns-clause-writes g c =
     let first = rw (c.version.ensures, c.line_encoding.ensures) at c.in_ok-write_line_encoding.ensures in
     let put = c.in_ok-write.ensures in
-    let second = writes (always (Ok opcode_bytes)) put in
+    let second = writes _ put in
     let third = rw (put.ordered ∙ first.ordered) at c.write_tables.ensures.writes in
     joins first (joins second third)
 

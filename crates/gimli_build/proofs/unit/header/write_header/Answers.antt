@@ -4,6 +4,7 @@ use Rattle.std.proofs.lemmas.List.{append-nil}
 use Rattle.gimli_bytes.specs.Hand.{Hand, plain}
 use Rattle.gimli_bytes.specs.Written.{Appends}
 use Rattle.gimli_bytes.specs.declared.error.Error.{Error}
+use Rattle.gimli_bytes.specs.declared.error.Error.TheVariants.{OutOfMemory}
 use Rattle.gimli_bytes.specs.Texts.{texts_in}
 use Rattle.gimli_build.specs.FormatWord.{format_word}
 use Rattle.gimli_build.specs.Unit.{fields_bytes}
@@ -35,12 +36,12 @@ returns-clause-writes g c =
     let bytes = λ (hand : Hand). fields_bytes hand big c.args.program.now (texts_in c.args.strings.now c.args.line_strings.now) in
     let ordered = fields.ordered ∙ zero.ordered in
     let le : length (contents c.args.w.now) ≤ start = omega (arith, c.len-length.ensures.contents) in
-    let framed = λ (hand : Hand) (old c1 c2 c3 : List ℕ) (opens : c1 ≡ old ++ open_word big format) (at : start ≡ length old + 0)
+    let framed = λ (own : Error → Type 0) (hand : Hand) (old c1 c2 c3 : List ℕ) (opens : c1 ≡ old ++ open_word big format) (at : start ≡ length old + 0)
     (written : Appends (bytes hand) c1 c2) (counted : n ≡ length c2 - length c1).
     framed_leaves word word [] (open_word big format) old c1 c2 c3 start n (bytes hand) (λ k. no_escape (word k))
-    (opens ∙ ap (λ (l : List ℕ). l ++ open_word big format) (sym (append-nil old))) at written counted (λ w is. header_word_long big format n w is) in
-    let held = λ (keeps_bytes : IsTrue sink.keeps_bytes).
-    framed plain (contents c.args.w.now) (contents opened) (contents filled) (contents closed)
+    (opens ∙ ap (λ (l : List ℕ). l ++ open_word big format) (sym (append-nil old))) at written counted (λ w is. header_word_long big format n w is) {Own = own} {r = c.write_udata_at.result} in
+    let held = λ (own : Error → Type 0) (keeps_bytes : IsTrue sink.keeps_bytes).
+    framed own plain (contents c.args.w.now) (contents opened) (contents filled) (contents closed)
     (rw (c.word_size-size.ensures, c.format.ensures, zero_word big format) at (zero.ok keeps_bytes)) (omega (arith, c.len-length.ensures.contents))
     (rw zero.ordered at (fields.ok keeps_bytes)) (omega (arith, c.len.ensures.contents, c.len-start.ensures.contents)) in
     writes_in (record {
@@ -48,12 +49,12 @@ returns-clause-writes g c =
           begins_before (contents c.args.w.now) (contents filled) (contents closed) start (begins_then _ _ _ zero.keeps fields.keeps) le call.before;
       ordered = call.ordered ∙ ordered;
       stays = λ completes. call.stays (fields.stays (there completes));
-      held = λ keeps_bytes. held keeps_bytes (rw (ordered, c.word_size-size.ensures, c.format.ensures, known) at (call.ok keeps_bytes))
+      held = λ keeps_bytes. held sink.refuses keeps_bytes (rw (ordered, c.word_size-size.ensures, c.format.ensures, known) at (call.ok keeps_bytes))
           (rw (ordered, c.word_size-size.ensures, c.format.ensures, known) at call.own);
-      memory = λ keeps_bytes memory_alone. held keeps_bytes (rw (ordered, c.word_size-size.ensures, c.format.ensures, known) at (call.ok keeps_bytes))
+      memory = λ keeps_bytes memory_alone. held (λ e. e ≡ OutOfMemory) keeps_bytes (rw (ordered, c.word_size-size.ensures, c.format.ensures, known) at (call.ok keeps_bytes))
           (if_err c.write_udata_at.result (λ e. inr) (rw (ordered, c.word_size-size.ensures, c.format.ensures, known) at (call.err memory_alone)));
       linked = λ at completes.
-          framed (sink.hand at) (sink.completed at c.args.w.now) (sink.completed at opened) (sink.completed at filled) (sink.completed at closed)
+          framed sink.refuses (sink.hand at) (sink.completed at c.args.w.now) (sink.completed at opened) (sink.completed at filled) (sink.completed at closed)
           (rw (c.word_size-size.ensures, c.format.ensures, zero_word big format) at (zero.completed at completes))
           (omega (arith, c.len-length.ensures.completed at completes)) (rw zero.ordered at (fields.completed at (there completes)))
           (omega (arith, c.len.ensures.completed at (fields.stays (there completes)), c.len-start.ensures.completed at (there completes)))

@@ -7,5 +7,5 @@ use Rattle.gimli_build.proofs.built.line_program.LineProgram.end_sequence.Goals 
 
 pub invariant_of-self-2 : goal.invariant_of-self-2
 invariant_of-self-2 c =
-    let can = subst (λ (p : Built). CanEndSequence p c.args.address_offset) (sym c.self.view_is) c.requires.can in
-    rw c.in_ok-push.ensures.ok (item_pushed c.self.inside.items (End c.args.address_offset c.self.inside.row.op_index) c.self.invariant can)
+    let can = subst (λ p. CanEndSequence p c.args.address_offset) (sym c.self.view_is) c.requires.can in
+    rw c.in_ok-push.ensures.ok (item_pushed _ _ c.self.invariant can)

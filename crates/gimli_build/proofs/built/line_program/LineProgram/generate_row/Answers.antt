@@ -7,5 +7,5 @@ use Rattle.gimli_build.proofs.built.line_program.LineProgram.generate_row.Goals 
 
 pub invariant_of-self-2 : goal.invariant_of-self-2
 invariant_of-self-2 c =
-    let can = subst (λ (p : Built). CanGenerateRow p) (sym c.self.view_is) c.requires.can in
-    rw c.in_ok-push.ensures.ok (item_pushed c.self.inside.items (Row c.self.inside.row) c.self.invariant can)
+    let can = subst (λ p. CanGenerateRow p) (sym c.self.view_is) c.requires.can in
+    rw c.in_ok-push.ensures.ok (item_pushed _ _ c.self.invariant can)

@@ -18,7 +18,7 @@ use Rattle.gimli_build.proofs.built.line_program.LineProgram.write.Goals as goal
 pub write_whole-requires-clause-can : goal.write_whole-requires-clause-can
 write_whole-requires-clause-can g c =
     rw (c.in_ok-empty.ensures.tables.strings, c.in_ok-empty.ensures.tables.line_strings)
-    (can-write-after c.args.self.now (texts_in c.args.strings.now c.args.line_strings.now) c.requires)
+    (can-write-after _ _ c.requires)
 
 pub returns-clause-reads_back : goal.returns-clause-reads_back
 returns-clause-reads_back g c = λ keeps_bytes.
@@ -78,16 +78,16 @@ returns-in_err-empty-clause-writes g c =
 pub returns-then-is_incompatible-clause-writes : goal.returns-then-is_incompatible-clause-writes
 returns-then-is_incompatible-clause-writes g c =
     let barred : is_incompatible c.args.encoding c.args.self.now.encoding ≡ true = search rules in
-    nothing_written g.W.Sink c.args.w.now.0 IncompatibleLineProgramEncoding _ (λ hand. inr (rw barred refl))
+    nothing_written _ _ _ _ (λ hand. inr (rw barred refl))
 
 pub returns-clause-cause : goal.returns-clause-cause
-returns-clause-cause g c = cause-is _ _ c.args.self.now _ (c.encoding.ensures.accepted c.requires.program).address_size
+returns-clause-cause g c = cause-is _ c.args.encoding c.args.self.now (texts_in c.args.strings.now c.args.line_strings.now) (c.encoding.ensures.accepted c.requires.program).address_size
 
 pub returns-in_err-write_whole-clause-cause : goal.returns-in_err-write_whole-clause-cause
-returns-in_err-write_whole-clause-cause g c = cause-is _ _ c.args.self.now _ (c.encoding.ensures.accepted c.requires.program).address_size
+returns-in_err-write_whole-clause-cause g c = cause-is _ c.args.encoding c.args.self.now (texts_in c.args.strings.now c.args.line_strings.now) (c.encoding.ensures.accepted c.requires.program).address_size
 
 pub returns-in_err-empty-clause-cause : goal.returns-in_err-empty-clause-cause
-returns-in_err-empty-clause-cause g c = cause-is _ _ c.args.self.now _ (c.encoding.ensures.accepted c.requires.program).address_size
+returns-in_err-empty-clause-cause g c = cause-is _ c.args.encoding c.args.self.now (texts_in c.args.strings.now c.args.line_strings.now) (c.encoding.ensures.accepted c.requires.program).address_size
 
 pub returns-then-is_incompatible-clause-cause : goal.returns-then-is_incompatible-clause-cause
-returns-then-is_incompatible-clause-cause g c = cause-is _ _ c.args.self.now _ (c.encoding.ensures.accepted c.requires.program).address_size
+returns-then-is_incompatible-clause-cause g c = cause-is _ c.args.encoding c.args.self.now (texts_in c.args.strings.now c.args.line_strings.now) (c.encoding.ensures.accepted c.requires.program).address_size
