@@ -11,9 +11,12 @@ use Rattle.gimli_write.specs.declared.convert_error.ConvertError.{ConvertError}
 use Rattle.gimli_write.specs.declared.convert_error.ConvertError.TheVariants.{Read, Write, OutOfMemory as NoMemory}
 use Rattle.gimli_write.specs.declared.read_back.RoundTrip.{RoundTrip}
 use Rattle.gimli_write.specs.RoundTrip.{RefusesUnit, ToWrite, WasWritten, IsRefusal, IsCausedRefusal, slice_notation}
-use Rattle.gimli_write.proofs.ReadRuns.{is_memory}
 
 -- ---- refusals
+
+is_memory : (e : Error) → (e ≡ OutOfMemory) ⊎ (e ≢ OutOfMemory)
+is_memory OutOfMemory = inl refl
+is_memory e = inr (λ is. absurd cc)
 
 -- a refusal of writing
 pub write_refused : (big : Bool) (wanted : ToWrite) (unit_entry : UnitEntry) (old new : List ℕ) (e : Error) (r : ConvertError)

@@ -2,13 +2,12 @@
 use Rattle.std.proofs.Common.{◌≡◌, ℕ, zero, suc, ◌-◌, ◌<◌, ◌≤◌, Bool, true, false, List, [], ◌∷◌, ◌++◌, length, drop, refl, sym, subst, if◌then◌else◌}
 use Rattle.std.proofs.Common.{slice_get, Option, arith, length-append}
 use Rattle.std.specs.Prelude.{All}
-use Rattle.std.specs.List.{list_any}
 use Rattle.std.specs.Option.{option_map_or}
 use Rattle.std.proofs.lemmas.List.Elements.{All-push}
 use Rattle.gimli_core.specs.declared.common.Encoding.{Encoding}
 use Rattle.gimli_core.specs.declared.common.LineEncoding.{LineEncoding}
-use Rattle.gimli_build.specs.LineText.{LineText, line_text_eq, IsNotEmpty}
-use Rattle.gimli_build.specs.Tables.{Details, File, FileKey, has_file, with_directory, with_file, with_details, keys_of}
+use Rattle.gimli_build.specs.LineText.{LineText, IsNotEmpty}
+use Rattle.gimli_build.specs.Tables.{Details, File, FileKey, with_directory, with_file, with_details, keys_of}
 use Rattle.gimli_build.specs.Advance.{CanEncode, IsPosition}
 use Rattle.gimli_build.specs.Built.{position_after, previous_position}
 use Rattle.gimli_build.specs.Conditions.{CanBuild, AreBuilt, IsProgram}

@@ -1,6 +1,5 @@
 -- Texts, ids, files, rows and items are equal by `==` exactly where all their parts agree; and equal texts hash alike.
 use Rattle.std.proofs.Common.{◌≡◌, ℕ, Bool, ◌&&◌, Option, Some, None, option_map, refl, sym, ap, true≢false}
-use Rattle.std.specs.Prelude.{nat_eq, bytes_eq}
 use Rattle.std.specs.Bool.{Decides}
 use Rattle.std.specs.Cmp.{booleans_Decides}
 use Rattle.std.specs.Option.{option_eq}
@@ -21,7 +20,6 @@ use Rattle.gimli_build.specs.contracts.built.items.BuiltItemPartialEq.TheImpl.{g
 use Rattle.gimli_build.specs.contracts.built.line_string.LineStringHash.TheImpl.{ghosts as hashes}
 use Rattle.gimli_build.specs.contracts.built.line_string.LineStringHash.TheImpl.Laws.{respects_eq-law}
 use Rattle.gimli_build.specs.LineText.{LineText, Inline, InStrings, InLineStrings, line_text, line_text_eq}
-use Rattle.gimli_build.specs.Tables.{Details}
 use Rattle.gimli_build.specs.TableFields.{details}
 use Rattle.gimli_build.proofs.building.TableLemmas.{line_eq}
 

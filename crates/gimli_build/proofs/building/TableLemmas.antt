@@ -1,6 +1,6 @@
 -- The tables of directories and files, seen as lists.
 use Rattle.std.proofs.Common.{◌≡◌, ◌≢◌, ℕ, zero, suc, ◌+◌, ◌<◌, Bool, true, false, cond, not, ◌||◌, ◌&&◌, List, [], ◌∷◌, ◌++◌, map, length, refl, sym, ap}
-use Rattle.std.proofs.Common.{subst, ◌∙◌, if◌then◌else◌, slice_get, get_or, drop, Option, Some, None, position, nat_lt, option_map, true≢false, arith}
+use Rattle.std.proofs.Common.{subst, ◌∙◌, if◌then◌else◌, slice_get, get_or, drop, Option, Some, None, option_map, true≢false, arith}
 use Rattle.std.proofs.Common.{length-append}
 use native.Mathlib.Nat.{suc-add as suc_add}
 use Rattle.std.specs.Prelude.{nat_eq, is_some, unwrap_or}

@@ -25,7 +25,6 @@ use Rattle.gimli_build.specs.InstructionBytes.{instructions_bytes, set_address_b
 use Rattle.gimli_build.specs.Encode.{row_instructions, end_instructions}
 use Rattle.gimli_build.specs.Items.{items_bytes, next_previous, AreFit}
 use Rattle.gimli_build.specs.Version5Tables.{texts_after}
-use Rattle.gimli_build.specs.Cause.{emitted_texts}
 use Rattle.gimli_build.specs.Linked.{placed_item, placed_program, AddressFits, OffsetFits, SumsFit, TextsBeginAtZero}
 use Rattle.gimli_build.specs.Unit.{is_incompatible, program_bytes, whole_bytes, unit_bytes}
 use Rattle.gimli_build.specs.inside.Conditions.{IsBuilt}

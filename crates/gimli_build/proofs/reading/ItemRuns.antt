@@ -5,8 +5,7 @@ use Rattle.std.proofs.Math.Nat.{mod-eq_of_lt}
 use Rattle.gimli_core.specs.Numbers.{is_address_size}
 use Rattle.gimli_core.specs.declared.common.Encoding.{Encoding}
 use Rattle.gimli_core.specs.declared.common.LineEncoding.{LineEncoding}
-use Rattle.gimli_line.specs.declared.run.row.LineRow.{LineRow as ReadRow}
-use Rattle.gimli_line.specs.run.Events.{Event, row}
+use Rattle.gimli_line.specs.run.Events.{row}
 use Rattle.gimli_line.specs.run.Machine.{run}
 use Rattle.gimli_build.specs.declared.built.row.LineRow.{LineRow}
 use Rattle.gimli_build.specs.declared.built.items.BuiltItem.{BuiltItem}

@@ -1,7 +1,7 @@
 -- The instructions of items define no file; and what a run is refused for that defines none.
 use Rattle.std.proofs.Common.{◌≡◌, ℕ, Bool, true, false, not, ◌&&◌, List, [], ◌∷◌, ◌++◌, map, refl, sym, ap, ◌∙◌, append_assoc, if◌then◌else◌, nat_eq, nat_le}
 use Rattle.std.proofs.Common.{inl, inr, true≢false}
-use Rattle.std.specs.Prelude.{All, Option, None, ℤ, pos, ◌-ℤ◌, ◌*◌, ◌+◌, ◌-◌}
+use Rattle.std.specs.Prelude.{All, None, ℤ, pos, ◌-ℤ◌, ◌*◌, ◌+◌, ◌-◌}
 use Rattle.std.proofs.lemmas.List.{append-nil}
 use Rattle.std.proofs.lemmas.List.Elements.{All-nil, All-cons, All-head, All-tail, All-append}
 use Rattle.gimli_core.specs.Notation.{Notation}
@@ -14,9 +14,9 @@ use Rattle.gimli_line.specs.header.Orders.{HeaderOrders}
 use Rattle.gimli_line.specs.header.Header.{Header, without_files}
 use Rattle.gimli_line.specs.header.Parameters.{Parameters}
 use Rattle.gimli_line.specs.declared.run.row.LineRow.{LineRow as ReadRow}
-use Rattle.gimli_line.specs.declared.run.instruction.LineInstruction.TheVariants.{Special, Copy, AdvancePc, AdvanceLine, SetFile, SetColumn, NegateStatement}
-use Rattle.gimli_line.specs.declared.run.instruction.LineInstruction.TheVariants.{SetBasicBlock, ConstAddPc, SetPrologueEnd, SetEpilogueBegin, SetIsa}
-use Rattle.gimli_line.specs.declared.run.instruction.LineInstruction.TheVariants.{EndSequence, SetDiscriminator, SetAddress as ReadAddress}
+use Rattle.gimli_line.specs.declared.run.instruction.LineInstruction.TheVariants.{Special, Copy, AdvancePc, AdvanceLine}
+use Rattle.gimli_line.specs.declared.run.instruction.LineInstruction.TheVariants.{ConstAddPc}
+use Rattle.gimli_line.specs.declared.run.instruction.LineInstruction.TheVariants.{EndSequence, SetAddress as ReadAddress}
 use Rattle.gimli_line.specs.run.Instruction.{Ins, defines_file, makes_row}
 use Rattle.gimli_line.specs.run.InstructionGrammar.{SpellsInstruction, Decodes}
 use Rattle.gimli_line.specs.run.InstructionReading.{decoded_at}
@@ -27,16 +27,15 @@ use Rattle.gimli_line.specs.run.Sequences.{events_of}
 use Rattle.gimli_line.specs.run.Machine.{is_refused, step_of}
 use Rattle.gimli_line.specs.run.RunState.{RunState}
 use Rattle.gimli_line.specs.run.Progress.{with_reset_row, Progress}
-use Rattle.gimli_line.specs.run.Rows.{events_left, start_of_run, WantsMemory, FaultIs}
+use Rattle.gimli_line.specs.run.Rows.{start_of_run, WantsMemory, FaultIs}
 use Rattle.gimli_line.proofs.InstructionLaws.{is_decoded, one_decoding}
 use Rattle.gimli_build.specs.declared.built.row.LineRow.{LineRow}
 use Rattle.gimli_build.specs.declared.built.items.BuiltItem.{BuiltItem}
 use Rattle.gimli_build.specs.declared.built.items.BuiltItem.TheVariants.{SetAddress, Row, End}
 use Rattle.gimli_build.specs.Advance.{operations}
 use Rattle.gimli_build.specs.Built.{address_value}
-use Rattle.gimli_build.specs.FileNumber.{file_number}
 use Rattle.gimli_build.specs.Due.{when}
-use Rattle.gimli_build.specs.Encode.{differ, marks, changes, is_special_advance, line_opcode, line_part, still_opcode, constant_advance, row_maker}
+use Rattle.gimli_build.specs.Encode.{marks, changes, is_special_advance, line_opcode, line_part, still_opcode, constant_advance, row_maker}
 use Rattle.gimli_build.specs.Encode.{operation_part, row_instructions, end_instructions}
 use Rattle.gimli_build.specs.Items.{next_previous, item_instructions, items_instructions}
 use Rattle.gimli_build.specs.NoFiles.{DefinesNoFile}

@@ -13,7 +13,7 @@ use Rattle.gimli_build.specs.inside.Conditions.{IsBuilt}
 use Rattle.gimli_build.specs.Texts.{Sections}
 use Rattle.gimli_build.specs.Version5Tables.{texts_after}
 use Rattle.gimli_build.specs.ReadsBack.{ReadsBack, ReadsBackAs, IsReadWell}
-use Rattle.gimli_build.specs.Unit.{version_bytes, whole_bytes, unit_bytes}
+use Rattle.gimli_build.specs.Unit.{whole_bytes, unit_bytes}
 use Rattle.gimli_build.proofs.writing.Joined.{appended_bytes}
 use Rattle.gimli_build.proofs.writing.WrittenParts.{before_written}
 use Rattle.gimli_build.proofs.spellings.EncodingSpellings.{version-known}

@@ -18,7 +18,7 @@ use Rattle.gimli_build.specs.inside.Conditions.{IsBuilt}
 use Rattle.gimli_build.specs.SameRow.{built_rules}
 use Rattle.gimli_build.specs.Version5Tables.{texts_after}
 use Rattle.gimli_build.specs.ReadsBack.{AreFormats, IsUnit, directories_from_zero, IsDirectory, IsFile, IsReadWell}
-use Rattle.gimli_build.specs.Unit.{operand_counts, program_bytes, whole_bytes, is_incompatible, unit_bytes}
+use Rattle.gimli_build.specs.Unit.{operand_counts, program_bytes, whole_bytes, unit_bytes}
 use Rattle.gimli_build.proofs.reading.ReadyTexts.{tables-ready}
 use Rattle.gimli_build.proofs.reading.HeldOffsets.{are-held}
 use Rattle.gimli_build.proofs.reading.TablesBack.{AreReadWell, tables-back}

@@ -1,17 +1,17 @@
 -- The first cause of a program is what its bytes are refused for.
-use Rattle.std.proofs.Common.{◌≡◌, ℕ, ◌+◌, Bool, true, false, not, List, [], ◌∷◌, ◌++◌, length, map, Ok, Err, refl, sym, ap, ◌∙◌, if◌then◌else◌, nat_le, nat_eq}
+use Rattle.std.proofs.Common.{◌≡◌, ℕ, Bool, true, false, not, List, [], ◌∷◌, length, map, Ok, Err, refl, sym, ap, ◌∙◌, if◌then◌else◌, nat_le, nat_eq}
 use Rattle.std.proofs.Common.{◌⊎◌, inl, inr}
 use Rattle.std.specs.Prelude.{IsTrue, Option, Some, None, Result, ◌&&◌, nat_lt}
-use Rattle.gimli_core.specs.Numbers.{number_bytes, is_address_size}
+use Rattle.gimli_core.specs.Numbers.{is_address_size}
 use Rattle.gimli_core.specs.Reading.{result_map}
 use Rattle.gimli_core.specs.declared.common.Encoding.{Encoding}
 use Rattle.gimli_core.specs.declared.common.LineEncoding.{LineEncoding}
 use Rattle.gimli_bytes.specs.Hand.{plain}
-use Rattle.gimli_bytes.specs.Number.{udata, uleb, length_word}
+use Rattle.gimli_bytes.specs.Number.{length_word}
 use Rattle.gimli_bytes.specs.Written.{Appends}
 use Rattle.gimli_bytes.specs.declared.address.Address.TheVariants.{Constant, Symbol}
 use Rattle.gimli_bytes.specs.declared.error.Error.{Error}
-use Rattle.gimli_bytes.specs.declared.error.Error.TheVariants.{IncompatibleLineProgramEncoding, UnsupportedVersion, NeedVersion, OutOfMemory}
+use Rattle.gimli_bytes.specs.declared.error.Error.TheVariants.{IncompatibleLineProgramEncoding, UnsupportedVersion, NeedVersion}
 use Rattle.gimli_bytes.specs.Texts.{StringTables}
 use Rattle.gimli_build.specs.declared.built.row.LineRow.{LineRow}
 use Rattle.gimli_build.specs.declared.built.items.BuiltItem.{BuiltItem}
@@ -22,7 +22,7 @@ use Rattle.gimli_build.specs.FormatWord.{format_word}
 use Rattle.gimli_build.specs.Joined.{result_append}
 use Rattle.gimli_build.specs.Items.{item_bytes, items_bytes, next_previous}
 use Rattle.gimli_build.specs.Version5Tables.{texts_after}
-use Rattle.gimli_build.specs.Unit.{version_bytes, opening_bytes, operations_bytes, line_encoding_bytes, flag_byte, base_byte, opcode_bytes, tables_bytes}
+use Rattle.gimli_build.specs.Unit.{opening_bytes, operations_bytes, line_encoding_bytes, flag_byte, base_byte, opcode_bytes, tables_bytes}
 use Rattle.gimli_build.specs.Unit.{fields_bytes, header_bytes, program_bytes, inside_bytes, escape_bytes, whole_bytes, is_incompatible, unit_bytes}
 use Rattle.gimli_build.specs.Cause.{cause_if, first_of, text_cause, item_cause, word_cause, unit_length_cause, header_length, unit_length, emitted_texts}
 use Rattle.gimli_build.specs.Cause.{first_cause, refusal}

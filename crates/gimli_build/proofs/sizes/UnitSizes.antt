@@ -1,12 +1,12 @@
 -- How many bytes a unit is, where it is written.
-use Rattle.std.proofs.Common.{◌≡◌, ℕ, ◌+◌, Bool, true, false, List, [], ◌∷◌, length, Ok, Err, refl, arith, if◌then◌else◌, nat_le, nat_eq}
-use Rattle.std.specs.Prelude.{Result, ◌&&◌}
-use Rattle.gimli_core.specs.Numbers.{number_bytes, word_size}
+use Rattle.std.proofs.Common.{◌≡◌, ℕ, ◌+◌, Bool, true, false, List, [], ◌∷◌, Ok, Err, refl, arith, if◌then◌else◌, nat_le}
+use Rattle.std.specs.Prelude.{Result}
+use Rattle.gimli_core.specs.Numbers.{word_size}
 use Rattle.gimli_core.specs.declared.common.Encoding.{Encoding}
 use Rattle.gimli_core.specs.declared.common.LineEncoding.{LineEncoding}
 use Rattle.gimli_bytes.specs.Hand.{plain}
 use Rattle.gimli_bytes.specs.declared.error.Error.{Error}
-use Rattle.gimli_bytes.specs.declared.error.Error.TheVariants.{UnsupportedVersion, NeedVersion}
+use Rattle.gimli_bytes.specs.declared.error.Error.TheVariants.{NeedVersion}
 use Rattle.gimli_bytes.specs.Texts.{StringTables}
 use Rattle.gimli_bytes.proofs.RelocationLemmas.{length-number}
 use Rattle.gimli_build.specs.Built.{Built}

@@ -23,7 +23,6 @@ use Rattle.gimli_line.specs.header.Productions.{positive}
 use Rattle.gimli_line.specs.header.HeaderGrammar.{version_production, address_size_production, line_encoding_production}
 use Rattle.gimli_build.specs.Advance.{CanEncode}
 use Rattle.gimli_build.specs.FormatWord.{format_word}
-use Rattle.gimli_build.specs.Joined.{result_append}
 use Rattle.gimli_build.specs.Unit.{version_bytes, operations_bytes, flag_byte, base_byte, line_encoding_bytes, escape_bytes}
 use Rattle.gimli_build.proofs.sizes.PartSizes.{format_word_size}
 use Rattle.gimli_build.proofs.writing.WrittenParts.{same_written, after_written, before_written}

@@ -21,8 +21,8 @@ use Rattle.gimli_build.specs.SameRow.{built_rules}
 use Rattle.gimli_build.specs.ReadsBack.{IsUnit}
 use Rattle.gimli_build.specs.FormatWord.{format_word}
 use Rattle.gimli_build.specs.Joined.{result_append}
-use Rattle.gimli_build.specs.Unit.{version_bytes, opening_bytes, line_encoding_bytes, operand_counts, opcode_bytes, tables_bytes, fields_bytes, header_bytes}
-use Rattle.gimli_build.specs.Unit.{program_bytes, inside_bytes, escape_bytes, whole_bytes}
+use Rattle.gimli_build.specs.Unit.{opening_bytes, line_encoding_bytes, operand_counts, opcode_bytes, tables_bytes, fields_bytes}
+use Rattle.gimli_build.specs.Unit.{program_bytes, escape_bytes, whole_bytes}
 use Rattle.gimli_build.proofs.writing.Frames.{size_4, size_8}
 use Rattle.gimli_build.proofs.writing.WrittenParts.{same_written, both_written, after_written, before_written, counted_written}
 use Rattle.gimli_build.proofs.spellings.EncodingSpellings.{positive-spelled, encoding-spelled, version-spelled, address-spelled, offset-spelled, length-spelled}

@@ -21,7 +21,7 @@ use Rattle.gimli_line.specs.inside.header.HeaderGrammar.{SpellsFormats}
 use Rattle.gimli_build.specs.LineText.{LineText, bytes_in}
 use Rattle.gimli_build.specs.Tables.{File, Details}
 use Rattle.gimli_build.specs.Texts.{Sections, IsText, IsOptionalText, OneByOne}
-use Rattle.gimli_build.specs.Stored.{Stored, stored_details}
+use Rattle.gimli_build.specs.Stored.{stored_details}
 use Rattle.gimli_build.specs.Joined.{result_append, result_concat}
 use Rattle.gimli_build.specs.Built.{Built}
 use Rattle.gimli_build.specs.ReadsBack.{IsDirectory, IsFile}

@@ -10,7 +10,6 @@ use Rattle.gimli_core.specs.declared.common.Format.TheVariants.{Dwarf32, Dwarf64
 use Rattle.gimli_bytes.specs.Written.{Appends, overwrite_of, patch}
 use Rattle.gimli_bytes.specs.Number.{udata, open_length, escape_size, length_word}
 use Rattle.gimli_bytes.specs.declared.error.Error.{Error}
-use Rattle.gimli_bytes.specs.declared.error.Error.TheVariants.{ValueTooLarge, InitialLengthOverflow}
 use Rattle.gimli_build.specs.FormatWord.{format_word}
 use Rattle.gimli_build.specs.Joined.{result_append, after_length}
 use Rattle.gimli_build.specs.Unit.{escape_bytes}

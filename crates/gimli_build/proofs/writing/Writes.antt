@@ -53,11 +53,6 @@ views_of so = record {
   linked = λ at completes. record { ok = so.completed at completes; err = so.completed_own at completes };
 }
 
--- one that is refused leaves no bytes to speak of
-refused_for : {X Y : Type 0} {Own : Error → Type 0} {e : Error} {a b : Result (List ℕ) Error} (old new before after : List ℕ)
-    → (a ≡ Err e → b ≡ Err e) → Leaves {X = X} Own (Err e) a old new → Leaves {X = Y} Own (Err e) b before after
-refused_for old new before after f so = record { ok = tt; err = or_wanted f so.err }
-
 -- two calls
 leaves_joined : {X Y : Type 0} {Own : Error → Type 0} {x : X} {r : Result Y Error} (a b : Result (List ℕ) Error) (old mid new : List ℕ)
     → Leaves Own (let s : Result X Error = Ok x in s) a old mid → Leaves Own r b mid new → Leaves Own r (result_append a b) old new

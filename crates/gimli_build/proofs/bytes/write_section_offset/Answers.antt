@@ -1,5 +1,4 @@
 use Rattle.gimli_core.specs.Numbers.{word_size}
-use Rattle.gimli_bytes.specs.Hand.{Hand}
 use Rattle.gimli_build.proofs.writing.Writes.{writes}
 use Rattle.gimli_build.proofs.bytes.write_section_offset.Goals as goal
 

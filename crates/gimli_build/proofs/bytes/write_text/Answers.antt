@@ -1,5 +1,3 @@
-use Rattle.std.proofs.Common.{Ok}
-use Rattle.gimli_build.specs.inside.Writes.{always}
 use Rattle.gimli_build.proofs.writing.Writes.{joins, writes}
 use Rattle.gimli_build.proofs.bytes.write_text.Goals as goal
 

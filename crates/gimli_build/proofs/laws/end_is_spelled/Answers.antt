@@ -1,4 +1,3 @@
-use Rattle.gimli_build.specs.Runs.{written_end}
 use Rattle.gimli_build.proofs.spellings.Spellings.{each-spelled, all_end}
 use Rattle.gimli_build.proofs.laws.end_is_spelled.Goals as goal
 

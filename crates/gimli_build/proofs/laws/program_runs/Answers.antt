@@ -1,5 +1,4 @@
 use Rattle.std.proofs.Common.{ap, ◌∙◌, lit<}
-use Rattle.gimli_line.specs.declared.run.row.LineRow.{LineRow as ReadRow}
 use Rattle.gimli_line.specs.run.Machine.{run}
 use Rattle.gimli_build.specs.Rows.{initial_row}
 use Rattle.gimli_build.specs.SameRow.{built_rules}

@@ -1,4 +1,3 @@
-use Rattle.gimli_build.specs.Runs.{written_row}
 use Rattle.gimli_build.proofs.spellings.Spellings.{each-spelled, all_row}
 use Rattle.gimli_build.proofs.laws.row_is_spelled.Goals as goal
 

@@ -36,7 +36,8 @@ returns-clause-writes g c =
     (at : c.in_ok-length.length.0 ≡ length old + escape_size format) (written : Appends (bytes hand) c1 c2) (counted : n ≡ length c2 - length c1).
     framed_leaves whole (length_word big format) (escape_bytes big format) (open_word big format) old c1 c2 c3 c.in_ok-length.length.0 n (bytes hand)
     (λ k. refl) (opens ∙ ap (λ l. old ++ l) (escape_is big format) ∙ sym (append_assoc old (escape_bytes big format) (open_word big format)))
-    (at ∙ ap (λ k. length old + k) (sym (escape_long big format))) written counted (λ word is. length_word_long big format n word is) {Own = own} {r = c.write_initial_length_at.result} in
+    (at ∙ ap (λ k. length old + k) (sym (escape_long big format))) written counted
+    (λ word is. length_word_long big format n word is) {Own = own} {r = c.write_initial_length_at.result} in
     let held = λ (own : Error → Type 0) (keeps_bytes : IsTrue sink.keeps_bytes).
     framed own plain (contents c.args.w.now) (contents opened) (contents filled) (contents closed)
     (rw c.format-format.ensures at (opening.appends.ok keeps_bytes)) (rw c.format-format.ensures at (opening.place keeps_bytes))

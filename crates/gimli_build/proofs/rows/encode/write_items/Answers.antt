@@ -1,7 +1,7 @@
-use Rattle.std.proofs.Common.{◌≡◌, ◌≤◌, [], ℕ, ap, ◌+◌, ◌<◌, length, drop, take, ◌∙◌, arith, lit<}
+use Rattle.std.proofs.Common.{◌≡◌, ◌≤◌, ap, ◌<◌, length, ◌∙◌, arith, lit<}
 use Rattle.std.proofs.lemmas.Result.{err_from_is_err_and}
 use Rattle.std.proofs.lemmas.List.{drop_all}
-use Rattle.gimli_build.specs.Rows.{initial_row, at_position}
+use Rattle.gimli_build.specs.Rows.{at_position}
 use Rattle.gimli_build.specs.Items.{next_previous}
 use Rattle.gimli_build.proofs.reading.ItemRuns.{start_position}
 use Rattle.gimli_build.proofs.writing.ItemsWritten.{taken_next, fit_more, way_on, none_standing, written_more, items_unwritten, items_written}

@@ -1,5 +1,3 @@
-use Rattle.std.proofs.Common.{[], ◌∷◌, Ok}
-use Rattle.gimli_build.specs.inside.Writes.{always}
 use Rattle.gimli_build.proofs.writing.Writes.{writes}
 use Rattle.gimli_build.proofs.rows.instruction.write_instruction.Goals as goal
 

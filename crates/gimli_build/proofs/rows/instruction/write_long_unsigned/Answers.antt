@@ -1,7 +1,4 @@
-use Rattle.std.proofs.Common.{Ok}
-use Rattle.gimli_bytes.specs.Number.{uleb}
 use Rattle.std.proofs.lemmas.Result.{err_from_is_err_and}
-use Rattle.gimli_build.specs.inside.Writes.{always}
 use Rattle.gimli_build.proofs.writing.Writes.{bytes_unwritten, joins, writes}
 use Rattle.gimli_build.proofs.rows.instruction.write_long_unsigned.Goals as goal
 

@@ -1,5 +1,4 @@
 use Rattle.std.proofs.Common.{◌+◌, [], Ok, ◌∙◌}
-use Rattle.gimli_bytes.specs.Hand.{Hand}
 use Rattle.gimli_bytes.specs.Number.{uleb}
 use Rattle.std.proofs.lemmas.Result.{err_from_is_err_and}
 use Rattle.gimli_build.specs.inside.Writes.{always}

@@ -1,9 +1,8 @@
-use Rattle.std.proofs.Common.{◌≡◌, [], ◌∷◌, Ok, true, sym, ap, ◌∙◌, arith, to_z, of_z, w64}
+use Rattle.std.proofs.Common.{◌≡◌, true, sym, ap, ◌∙◌, arith, to_z, of_z, w64}
 use Rattle.std.proofs.lemmas.Int.{ints}
-use Rattle.gimli_bytes.specs.Number.{sleb, low_bits, has_seven_bits}
+use Rattle.gimli_bytes.specs.Number.{low_bits, has_seven_bits}
 use Rattle.gimli_bytes.proofs.LebLemmas.{sleb_one}
 use Rattle.std.proofs.lemmas.Result.{err_from_is_err_and}
-use Rattle.gimli_build.specs.inside.Writes.{always}
 use Rattle.gimli_build.proofs.writing.Writes.{bytes_unwritten, joins, writes}
 use Rattle.gimli_build.proofs.rows.instruction.write_signed.Goals as goal
 

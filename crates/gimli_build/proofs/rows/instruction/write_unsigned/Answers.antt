@@ -1,6 +1,4 @@
-use Rattle.std.proofs.Common.{[], ◌∷◌, Ok}
 use Rattle.gimli_bytes.proofs.LebLemmas.{uleb_one}
-use Rattle.gimli_build.specs.inside.Writes.{always}
 use Rattle.gimli_build.proofs.writing.Writes.{writes}
 use Rattle.gimli_build.proofs.rows.instruction.write_unsigned.Goals as goal
 

@@ -1,13 +1,11 @@
-use Rattle.std.proofs.Common.{◌≤◌, length, take, arith}
+use Rattle.std.proofs.Common.{◌≤◌, length, arith}
 use Rattle.std.proofs.lemmas.Result.{err_from_is_err_and}
 use Rattle.std.proofs.lemmas.List.{take_all, drop_all}
 use Rattle.std.proofs.lemmas.List.Elements.{All-nil, All-push}
-use Rattle.gimli_bytes.specs.Hand.{Hand}
 use Rattle.gimli_build.specs.LineText.{line_text}
 use Rattle.gimli_build.specs.Tables.{File}
 use Rattle.gimli_build.specs.inside.Tables.{FitsFile}
 use Rattle.gimli_build.specs.TableFields.{details}
-use Rattle.gimli_build.specs.Version4Tables.{file_bytes}
 use Rattle.gimli_build.proofs.writing.Joined.{next_at, taken_at}
 use Rattle.gimli_build.proofs.writing.Writes.{none_written, one_written, one_unwritten, all_written}
 use Rattle.gimli_build.proofs.tables.version_4.write_each_file.Goals as goal

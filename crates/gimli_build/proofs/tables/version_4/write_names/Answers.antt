@@ -1,9 +1,7 @@
 use Rattle.std.proofs.Common.{◌<◌, ◌≤◌, length, map, arith}
 use Rattle.std.proofs.lemmas.List.{drop_all, length-map}
 use Rattle.std.proofs.lemmas.Result.{err_from_is_err_and}
-use Rattle.gimli_bytes.specs.Hand.{Hand}
 use Rattle.gimli_build.specs.LineText.{line_text}
-use Rattle.gimli_build.specs.Version4Tables.{name_bytes}
 use Rattle.gimli_build.proofs.writing.Joined.{next_seen}
 use Rattle.gimli_build.proofs.writing.Writes.{none_written, one_written, one_unwritten, all_written}
 use Rattle.gimli_build.proofs.tables.version_4.write_names.Goals as goal

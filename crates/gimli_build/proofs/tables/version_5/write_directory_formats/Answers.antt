@@ -1,7 +1,6 @@
-use Rattle.std.proofs.Common.{◌∷◌, ◌++◌, List, ℕ, Ok, ap, sym}
+use Rattle.std.proofs.Common.{◌∷◌, ◌++◌, ap, sym}
 use Rattle.std.proofs.lemmas.List.{append-nil}
 use Rattle.gimli_bytes.specs.Number.{uleb}
-use Rattle.gimli_build.specs.inside.Writes.{always}
 use Rattle.gimli_build.proofs.writing.Writes.{joins, same_bytes, unwritten, writes}
 use Rattle.std.proofs.lemmas.Result.{err_from_is_err_and}
 use Rattle.gimli_build.proofs.writing.Writes.{refused_alike}

@@ -1,8 +1,6 @@
-use Rattle.std.proofs.Common.{length, Ok, ap}
+use Rattle.std.proofs.Common.{length, ap}
 use Rattle.gimli_bytes.specs.Number.{uleb}
-use Rattle.gimli_build.specs.Built.{Built}
 use Rattle.gimli_build.specs.Version5Tables.{first_form, path_texts, sources}
-use Rattle.gimli_build.specs.inside.Writes.{always}
 use Rattle.gimli_build.proofs.building.FormatLemmas.{formats-grouped}
 use Rattle.gimli_build.proofs.writing.Writes.{joins, unwritten, writes}
 use Rattle.std.proofs.lemmas.Result.{err_from_is_err_and}

@@ -1,6 +1,3 @@
-use Rattle.std.proofs.Common.{Ok}
-use Rattle.gimli_bytes.specs.Number.{uleb}
-use Rattle.gimli_build.specs.inside.Writes.{always}
 use Rattle.gimli_build.proofs.writing.Writes.{joins, writes}
 use Rattle.gimli_build.proofs.tables.version_5.write_format.Goals as goal
 

@@ -1,6 +1,5 @@
-use Rattle.std.proofs.Common.{◌∷◌, ◌++◌, List, length, sym, ap, ◌∙◌, append_assoc}
+use Rattle.std.proofs.Common.{◌∷◌, ◌++◌, length, sym, ap, ◌∙◌, append_assoc}
 use Rattle.gimli_bytes.specs.Number.{uleb}
-use Rattle.gimli_build.specs.Tables.{File}
 use Rattle.gimli_build.specs.Version5Tables.{first_form, path_texts, file_formats}
 use Rattle.gimli_build.proofs.writing.Writes.{joins, same_bytes, unwritten}
 use Rattle.std.proofs.lemmas.Result.{err_from_is_err_and}

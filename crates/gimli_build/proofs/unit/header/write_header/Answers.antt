@@ -39,7 +39,8 @@ returns-clause-writes g c =
     let framed = λ (own : Error → Type 0) (hand : Hand) (old c1 c2 c3 : List ℕ) (opens : c1 ≡ old ++ open_word big format) (at : start ≡ length old + 0)
     (written : Appends (bytes hand) c1 c2) (counted : n ≡ length c2 - length c1).
     framed_leaves word word [] (open_word big format) old c1 c2 c3 start n (bytes hand) (λ k. no_escape (word k))
-    (opens ∙ ap (λ (l : List ℕ). l ++ open_word big format) (sym (append-nil old))) at written counted (λ w is. header_word_long big format n w is) {Own = own} {r = c.write_udata_at.result} in
+    (opens ∙ ap (λ (l : List ℕ). l ++ open_word big format) (sym (append-nil old))) at written counted
+    (λ w is. header_word_long big format n w is) {Own = own} {r = c.write_udata_at.result} in
     let held = λ (own : Error → Type 0) (keeps_bytes : IsTrue sink.keeps_bytes).
     framed own plain (contents c.args.w.now) (contents opened) (contents filled) (contents closed)
     (rw (c.word_size-size.ensures, c.format.ensures, zero_word big format) at (zero.ok keeps_bytes)) (omega (arith, c.len-length.ensures.contents))
@@ -51,7 +52,9 @@ returns-clause-writes g c =
       stays = λ completes. call.stays (fields.stays (there completes));
       held = λ keeps_bytes. held sink.refuses keeps_bytes (rw (ordered, c.word_size-size.ensures, c.format.ensures, known) at (call.ok keeps_bytes))
           (rw (ordered, c.word_size-size.ensures, c.format.ensures, known) at call.own);
-      memory = λ keeps_bytes memory_alone. held (λ e. e ≡ OutOfMemory) keeps_bytes (rw (ordered, c.word_size-size.ensures, c.format.ensures, known) at (call.ok keeps_bytes))
+      memory =
+          λ keeps_bytes memory_alone.
+          held (λ e. e ≡ OutOfMemory) keeps_bytes (rw (ordered, c.word_size-size.ensures, c.format.ensures, known) at (call.ok keeps_bytes))
           (if_err c.write_udata_at.result (λ e. inr) (rw (ordered, c.word_size-size.ensures, c.format.ensures, known) at (call.err memory_alone)));
       linked = λ at completes.
           framed sink.refuses (sink.hand at) (sink.completed at c.args.w.now) (sink.completed at opened) (sink.completed at filled) (sink.completed at closed)

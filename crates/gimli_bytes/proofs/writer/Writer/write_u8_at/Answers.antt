@@ -1,4 +1,4 @@
-use Rattle.std.proofs.Common.{◌≡◌, ◌<◌, ℕ, Bool, true, false, List, [], ◌∷◌, ap, arith}
+use Rattle.std.proofs.Common.{◌≡◌, ◌<◌, ℕ, Bool, true, false, [], ◌∷◌, ap, arith}
 use Rattle.gimli_core.specs.Numbers.{number_bytes}
 use Rattle.gimli_bytes.proofs.writer.Writer.write_u8_at.Goals as goal
 

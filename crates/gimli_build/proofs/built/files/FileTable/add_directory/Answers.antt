@@ -1,6 +1,4 @@
-use Rattle.std.proofs.Common.{List, ◌∙◌, ap}
-use Rattle.gimli_build.specs.LineText.{LineText, line_text}
-use Rattle.gimli_build.specs.Tables.{keys_of}
+use Rattle.std.proofs.Common.{◌∙◌, ap}
 use Rattle.gimli_build.specs.inside.TableFields.{directories_of, files_of}
 use Rattle.gimli_build.proofs.building.TableLemmas.{directories_insert, index_of_equal_directory, with_directory-AreTables}
 use Rattle.gimli_build.proofs.built.files.FileTable.add_directory.Goals as goal

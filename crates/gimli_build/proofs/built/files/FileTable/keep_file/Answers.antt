@@ -1,6 +1,5 @@
-use Rattle.std.proofs.Common.{◌<◌, List, ◌∙◌, ap, Some, true, false, sym, length, subst}
-use Rattle.gimli_build.specs.declared.built.files.FileInfo.{FileInfo}
-use Rattle.gimli_build.specs.Tables.{File, Tables, with_file}
+use Rattle.std.proofs.Common.{◌<◌, ◌∙◌, ap, Some, sym, length, subst}
+use Rattle.gimli_build.specs.Tables.{with_file}
 use Rattle.gimli_build.specs.TableFields.{details}
 use Rattle.gimli_build.specs.inside.TableFields.{key, directories_of, files_of}
 use Rattle.gimli_bytes.proofs.TextLemmas.{index_found}

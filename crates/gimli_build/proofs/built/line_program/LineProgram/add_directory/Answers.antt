@@ -1,7 +1,6 @@
 use Rattle.std.proofs.Common.{◌≡◌, ◌≤◌, false, sym, subst, ap, ◌∙◌, slice_get}
 use Rattle.gimli_build.specs.LineText.{line_text, IsNotEmpty}
-use Rattle.gimli_build.specs.Tables.{Tables, keys_of, Keeps, with_directory}
-use Rattle.gimli_build.specs.Built.{Built}
+use Rattle.gimli_build.specs.Tables.{keys_of, Keeps, with_directory}
 use Rattle.gimli_build.specs.Conditions.{IsProgram}
 use Rattle.gimli_build.proofs.building.TableLemmas.{directory_found, directory_keeps, some_within}
 use Rattle.gimli_build.proofs.building.BuiltLemmas.{directory_added}

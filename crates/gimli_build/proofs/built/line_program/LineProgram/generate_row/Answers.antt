@@ -1,7 +1,5 @@
 use Rattle.std.proofs.Common.{sym, subst}
-use Rattle.gimli_build.specs.Built.{Built}
 use Rattle.gimli_build.specs.Conditions.{CanGenerateRow}
-use Rattle.gimli_build.specs.declared.built.items.BuiltItem.TheVariants.{Row}
 use Rattle.gimli_build.proofs.building.BuiltLemmas.{item_pushed}
 use Rattle.gimli_build.proofs.built.line_program.LineProgram.generate_row.Goals as goal
 

@@ -1,4 +1,3 @@
-use Rattle.gimli_build.specs.TableFields.{details}
 use Rattle.gimli_build.proofs.building.BuiltLemmas.{details_written}
 use Rattle.gimli_build.proofs.built.line_program.LineProgram.get_file_info_mut.Goals as goal
 

@@ -1,4 +1,3 @@
-use Rattle.gimli_build.specs.declared.built.items.BuiltItem.TheVariants.{SetAddress}
 use Rattle.gimli_build.proofs.building.BuiltLemmas.{item_pushed}
 use Rattle.gimli_build.proofs.built.line_program.LineProgram.set_address.Goals as goal
 

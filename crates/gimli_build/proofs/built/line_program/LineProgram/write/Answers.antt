@@ -1,9 +1,8 @@
-use Rattle.std.proofs.Common.{rules, ◌≡◌, true, false, Ok, Err, inl, inr, refl, subst}
+use Rattle.std.proofs.Common.{rules, ◌≡◌, true, false, inl, inr, refl, subst}
 use Rattle.std.proofs.lemmas.Result.{err_from_is_err_and}
 use Rattle.gimli_bytes.specs.Hand.{plain}
 use Rattle.gimli_bytes.specs.Written.{Appends}
 use Rattle.gimli_bytes.specs.Texts.{texts_in}
-use Rattle.gimli_bytes.specs.declared.error.Error.TheVariants.{IncompatibleLineProgramEncoding}
 use Rattle.gimli_build.specs.Version5Tables.{texts_after}
 use Rattle.gimli_bytes.specs.Relocations.{placed}
 use Rattle.gimli_build.specs.Linked.{placed_program, SumsFit}
@@ -81,13 +80,21 @@ returns-then-is_incompatible-clause-writes g c =
     nothing_written _ _ _ _ (λ hand. inr (rw barred refl))
 
 pub returns-clause-cause : goal.returns-clause-cause
-returns-clause-cause g c = cause-is _ c.args.encoding c.args.self.now (texts_in c.args.strings.now c.args.line_strings.now) (c.encoding.ensures.accepted c.requires.program).address_size
+returns-clause-cause g c =
+    cause-is _ c.args.encoding c.args.self.now (texts_in c.args.strings.now c.args.line_strings.now)
+    (c.encoding.ensures.accepted c.requires.program).address_size
 
 pub returns-in_err-write_whole-clause-cause : goal.returns-in_err-write_whole-clause-cause
-returns-in_err-write_whole-clause-cause g c = cause-is _ c.args.encoding c.args.self.now (texts_in c.args.strings.now c.args.line_strings.now) (c.encoding.ensures.accepted c.requires.program).address_size
+returns-in_err-write_whole-clause-cause g c =
+    cause-is _ c.args.encoding c.args.self.now (texts_in c.args.strings.now c.args.line_strings.now)
+    (c.encoding.ensures.accepted c.requires.program).address_size
 
 pub returns-in_err-empty-clause-cause : goal.returns-in_err-empty-clause-cause
-returns-in_err-empty-clause-cause g c = cause-is _ c.args.encoding c.args.self.now (texts_in c.args.strings.now c.args.line_strings.now) (c.encoding.ensures.accepted c.requires.program).address_size
+returns-in_err-empty-clause-cause g c =
+    cause-is _ c.args.encoding c.args.self.now (texts_in c.args.strings.now c.args.line_strings.now)
+    (c.encoding.ensures.accepted c.requires.program).address_size
 
 pub returns-then-is_incompatible-clause-cause : goal.returns-then-is_incompatible-clause-cause
-returns-then-is_incompatible-clause-cause g c = cause-is _ c.args.encoding c.args.self.now (texts_in c.args.strings.now c.args.line_strings.now) (c.encoding.ensures.accepted c.requires.program).address_size
+returns-then-is_incompatible-clause-cause g c =
+    cause-is _ c.args.encoding c.args.self.now (texts_in c.args.strings.now c.args.line_strings.now)
+    (c.encoding.ensures.accepted c.requires.program).address_size
