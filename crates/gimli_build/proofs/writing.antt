@@ -2,7 +2,6 @@
 pub mod Joins
 pub mod Joined
 pub mod Writes
-pub mod OneCall
 pub mod InstructionsWritten
 pub mod Frames
 pub mod ItemsWritten

@@ -1,11 +1,12 @@
 -- Why a unit can't be written: the first cause, in the order of what is written.
-use Rattle.std.specs.Prelude.{◌≡◌, ◌⊎◌, ℕ, ◌+◌, ◌^◌, List, [], ◌∷◌, ◌++◌, length, map, flat_map}
+use Rattle.std.specs.Prelude.{ℕ, ◌+◌, ◌^◌, List, [], ◌∷◌, ◌++◌, length, map, flat_map}
 use Rattle.std.specs.Prelude.{drop, sum_by, unwrap_or, Bool, not, ◌&&◌, nat_eq, nat_le, nat_lt}
 use Rattle.std.specs.Prelude.{if◌then◌else◌, Option, Some, None, Result, Ok, Err}
 use Rattle.gimli_core.specs.Numbers.{word_size}
 use Rattle.gimli_core.specs.declared.common.Encoding.{Encoding}
 use Rattle.gimli_core.specs.declared.common.Format.{Format}
 use Rattle.gimli_core.specs.declared.common.Format.TheVariants.{Dwarf32, Dwarf64}
+use Rattle.gimli_bytes.specs.Hand.{plain}
 use Rattle.gimli_bytes.specs.Number.{uleb}
 use Rattle.gimli_bytes.specs.declared.address.Address.TheVariants.{Constant, Symbol}
 use Rattle.gimli_bytes.specs.declared.error.Error.{Error}
@@ -128,7 +129,7 @@ size_of (Err e) = 0
 abbrev pub unit_length : Bool → Built → StringTables → ℕ
 unit_length big p texts =
     (if nat_le p.encoding.version 4 then 2 else 4) + word_size p.encoding.format
-    + header_length p texts + size_of (program_bytes big p)
+    + header_length p texts + size_of (program_bytes plain big p)
 
 -- the greatest words of the 32-bit format are reserved
 abbrev pub unit_length_cause : Format → ℕ → Option Error
@@ -157,6 +158,7 @@ first_cause big unit p handed =
     ∷ unit_length_cause p.encoding.format (unit_length big p texts)
     ∷ [])
 
--- such a write is refused by this error: memory is missing, or it is the first cause
-abbrev pub IsWriteRefusal : Bool → Encoding → Built → StringTables → Error → Type 0
-IsWriteRefusal big unit p texts e = (e ≡ OutOfMemory) ⊎ (first_cause big unit p texts ≡ Some e)
+-- what bytes are refused for
+abbrev pub refusal : Result (List ℕ) Error → Option Error
+refusal (Ok bytes) = None
+refusal (Err e) = Some e

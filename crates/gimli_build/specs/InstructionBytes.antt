@@ -4,7 +4,7 @@ use Rattle.std.specs.Prelude.{Result, FitsSigned}
 use Rattle.std.specs.Int.{w64}
 use Rattle.gimli_core.specs.Reading.{result_map}
 use Rattle.gimli_bytes.specs.Number.{uleb, sleb}
-use Rattle.gimli_bytes.specs.Hand.{Hand, plain}
+use Rattle.gimli_bytes.specs.Hand.{Hand}
 use Rattle.gimli_bytes.specs.declared.address.Address.{Address}
 use Rattle.gimli_bytes.specs.declared.error.Error.{Error}
 use Rattle.gimli_line.specs.declared.run.instruction.LineInstruction.TheVariants.{
@@ -58,14 +58,10 @@ abbrev pub instructions_bytes : List Ins → List ℕ
 instructions_bytes list = flat_map instruction_bytes list
 
 -- a set address, by a hand
-abbrev pub set_address_bytes_by : Hand → Bool → Address → ℕ → Result (List ℕ) Error
-set_address_bytes_by hand big address size =
+abbrev pub set_address_bytes : Hand → Bool → Address → ℕ → Result (List ℕ) Error
+set_address_bytes hand big address size =
     result_map (λ operand. 0 ∷ uleb (size + 1) ++ DW_LNE_set_address ∷ operand)
     (hand.address big address size)
-
--- as numbers: what a symbol stands for isn't known
-abbrev pub set_address_bytes : Bool → Address → ℕ → Result (List ℕ) Error
-set_address_bytes big address size = set_address_bytes_by plain big address size
 
 -- an instruction that rows and ends are written with, whose operand 64 bits hold
 abbrev pub IsWritten : Ins → Type 0

@@ -3,7 +3,7 @@ use Rattle.std.specs.Prelude.{ℕ, ◌+◌, ◌-◌, ◌*◌, ◌^◌, ◌<◌, 
 use Rattle.std.specs.Prelude.{Ok}
 use Rattle.gimli_core.specs.declared.common.Encoding.{Encoding}
 use Rattle.gimli_core.specs.declared.common.LineEncoding.{LineEncoding}
-use Rattle.gimli_bytes.specs.Hand.{Hand, plain}
+use Rattle.gimli_bytes.specs.Hand.{Hand}
 use Rattle.gimli_bytes.specs.declared.error.Error.{Error}
 use Rattle.gimli_line.specs.declared.run.instruction.LineInstruction.TheVariants as read
 use Rattle.gimli_line.specs.declared.run.row.LineRow.{LineRow as ReadRow}
@@ -16,7 +16,7 @@ use Rattle.gimli_build.specs.Rows.{initial_row}
 use Rattle.gimli_build.specs.Encode.{row_instructions, end_instructions}
 use Rattle.gimli_build.specs.InstructionBytes.{
   instructions_bytes,
-  set_address_bytes_by,
+  set_address_bytes,
   FitsInstructions,
 }
 use Rattle.gimli_build.specs.SameRow.{read_row, read_end}
@@ -73,30 +73,23 @@ AddressesFit size base position (End offset op_index ∷ items) =
 
 -- ---- their bytes
 
-abbrev pub item_bytes_by : Hand → Bool → Encoding → LineEncoding → LineRow → BuiltItem
+abbrev pub item_bytes : Hand → Bool → Encoding → LineEncoding → LineRow → BuiltItem
     → Result (List ℕ) Error
-item_bytes_by hand big encoding e previous (SetAddress a) =
-    set_address_bytes_by hand big a encoding.address_size
-item_bytes_by hand big encoding e previous (Row r) =
+item_bytes hand big encoding e previous (SetAddress a) =
+    set_address_bytes hand big a encoding.address_size
+item_bytes hand big encoding e previous (Row r) =
     Ok (instructions_bytes (row_instructions encoding.version e previous r))
-item_bytes_by hand big encoding e previous (End offset op_index) =
+item_bytes hand big encoding e previous (End offset op_index) =
     Ok (instructions_bytes (end_instructions e previous offset op_index))
 
-abbrev pub item_bytes : Bool → Encoding → LineEncoding → LineRow → BuiltItem → Result (List ℕ) Error
-item_bytes big encoding e previous item = item_bytes_by plain big encoding e previous item
-
 -- items, from the row before the first, or the refusal of the first set address that has one
-abbrev pub items_bytes_by : Hand → Bool → Encoding → LineEncoding → LineRow → List BuiltItem
+abbrev pub items_bytes : Hand → Bool → Encoding → LineEncoding → LineRow → List BuiltItem
     → Result (List ℕ) Error
-items_bytes_by hand big encoding e previous [] = Ok []
-items_bytes_by hand big encoding e previous (item ∷ items) =
-    result_append (item_bytes_by hand big encoding e previous item)
-    (items_bytes_by hand big encoding e
+items_bytes hand big encoding e previous [] = Ok []
+items_bytes hand big encoding e previous (item ∷ items) =
+    result_append (item_bytes hand big encoding e previous item)
+    (items_bytes hand big encoding e
     (next_previous encoding.version e.default_is_stmt previous item) items)
-
-abbrev pub items_bytes : Bool → Encoding → LineEncoding → LineRow → List BuiltItem
-    → Result (List ℕ) Error
-items_bytes big encoding e previous items = items_bytes_by plain big encoding e previous items
 
 -- 64 bits hold the numbers of the rows, as they do in any program
 abbrev pub FitsItem : ℕ → BuiltItem → Type 0

@@ -13,6 +13,7 @@ pub mod Calls
 pub mod SameRow
 pub mod FormatWord
 pub mod Joined
+pub mod Writes
 pub mod WrittenTables
 pub mod Items
 pub mod Conditions

@@ -9,7 +9,7 @@ use Rattle.gimli_core.specs.declared.common.LineEncoding.{LineEncoding}
 use Rattle.gimli_core.specs.declared.common.Format.{Format}
 use Rattle.gimli_core.specs.declared.common.Format.TheVariants.{Dwarf32, Dwarf64}
 use Rattle.gimli_bytes.specs.Number.{length_word}
-use Rattle.gimli_bytes.specs.Hand.{Hand, plain}
+use Rattle.gimli_bytes.specs.Hand.{Hand}
 use Rattle.gimli_bytes.specs.declared.error.Error.{Error}
 use Rattle.gimli_bytes.specs.declared.error.Error.TheVariants.{
   IncompatibleLineProgramEncoding,
@@ -20,11 +20,11 @@ use Rattle.gimli_bytes.specs.Texts.{StringTables}
 use Rattle.gimli_build.specs.FormatWord.{format_word}
 use Rattle.gimli_build.specs.Joined.{result_append, after_length}
 use Rattle.gimli_build.specs.Version4Tables.{directories_bytes, files_bytes}
-use Rattle.gimli_build.specs.Version5Tables.{texts_after, directory_table_bytes_by}
-use Rattle.gimli_build.specs.Version5Tables.{file_table_bytes_by}
+use Rattle.gimli_build.specs.Version5Tables.{texts_after, directory_table_bytes}
+use Rattle.gimli_build.specs.Version5Tables.{file_table_bytes}
 use Rattle.gimli_build.specs.Rows.{initial_row}
 use Rattle.gimli_build.specs.Encode.{built_opcode_base}
-use Rattle.gimli_build.specs.Items.{items_bytes_by}
+use Rattle.gimli_build.specs.Items.{items_bytes}
 use Rattle.gimli_build.specs.Built.{Built}
 
 -- ---- the fixed fields
@@ -76,47 +76,47 @@ abbrev pub escape_bytes : Bool → Format → List ℕ
 escape_bytes big Dwarf32 = []
 escape_bytes big Dwarf64 = number_bytes big 4 0xffff_ffff
 
--- by a hand, which writes addresses and the offsets of texts
+-- by a hand, which writes addresses and the offsets of texts; `plain` writes them as numbers
 module _ (hand : Hand) (big : Bool) where
   -- the directories and the files
-  abbrev pub tables_bytes_by : Built → StringTables → Result (List ℕ) Error
-  tables_bytes_by p texts =
+  abbrev pub tables_bytes : Built → StringTables → Result (List ℕ) Error
+  tables_bytes p texts =
       if nat_le p.encoding.version 4
       then result_append (directories_bytes p.directories) (files_bytes p.files)
-      else result_append (directory_table_bytes_by hand big p.encoding.format texts p)
-      (file_table_bytes_by hand big p.encoding.format texts p)
+      else result_append (directory_table_bytes hand big p.encoding.format texts p)
+      (file_table_bytes hand big p.encoding.format texts p)
 
   -- what the header length counts
-  abbrev pub fields_bytes_by : Built → StringTables → Result (List ℕ) Error
-  fields_bytes_by p texts =
+  abbrev pub fields_bytes : Built → StringTables → Result (List ℕ) Error
+  fields_bytes p texts =
       result_append (line_encoding_bytes p.encoding.version p.line_encoding)
       (result_append (Ok opcode_bytes)
-      (tables_bytes_by p texts))
+      (tables_bytes p texts))
 
   -- the header length, and what it counts
-  abbrev pub header_bytes_by : Built → StringTables → Result (List ℕ) Error
-  header_bytes_by p texts =
-      after_length (λ n. format_word big p.encoding.format n) (fields_bytes_by p texts)
+  abbrev pub header_bytes : Built → StringTables → Result (List ℕ) Error
+  header_bytes p texts =
+      after_length (λ n. format_word big p.encoding.format n) (fields_bytes p texts)
 
   -- the instructions
-  abbrev pub program_bytes_by : Built → Result (List ℕ) Error
-  program_bytes_by p =
-      items_bytes_by hand big p.encoding p.line_encoding
+  abbrev pub program_bytes : Built → Result (List ℕ) Error
+  program_bytes p =
+      items_bytes hand big p.encoding p.line_encoding
       (initial_row p.encoding.version p.line_encoding.default_is_stmt) p.items
 
   -- what the unit length counts
-  abbrev pub inside_bytes_by : Built → StringTables → Result (List ℕ) Error
-  inside_bytes_by p texts =
+  abbrev pub inside_bytes : Built → StringTables → Result (List ℕ) Error
+  inside_bytes p texts =
       result_append (opening_bytes big p.encoding)
-      (result_append (header_bytes_by p texts) (program_bytes_by p))
+      (result_append (header_bytes p texts) (program_bytes p))
 
   -- the unit length, and what it counts
-  abbrev pub whole_bytes_by : Built → StringTables → Result (List ℕ) Error
-  whole_bytes_by p texts =
+  abbrev pub whole_bytes : Built → StringTables → Result (List ℕ) Error
+  whole_bytes p texts =
       after_length
       (λ n. result_append (Ok (escape_bytes big p.encoding.format))
       (length_word big p.encoding.format n))
-      (inside_bytes_by p texts)
+      (inside_bytes p texts)
 
 -- a unit of this encoding has no line program of that one: up to version 4 a file number is never
 -- 0, and addresses have one size
@@ -127,31 +127,7 @@ is_incompatible unit program =
 
 -- what is written of a program for a unit of this encoding, with these tables of strings and line
 -- strings, which gain the empty text where it is needed
-abbrev pub unit_bytes_by : Hand → Bool → Encoding → Built → StringTables → Result (List ℕ) Error
-unit_bytes_by hand big unit p texts =
+abbrev pub unit_bytes : Hand → Bool → Encoding → Built → StringTables → Result (List ℕ) Error
+unit_bytes hand big unit p texts =
     if is_incompatible unit p.encoding then Err IncompatibleLineProgramEncoding
-    else whole_bytes_by hand big p (texts_after p texts)
-
--- ---- with addresses and offsets as numbers
-
-module _ (big : Bool) where
-  abbrev pub tables_bytes : Built → StringTables → Result (List ℕ) Error
-  tables_bytes p texts = tables_bytes_by plain big p texts
-
-  abbrev pub fields_bytes : Built → StringTables → Result (List ℕ) Error
-  fields_bytes p texts = fields_bytes_by plain big p texts
-
-  abbrev pub header_bytes : Built → StringTables → Result (List ℕ) Error
-  header_bytes p texts = header_bytes_by plain big p texts
-
-  abbrev pub program_bytes : Built → Result (List ℕ) Error
-  program_bytes p = program_bytes_by plain big p
-
-  abbrev pub inside_bytes : Built → StringTables → Result (List ℕ) Error
-  inside_bytes p texts = inside_bytes_by plain big p texts
-
-  abbrev pub whole_bytes : Built → StringTables → Result (List ℕ) Error
-  whole_bytes p texts = whole_bytes_by plain big p texts
-
-abbrev pub unit_bytes : Bool → Encoding → Built → StringTables → Result (List ℕ) Error
-unit_bytes big unit p texts = unit_bytes_by plain big unit p texts
+    else whole_bytes hand big p (texts_after p texts)

@@ -2,6 +2,7 @@
 use Rattle.std.specs.Prelude.{◌≡◌, ℕ, ◌<◌, ◌^◌, List, Result}
 use Rattle.gimli_core.specs.Notation.{Notation}
 use Rattle.gimli_core.specs.Production.{Each}
+use Rattle.gimli_bytes.specs.Hand.{plain}
 use Rattle.gimli_bytes.specs.declared.address.Address.TheVariants.{Constant}
 use Rattle.gimli_bytes.specs.declared.error.Error.{Error}
 use Rattle.gimli_line.specs.header.Header.{Header}
@@ -37,12 +38,13 @@ AreSpelled u instructions bytes = Each (Spells u) bytes instructions
 -- the bytes of a set address, or their refusal
 abbrev pub bytes_of_address : UnitReader → ℕ → Result (List ℕ) Error
 bytes_of_address u address =
-    set_address_bytes u.notation.big (Constant address) u.header.parameters.encoding.address_size
+    set_address_bytes plain u.notation.big (Constant address)
+    u.header.parameters.encoding.address_size
 
 -- the bytes of items, or the first refusal
 abbrev pub bytes_of_items : UnitReader → Run → List BuiltItem → Result (List ℕ) Error
 bytes_of_items u here items =
-    items_bytes u.notation.big here.encoding here.line_encoding here.previous items
+    items_bytes plain u.notation.big here.encoding here.line_encoding here.previous items
 
 -- ---- what can be written
 

@@ -7,7 +7,7 @@ use Rattle.gimli_core.specs.Numbers.{word_size}
 use Rattle.gimli_core.specs.declared.common.Format.{Format}
 use Rattle.gimli_core.specs.declared.common.SectionId.TheVariants.{DebugStr, DebugLineStr}
 use Rattle.gimli_bytes.specs.Number.{uleb}
-use Rattle.gimli_bytes.specs.Hand.{Hand, plain}
+use Rattle.gimli_bytes.specs.Hand.{Hand}
 use Rattle.gimli_bytes.specs.Texts.{with_text, index_of_text, offset_of, StringTables}
 use Rattle.gimli_bytes.specs.declared.error.Error.{Error}
 use Rattle.gimli_bytes.specs.declared.error.Error.TheVariants.{LineStringFormMismatch}
@@ -102,59 +102,39 @@ detail_bytes p f =
 -- each by a hand, which writes the offsets of texts
 module _ (hand : Hand) (big : Bool) (format : Format) (texts : StringTables) where
   -- a text: its bytes and a zero byte, or its offset in the section of its table
-  abbrev pub text_bytes_by : LineText → Result (List ℕ) Error
-  text_bytes_by (Inline text) = Ok (text ++ 0 ∷ [])
-  text_bytes_by (InStrings i) =
+  abbrev pub text_bytes : LineText → Result (List ℕ) Error
+  text_bytes (Inline text) = Ok (text ++ 0 ∷ [])
+  text_bytes (InStrings i) =
       hand.offset big DebugStr (offset_of texts.strings i) (word_size format)
-  text_bytes_by (InLineStrings i) =
+  text_bytes (InLineStrings i) =
       hand.offset big DebugLineStr (offset_of texts.line_strings i) (word_size format)
 
   -- a text of a table whose texts have this form
-  abbrev pub text_in_form_by : ℕ → LineText → Result (List ℕ) Error
-  text_in_form_by form t =
-      if nat_eq (text_form t) form then text_bytes_by t else Err LineStringFormMismatch
+  abbrev pub text_in_form : ℕ → LineText → Result (List ℕ) Error
+  text_in_form form t =
+      if nat_eq (text_form t) form then text_bytes t else Err LineStringFormMismatch
 
   -- the directories, after their formats and their number
-  abbrev pub directory_table_bytes_by : Built → Result (List ℕ) Error
-  directory_table_bytes_by p =
+  abbrev pub directory_table_bytes : Built → Result (List ℕ) Error
+  directory_table_bytes p =
       result_append (Ok (formats_bytes (directory_formats p) ++ uleb (length p.directories)))
-      (result_concat (text_in_form_by (first_form p.directories)) p.directories)
+      (result_concat (text_in_form (first_form p.directories)) p.directories)
 
   -- its source, or the empty text
-  abbrev pub source_bytes_by : Built → File → Result (List ℕ) Error
-  source_bytes_by p f =
+  abbrev pub source_bytes : Built → File → Result (List ℕ) Error
+  source_bytes p f =
       if p.file_has_source
       then (let form = first_form (sources p.files) in
-      text_in_form_by form (unwrap_or f.1.source (empty_text form texts)))
+      text_in_form form (unwrap_or f.1.source (empty_text form texts)))
       else Ok []
 
-  abbrev pub file_entry_bytes_by : Built → File → Result (List ℕ) Error
-  file_entry_bytes_by p f =
-      result_append (text_in_form_by (first_form (path_texts p.files)) f.0.0)
-      (result_append (Ok (detail_bytes p f)) (source_bytes_by p f))
+  abbrev pub file_entry_bytes : Built → File → Result (List ℕ) Error
+  file_entry_bytes p f =
+      result_append (text_in_form (first_form (path_texts p.files)) f.0.0)
+      (result_append (Ok (detail_bytes p f)) (source_bytes p f))
 
   -- the files, after their formats and their number
-  abbrev pub file_table_bytes_by : Built → Result (List ℕ) Error
-  file_table_bytes_by p =
-      result_append (Ok (formats_bytes (file_formats p) ++ uleb (length p.files)))
-      (result_concat (file_entry_bytes_by p) p.files)
-
--- and with offsets as numbers
-module _ (big : Bool) (format : Format) (texts : StringTables) where
-  abbrev pub text_bytes : LineText → Result (List ℕ) Error
-  text_bytes t = text_bytes_by plain big format texts t
-
-  abbrev pub text_in_form : ℕ → LineText → Result (List ℕ) Error
-  text_in_form form t = text_in_form_by plain big format texts form t
-
-  abbrev pub directory_table_bytes : Built → Result (List ℕ) Error
-  directory_table_bytes p = directory_table_bytes_by plain big format texts p
-
-  abbrev pub source_bytes : Built → File → Result (List ℕ) Error
-  source_bytes p f = source_bytes_by plain big format texts p f
-
-  abbrev pub file_entry_bytes : Built → File → Result (List ℕ) Error
-  file_entry_bytes p f = file_entry_bytes_by plain big format texts p f
-
   abbrev pub file_table_bytes : Built → Result (List ℕ) Error
-  file_table_bytes p = file_table_bytes_by plain big format texts p
+  file_table_bytes p =
+      result_append (Ok (formats_bytes (file_formats p) ++ uleb (length p.files)))
+      (result_concat (file_entry_bytes p) p.files)

@@ -1,7 +1,6 @@
 -- What no public clause reaches: private functions and proofs alone speak of it.
 pub mod Conditions
 pub mod EmptySource
-pub mod Joined
 pub mod LentDetails
 pub mod ReadAs
 pub mod Tables

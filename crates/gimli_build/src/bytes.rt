@@ -2,7 +2,7 @@
 
 ghost use Rattle.std.specs.Prelude.{[], ◌∷◌, ◌++◌, Ok};
 ghost use Rattle.gimli_core.specs.Numbers.{word_size};
-ghost use Rattle.gimli_build.specs.inside.Writes.{Writes, WritesBy};
+ghost use Rattle.gimli_build.specs.inside.Writes.{Writes, always};
 
 use gimli_bytes::{Result, Writer};
 use gimli_core::{Format, SectionId};
@@ -10,14 +10,14 @@ use gimli_core::{Format, SectionId};
 /// Appends a byte, which is the same in either order.
 #[inline(always)]
 pub(crate) fn write_byte<W: Writer>(w: &mut W, byte: u8) -> Result<()>
-    ensures { Writes W.Sink w.old w.new result (Ok (byte ∷ [])) }
+    ensures { Writes W.Sink w.old w.new result (always (Ok (byte ∷ []))) }
 {
     w.write(&[byte])
 }
 
 /// Appends a text and a zero byte.
 pub(crate) fn write_text<W: Writer>(w: &mut W, text: &[u8]) -> Result<()>
-    ensures { Writes W.Sink w.old w.new result (Ok (text.now ++ 0 ∷ [])) }
+    ensures { Writes W.Sink w.old w.new result (always (Ok (text.now ++ 0 ∷ []))) }
 {
     w.write(text)?;
     write_byte(w, 0)
@@ -30,7 +30,7 @@ pub(crate) fn write_section_offset<W: Writer>(
     offset: usize,
     section: SectionId,
 ) -> Result<()>
-    ensures { WritesBy W.Sink w.old w.new result
+    ensures { Writes W.Sink w.old w.new result
         (λ hand. hand.offset (W.big w.old) section offset (word_size format)) }
 {
     w.write_offset(offset, section, format.word_size())

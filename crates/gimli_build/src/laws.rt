@@ -50,11 +50,11 @@ ghost use Rattle.gimli_build.specs.declared.built.files.FileInfo.{FileInfo};
 ghost use Rattle.gimli_build.specs.declared.built.line_string.LineString.{LineString};
 ghost use Rattle.gimli_build.specs.LineText.{line_text};
 ghost use Rattle.gimli_build.specs.TableFields.{details};
-ghost use Rattle.gimli_bytes.specs.Hand.{Placement};
+ghost use Rattle.gimli_bytes.specs.Hand.{Placement, plain};
 ghost use Rattle.gimli_bytes.specs.Relocations.{placed, counted};
 ghost use Rattle.gimli_bytes.specs.Texts.{StringTables};
 ghost use Rattle.gimli_build.specs.Linked.{placed_program, SumsFit, TextsBeginAtZero};
-ghost use Rattle.gimli_build.specs.Unit.{unit_bytes, unit_bytes_by};
+ghost use Rattle.gimli_build.specs.Unit.{unit_bytes};
 ghost use Rattle.gimli_build.specs.Version5Tables.{texts_after};
 
 use crate::built::files::{DirectoryId, FileId, FileInfo};
@@ -234,10 +234,10 @@ pub fn equal_texts_hash_alike()
 pub fn placed_units_are_numbers()
     ensures counted { (at : Placement) (big : Bool) (unit : Encoding) (p : Built)
         (handed : StringTables) → SumsFit at p (texts_after p handed) →
-        unit_bytes_by (placed at) big unit p handed
-        ≡ unit_bytes_by (counted at) big unit (placed_program at p) handed }
+        unit_bytes (placed at) big unit p handed
+        ≡ unit_bytes (counted at) big unit (placed_program at p) handed }
     ensures plain { (at : Placement) (big : Bool) (unit : Encoding) (p : Built)
         (handed : StringTables) → SumsFit at p (texts_after p handed) → TextsBeginAtZero at →
-        unit_bytes_by (placed at) big unit p handed
-        ≡ unit_bytes big unit (placed_program at p) handed }
+        unit_bytes (placed at) big unit p handed
+        ≡ unit_bytes plain big unit (placed_program at p) handed }
 {}

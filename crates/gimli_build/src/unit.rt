@@ -1,23 +1,22 @@
 //! The unit of a line program as it is written.
 
-ghost use Rattle.std.specs.Prelude.{◌≡◌, ◌⊎◌, ◌<◌, ◌^◌, length, IsTrue, IfOk, IfErr, OnOk, Err};
-ghost use Rattle.std.specs.Prelude.{None};
-ghost use Rattle.gimli_bytes.specs.Hand.{Placement};
+ghost use Rattle.std.specs.Prelude.{◌≡◌, ◌<◌, ◌^◌, length, IsTrue, IfOk, OnOk, Err};
+ghost use Rattle.gimli_bytes.specs.Hand.{Placement, plain};
 ghost use Rattle.gimli_bytes.specs.Relocations.{placed};
-ghost use Rattle.gimli_bytes.specs.Written.{Begins, Appends, AppendsThat};
+ghost use Rattle.gimli_bytes.specs.Written.{AppendsThat};
 ghost use Rattle.gimli_bytes.specs.Texts.{texts_in};
 ghost use Rattle.gimli_build.specs.LineText.{line_text};
 ghost use Rattle.gimli_build.specs.Conditions.{CanWrite};
 ghost use Rattle.gimli_build.specs.inside.Conditions.{IsBuilt};
 ghost use Rattle.gimli_build.specs.inside.EmptySource.{StandsForNone};
-ghost use Rattle.gimli_build.specs.Unit.{version_bytes, opening_bytes, inside_bytes_by};
-ghost use Rattle.gimli_build.specs.Unit.{whole_bytes_by, is_incompatible, unit_bytes};
-ghost use Rattle.gimli_build.specs.Unit.{unit_bytes_by};
-ghost use Rattle.gimli_build.specs.Cause.{first_cause, IsWriteRefusal};
+ghost use Rattle.gimli_build.specs.Unit.{version_bytes, opening_bytes, inside_bytes};
+ghost use Rattle.gimli_build.specs.Unit.{whole_bytes, is_incompatible, unit_bytes};
+ghost use Rattle.gimli_build.specs.Cause.{first_cause, refusal};
 ghost use Rattle.gimli_build.specs.ReadsBack.{ReadsBackAs};
 ghost use Rattle.gimli_build.specs.Linked.{placed_program, SumsFit, TextsBeginAtZero};
 ghost use Rattle.gimli_build.specs.WrittenTables.{HaveEmptySource, KeepTables};
-ghost use Rattle.gimli_build.specs.inside.Writes.{Writes, WritesBy};
+ghost use Rattle.gimli_build.specs.Writes.{WritesOr, OfMemoryOr};
+ghost use Rattle.gimli_build.specs.inside.Writes.{Writes, always};
 
 mod header;
 mod writable;
@@ -56,17 +55,10 @@ impl LineProgram {
         strings: &mut StringTable,
     ) -> Result<DebugLineOffset>
         requires { CanWrite self.now (texts_in strings.old line_strings.old) }
-        ensures keeps { Begins (W.contents w.old.0) (W.contents w.new.0) }
-        ensures ordered { W.big w.new.0 ≡ W.big w.old.0 }
+        ensures writes { WritesOr W.Sink (OfMemoryOr W.refuses) w.old.0 w.new.0 result
+            (λ hand. unit_bytes hand (W.big w.old.0) encoding self.now
+            (texts_in strings.old line_strings.old)) }
         ensures offset { IfOk result (λ offset. offset.0 ≡ length (W.contents w.old.0)) }
-        ensures unit { IsTrue W.keeps_bytes → OnOk result (Appends
-            (unit_bytes (W.big w.old.0) encoding self.now (texts_in strings.old line_strings.old))
-            (W.contents w.old.0) (W.contents w.new.0)) }
-        ensures stays { IsTrue (W.completes w.old.0) → IsTrue (W.completes w.new.0) }
-        ensures completed { (at : Placement) → IsTrue (W.completes w.old.0) → OnOk result (Appends
-            (unit_bytes_by (W.hand at) (W.big w.old.0) encoding self.now
-            (texts_in strings.old line_strings.old))
-            (W.completed at w.old.0) (W.completed at w.new.0)) }
         ensures reads_back { IsTrue W.keeps_bytes → OnOk result (AppendsThat
             (ReadsBackAs (W.big w.old.0) self.now (texts_in strings.new line_strings.new))
             (W.contents w.old.0) (W.contents w.new.0)) }
@@ -75,17 +67,10 @@ impl LineProgram {
             OnOk result (AppendsThat (ReadsBackAs (W.big w.old.0) (placed_program at self.now)
             (texts_in strings.new line_strings.new))
             (W.completed at w.old.0) (W.completed at w.new.0)) }
-        ensures no_cause { IsTrue W.keeps_bytes → OnOk result (first_cause (W.big w.old.0)
-            encoding self.now (texts_in strings.old line_strings.old) ≡ None) }
-        ensures err { IsTrue W.keeps_bytes → IsTrue W.fails_for_memory_alone → IfErr result
-            (IsWriteRefusal (W.big w.old.0) encoding self.now
+        ensures cause { first_cause (W.big w.old.0) encoding self.now
+            (texts_in strings.old line_strings.old)
+            ≡ refusal (unit_bytes plain (W.big w.old.0) encoding self.now
             (texts_in strings.old line_strings.old)) }
-        ensures own { IsTrue W.keeps_bytes → IfErr result (λ e. W.refuses e
-            ⊎ IsWriteRefusal (W.big w.old.0) encoding self.now
-            (texts_in strings.old line_strings.old) e) }
-        ensures completed_own { (at : Placement) → IsTrue (W.completes w.old.0) → IfErr result (λ e.
-            W.refuses e ⊎ (e ≡ Error.OutOfMemory) ⊎ (unit_bytes_by (W.hand at) (W.big w.old.0)
-            encoding self.now (texts_in strings.old line_strings.old) ≡ Err e)) }
         ensures incompatible { IsTrue (is_incompatible encoding self.now.encoding) →
             (result ≡ Err Error.IncompatibleLineProgramEncoding) × (w.new ≡ w.old) }
         ensures tables { OnOk result (HaveEmptySource self.now
@@ -122,8 +107,8 @@ fn write_whole<W: Writer>(
     requires can { CanWrite program.now (texts_in strings.now line_strings.now) }
     requires empty { StandsForNone program.now (texts_in strings.now line_strings.now)
         (line_text empty.now) }
-    ensures writes { WritesBy W.Sink w.old w.new result
-        (λ hand. whole_bytes_by hand (W.big w.old) program.now
+    ensures writes { Writes W.Sink w.old w.new result
+        (λ hand. whole_bytes hand (W.big w.old) program.now
         (texts_in strings.now line_strings.now)) }
     ensures built { OnOk result (IsBuilt program.now) }
     ensures short { OnOk result (length (W.contents w.new) < 2 ^ 64) }
@@ -149,8 +134,8 @@ fn write_inside<W: Writer>(
     requires can { CanWrite program.now (texts_in strings.now line_strings.now) }
     requires empty { StandsForNone program.now (texts_in strings.now line_strings.now)
         (line_text empty.now) }
-    ensures writes { WritesBy W.Sink w.old w.new result
-        (λ hand. inside_bytes_by hand (W.big w.old) program.now
+    ensures writes { Writes W.Sink w.old w.new result
+        (λ hand. inside_bytes hand (W.big w.old) program.now
         (texts_in strings.now line_strings.now)) }
     ensures built { OnOk result (IsBuilt program.now) }
 {
@@ -166,7 +151,7 @@ fn write_inside<W: Writer>(
 
 /// Appends the version, and in version 5 the address size and a segment selector size of 0.
 fn write_opening<W: Writer>(w: &mut W, encoding: Encoding) -> Result<()>
-    ensures { Writes W.Sink w.old w.new result (opening_bytes (W.big w.old) encoding) }
+    ensures { Writes W.Sink w.old w.new result (always (opening_bytes (W.big w.old) encoding)) }
 {
     write_version(w, encoding.version)?;
     if encoding.version <= 4 {
@@ -177,7 +162,7 @@ fn write_opening<W: Writer>(w: &mut W, encoding: Encoding) -> Result<()>
 
 /// Appends the version.
 fn write_version<W: Writer>(w: &mut W, version: u16) -> Result<()>
-    ensures { Writes W.Sink w.old w.new result (version_bytes (W.big w.old) version) }
+    ensures { Writes W.Sink w.old w.new result (always (version_bytes (W.big w.old) version)) }
 {
     if !(2..=5).contains(&version) {
         return Err(Error::UnsupportedVersion(version));

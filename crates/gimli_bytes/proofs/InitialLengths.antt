@@ -33,7 +33,7 @@ place_64 format big n old mid at long escape is = rw long (omega (arith, ap leng
 -- ---- its bytes
 
 pub opened_32 : {W X Y : Type 0} {sink : Ghosts W} {old new : W} {x : X} {y : Y} (format : Format) → format ≡ Dwarf32
-    → IsAppend sink old new (Ok x) (Ok (number_bytes (sink.big old) 4 0)) → IsAppendInParts sink old new (Ok y) (Ok (open_length (sink.big old) format))
+    → IsAppend sink old new (Ok x) (λ hand. Ok (number_bytes (sink.big old) 4 0)) → IsAppendInParts sink old new (Ok y) (open_length (sink.big old) format)
 opened_32 format short word = rw short (record {
   keeps = word.keeps;
   ordered = word.ordered;
@@ -45,8 +45,9 @@ opened_32 format short word = rw short (record {
 })
 
 pub opened_64 : {W X Y Z : Type 0} {sink : Ghosts W} {old mid new : W} {x : X} {y : Y} {z : Z} (format : Format) → format ≡ Dwarf64
-    → IsAppend sink old mid (Ok x) (Ok (number_bytes (sink.big old) 4 0xffff_ffff)) → IsAppend sink mid new (Ok y) (Ok (number_bytes (sink.big mid) 8 0))
-    → IsAppendInParts sink old new (Ok z) (Ok (open_length (sink.big old) format))
+    → IsAppend sink old mid (Ok x) (λ hand. Ok (number_bytes (sink.big old) 4 0xffff_ffff))
+    → IsAppend sink mid new (Ok y) (λ hand. Ok (number_bytes (sink.big mid) 8 0))
+    → IsAppendInParts sink old new (Ok z) (open_length (sink.big old) format)
 opened_64 {sink = sink} {old = old} {mid = mid} {new = new} format long escape word = rw long (record {
   keeps = begins_then (sink.contents old) (sink.contents mid) (sink.contents new) escape.keeps word.keeps;
   ordered = word.ordered ∙ escape.ordered;

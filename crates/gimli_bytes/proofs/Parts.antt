@@ -17,15 +17,14 @@ begins_then a b c first second =
     sym (take-take (length a) (length b) c le) ∙ ap (λ (l : List ℕ). take (length a) l) second ∙ first
 
 -- where bytes are wanted, the refusal is the writer's own
-handed_on : {A : Type 0} {e : Error} {xs ys : List ℕ} → A ⊎ ((let r : Result (List ℕ) Error = Ok xs in r) ≡ Err e)
-    → A ⊎ ((let r : Result (List ℕ) Error = Ok ys in r) ≡ Err e)
-handed_on (inl own) = inl own
-handed_on (inr is) = absurd cc
+own_alone : {A : Type 0} {e : Error} {xs : List ℕ} → A ⊎ ((let r : Result (List ℕ) Error = Ok xs in r) ≡ Err e) → A
+own_alone (inl own) = own
+own_alone (inr is) = absurd cc
 
 -- one that is refused, after what is written so far: for memory, whatever bytes are wanted of it and of the whole
 pub refused_after : {W X Y : Type 0} {sink : Ghosts W} {old mid new : W} {e : Error} (part whole : List ℕ) → Begins (sink.contents old) (sink.contents mid)
-    → sink.big mid ≡ sink.big old → (IsTrue (sink.completes old) → IsTrue (sink.completes mid)) → IsAppend {X = X} sink mid new (Err e) (Ok part)
-    → IsAppendInParts {X = Y} sink old new (Err e) (Ok whole)
+    → sink.big mid ≡ sink.big old → (IsTrue (sink.completes old) → IsTrue (sink.completes mid)) → IsAppend {X = X} sink mid new (Err e) (λ hand. Ok part)
+    → IsAppendInParts {X = Y} sink old new (Err e) whole
 refused_after {sink = sink} {old = old} {mid = mid} {new = new} part whole keeps ordered stays refused = record {
   keeps = begins_then (sink.contents old) (sink.contents mid) (sink.contents new) keeps refused.keeps;
   ordered = refused.ordered ∙ ordered;
@@ -33,10 +32,10 @@ refused_after {sink = sink} {old = old} {mid = mid} {new = new} part whole keeps
   ok = λ keeps_bytes. tt;
   completed = λ at completes. tt;
   err = refused.err;
-  own = handed_on refused.own;
+  own = own_alone refused.own;
 }
 
 -- the first one refused
-pub refused_first : {W X Y : Type 0} {sink : Ghosts W} {old new : W} {e : Error} (part whole : List ℕ) → IsAppend {X = X} sink old new (Err e) (Ok part)
-    → IsAppendInParts {X = Y} sink old new (Err e) (Ok whole)
+pub refused_first : {W X Y : Type 0} {sink : Ghosts W} {old new : W} {e : Error} (part whole : List ℕ) → IsAppend {X = X} sink old new (Err e) (λ hand. Ok part)
+    → IsAppendInParts {X = Y} sink old new (Err e) whole
 refused_first {sink = sink} {old = old} part whole refused = refused_after part whole (begins_self (sink.contents old)) refl (λ completes. completes) refused

@@ -25,7 +25,7 @@ prefix-map p h [] = refl
 prefix-map p h (k ∷ ks) = ap (λ n. cond (p (h k)) (1 + n) 0) (prefix-map p h ks)
 
 -- what a place that a search gave is
-index_found : {A : Type 0} (p : A → Bool) (ks : List A) (i : ℕ) → Some i ≡ position p ks → i ≡ position_or_len p ks
+pub index_found : {A : Type 0} (p : A → Bool) (ks : List A) (i : ℕ) → Some i ≡ position p ks → i ≡ position_or_len p ks
 index_found p ks i e = by (nat_lt (position_or_len p ks) (length ks)) e
   where
     by : (b : Bool) → Some i ≡ cond b (Some (position_or_len p ks)) None → i ≡ position_or_len p ks

@@ -6,7 +6,7 @@ use Rattle.gimli_core.specs.Numbers.{number_bytes}
 use Rattle.gimli_core.specs.Reading.{result_map}
 use Rattle.gimli_core.specs.declared.constants.DwEhPe.{DwEhPe}
 use Rattle.gimli_bytes.specs.Hand.{Hand, plain}
-use Rattle.gimli_bytes.specs.Written.{IsAppend, IsAppendBy, IsOverwrite, IsOverwriteBy}
+use Rattle.gimli_bytes.specs.Written.{IsAppend, IsOverwrite}
 use Rattle.gimli_bytes.specs.Number.{twos_complement, sdata, pointer_data, pointer_at_end, format_of}
 use Rattle.gimli_bytes.specs.declared.address.Address.{Address}
 use Rattle.gimli_bytes.specs.declared.address.Address.TheVariants.{Constant}
@@ -17,12 +17,12 @@ use Rattle.gimli_bytes.proofs.Parts.{begins_self}
 
 -- what is wanted, said otherwise
 pub append_as : {W X : Type 0} {sink : Ghosts W} {old new : W} {result : Result X Error} {wanted other : Result (List ℕ) Error} → wanted ≡ other
-    → IsAppend sink old new result other → IsAppend sink old new result wanted
+    → IsAppend sink old new result (λ hand. other) → IsAppend sink old new result (λ hand. wanted)
 append_as is append = rw is append
 
 -- refused before anything is written
 pub refused_at_once : {W X : Type 0} {sink : Ghosts W} {wanted : Result (List ℕ) Error} {e : Error} (old : W) → wanted ≡ Err e
-    → IsAppend {X = X} sink old old (Err e) wanted
+    → IsAppend {X = X} sink old old (Err e) (λ hand. wanted)
 refused_at_once {sink = sink} old is = rw is (record {
   keeps = begins_self (sink.contents old);
   ordered = refl;
@@ -31,17 +31,18 @@ refused_at_once {sink = sink} old is = rw is (record {
   completed = λ at completes. tt;
   err = λ memory_alone. refl;
   own = inr refl;
+  completed_own = λ at completes. inr refl;
   untouched = λ keeps_bytes. refl;
   none = λ all_or_none. refl;
 })
 
 -- the same over bytes that are there
 pub over_as : {W X : Type 0} {sink : Ghosts W} {old new : W} {result : Result X Error} {at : ℕ} {wanted other : Result (List ℕ) Error} → wanted ≡ other
-    → IsOverwrite sink old new result at other → IsOverwrite sink old new result at wanted
+    → IsOverwrite sink old new result at (λ hand. other) → IsOverwrite sink old new result at (λ hand. wanted)
 over_as is over = rw is over
 
 pub refused_over : {W X : Type 0} {sink : Ghosts W} {wanted : Result (List ℕ) Error} {e : Error} (old : W) (at : ℕ) → wanted ≡ Err e
-    → IsOverwrite {X = X} sink old old (Err e) at wanted
+    → IsOverwrite {X = X} sink old old (Err e) at (λ hand. wanted)
 refused_over {sink = sink} old at is = rw is (record {
   len = refl;
   before = refl;
@@ -61,23 +62,23 @@ pub no_truth : IsTrue false → ⊥
 no_truth h = cc
 
 pub plainly : {W X : Type 0} {sink : Ghosts W} {old new : W} {result : Result X Error} (wanted : Hand → Result (List ℕ) Error) (other : Result (List ℕ) Error)
-    → (IsTrue (sink.completes old) → IsTrue false) → wanted plain ≡ other → IsAppend sink old new result other → IsAppendBy sink old new result wanted
+    → (IsTrue (sink.completes old) → IsTrue false) → wanted plain ≡ other → IsAppend sink old new result (λ hand. other) → IsAppend sink old new result wanted
 plainly wanted other never is append = record {
   keeps = append.keeps;
   ordered = append.ordered;
   stays = append.stays;
+  none = append.none;
   ok = rw is append.ok;
   completed = λ at completes. absurd (no_truth (never completes));
   err = rw is append.err;
   own = rw is append.own;
   completed_own = λ at completes. absurd (no_truth (never completes));
   untouched = rw is append.untouched;
-  none = append.none;
 }
 
 pub plainly_over : {W X : Type 0} {sink : Ghosts W} {old new : W} {result : Result X Error} (at : ℕ) (wanted : Hand → Result (List ℕ) Error)
-    (other : Result (List ℕ) Error) → (IsTrue (sink.completes old) → IsTrue false) → wanted plain ≡ other → IsOverwrite sink old new result at other
-    → IsOverwriteBy sink old new result at wanted
+    (other : Result (List ℕ) Error) → (IsTrue (sink.completes old) → IsTrue false) → wanted plain ≡ other
+    → IsOverwrite sink old new result at (λ hand. other) → IsOverwrite sink old new result at wanted
 plainly_over at wanted other never is over = record {
   len = over.len;
   before = over.before;

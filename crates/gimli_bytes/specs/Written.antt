@@ -60,7 +60,7 @@ RefusesAt at wanted old e = patch wanted old at ≡ Err e
 
 -- a call that appends, and makes at most one `write`; what is wanted may depend on how addresses
 -- and offsets into sections are written
-pub record IsAppendBy {W X : Type 0} (sink : Ghosts W) (old new : W) (result : Result X Error)
+pub record IsAppend {W X : Type 0} (sink : Ghosts W) (old new : W) (result : Result X Error)
     (wanted : Hand → Result (List ℕ) Error) : Type 0 where
   -- whatever the writer, also where the call is refused: the old bytes are a beginning, and the
   -- order stays
@@ -86,36 +86,22 @@ pub record IsAppendBy {W X : Type 0} (sink : Ghosts W) (old new : W) (result : R
   -- where it refuses, no byte is appended
   pub none : IsTrue sink.all_or_none → OnErr result (sink.contents new ≡ sink.contents old)
 
--- the same of bytes that no linker changes
-pub record IsAppend {W X : Type 0} (sink : Ghosts W) (old new : W) (result : Result X Error)
-    (wanted : Result (List ℕ) Error) : Type 0 where
-  pub keeps : Begins (sink.contents old) (sink.contents new)
-  pub ordered : sink.big new ≡ sink.big old
-  pub stays : IsTrue (sink.completes old) → IsTrue (sink.completes new)
-  pub ok : IsTrue sink.keeps_bytes
-      → OnOk result (Appends wanted (sink.contents old) (sink.contents new))
-  pub completed : (at : Placement) → IsTrue (sink.completes old)
-      → OnOk result (Appends wanted (sink.completed at old) (sink.completed at new))
-  pub err : IsTrue sink.fails_for_memory_alone → IfErr result (Refuses wanted)
-  pub own : IfErr result (λ e. sink.refuses e ⊎ (wanted ≡ Err e))
-  pub untouched : IsTrue sink.keeps_bytes → Untouched wanted (sink.contents old) (sink.contents new)
-  pub none : IsTrue sink.all_or_none → OnErr result (sink.contents new ≡ sink.contents old)
-
--- a call that appends, and may make more than one `write`: where it is refused, a part may be there
+-- a call that appends these bytes, which no linker changes, and may make more than one `write`:
+-- where it is refused, a part may be there
 pub record IsAppendInParts {W X : Type 0} (sink : Ghosts W) (old new : W) (result : Result X Error)
-    (wanted : Result (List ℕ) Error) : Type 0 where
+    (bytes : List ℕ) : Type 0 where
   pub keeps : Begins (sink.contents old) (sink.contents new)
   pub ordered : sink.big new ≡ sink.big old
   pub stays : IsTrue (sink.completes old) → IsTrue (sink.completes new)
   pub ok : IsTrue sink.keeps_bytes
-      → OnOk result (Appends wanted (sink.contents old) (sink.contents new))
+      → OnOk result (sink.contents new ≡ sink.contents old ++ bytes)
   pub completed : (at : Placement) → IsTrue (sink.completes old)
-      → OnOk result (Appends wanted (sink.completed at old) (sink.completed at new))
-  pub err : IsTrue sink.fails_for_memory_alone → IfErr result (Refuses wanted)
-  pub own : IfErr result (λ e. sink.refuses e ⊎ (wanted ≡ Err e))
+      → OnOk result (sink.completed at new ≡ sink.completed at old ++ bytes)
+  pub err : IsTrue sink.fails_for_memory_alone → IfErr result (λ e. e ≡ OutOfMemory)
+  pub own : IfErr result sink.refuses
 
 -- a call that writes over bytes that are there, from a place on
-pub record IsOverwriteBy {W X : Type 0} (sink : Ghosts W) (old new : W) (result : Result X Error)
+pub record IsOverwrite {W X : Type 0} (sink : Ghosts W) (old new : W) (result : Result X Error)
     (at : ℕ) (wanted : Hand → Result (List ℕ) Error) : Type 0 where
   -- whatever the writer, also where the call is refused: the length, the bytes before the place,
   -- and the order stay
@@ -137,21 +123,3 @@ pub record IsOverwriteBy {W X : Type 0} (sink : Ghosts W) (old new : W) (result 
   pub own : IfErr result (λ e. sink.refuses e ⊎ RefusesAt at (wanted plain) (sink.contents old) e)
   pub completed_own : (places : Placement) → IsTrue (sink.completes old) → IfErr result
       (λ e. sink.refuses e ⊎ RefusesAt at (wanted (sink.hand places)) (sink.completed places old) e)
-
--- the same of bytes that no linker changes
-pub record IsOverwrite {W X : Type 0} (sink : Ghosts W) (old new : W) (result : Result X Error)
-    (at : ℕ) (wanted : Result (List ℕ) Error) : Type 0 where
-  pub len : length (sink.contents new) ≡ length (sink.contents old)
-  pub before : take at (sink.contents new) ≡ take at (sink.contents old)
-  pub ordered : sink.big new ≡ sink.big old
-  pub stays : IsTrue (sink.completes old) → IsTrue (sink.completes new)
-  pub refused : OnErr result (sink.contents new ≡ sink.contents old)
-  pub ok : IsTrue sink.keeps_bytes
-      → OnOk result (Overwrites at wanted (sink.contents old) (sink.contents new))
-  pub completed : (places : Placement) → IsTrue (sink.completes old) → OnOk result
-      (Overwrites at wanted (sink.completed places old) (sink.completed places new))
-  pub err : IsTrue sink.fails_for_memory_alone
-      → IfErr result (RefusesAt at wanted (sink.contents old))
-  pub own : IfErr result (λ e. sink.refuses e ⊎ RefusesAt at wanted (sink.contents old) e)
-  pub completed_own : (places : Placement) → IsTrue (sink.completes old) → IfErr result
-      (λ e. sink.refuses e ⊎ RefusesAt at wanted (sink.completed places old) e)

@@ -99,8 +99,7 @@ impl Texts {
     }
 
     fn write<W: Writer>(&self, w: &mut W) -> Result<()>
-        ensures appends { IsAppendInParts W.Sink w.old w.new result
-            (Ok (table_bytes self.now)) }
+        ensures appends { IsAppendInParts W.Sink w.old w.new result (table_bytes self.now) }
         ensures texts { AreTexts self.now }
     {
         for text in self.strings.as_slice() {
@@ -185,8 +184,7 @@ impl StringTable {
 
     /// Appends each text and a zero byte. Refused as the section's `write`.
     pub fn write<W: Writer>(&self, w: &mut DebugStr<W>) -> Result<()>
-        ensures appends { IsAppendInParts W.Sink w.old.0 w.new.0 result
-            (Ok (table_bytes self.now)) }
+        ensures appends { IsAppendInParts W.Sink w.old.0 w.new.0 result (table_bytes self.now) }
         ensures texts { AreTexts self.now }
     {
         self.texts.write(&mut w.0)
@@ -274,8 +272,7 @@ impl LineStringTable {
 
     /// Appends each text and a zero byte. Refused as the section's `write`.
     pub fn write<W: Writer>(&self, w: &mut DebugLineStr<W>) -> Result<()>
-        ensures appends { IsAppendInParts W.Sink w.old.0 w.new.0 result
-            (Ok (table_bytes self.now)) }
+        ensures appends { IsAppendInParts W.Sink w.old.0 w.new.0 result (table_bytes self.now) }
         ensures texts { AreTexts self.now }
     {
         self.texts.write(&mut w.0)

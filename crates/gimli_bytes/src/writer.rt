@@ -5,7 +5,6 @@ ghost use Rattle.std.specs.Prelude.{length};
 ghost use Rattle.gimli_core.specs.Numbers.{number_bytes, word_size};
 ghost use Rattle.gimli_core.specs.Numbers.{SpellsUleb128, SpellsSleb128, IsShortest};
 ghost use Rattle.gimli_bytes.specs.Written.{IsAppend, IsAppendInParts, IsOverwrite};
-ghost use Rattle.gimli_bytes.specs.Written.{IsAppendBy, IsOverwriteBy};
 ghost use Rattle.gimli_bytes.specs.Hand.{Hand, Placement};
 ghost use Rattle.gimli_bytes.specs.Number.{udata, sdata, twos_complement, uleb, sleb};
 ghost use Rattle.gimli_bytes.specs.Number.{escape_size, open_length, length_word};
@@ -39,19 +38,19 @@ pub trait Writer: Sink {
 
     /// Appends bytes. Refused by `OutOfMemory` alone, for a type that `fails_for_memory_alone`.
     fn write(&mut self, bytes: &[u8]) -> Result<()>
-        ensures { IsAppend Self.Sink self.old self.new result (Ok bytes.now) };
+        ensures { IsAppend Self.Sink self.old self.new result (λ hand. Ok bytes.now) };
 
     /// Writes over the bytes from an offset on. Refused by `OffsetOutOfBounds` where the offset
     /// is past the end of the section, else by `LengthOutOfBounds` where the bytes would pass the
     /// end.
     fn write_at(&mut self, offset: usize, bytes: &[u8]) -> Result<()>
-        ensures { IsOverwrite Self.Sink self.old self.new result offset (Ok bytes.now) };
+        ensures { IsOverwrite Self.Sink self.old self.new result offset (λ hand. Ok bytes.now) };
 
     /// Appends an address of `size` bytes. A writer without relocations refuses a symbol by
     /// `InvalidAddress`, and writes a constant by `write_udata`. It has no body of its own: one
     /// would promise for every writer what addresses become.
     fn write_address(&mut self, address: Address, size: u8) -> Result<()>
-        ensures { IsAppendBy Self.Sink self.old self.new result
+        ensures { IsAppend Self.Sink self.old self.new result
             (λ hand. hand.address (Self.big self.old) address size) };
 
     /// Appends an address in a pointer encoding of `.eh_frame`: as it is, or relative to the end
@@ -60,7 +59,8 @@ pub trait Writer: Sink {
     /// 0x80 of the encoding, by which the pointer is the place of the address, isn't looked at.
     fn write_eh_pointer(&mut self, address: Address, eh_pe: DwEhPe, size: u8) -> Result<()>
         ensures { IsAppend Self.Sink self.old self.new result
-            (pointer_at_end (Self.big self.old) (Self.contents self.old) address eh_pe size) }
+            (λ hand. pointer_at_end (Self.big self.old) (Self.contents self.old) address eh_pe
+            size) }
     {
         match address {
             Address::Constant(val) => match eh_pe.application() {
@@ -80,7 +80,7 @@ pub trait Writer: Sink {
     /// `UnsupportedPointerEncoding` for other formats.
     fn write_eh_pointer_data(&mut self, val: u64, format: DwEhPe, size: u8) -> Result<()>
         ensures { IsAppend Self.Sink self.old self.new result
-            (pointer_data (Self.big self.old) val format size) }
+            (λ hand. pointer_data (Self.big self.old) val format size) }
     {
         match format {
             constants::DW_EH_PE_absptr => self.write_udata(val, size),
@@ -99,7 +99,7 @@ pub trait Writer: Sink {
     /// Appends an offset into a section, of `size` bytes. A writer without relocations writes it
     /// by `write_udata`.
     fn write_offset(&mut self, val: usize, section: SectionId, size: u8) -> Result<()>
-        ensures { IsAppendBy Self.Sink self.old self.new result
+        ensures { IsAppend Self.Sink self.old self.new result
             (λ hand. hand.offset (Self.big self.old) section val size) };
 
     /// Writes an offset into a section, of `size` bytes, over the bytes from an offset on. A
@@ -111,19 +111,19 @@ pub trait Writer: Sink {
         section: SectionId,
         size: u8,
     ) -> Result<()>
-        ensures { IsOverwriteBy Self.Sink self.old self.new result offset
+        ensures { IsOverwrite Self.Sink self.old self.new result offset
             (λ hand. hand.offset (Self.big self.old) section val size) };
 
     /// Appends a reference to a symbol, of `size` bytes. A writer that knows of no symbols always
     /// refuses it, by `InvalidReference`.
     fn write_reference(&mut self, symbol: usize, size: u8) -> Result<()>
-        ensures { IsAppendBy Self.Sink self.old self.new result
+        ensures { IsAppend Self.Sink self.old self.new result
             (λ hand. hand.reference (Self.big self.old) symbol size) };
 
     /// Appends a byte. Refused as `write` is.
     fn write_u8(&mut self, val: u8) -> Result<()>
         ensures { IsAppend Self.Sink self.old self.new result
-            (Ok (number_bytes (Self.big self.old) 1 val)) }
+            (λ hand. Ok (number_bytes (Self.big self.old) 1 val)) }
     {
         self.write(&[val])
     }
@@ -131,7 +131,7 @@ pub trait Writer: Sink {
     /// Appends a number of two bytes. Refused as `write` is.
     fn write_u16(&mut self, val: u16) -> Result<()>
         ensures { IsAppend Self.Sink self.old self.new result
-            (Ok (number_bytes (Self.big self.old) 2 val)) }
+            (λ hand. Ok (number_bytes (Self.big self.old) 2 val)) }
     {
         self.write(&bytes_of_u16(self.endian(), val))
     }
@@ -139,7 +139,7 @@ pub trait Writer: Sink {
     /// Appends a number of four bytes. Refused as `write` is.
     fn write_u32(&mut self, val: u32) -> Result<()>
         ensures { IsAppend Self.Sink self.old self.new result
-            (Ok (number_bytes (Self.big self.old) 4 val)) }
+            (λ hand. Ok (number_bytes (Self.big self.old) 4 val)) }
     {
         self.write(&bytes_of_u32(self.endian(), val))
     }
@@ -147,7 +147,7 @@ pub trait Writer: Sink {
     /// Appends a number of eight bytes. Refused as `write` is.
     fn write_u64(&mut self, val: u64) -> Result<()>
         ensures { IsAppend Self.Sink self.old self.new result
-            (Ok (number_bytes (Self.big self.old) 8 val)) }
+            (λ hand. Ok (number_bytes (Self.big self.old) 8 val)) }
     {
         self.write(&bytes_of_u64(self.endian(), val))
     }
@@ -155,7 +155,7 @@ pub trait Writer: Sink {
     /// Appends a number of sixteen bytes. Refused as `write` is.
     fn write_u128(&mut self, val: u128) -> Result<()>
         ensures { IsAppend Self.Sink self.old self.new result
-            (Ok (number_bytes (Self.big self.old) 16 val)) }
+            (λ hand. Ok (number_bytes (Self.big self.old) 16 val)) }
     {
         self.write(&bytes_of_u128(self.endian(), val))
     }
@@ -163,7 +163,7 @@ pub trait Writer: Sink {
     /// Writes a byte over that at an offset. Refused as by `write_at`.
     fn write_u8_at(&mut self, offset: usize, val: u8) -> Result<()>
         ensures { IsOverwrite Self.Sink self.old self.new result
-            offset (Ok (number_bytes (Self.big self.old) 1 val)) }
+            offset (λ hand. Ok (number_bytes (Self.big self.old) 1 val)) }
     {
         self.write_at(offset, &[val])
     }
@@ -171,7 +171,7 @@ pub trait Writer: Sink {
     /// Writes a number over the two bytes from an offset on. Refused as by `write_at`.
     fn write_u16_at(&mut self, offset: usize, val: u16) -> Result<()>
         ensures { IsOverwrite Self.Sink self.old self.new result
-            offset (Ok (number_bytes (Self.big self.old) 2 val)) }
+            offset (λ hand. Ok (number_bytes (Self.big self.old) 2 val)) }
     {
         self.write_at(offset, &bytes_of_u16(self.endian(), val))
     }
@@ -179,7 +179,7 @@ pub trait Writer: Sink {
     /// Writes a number over the four bytes from an offset on. Refused as by `write_at`.
     fn write_u32_at(&mut self, offset: usize, val: u32) -> Result<()>
         ensures { IsOverwrite Self.Sink self.old self.new result
-            offset (Ok (number_bytes (Self.big self.old) 4 val)) }
+            offset (λ hand. Ok (number_bytes (Self.big self.old) 4 val)) }
     {
         self.write_at(offset, &bytes_of_u32(self.endian(), val))
     }
@@ -187,7 +187,7 @@ pub trait Writer: Sink {
     /// Writes a number over the eight bytes from an offset on. Refused as by `write_at`.
     fn write_u64_at(&mut self, offset: usize, val: u64) -> Result<()>
         ensures { IsOverwrite Self.Sink self.old self.new result
-            offset (Ok (number_bytes (Self.big self.old) 8 val)) }
+            offset (λ hand. Ok (number_bytes (Self.big self.old) 8 val)) }
     {
         self.write_at(offset, &bytes_of_u64(self.endian(), val))
     }
@@ -195,7 +195,7 @@ pub trait Writer: Sink {
     /// Writes a number over the sixteen bytes from an offset on. Refused as by `write_at`.
     fn write_u128_at(&mut self, offset: usize, val: u128) -> Result<()>
         ensures { IsOverwrite Self.Sink self.old self.new result
-            offset (Ok (number_bytes (Self.big self.old) 16 val)) }
+            offset (λ hand. Ok (number_bytes (Self.big self.old) 16 val)) }
     {
         self.write_at(offset, &bytes_of_u128(self.endian(), val))
     }
@@ -203,7 +203,8 @@ pub trait Writer: Sink {
     /// Appends an unsigned number of `size` bytes. Refused by `UnsupportedWordSize` where the
     /// size isn't 1, 2, 3, 4 or 8, and by `ValueTooLarge` where the number doesn't fit it.
     fn write_udata(&mut self, val: u64, size: u8) -> Result<()>
-        ensures { IsAppend Self.Sink self.old self.new result (udata (Self.big self.old) val size) }
+        ensures { IsAppend Self.Sink self.old self.new result (λ hand.
+            udata (Self.big self.old) val size) }
     {
         match size {
             1 => {
@@ -239,7 +240,8 @@ pub trait Writer: Sink {
     /// `UnsupportedWordSize` where the size isn't 1, 2, 4 or 8, and by `ValueTooLarge` where the
     /// number doesn't fit it.
     fn write_sdata(&mut self, val: i64, size: u8) -> Result<()>
-        ensures { IsAppend Self.Sink self.old self.new result (sdata (Self.big self.old) val size) }
+        ensures { IsAppend Self.Sink self.old self.new result (λ hand.
+            sdata (Self.big self.old) val size) }
     {
         match size {
             1 => self.write_u8(bits_of_i8(val)?),
@@ -254,7 +256,7 @@ pub trait Writer: Sink {
     /// `write_udata`, and then as by `write_at`.
     fn write_udata_at(&mut self, offset: usize, val: u64, size: u8) -> Result<()>
         ensures { IsOverwrite Self.Sink self.old self.new result
-            offset (udata (Self.big self.old) val size) }
+            offset (λ hand. udata (Self.big self.old) val size) }
     {
         match size {
             1 => {
@@ -290,7 +292,7 @@ pub trait Writer: Sink {
     #[inline(always)]
     fn write_uleb128(&mut self, val: u64) -> Result<()>
         ensures shortest { IsShortest (SpellsUleb128 64) (uleb val) val }
-        ensures appends { IsAppend Self.Sink self.old self.new result (Ok (uleb val)) }
+        ensures appends { IsAppend Self.Sink self.old self.new result (λ hand. Ok (uleb val)) }
     {
         if val < 128 {
             return self.write(&[val as u8]);
@@ -302,7 +304,7 @@ pub trait Writer: Sink {
     #[inline(always)]
     fn write_sleb128(&mut self, val: i64) -> Result<()>
         ensures shortest { IsShortest SpellsSleb128 (sleb val) val }
-        ensures appends { IsAppend Self.Sink self.old self.new result (Ok (sleb val)) }
+        ensures appends { IsAppend Self.Sink self.old self.new result (λ hand. Ok (sleb val)) }
     {
         if has_seven_bits(val) {
             return self.write(&[low_bits(val)]);
@@ -314,7 +316,7 @@ pub trait Writer: Sink {
     /// `write_initial_length_at`. Refused as `write` is, which it may call twice.
     fn write_initial_length(&mut self, format: Format) -> Result<InitialLengthOffset>
         ensures appends { IsAppendInParts Self.Sink self.old self.new result
-            (Ok (open_length (Self.big self.old) format)) }
+            (open_length (Self.big self.old) format) }
         ensures after { IfOk result (λ word. length (Self.contents self.old) ≤ word.0) }
         ensures place { IsTrue Self.keeps_bytes →
             IfOk result (λ word. word.0 ≡ length (Self.contents self.old) + escape_size format) }
@@ -346,7 +348,7 @@ pub trait Writer: Sink {
         format: Format,
     ) -> Result<()>
         ensures { IsOverwrite Self.Sink self.old self.new result
-            offset.0 (length_word (Self.big self.old) format val) }
+            offset.0 (λ hand. length_word (Self.big self.old) format val) }
     {
         if is_reserved(format, val) {
             return Err(Error::InitialLengthOverflow);

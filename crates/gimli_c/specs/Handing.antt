@@ -1,5 +1,6 @@
 -- The unit of what C hands over.
 use Rattle.std.specs.Prelude.{◌≡◌, ◌≤◌, ◌<◌, ℕ, Bool, false, List, length, map, None, Ok}
+use Rattle.gimli_bytes.specs.Hand.{plain}
 use Rattle.gimli_bytes.specs.declared.error.Error.{Error}
 use Rattle.gimli_bytes.specs.declared.error.Error.TheVariants.{UnsupportedVersion, NeedVersion}
 use Rattle.gimli_bytes.specs.declared.error.Error.TheVariants.{ValueTooLarge, InitialLengthOverflow}
@@ -85,7 +86,7 @@ pub record IsBuiltOf (h : Handed) (p : Built) : Type 0 where
 
 -- bytes are the unit of a program whose texts all stand in it, and read back as it
 pub record IsUnitOf (big : Bool) (p : Built) (bytes : List ℕ) : Type 0 where
-  pub unit : unit_bytes big p.encoding p no_texts ≡ Ok bytes
+  pub unit : unit_bytes plain big p.encoding p no_texts ≡ Ok bytes
   pub reads_back : ReadsBackAs big p no_texts bytes
 
 -- the unit stands at the front of the room

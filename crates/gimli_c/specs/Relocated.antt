@@ -16,7 +16,7 @@ use Rattle.gimli_bytes.specs.declared.relocation.Relocation.{Relocation}
 use Rattle.gimli_bytes.specs.declared.relocation.RelocationTarget.{RelocationTarget}
 use Rattle.gimli_bytes.specs.declared.relocation.RelocationTarget.TheVariants.{OfSection, OfSymbol}
 use Rattle.gimli_build.specs.Built.{Built}
-use Rattle.gimli_build.specs.Unit.{unit_bytes_by}
+use Rattle.gimli_build.specs.Unit.{unit_bytes}
 use Rattle.gimli_c.specs.declared.relocatable.GimliRelocation.{GimliRelocation}
 use Rattle.gimli_c.specs.Handing.{Handed, IsBuiltOf, write_status}
 use Rattle.gimli_c.specs.Written.{slots_with}
@@ -57,7 +57,7 @@ IsWriterRefusal status = (error : Error) × (status ≡ write_status error)
 -- the program, in which each symbol and its addend are the sum of both
 abbrev pub IsUnitOnceLinked : Bool → Built → Relocatable → Type 0
 IsUnitOnceLinked big program section =
-    (at : Placement) → Appends (unit_bytes_by (placed at) big program.encoding program no_texts) []
+    (at : Placement) → Appends (unit_bytes (placed at) big program.encoding program no_texts) []
     (applied at section)
 
 -- the unit and its relocations stand at the front of the two arrays

@@ -2,6 +2,7 @@
 
 ghost use Rattle.std.specs.Prelude.{◌≡◌, ◌≢◌, ◌⊎◌, ℕ, [], Bool, Err, IfErr, IfOk, None, OnOk, Some};
 ghost use Rattle.std.specs.Prelude.{false};
+ghost use Rattle.gimli_bytes.specs.Hand.{plain};
 ghost use Rattle.gimli_bytes.specs.Texts.{no_texts};
 ghost use Rattle.gimli_build.specs.Cause.{first_cause};
 ghost use Rattle.gimli_build.specs.ReadsBack.{ReadsBackAs};
@@ -150,7 +151,7 @@ fn section_of(
     requires can { CanWrite program.now no_texts }
     requires source { program.now.file_has_source ≡ false }
     ensures unit { IfOk result (λ section.
-        Appends (unit_bytes big program.now.encoding program.now no_texts) [] section.bytes) }
+        Appends (unit_bytes plain big program.now.encoding program.now no_texts) [] section.bytes) }
     ensures reads_back { IfOk result (λ section.
         ReadsBackAs big program.now no_texts section.bytes) }
     ensures no_cause { OnOk result

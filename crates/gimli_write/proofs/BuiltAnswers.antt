@@ -85,14 +85,14 @@ file_same s p texts read built answer is also =
 -- ---- one run
 
 -- a program gives one list of events
-events_same : (notation : Notation) (h : Header) (bytes : List ℕ) (es fs : List Event) → Events notation h bytes es → Events notation h bytes fs → es ≡ fs
+pub events_same : (notation : Notation) (h : Header) (bytes : List ℕ) (es fs : List Event) → Events notation h bytes es → Events notation h bytes fs → es ≡ fs
 events_same notation h bytes es fs a b =
     a.given
     ∙ ap (λ (c : List Ins × Option Error). program_events h.parameters c.0 c.1)
     (one_decoding notation h bytes a.list a.end a.decoding ∙ sym (one_decoding notation h bytes b.list b.end b.decoding))
     ∙ sym b.given
 
-rows_same : (rows others : List ReadRow) → map row rows ≡ map row others → rows ≡ others
+pub rows_same : (rows others : List ReadRow) → map row rows ≡ map row others → rows ≡ others
 rows_same [] [] is = refl
 rows_same (r ∷ rows) (s ∷ others) is =
     let first : r ≡ s = cc in

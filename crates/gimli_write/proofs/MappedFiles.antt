@@ -20,6 +20,7 @@ use Rattle.gimli_build.proofs.building.TableLemmas.{file_found_at, file_keeps, f
 use Rattle.gimli_write.specs.convert.SourceTables.{TablesAndTexts, version_of, FileParts, file_parts, with_parts, file_added, all_added}
 use Rattle.gimli_write.specs.convert.Items.{tables_after_definition, tables_at}
 use Rattle.gimli_write.specs.convert.Preparation.{first_ids}
+use Rattle.gimli_write.proofs.ReadTexts.{one_by_one_push}
 use Rattle.gimli_write.proofs.MappedTables.{took, same_ok, sources_table}
 use Rattle.gimli_write.proofs.MappedTexts.{index_stays, index_new, any_stays, any_new, index_none, last_element, same_key, IsMade, HasMade, has_then, is_made}
 use Rattle.gimli_write.proofs.MappedTexts.{is_same, table_has, made_differ}
@@ -33,13 +34,6 @@ one_by_one_map R S f [] [] all = tt
 one_by_one_map R S f [] (y ∷ ys) all = elim all [ ]
 one_by_one_map R S f (x ∷ xs) [] all = elim all [ ]
 one_by_one_map R S f (x ∷ xs) (y ∷ ys) all = (f x y all.0, one_by_one_map R S f xs ys all.1)
-
-one_by_one_push : {A B : Type 0} (R : A → B → Type 0) (xs : List A) (ys : List B) (x : A) (y : B) → OneByOne R xs ys → R x y
-    → OneByOne R (xs ++ x ∷ []) (ys ++ y ∷ [])
-one_by_one_push R [] [] x y all one = (one, tt)
-one_by_one_push R [] (b ∷ ys) x y all one = elim all [ ]
-one_by_one_push R (a ∷ xs) [] x y all one = elim all [ ]
-one_by_one_push R (a ∷ xs) (b ∷ ys) x y all one = (all.0, one_by_one_push R xs ys x y all.1 one)
 
 pub one_by_one_at : {A B : Type 0} (R : A → B → Type 0) (xs : List A) (ys : List B) (i : ℕ) (x : A) → OneByOne R xs ys → slice_get xs i ≡ Some x
     → (y : B) × (slice_get ys i ≡ Some y) × R x y

@@ -31,6 +31,7 @@ use Rattle.gimli_write.specs.convert.Items.{Reading, ReadsItems}
 use Rattle.gimli_write.specs.convert.Preparation.{encoding_of, tables_of_header}
 use Rattle.gimli_write.specs.convert.Sources.{Source}
 use Rattle.gimli_write.specs.convert.DoneConversions.{UnitReadBack, UnitGives}
+use Rattle.gimli_write.proofs.BuiltAnswers.{events_same, rows_same}
 use Rattle.gimli_write.proofs.ConvertSteps.{kept_self}
 use Rattle.gimli_write.proofs.MappedEnds.{can_write, encoding_kept, files_same}
 use Rattle.gimli_write.proofs.MappedPrograms.{rows_mapped, addresses_fit, constants_set, rows_again}
@@ -54,21 +55,6 @@ was_converted convert_address s line_strings c so = by (tables_of_header s.secti
         → WasConverted convert_address s line_strings c
     by (Ok first) ready m = record { reading = so.0; first = first; ready = ready; reads = m.0; is = m.1 }
     by (Err e) ready m = absurd cc
-
--- a program gives its events once
-events_once : (notation : Notation) (h : Header) (bytes : List ℕ) (a b : List Event) → Events notation h bytes a → Events notation h bytes b → a ≡ b
-events_once notation h bytes a b x y =
-    let same = one_decoding notation h bytes x.list x.end x.decoding ∙ sym (one_decoding notation h bytes y.list y.end y.decoding) in
-    x.given ∙ ap (λ (p : List Ins × Option Error). program_events h.parameters p.0 p.1) same ∙ sym y.given
-
-same_rows : (a b : List ReadRow) → map row a ≡ map row b → a ≡ b
-same_rows [] [] is = refl
-same_rows [] (y ∷ b) is = absurd cc
-same_rows (x ∷ a) [] is = absurd cc
-same_rows (x ∷ a) (y ∷ b) is =
-    let rest : map row a ≡ map row b = cc in
-    let both : a ≡ b = same_rows a b rest in
-    cc
 
 -- ---- tables that gained a text
 
@@ -128,7 +114,7 @@ module _ (convert_address : ℕ → Option Address) (s : Source) (line_strings :
     conversion_back rows back events built =
         let mapped : AreRowsMapped s.notation s.header s.header.program c = mapped_rows in
         let same : mapped.rows
-        ≡ rows = same_rows mapped.rows rows (events_once s.notation s.header s.header.program (map row mapped.rows) (map row rows) mapped.events events) in
+        ≡ rows = rows_same mapped.rows rows (events_same s.notation s.header s.header.program (map row mapped.rows) (map row rows) mapped.events events) in
         subst (λ (source : List ReadRow). OneByOne (IsReadAs s.header.parameters.encoding.version c.program.encoding.version c.file_ids) source back) same
         (rows_again s.header.parameters.encoding.version c.program.encoding.version c.file_ids [] c.program.items mapped.rows back mapped.mapped
         (built conversion_fits))

@@ -65,7 +65,7 @@ text_not_refused s v e has refused = let both = sym (text_there s v has.0 has.1)
 
 -- ---- one after the other
 
-one_by_one_push : {A B : Type 0} (Related : A → B → Type 0) (xs : List A) (ys : List B) (x : A) (y : B) → OneByOne Related xs ys → Related x y
+pub one_by_one_push : {A B : Type 0} (Related : A → B → Type 0) (xs : List A) (ys : List B) (x : A) (y : B) → OneByOne Related xs ys → Related x y
     → OneByOne Related (xs ++ x ∷ []) (ys ++ y ∷ [])
 one_by_one_push Related [] [] x y all one = (one, tt)
 one_by_one_push Related (a ∷ xs) (b ∷ ys) x y all one = (all.0, one_by_one_push Related xs ys x y all.1 one)

@@ -8,6 +8,7 @@ use Rattle.gimli_line.specs.header.File.{File as ReadFile}
 use Rattle.gimli_line.specs.run.Events.{Events, row}
 use Rattle.gimli_line.specs.run.Sequences.{HasFirstFault}
 use Rattle.gimli_line.specs.declared.run.row.LineRow.{LineRow as ReadRow}
+use Rattle.gimli_bytes.specs.Hand.{plain}
 use Rattle.gimli_bytes.specs.Texts.{table_bytes, StringTables}
 use Rattle.gimli_bytes.specs.declared.error.Error.{Error}
 use Rattle.gimli_build.specs.LineText.{bytes_in}
@@ -182,7 +183,7 @@ IsRefusal big wanted unit_entry old new e = ⊥
 abbrev pub to_write : Bool → Encoding → Built → StringTables → ToWrite
 to_write big encoding p texts = record {
   cause = first_cause big encoding p texts;
-  bytes = unit_bytes big encoding p texts;
+  bytes = unit_bytes plain big encoding p texts;
 }
 
 -- why a program isn't written in this order and for a unit of this encoding, with these tables, or

@@ -4,6 +4,7 @@ ghost use Rattle.std.specs.Prelude.{◌≡◌, ◌<◌, ◌^◌, false, length, 
 ghost use Rattle.std.specs.Prelude.{IfOk, IfErr, OnOk, All, Some, None, Err};
 ghost use Rattle.gimli_core.specs.Numbers.{is_address_size};
 ghost use Rattle.gimli_core.specs.Values.{value_seen};
+ghost use Rattle.gimli_bytes.specs.Hand.{plain};
 ghost use Rattle.gimli_bytes.specs.Written.{Begins, Appends};
 ghost use Rattle.gimli_line.specs.header.Header.{Header};
 ghost use Rattle.gimli_line.specs.header.File.{file_seen};
@@ -401,7 +402,8 @@ pub fn round_trip<E: Endianity>(
     ensures keeps { Begins w.old.0.bytes w.new.0.bytes }
     ensures ordered { E.big w.new.0.endian ≡ E.big w.old.0.endian }
     ensures offset { IfOk result (λ answer. answer.offset.0 ≡ length w.old.0.bytes) }
-    ensures unit { OnOk result (Appends (unit_bytes (E.big w.old.0.endian) encoding program.now
+    ensures unit { OnOk result
+        (Appends (unit_bytes plain (E.big w.old.0.endian) encoding program.now
         (texts_in strings.old line_strings.old)) w.old.0.bytes w.new.0.bytes) }
     ensures answers { IfOk result (AnswersAppended (E.big w.old.0.endian) program.now
         (texts_in strings.new line_strings.new) w.old.0.bytes w.new.0.bytes) }

@@ -2,13 +2,12 @@
 use Rattle.std.proofs.Common.{◌≡◌, ℕ, zero, suc, ◌-◌, ◌<◌, ◌≤◌, Bool, true, false, List, [], ◌∷◌, ◌++◌, length, drop, refl, sym, subst, if◌then◌else◌}
 use Rattle.std.proofs.Common.{slice_get, Option, arith, length-append}
 use Rattle.std.specs.Prelude.{All}
-use Rattle.std.specs.List.{list_any}
 use Rattle.std.specs.Option.{option_map_or}
 use Rattle.std.proofs.lemmas.List.Elements.{All-push}
 use Rattle.gimli_core.specs.declared.common.Encoding.{Encoding}
 use Rattle.gimli_core.specs.declared.common.LineEncoding.{LineEncoding}
-use Rattle.gimli_build.specs.LineText.{LineText, line_text_eq, IsNotEmpty}
-use Rattle.gimli_build.specs.Tables.{Details, File, FileKey, has_file, with_directory, with_file, with_details, keys_of}
+use Rattle.gimli_build.specs.LineText.{LineText, IsNotEmpty}
+use Rattle.gimli_build.specs.Tables.{Details, File, FileKey, with_directory, with_file, with_details, keys_of}
 use Rattle.gimli_build.specs.Advance.{CanEncode, IsPosition}
 use Rattle.gimli_build.specs.Built.{position_after, previous_position}
 use Rattle.gimli_build.specs.Conditions.{CanBuild, AreBuilt, IsProgram}
@@ -55,7 +54,7 @@ stands_at e position (End o i ∷ items) can so built = stands_at e (0, 0) items
 pub previous_stands : (e : LineEncoding) (items : List BuiltItem) → CanEncode e → AreBuilt e (0, 0) items
     → IsPosition e (previous_position items).0 (previous_position items).1
 previous_stands e items can built =
-    subst (λ (position : ℕ × ℕ). IsPosition e position.0 position.1) (reached_last items) (stands_at e (0, 0) items can (start_position e can) built)
+    subst (λ position. IsPosition e position.0 position.1) (reached_last items) (stands_at e (0, 0) items can (start_position e can) built)
 
 -- an item is built after others
 pub item_pushed : {is_none : Bool} {encoding : Encoding} {e : LineEncoding} {directories : List LineText} {keys : List FileKey} (items : List BuiltItem)
@@ -69,7 +68,7 @@ item_pushed {e = e} items item so can = record {
   source_file = so.source_file;
   directories_not_empty = so.directories_not_empty;
   paths_not_empty = so.paths_not_empty;
-  items_built = push_reached e (0, 0) items item so.items_built (subst (λ (position : ℕ × ℕ). CanBuild e position item) (sym (reached_last items)) can);
+  items_built = push_reached e (0, 0) items item so.items_built (subst (λ position. CanBuild e position item) (sym (reached_last items)) can);
 }
 
 -- ---- tables
@@ -77,15 +76,15 @@ item_pushed {e = e} items item so can = record {
 not_empty_pushed : (ds : List LineText) (t : LineText) → 0 < length ds → All IsNotEmpty (drop 1 ds) → IsNotEmpty t
     → All IsNotEmpty (drop 1 (with_directory ds t))
 not_empty_pushed [] t some all h = absurd (omega arith)
-not_empty_pushed (d ∷ ds) t some all h = by (list_any (line_text_eq t) (d ∷ ds))
+not_empty_pushed (d ∷ ds) t some all h = by _
   where
     by : (b : Bool) → All IsNotEmpty (drop 1 (if b then d ∷ ds else d ∷ ds ++ t ∷ []))
     by true = all
-    by false = All-push IsNotEmpty ds t all h
+    by false = All-push IsNotEmpty _ t all h
 
 longer : (ds : List LineText) (t : LineText) → 0 < length ds → 0 < length (with_directory ds t)
 longer [] t some = absurd (omega arith)
-longer (d ∷ ds) t some = by (list_any (line_text_eq t) (d ∷ ds))
+longer (d ∷ ds) t some = by _
   where
     by : (b : Bool) → 0 < length (if b then d ∷ ds else d ∷ ds ++ t ∷ [])
     by true = omega arith
@@ -99,23 +98,23 @@ pub directory_added : {is_none : Bool} {encoding : Encoding} {e : LineEncoding} 
 directory_added ds t so is not_empty = record {
   lines = so.lines;
   address_size = so.address_size;
-  working_dir = λ h. longer ds t (so.working_dir is);
+  working_dir = λ h. longer _ t (so.working_dir is);
   source_file = so.source_file;
-  directories_not_empty = λ old. not_empty_pushed ds t (so.working_dir is) (so.directories_not_empty old) (not_empty old);
+  directories_not_empty = λ old. not_empty_pushed _ t (so.working_dir is) (so.directories_not_empty old) (not_empty old);
   paths_not_empty = so.paths_not_empty;
   items_built = so.items_built;
 }
 
 paths_pushed : (files : List File) (k : FileKey) (given : Option Details) → All (λ l. IsNotEmpty l.0) (keys_of files) → IsNotEmpty k.0
     → All (λ l. IsNotEmpty l.0) (keys_of (with_file files k given))
-paths_pushed files k given all h = rw (keys-with_file files k given) (by (has_file files k))
+paths_pushed files k given all h = rw (keys-with_file files k given) (by _)
   where
     by : (b : Bool) → All (λ l. IsNotEmpty l.0) (if b then keys_of files else keys_of files ++ k ∷ [])
     by true = all
-    by false = All-push (λ l. IsNotEmpty l.0) (keys_of files) k all h
+    by false = All-push (λ l. IsNotEmpty l.0) _ k all h
 
 files_longer : (files : List File) (k : FileKey) (given : Option Details) → 0 < length (keys_of files) → 0 < length (keys_of (with_file files k given))
-files_longer files k given some = rw (keys-with_file files k given) (by (has_file files k))
+files_longer files k given some = rw (keys-with_file files k given) (by _)
   where
     by : (b : Bool) → 0 < length (if b then keys_of files else keys_of files ++ k ∷ [])
     by true = some
@@ -130,9 +129,9 @@ file_added files k given so not_empty = record {
   lines = so.lines;
   address_size = so.address_size;
   working_dir = so.working_dir;
-  source_file = λ is new. files_longer files k given (so.source_file is new);
+  source_file = λ is new. files_longer _ k _ (so.source_file is new);
   directories_not_empty = so.directories_not_empty;
-  paths_not_empty = λ old. paths_pushed files k given (so.paths_not_empty old) (not_empty old);
+  paths_not_empty = λ old. paths_pushed _ k _ (so.paths_not_empty old) (not_empty old);
   items_built = so.items_built;
 }
 

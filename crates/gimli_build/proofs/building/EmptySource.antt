@@ -23,14 +23,14 @@ if-some P Q f None p = tt
 pub can-write-after : (p : Built) (texts : StringTables) → CanWrite p texts → CanWrite p (texts_after p texts)
 can-write-after p texts can =
     let after = texts_after p texts in
-    let within = within_after p texts in
+    let within = within_after p _ in
     record {
       program = can.program;
-      directories = All-weaker (IsWithin texts) (IsWithin after) within p.directories can.directories;
-      paths = All-weaker (λ (f : File). IsWithin texts f.0.0) (λ (f : File). IsWithin after f.0.0) (λ f w. within f.0.0 w) p.files can.paths;
+      directories = All-weaker (IsWithin texts) _ within _ can.directories;
+      paths = All-weaker (λ f. IsWithin texts f.0.0) _ (λ f w. within f.0.0 w) _ can.paths;
       sources =
-          All-weaker (λ (f : File). IfSome f.1.source (IsWithin texts)) (λ (f : File). IfSome f.1.source (IsWithin after))
-          (λ f w. if-some (IsWithin texts) (IsWithin after) within f.1.source w) p.files can.sources;
+          All-weaker (λ f. IfSome f.1.source (IsWithin texts)) _
+          (λ f w. if-some _ _ within _ w) _ can.sources;
       sources_end = can.sources_end;
     }
 
@@ -39,7 +39,7 @@ can-write-after p texts can =
 any-at : {A : Type 0} (test : A → Bool) (xs : List A) (i : ℕ) (x : A) → slice_get xs i ≡ Some x → test x ≡ true → list_any test xs ≡ true
 any-at test [] i x at is = absurd cc
 any-at test (y ∷ xs) zero x at is = let same : y ≡ x = cc in ap (λ b. b || list_any test xs) (ap test same ∙ is)
-any-at test (y ∷ xs) (suc i) x at is = ap (λ b. test y || b) (any-at test xs i x at is) ∙ by (test y)
+any-at test (y ∷ xs) (suc i) x at is = ap (λ b. test y || b) (any-at test xs i x at is) ∙ by _
   where
     by : (b : Bool) → (b || true) ≡ true
     by true = refl
@@ -50,5 +50,5 @@ pub needs-empty : (p : Built) (i : ℕ) (f : File) → 5 ≤ p.encoding.version 
     → needs_empty p ≡ true
 needs-empty p i f new at has without =
     let one = le-leb 5 p.encoding.version new in
-    let any = any-at (λ (g : File). is_none g.1.source) p.files i f at (ap is_none without) in
+    let any = any-at _ _ i f at (ap is_none without) in
     λ j. one j && has j && any j

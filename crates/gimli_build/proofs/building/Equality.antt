@@ -1,6 +1,5 @@
 -- Texts, ids, files, rows and items are equal by `==` exactly where all their parts agree; and equal texts hash alike.
 use Rattle.std.proofs.Common.{◌≡◌, ℕ, Bool, ◌&&◌, Option, Some, None, option_map, refl, sym, ap, true≢false}
-use Rattle.std.specs.Prelude.{nat_eq, bytes_eq}
 use Rattle.std.specs.Bool.{Decides}
 use Rattle.std.specs.Cmp.{booleans_Decides}
 use Rattle.std.specs.Option.{option_eq}
@@ -21,16 +20,15 @@ use Rattle.gimli_build.specs.contracts.built.items.BuiltItemPartialEq.TheImpl.{g
 use Rattle.gimli_build.specs.contracts.built.line_string.LineStringHash.TheImpl.{ghosts as hashes}
 use Rattle.gimli_build.specs.contracts.built.line_string.LineStringHash.TheImpl.Laws.{respects_eq-law}
 use Rattle.gimli_build.specs.LineText.{LineText, Inline, InStrings, InLineStrings, line_text, line_text_eq}
-use Rattle.gimli_build.specs.Tables.{Details}
 use Rattle.gimli_build.specs.TableFields.{details}
 use Rattle.gimli_build.proofs.building.TableLemmas.{line_eq}
 
 -- ---- texts
 
 line_text-Decides : (s t : LineText) → Decides (line_text_eq s t) (s ≡ t)
-line_text-Decides (Inline a) (Inline b) = Decides-like (bytes_eq a b) (λ same. ap Inline same) (λ same. cc) (bytes_eq-Decides a b)
-line_text-Decides (InStrings i) (InStrings j) = Decides-like (nat_eq i j) (λ same. ap InStrings same) (λ same. cc) (Decides-eqb i j)
-line_text-Decides (InLineStrings i) (InLineStrings j) = Decides-like (nat_eq i j) (λ same. ap InLineStrings same) (λ same. cc) (Decides-eqb i j)
+line_text-Decides (Inline a) (Inline b) = Decides-like _ (λ same. ap Inline same) (λ same. cc) (bytes_eq-Decides a b)
+line_text-Decides (InStrings i) (InStrings j) = Decides-like _ (λ same. ap InStrings same) (λ same. cc) (Decides-eqb i j)
+line_text-Decides (InLineStrings i) (InLineStrings j) = Decides-like _ (λ same. ap InLineStrings same) (λ same. cc) (Decides-eqb i j)
 line_text-Decides (Inline a) (InStrings j) = (λ h. absurd (true≢false (sym h)), λ same. absurd cc)
 line_text-Decides (Inline a) (InLineStrings j) = (λ h. absurd (true≢false (sym h)), λ same. absurd cc)
 line_text-Decides (InStrings i) (Inline b) = (λ h. absurd (true≢false (sym h)), λ same. absurd cc)
@@ -39,7 +37,7 @@ line_text-Decides (InLineStrings i) (Inline b) = (λ h. absurd (true≢false (sy
 line_text-Decides (InLineStrings i) (InStrings j) = (λ h. absurd (true≢false (sym h)), λ same. absurd cc)
 
 pub text-Decides : (s t : LineString) → Decides (texts.eq s t) (line_text s ≡ line_text t)
-text-Decides s t = Decides-at (texts.eq s t) (line_text_eq (line_text s) (line_text t)) (line_eq s t) (line_text-Decides (line_text s) (line_text t))
+text-Decides s t = Decides-at _ _ (line_eq s t) (line_text-Decides _ _)
 
 -- the same text hashes alike, wherever it lies in memory
 pub text-alike : (s t : LineString) → line_text s ≡ line_text t → hashes.hash_input s ≡ hashes.hash_input t
@@ -49,18 +47,18 @@ text-alike s t same = respects_eq-law s t ((text-Decides s t).1 same)
 
 source-Decides : (s t : Option LineString) → Decides (option_eq texts.eq s t) (option_map line_text s ≡ option_map line_text t)
 source-Decides (Some s) (Some t) =
-    Decides-like (texts.eq s t) (λ same. ap (λ (x : LineText). let o : Option LineText = Some x in o) same) (λ same. cc) (text-Decides s t)
+    Decides-like _ (λ same. ap (λ x. let o : Option LineText = Some x in o) same) (λ same. cc) (text-Decides s t)
 source-Decides (Some s) None = (λ h. absurd (true≢false (sym h)), λ same. absurd cc)
 source-Decides None (Some t) = (λ h. absurd (true≢false (sym h)), λ same. absurd cc)
 source-Decides None None = (λ h. refl, λ same. refl)
 
 pub info-Decides : (a b : FileInfo) → Decides (infos.eq a b) (details a ≡ details b)
 info-Decides a b =
-    Decides-like (infos.eq a b) there back
-    (Decides-and (nat_eq a.timestamp b.timestamp) (nat_eq a.size b.size && (bytes_eq a.md5 b.md5 && option_eq texts.eq a.source b.source))
+    Decides-like _ there back
+    (Decides-and _ _
     (Decides-eqb a.timestamp b.timestamp)
-    (Decides-and (nat_eq a.size b.size) (bytes_eq a.md5 b.md5 && option_eq texts.eq a.source b.source) (Decides-eqb a.size b.size)
-    (Decides-and (bytes_eq a.md5 b.md5) (option_eq texts.eq a.source b.source) (bytes_eq-Decides a.md5 b.md5) (source-Decides a.source b.source))))
+    (Decides-and _ _ (Decides-eqb a.size b.size)
+    (Decides-and _ _ (bytes_eq-Decides _ _) (source-Decides _ _))))
   where
     Parts : Type 0
     Parts = (a.timestamp ≡ b.timestamp) × ((a.size ≡ b.size) × ((a.md5 ≡ b.md5) × (option_map line_text a.source ≡ option_map line_text b.source)))
@@ -70,7 +68,7 @@ info-Decides a b =
 
     back : details a ≡ details b → Parts
     back same =
-        (ap (λ (d : Details). d.timestamp) same, (ap (λ (d : Details). d.size) same, (ap (λ (d : Details). d.md5) same, ap (λ (d : Details). d.source) same)))
+        (ap (λ d. d.timestamp) same, (ap (λ d. d.size) same, (ap (λ d. d.md5) same, ap (λ d. d.source) same)))
 
 -- ---- ids
 
@@ -111,26 +109,26 @@ module _ (a b : LineRow) where
 
   same_registers : a ≡ b → Registers
   same_registers same = (
-    ap (λ (r : LineRow). r.address_offset) same,
+    ap (λ r. r.address_offset) same,
     (
-      ap (λ (r : LineRow). r.op_index) same,
+      ap (λ r. r.op_index) same,
       (
-        ap (λ (r : LineRow). r.file) same,
+        ap (λ r. r.file) same,
         (
-          ap (λ (r : LineRow). r.line) same,
+          ap (λ r. r.line) same,
           (
-            ap (λ (r : LineRow). r.column) same,
+            ap (λ r. r.column) same,
             (
-              ap (λ (r : LineRow). r.discriminator) same,
+              ap (λ r. r.discriminator) same,
               (
-                ap (λ (r : LineRow). r.is_statement) same,
+                ap (λ r. r.is_statement) same,
                 (
-                  ap (λ (r : LineRow). r.basic_block) same,
+                  ap (λ r. r.basic_block) same,
                   (
-                    ap (λ (r : LineRow). r.prologue_end) same,
+                    ap (λ r. r.prologue_end) same,
                     (
-                      ap (λ (r : LineRow). r.epilogue_begin) same,
-                      (ap (λ (r : LineRow). r.isa) same),
+                      ap (λ r. r.epilogue_begin) same,
+                      (ap (λ r. r.isa) same),
                     ),
                   ),
                 ),
@@ -144,7 +142,7 @@ module _ (a b : LineRow) where
 
   pub row-Decides : Decides (rows.eq a b) (a ≡ b)
   row-Decides =
-      Decides-like (rows.eq a b) same_row same_registers
+      Decides-like _ same_row same_registers
       (also (Decides-eqb a.address_offset b.address_offset) (also (Decides-eqb a.op_index b.op_index) (also (Decides-eqb a.file b.file)
       (also (Decides-eqb a.line b.line) (also (Decides-eqb a.column b.column) (also (Decides-eqb a.discriminator b.discriminator)
       (also (booleans_Decides a.is_statement b.is_statement) (also (booleans_Decides a.basic_block b.basic_block)
@@ -152,10 +150,10 @@ module _ (a b : LineRow) where
 
 pub item-Decides : (a b : BuiltItem) → Decides (items.eq a b) (a ≡ b)
 item-Decides (SetAddress a) (SetAddress b) =
-    Decides-like (items.eq (SetAddress a) (SetAddress b)) (λ same. ap SetAddress same) (λ same. cc) (address-Decides a b)
-item-Decides (Row a) (Row b) = Decides-like (items.eq (Row a) (Row b)) (λ same. ap Row same) (λ same. cc) (row-Decides a b)
+    Decides-like _ (λ same. ap SetAddress same) (λ same. cc) (address-Decides a b)
+item-Decides (Row a) (Row b) = Decides-like _ (λ same. ap Row same) (λ same. cc) (row-Decides a b)
 item-Decides (End o k) (End p l) =
-    Decides-like (items.eq (End o k) (End p l)) (λ same. (let first = same.0 in let second = same.1 in cc)) (λ same. (cc, cc))
+    Decides-like _ (λ same. (let first = same.0 in let second = same.1 in cc)) (λ same. (cc, cc))
     (also (Decides-eqb o p) (Decides-eqb k l))
 item-Decides (SetAddress a) (Row r) = (λ h. absurd (true≢false (sym h)), λ same. absurd cc)
 item-Decides (SetAddress a) (End o k) = (λ h. absurd (true≢false (sym h)), λ same. absurd cc)

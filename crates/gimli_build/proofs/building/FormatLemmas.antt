@@ -26,23 +26,23 @@ module _ (a b t s m o : ℕ × ℕ) (has_t has_s has_m has_o : Bool) where
   each : flat_map one_format (when has_t t ++ when has_s s ++ when has_m m ++ when has_o o) ≡ due has_t t ++ due has_s s ++ due has_m m ++ due has_o o
   each =
       flat_map-append one_format (when has_t t ++ when has_s s ++ when has_m m) (when has_o o)
-      ∙ ap (λ (l : List ℕ). l ++ flat_map one_format (when has_o o))
+      ∙ ap (λ l. l ++ flat_map one_format (when has_o o))
       (flat_map-append one_format (when has_t t ++ when has_s s) (when has_m m)
       ∙ ap (λ (l : List ℕ). l ++ flat_map one_format (when has_m m)) (flat_map-append one_format (when has_t t) (when has_s s)))
       ∙ (λ i. format_due has_t t i ++ format_due has_s s i ++ format_due has_m m i ++ format_due has_o o i)
 
   grouped : (k l n x o d : List ℕ) → (k ++ l ++ n) ++ (x ++ (o ++ d)) ≡ (k ++ ((l ++ n) ++ (x ++ o))) ++ d
   grouped k l n x o d =
-      ap (λ (y : List ℕ). y ++ (x ++ (o ++ d))) (append_assoc k l n)
+      ap (λ y. y ++ (x ++ (o ++ d))) (append_assoc k l n)
       ∙ append_assoc k (l ++ n) (x ++ (o ++ d))
       ∙ sym (append_assoc k ((l ++ n) ++ (x ++ o)) d
-      ∙ ap (λ (y : List ℕ). k ++ y) (append_assoc (l ++ n) (x ++ o) d
-      ∙ ap (λ (y : List ℕ). (l ++ n) ++ y) (append_assoc x o d)))
+      ∙ ap (λ y. k ++ y) (append_assoc (l ++ n) (x ++ o) d
+      ∙ ap (λ y. (l ++ n) ++ y) (append_assoc x o d)))
 
   -- their number and they, in groups, and what stands after them
   pub formats-grouped : (after : List ℕ)
       → (length formats ∷ one_format a ++ uleb b.0 ++ uleb b.1) ++ ((due has_t t ++ due has_s s ++ due has_m m) ++ (due has_o o ++ after))
       ≡ formats_bytes formats ++ after
   formats-grouped after =
-      ap (λ (l : List ℕ). length formats ∷ l) (grouped (one_format a) (uleb b.0) (uleb b.1) (due has_t t ++ due has_s s ++ due has_m m) (due has_o o) after
-      ∙ ap (λ (l : List ℕ). (one_format a ++ (one_format b ++ l)) ++ after) (sym each))
+      ap (λ l. length formats ∷ l) (grouped (one_format a) (uleb b.0) (uleb b.1) (due has_t t ++ due has_s s ++ due has_m m) (due has_o o) after
+      ∙ ap (λ l. (one_format a ++ (one_format b ++ l)) ++ after) (sym each))

@@ -9,16 +9,16 @@ use Rattle.gimli_build.proofs.writing.Joined.{next_at}
 
 module _ {A : Type 0} (test : A → Bool) (xs : List A) (i : ℕ) where
   any_next : (x : A) → slice_get xs i ≡ Some x → list_any test (drop i xs) ≡ list_any test xs → list_any test xs ≡ (test x || list_any test (drop (i + 1) xs))
-  any_next x at so = sym so ∙ ap (list_any test) (next_at xs i x at)
+  any_next x at so = sym so ∙ ap (list_any test) (next_at _ i x at)
 
   -- an element has it
   pub any_found : (x : A) → slice_get xs i ≡ Some x → list_any test (drop i xs) ≡ list_any test xs → test x ≡ true → list_any test xs ≡ true
-  any_found x at so is = any_next x at so ∙ ap (λ (b : Bool). b || list_any test (drop (i + 1) xs)) is
+  any_found x at so is = any_next x at so ∙ ap (λ b. b || list_any test (drop (i + 1) xs)) is
 
   -- an element hasn't
   pub any_passed : (x : A) → slice_get xs i ≡ Some x → list_any test (drop i xs) ≡ list_any test xs → test x ≡ false
       → list_any test (drop (i + 1) xs) ≡ list_any test xs
-  any_passed x at so is = sym (any_next x at so ∙ ap (λ (b : Bool). b || list_any test (drop (i + 1) xs)) is)
+  any_passed x at so is = sym (any_next x at so ∙ ap (λ b. b || list_any test (drop (i + 1) xs)) is)
 
 module _ (files : List File) (i : ℕ) where
   found : Option LineText → List LineText → List LineText
@@ -50,7 +50,7 @@ module _ (files : List File) (i : ℕ) where
 -- the first path
 pub first_path : (files : List File) (f : File) → slice_get files 0 ≡ Some f → text_form f.0.0 ≡ first_form (path_texts files)
 first_path [] f at = cc
-first_path (g ∷ files) f at = let same : g ≡ f = cc in ap (λ (h : File). text_form h.0.0) (sym same)
+first_path (g ∷ files) f at = let same : g ≡ f = cc in ap (λ h. text_form h.0.0) (sym same)
 
 -- whether a text is none, seen by a function
 pub none_seen : {A B : Type 0} (f : A → B) (o : Option A) → is_none (option_map f o) ≡ is_none o

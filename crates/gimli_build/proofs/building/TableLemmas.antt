@@ -1,6 +1,6 @@
 -- The tables of directories and files, seen as lists.
 use Rattle.std.proofs.Common.{◌≡◌, ◌≢◌, ℕ, zero, suc, ◌+◌, ◌<◌, Bool, true, false, cond, not, ◌||◌, ◌&&◌, List, [], ◌∷◌, ◌++◌, map, length, refl, sym, ap}
-use Rattle.std.proofs.Common.{subst, ◌∙◌, if◌then◌else◌, slice_get, get_or, drop, Option, Some, None, position, nat_lt, option_map, true≢false, arith}
+use Rattle.std.proofs.Common.{subst, ◌∙◌, if◌then◌else◌, slice_get, get_or, drop, Option, Some, None, option_map, true≢false, arith}
 use Rattle.std.proofs.Common.{length-append}
 use native.Mathlib.Nat.{suc-add as suc_add}
 use Rattle.std.specs.Prelude.{nat_eq, is_some, unwrap_or}
@@ -16,6 +16,7 @@ use Rattle.std.specs.Map.{lookup}
 use Rattle.std.proofs.lemmas.Slice.Eq.{bytes_eq-Decides}
 use Rattle.indexmap.specs.IndexSet.{insert_key}
 use Rattle.indexmap.specs.IndexMap.{insert_entry, set_value_at}
+use Rattle.gimli_bytes.proofs.TextLemmas.{any-map}
 use Rattle.gimli_build.specs.declared.built.line_string.LineString.{LineString}
 use Rattle.gimli_build.specs.declared.built.line_string.LineString.TheVariants.{String, StringRef, LineStringRef}
 use Rattle.gimli_build.specs.declared.built.files.FileInfo.{FileInfo}
@@ -41,12 +42,12 @@ line_eq (LineStringRef a) (StringRef b) = refl
 line_eq (LineStringRef a) (LineStringRef b) = refl
 
 line_text_eq-self : (t : LineText) → line_text_eq t t ≡ true
-line_text_eq-self (Inline bytes) = (bytes_eq-Decides bytes bytes).1 refl
+line_text_eq-self (Inline bytes) = (bytes_eq-Decides bytes _).1 refl
 line_text_eq-self (InStrings i) = nat_eq_equiv.refl i
 line_text_eq-self (InLineStrings i) = nat_eq_equiv.refl i
 
 line_text_eq-same : (s t : LineText) → s ≡ t → line_text_eq t s ≡ true
-line_text_eq-same s t e = subst (λ (x : LineText). line_text_eq t x ≡ true) (sym e) (line_text_eq-self t)
+line_text_eq-same s t e = subst (λ x. line_text_eq t x ≡ true) (sym e) (line_text_eq-self t)
 
 nat_eq-tells : (i j : ℕ) → nat_eq i j ≡ true → i ≡ j
 nat_eq-tells i j h = grind (arith, nat_tests)
@@ -57,18 +58,6 @@ and_true false b h = absurd (true≢false (sym h))
 
 -- ---- a search in a list
 
-pub any-map : {A B : Type 0} (p : B → Bool) (h : A → B) (ks : List A) → list_any p (map h ks) ≡ list_any (λ k. p (h k)) ks
-any-map p h [] = refl
-any-map p h (k ∷ ks) = ap (λ b. p (h k) || b) (any-map p h ks)
-
--- what an index that a search gave is
-pub index_found : {A : Type 0} (p : A → Bool) (ks : List A) (i : ℕ) → Some i ≡ position p ks → i ≡ position_or_len p ks
-index_found p ks i e = by (nat_lt (position_or_len p ks) (length ks)) e
-  where
-    by : (b : Bool) → Some i ≡ cond b (Some (position_or_len p ks)) None → i ≡ position_or_len p ks
-    by true h = cc
-    by false h = cc
-
 -- ---- directories
 
 any-directories : (k : LineString) (ks : List LineString) → list_any (ghosts.eq k) ks ≡ list_any (line_text_eq (line_text k)) (directories_of ks)
@@ -77,7 +66,7 @@ any-directories k (x ∷ xs) = λ i. line_eq k x i || any-directories k xs i
 
 pub directories_insert : (ks : List LineString) (k : LineString) → directories_of (insert_key ghosts.eq ks k) ≡ with_directory (directories_of ks) (line_text k)
 directories_insert ks k =
-    by (list_any (ghosts.eq k) ks) ∙ ap (λ b. if b then directories_of ks else directories_of ks ++ line_text k ∷ []) (any-directories k ks)
+    by (list_any (ghosts.eq k) ks) ∙ ap (λ b. if b then directories_of ks else directories_of ks ++ line_text k ∷ []) (any-directories k _)
   where
     by : (b : Bool) → directories_of (if b then ks else ks ++ k ∷ []) ≡ (if b then directories_of ks else directories_of ks ++ line_text k ∷ [])
     by true = refl
@@ -95,8 +84,8 @@ with_directory-AreTables ds ks t so clean = by (list_any (line_text_eq t) ds) re
     by false h = record {
       distinct_directories =
           all_pairs_push (λ s u. s ≢ u) ds t so.distinct_directories (λ k d short same.
-          true≢false (sym (list_any_at (line_text_eq t) ds k d short (line_text_eq-same (get_or ds k d) t same)) ∙ h));
-      directories_end = All-push HasNoZero ds t so.directories_end clean;
+          true≢false (sym (list_any_at (line_text_eq t) _ k d short (line_text_eq-same _ t same)) ∙ h));
+      directories_end = All-push HasNoZero _ t so.directories_end clean;
       distinct_files = so.distinct_files;
       paths_end = so.paths_end;
       in_directories = λ k d short. let below = so.in_directories k d short in omega (arith, below, length-append ds (t ∷ []));
@@ -112,7 +101,7 @@ pub pair_eq-is : (x y : LineString × ℕ) → pair_eq x y ≡ key_eq (key x) (k
 pair_eq-is x y = ap (λ b. b && nat_eq x.1 y.1) (line_eq x.0 y.0)
 
 key_eq-same : (k l : FileKey) → k ≡ l → key_eq l k ≡ true
-key_eq-same k l e = subst (λ (x : FileKey). key_eq l x ≡ true) (sym e) (λ i. line_text_eq-self l.0 i && nat_eq_equiv.refl l.1 i)
+key_eq-same k l e = subst (λ x. key_eq l x ≡ true) (sym e) (λ i. line_text_eq-self l.0 i && nat_eq_equiv.refl l.1 i)
 
 -- the files after an insertion
 pub files_insert : (es : List ((LineString × ℕ) × FileInfo)) (k : LineString × ℕ) (v : FileInfo)
@@ -121,7 +110,7 @@ files_insert [] k v = refl
 files_insert (e ∷ es) k v =
     by (pair_eq k e.0)
     ∙ (λ i. if pair_eq-is k e.0 i then (key e.0, details v) ∷ files_of es else (key e.0, details e.1) ∷ files_insert es k v i)
-    ∙ joined (key_eq (key k) (key e.0)) (has_file (files_of es) (key k))
+    ∙ joined _ _
   where
     by : (b : Bool)
         → files_of (if b then (e.0, v) ∷ es else e ∷ insert_entry pair_eq es k v)
@@ -130,7 +119,7 @@ files_insert (e ∷ es) k v =
     by false = refl
 
     one : (n : ℕ) → with_details ((key e.0, details e.1) ∷ files_of es) (1 + n) (details v) ≡ (key e.0, details e.1) ∷ with_details (files_of es) n (details v)
-    one n = let h : 1 + n ≡ suc n = omega arith in ap (λ (m : ℕ). with_details ((key e.0, details e.1) ∷ files_of es) m (details v)) h
+    one n = let h : 1 + n ≡ suc n = omega arith in ap (λ m. with_details ((key e.0, details e.1) ∷ files_of es) m (details v)) h
 
     joined : (b there : Bool)
         → (if b then (key e.0, details v) ∷ files_of es
@@ -140,7 +129,7 @@ files_insert (e ∷ es) k v =
         else (key e.0, details e.1) ∷ files_of es ++ (key k, details v) ∷ [])
     joined true true = refl
     joined true false = refl
-    joined false true = sym (one (index_of_file (files_of es) (key k)))
+    joined false true = sym (one _)
     joined false false = refl
 
 pub any-files : (k : LineString × ℕ) (es : List ((LineString × ℕ) × FileInfo)) → list_any (pair_eq k) (map (λ e. e.0) es) ≡ has_file (files_of es) (key k)
@@ -155,7 +144,7 @@ index_of_equal_file (e ∷ es) k = λ i. cond (not (pair_eq-is k e.0 i)) (1 + in
 -- a search found a file, or none
 pub file_found : (es : List ((LineString × ℕ) × FileInfo)) (k : LineString × ℕ) (b : Bool) → b ≡ is_some (lookup (pair_eq k) es)
     → has_file (files_of es) (key k) ≡ b
-file_found es k b e = sym (any-files k es) ∙ sym (is_some-lookup (pair_eq k) es) ∙ sym e
+file_found es k b e = sym (any-files k _) ∙ sym (is_some-lookup (pair_eq k) es) ∙ sym e
 
 -- a file that is there stays as it is, where nothing is handed of it
 pub with_file-kept : (files : List File) (k : FileKey) → has_file files k ≡ true → with_file files k None ≡ files
@@ -201,7 +190,7 @@ files_with (e ∷ es) (suc n) v = ap (λ t. (key e.0, details e.1) ∷ t) (files
 pub details_at : (es : List ((LineString × ℕ) × FileInfo)) (n : ℕ) (v : FileInfo) → Some v ≡ slice_get (map (λ e. e.1) es) n
     → option_map (λ f. f.1) (slice_get (files_of es) n) ≡ Some (details v)
 details_at [] n v h = cc
-details_at (e ∷ es) zero v h = let same : v ≡ e.1 = cc in ap (λ (i : FileInfo). Some (details i)) (sym same)
+details_at (e ∷ es) zero v h = let same : v ≡ e.1 = cc in ap (λ i. Some (details i)) (sym same)
 details_at (e ∷ es) (suc n) v h = details_at es n v h
 
 pub written-AreTables : (ds : List LineText) (es : List ((LineString × ℕ) × FileInfo)) (n : ℕ) (v : FileInfo) → AreTables ds (keys_of (files_of es))
@@ -214,7 +203,7 @@ pub numbered_more : (es : List ((LineString × ℕ) × FileInfo)) (i j : ℕ) (e
     → with_indexes j (drop i (files_of es)) ≡ (j, line_text e.0.0, e.0.1) ∷ with_indexes (j + 1) (drop (i + 1) (files_of es))
 numbered_more [] i j e h = cc
 numbered_more (x ∷ xs) zero j e h =
-    let s : x ≡ e = cc in ap (λ (k : (LineString × ℕ) × FileInfo). (j, line_text k.0.0, k.0.1) ∷ with_indexes (j + 1) (files_of xs)) s
+    let s : x ≡ e = cc in ap (λ k. (j, line_text k.0.0, k.0.1) ∷ with_indexes (j + 1) (files_of xs)) s
 numbered_more (x ∷ xs) (suc n) j e h = rw suc_add (numbered_more xs n j e h)
 
 -- ---- clones
@@ -244,9 +233,9 @@ keys-with_file files k given = by (has_file files k) given
         → keys_of
         (if b then (elim given [ Some d ↦ with_details files (index_of_file files k) d | None ↦ files ]) else files ++ (k, unwrap_or given no_details) ∷ [])
         ≡ (if b then keys_of files else keys_of files ++ k ∷ [])
-    by true (Some d) = keys-with_details files (index_of_file files k) d
+    by true (Some d) = keys-with_details _ _ d
     by true None = refl
-    by false given = map-append (λ (f : File). f.0) files ((k, unwrap_or given no_details) ∷ [])
+    by false given = map-append (λ f. f.0) files ((k, unwrap_or given no_details) ∷ [])
 
 -- ---- what was added is found
 
@@ -298,7 +287,7 @@ found eq tells xs x = by (list_any (eq x) xs) refl
     by false h = found_new eq xs x h
 
 pub directory_found : (ds : List LineText) (t : LineText) → slice_get (with_directory ds t) (index_of_directory ds t) ≡ Some t
-directory_found ds t = found line_text_eq line_text_eq-tells ds t
+directory_found ds t = found _ line_text_eq-tells _ t
 
 index_of_key : (files : List File) (k : FileKey) → index_of_file files k ≡ position_or_len (key_eq k) (keys_of files)
 index_of_key [] k = refl
@@ -306,7 +295,7 @@ index_of_key (f ∷ files) k = ap (λ n. cond (not (key_eq k f.0)) (1 + n) 0) (i
 
 pub file_found_at : (files : List File) (k : FileKey) (given : Option Details) → slice_get (keys_of (with_file files k given)) (index_of_file files k) ≡ Some k
 file_found_at files k given =
-    rw (keys-with_file files k given, index_of_key files k, ← any-map (key_eq k) (λ (f : File). f.0) files) (found key_eq key_eq-tells (keys_of files) k)
+    rw (keys-with_file files k given, index_of_key files k, ← any-map (key_eq k) (λ f. f.0) files) (found _ key_eq-tells _ k)
 
 pub some_within : {A : Type 0} (xs : List A) (i : ℕ) (x : A) → slice_get xs i ≡ Some x → i < length xs
 some_within [] i x h = absurd cc
@@ -322,13 +311,13 @@ slice_get-kept (x ∷ xs) ys (suc i) h = slice_get-kept xs ys i (omega arith)
 
 kept : {A : Type 0} (b : Bool) (xs : List A) (x : A) → Keeps xs (if b then xs else xs ++ x ∷ [])
 kept true xs x = record { grows = omega arith; stays = λ i h. refl }
-kept false xs x = record { grows = omega (arith, length-append xs (x ∷ [])); stays = slice_get-kept xs (x ∷ []) }
+kept false xs x = record { grows = omega (arith, length-append xs (x ∷ [])); stays = slice_get-kept _ _ }
 
 pub directory_keeps : (ds : List LineText) (t : LineText) → Keeps ds (with_directory ds t)
-directory_keeps ds t = kept (list_any (line_text_eq t) ds) ds t
+directory_keeps ds t = kept _ _ t
 
 pub file_keeps : (files : List File) (k : FileKey) (given : Option Details) → Keeps (keys_of files) (keys_of (with_file files k given))
-file_keeps files k given = rw (keys-with_file files k given) (kept (has_file files k) (keys_of files) k)
+file_keeps files k given = rw (keys-with_file files k given) (kept _ _ k)
 
 with_details-others : (files : List File) (n : ℕ) (d : Details) (i : ℕ) → i ≢ n → slice_get (with_details files n d) i ≡ slice_get files i
 with_details-others [] n d i h = refl
@@ -345,6 +334,6 @@ file_others files k given i short other = by (has_file files k) given
         → slice_get
         (if b then (elim given [ Some d ↦ with_details files (index_of_file files k) d | None ↦ files ]) else files ++ (k, unwrap_or given no_details) ∷ []) i
         ≡ slice_get files i
-    by true (Some d) = with_details-others files (index_of_file files k) d i other
+    by true (Some d) = with_details-others _ _ d i other
     by true None = refl
-    by false given = slice_get-kept files ((k, unwrap_or given no_details) ∷ []) i short
+    by false given = slice_get-kept _ _ i short

@@ -21,13 +21,12 @@ use Rattle.gimli_build.specs.LineText.{LineText, Inline, InStrings, InLineString
 use Rattle.gimli_build.specs.Built.{Built, position_after}
 use Rattle.gimli_build.specs.Rows.{initial_row}
 use Rattle.gimli_build.specs.Conditions.{CanWrite, AreBuilt}
-use Rattle.gimli_build.specs.InstructionBytes.{instructions_bytes, set_address_bytes_by}
+use Rattle.gimli_build.specs.InstructionBytes.{instructions_bytes, set_address_bytes}
 use Rattle.gimli_build.specs.Encode.{row_instructions, end_instructions}
-use Rattle.gimli_build.specs.Items.{items_bytes_by, next_previous, AreFit}
+use Rattle.gimli_build.specs.Items.{items_bytes, next_previous, AreFit}
 use Rattle.gimli_build.specs.Version5Tables.{texts_after}
-use Rattle.gimli_build.specs.Cause.{emitted_texts}
 use Rattle.gimli_build.specs.Linked.{placed_item, placed_program, AddressFits, OffsetFits, SumsFit, TextsBeginAtZero}
-use Rattle.gimli_build.specs.Unit.{is_incompatible, program_bytes_by, whole_bytes_by, unit_bytes_by, unit_bytes}
+use Rattle.gimli_build.specs.Unit.{is_incompatible, program_bytes, whole_bytes, unit_bytes}
 use Rattle.gimli_build.specs.inside.Conditions.{IsBuilt}
 use Rattle.gimli_build.specs.declared.built.row.LineRow.{LineRow}
 use Rattle.gimli_build.specs.declared.built.items.BuiltItem.{BuiltItem}
@@ -42,80 +41,80 @@ WritesNumbers hand = (big : Bool) (address : Address) (size : ℕ) → hand.addr
 
 module _ (at : Placement) (hand : Hand) (numbers : WritesNumbers hand) (big : Bool) (encoding : Encoding) (e : LineEncoding) where
   items_placed : (previous : LineRow) (items : List BuiltItem) → All (AddressFits at encoding.address_size) items
-      → items_bytes_by (placed at) big encoding e previous items ≡ items_bytes_by hand big encoding e previous (map (placed_item at) items)
+      → items_bytes (placed at) big encoding e previous items ≡ items_bytes hand big encoding e previous (map (placed_item at) items)
   items_placed previous [] fit = refl
   items_placed previous (SetAddress a ∷ items) fit =
       let size = encoding.address_size in
       let next = next_previous encoding.version e.default_is_stmt previous (SetAddress a) in
-      let address = placed-address at big a size (All-head (AddressFits at size) (SetAddress a) items fit) ∙ sym (numbers big (address_placed at a) size) in
-      let first : set_address_bytes_by (placed at) big a size ≡ set_address_bytes_by hand big (address_placed at a) size =
-      ap (result_map (λ (operand : List ℕ). 0 ∷ uleb (size + 1) ++ DW_LNE_set_address ∷ operand)) address in
-      ap (λ (r : Result (List ℕ) Error). result_append r (items_bytes_by (placed at) big encoding e next items)) first
-      ∙ ap (λ (r : Result (List ℕ) Error). result_append (set_address_bytes_by hand big (address_placed at a) size) r)
-      (items_placed next items (All-tail (AddressFits at size) (SetAddress a) items fit))
+      let address = placed-address at _ a _ (All-head (AddressFits at size) _ _ fit) ∙ sym (numbers big (address_placed at a) size) in
+      let first : set_address_bytes (placed at) big a size ≡ set_address_bytes hand big (address_placed at a) size =
+      ap (result_map (λ operand. 0 ∷ uleb (size + 1) ++ DW_LNE_set_address ∷ operand)) address in
+      ap (λ r. result_append r (items_bytes (placed at) big encoding e next items)) first
+      ∙ ap (λ r. result_append (set_address_bytes hand big (address_placed at a) size) r)
+      (items_placed next items (All-tail (AddressFits at size) _ _ fit))
   items_placed previous (Row r ∷ items) fit =
-      ap (λ (s : Result (List ℕ) Error). result_append (Ok (instructions_bytes (row_instructions encoding.version e previous r))) s)
-      (items_placed r items (All-tail (AddressFits at encoding.address_size) (Row r) items fit))
+      ap (λ s. result_append (Ok (instructions_bytes (row_instructions encoding.version e previous r))) s)
+      (items_placed r items (All-tail (AddressFits at encoding.address_size) _ _ fit))
   items_placed previous (End offset op_index ∷ items) fit =
-      ap (λ (s : Result (List ℕ) Error). result_append (Ok (instructions_bytes (end_instructions e previous offset op_index))) s)
+      ap (λ s. result_append (Ok (instructions_bytes (end_instructions e previous offset op_index))) s)
       (items_placed (initial_row encoding.version e.default_is_stmt) items
-      (All-tail (AddressFits at encoding.address_size) (End offset op_index) items fit))
+      (All-tail (AddressFits at encoding.address_size) _ _ fit))
 
 -- ---- texts
 
 all_from : {A : Type 0} (P Q : A → Type 0) → ((x : A) → P x → Q x) → (xs : List A) → All P xs → All Q xs
 all_from P Q f [] all = All-nil Q
-all_from P Q f (x ∷ xs) all = All-cons Q x xs (f x (All-head P x xs all)) (all_from P Q f xs (All-tail P x xs all))
+all_from P Q f (x ∷ xs) all = All-cons Q x _ (f x (All-head P x _ all)) (all_from P Q f xs (All-tail P x _ all))
 
 module _ (at : Placement) (big : Bool) (p : Built) (texts : StringTables) where
   text_counted : (t : LineText) → OffsetFits at p.encoding.format texts t → IsAlike (placed at) (counted at) big p texts t
   text_counted (Inline text) fits = refl
-  text_counted (InStrings i) fits = placed-word big (at.section DebugStr + offset_of texts.strings i) (word_size p.encoding.format) fits
-  text_counted (InLineStrings i) fits = placed-word big (at.section DebugLineStr + offset_of texts.line_strings i) (word_size p.encoding.format) fits
+  text_counted (InStrings i) fits = placed-word _ _ _ fits
+  text_counted (InLineStrings i) fits = placed-word _ _ _ fits
 
   text_plain : TextsBeginAtZero at → (t : LineText) → OffsetFits at p.encoding.format texts t → IsAlike (placed at) plain big p texts t
   text_plain zero (Inline text) fits = refl
   text_plain zero (InStrings i) fits =
       let n = offset_of texts.strings i in
       let there : at.section DebugStr + n ≡ n = omega (arith, zero.strings) in
-      text_counted (InStrings i) fits ∙ ap (λ (m : ℕ). section_word big m (word_size p.encoding.format)) there
+      text_counted (InStrings i) fits ∙ ap (λ m. section_word big m (word_size p.encoding.format)) there
   text_plain zero (InLineStrings i) fits =
       let n = offset_of texts.line_strings i in
       let there : at.section DebugLineStr + n ≡ n = omega (arith, zero.line_strings) in
-      text_counted (InLineStrings i) fits ∙ ap (λ (m : ℕ). section_word big m (word_size p.encoding.format)) there
+      text_counted (InLineStrings i) fits ∙ ap (λ m. section_word big m (word_size p.encoding.format)) there
 
 -- ---- units
 
 unit_alike : (h k : Hand) (big : Bool) (unit : Encoding) (p q : Built) (texts : StringTables) → q.encoding ≡ p.encoding
-    → whole_bytes_by h big p (texts_after p texts) ≡ whole_bytes_by k big q (texts_after q texts)
-    → unit_bytes_by h big unit p texts ≡ unit_bytes_by k big unit q texts
+    → whole_bytes h big p (texts_after p texts) ≡ whole_bytes k big q (texts_after q texts)
+    → unit_bytes h big unit p texts ≡ unit_bytes k big unit q texts
 unit_alike h k big unit p q texts encoding same =
     let odd : is_incompatible unit p.encoding ≡ is_incompatible unit q.encoding = ap (is_incompatible unit) (sym encoding) in
-    ap (λ (b : Bool).
-    let r : Result (List ℕ) Error = if b then Err IncompatibleLineProgramEncoding else whole_bytes_by h big p (texts_after p texts) in r) odd
-    ∙ ap (λ (w : Result (List ℕ) Error).
+    ap (λ b.
+    let r : Result (List ℕ) Error = if b then Err IncompatibleLineProgramEncoding else whole_bytes h big p (texts_after p texts) in r) odd
+    ∙ ap (λ w.
     let r : Result (List ℕ) Error = if is_incompatible unit q.encoding then Err IncompatibleLineProgramEncoding else w in r) same
 
 module _ (at : Placement) (big : Bool) (unit : Encoding) (p : Built) (texts : StringTables) (fit : SumsFit at p (texts_after p texts)) where
-  program_placed : (hand : Hand) → WritesNumbers hand → program_bytes_by (placed at) big p ≡ program_bytes_by hand big (placed_program at p)
+  program_placed : (hand : Hand) → WritesNumbers hand → program_bytes (placed at) big p ≡ program_bytes hand big (placed_program at p)
   program_placed hand numbers =
-      items_placed at hand numbers big p.encoding p.line_encoding (initial_row p.encoding.version p.line_encoding.default_is_stmt) p.items fit.addresses
+      items_placed at hand numbers big p.encoding p.line_encoding _ _ fit.addresses
 
   placed_by : (hand : Hand) → WritesNumbers hand
       → ((t : LineText) → OffsetFits at p.encoding.format (texts_after p texts) t → IsAlike (placed at) hand big p (texts_after p texts) t)
-      → unit_bytes_by (placed at) big unit p texts ≡ unit_bytes_by hand big unit (placed_program at p) texts
+      → unit_bytes (placed at) big unit p texts ≡ unit_bytes hand big unit (placed_program at p) texts
   placed_by hand numbers alike =
-      unit_alike (placed at) hand big unit p (placed_program at p) texts refl
+      unit_alike (placed at) hand _ unit p (placed_program at p) texts refl
       (whole-alike (placed at) hand big p (texts_after p texts) (map (placed_item at) p.items)
-      (λ new. all_from (λ (t : ℕ × LineText). OffsetFits at p.encoding.format (texts_after p texts) t.1)
-      (λ (t : ℕ × LineText). IsAlike (placed at) hand big p (texts_after p texts) t.1)
-      (λ t fits. alike t.1 fits) (emitted_texts p (texts_after p texts)) (fit.offsets new))
+      (λ new. all_from _
+      _
+      (λ t fits. alike t.1 fits) _ (fit.offsets new))
       (program_placed hand numbers))
 
-  pub placed-counted : unit_bytes_by (placed at) big unit p texts ≡ unit_bytes_by (counted at) big unit (placed_program at p) texts
+  pub placed-counted : unit_bytes (placed at) big unit p texts ≡ unit_bytes (counted at) big unit (placed_program at p) texts
   placed-counted = placed_by (counted at) (λ big address size. refl) (text_counted at big p (texts_after p texts))
 
-  pub placed-plain : TextsBeginAtZero at → unit_bytes_by (placed at) big unit p texts ≡ unit_bytes big unit (placed_program at p) texts
+  pub placed-plain : TextsBeginAtZero at → unit_bytes (placed at) big unit p texts ≡ unit_bytes plain big unit (placed_program at p) texts
   placed-plain zero = placed_by plain (λ big address size. refl) (text_plain at big p (texts_after p texts) zero)
 
 -- ---- the program with its symbols replaced
@@ -143,10 +142,10 @@ is-built at p built = record {
     source_file = built.is.source_file;
     directories_not_empty = built.is.directories_not_empty;
     paths_not_empty = built.is.paths_not_empty;
-    items_built = built_placed at p.line_encoding (0, 0) p.items built.is.items_built;
+    items_built = built_placed at _ _ _ built.is.items_built;
   };
   tables = built.tables;
-  items_fit = fit_placed at p.encoding.version p.items built.items_fit;
+  items_fit = fit_placed at _ _ built.items_fit;
   files_fit = built.files_fit;
 }
 

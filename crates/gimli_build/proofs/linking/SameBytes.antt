@@ -15,11 +15,11 @@ use Rattle.gimli_build.specs.Tables.{File}
 use Rattle.gimli_build.specs.Built.{Built}
 use Rattle.gimli_build.specs.Version4Tables.{directories_bytes, files_bytes}
 use Rattle.gimli_build.specs.Version5Tables.{text_form, first_form, path_texts, sources, formats_bytes, directory_formats, file_formats, detail_bytes}
-use Rattle.gimli_build.specs.Version5Tables.{text_bytes_by, text_in_form_by, directory_table_bytes_by, source_bytes_by, file_entry_bytes_by}
-use Rattle.gimli_build.specs.Version5Tables.{file_table_bytes_by}
+use Rattle.gimli_build.specs.Version5Tables.{text_bytes, text_in_form, directory_table_bytes, source_bytes, file_entry_bytes}
+use Rattle.gimli_build.specs.Version5Tables.{file_table_bytes}
 use Rattle.gimli_build.specs.Cause.{emitted_texts}
 use Rattle.gimli_build.specs.Unit.{line_encoding_bytes, opcode_bytes, opening_bytes, escape_bytes}
-use Rattle.gimli_build.specs.Unit.{tables_bytes_by, header_bytes_by, program_bytes_by, whole_bytes_by}
+use Rattle.gimli_build.specs.Unit.{tables_bytes, header_bytes, program_bytes, whole_bytes}
 use Rattle.gimli_build.specs.declared.built.items.BuiltItem.{BuiltItem}
 use Rattle.gimli_build.proofs.reading.ReadyTexts.{source_of}
 use Rattle.gimli_build.proofs.reading.EmittedTexts.{IsOfFile, AreOfTables, of-tables}
@@ -29,8 +29,8 @@ concat_alike : {A : Type 0} (P : A → Type 0) (f g : A → Result (List ℕ) Er
     → result_concat f xs ≡ result_concat g xs
 concat_alike P f g same [] all = refl
 concat_alike P f g same (x ∷ xs) all =
-    ap (λ (r : Result (List ℕ) Error). result_append r (result_concat f xs)) (same x (All-head P x xs all))
-    ∙ ap (λ (r : Result (List ℕ) Error). result_append (g x) r) (concat_alike P f g same xs (All-tail P x xs all))
+    ap (λ r. result_append r (result_concat f xs)) (same x (All-head P x _ all))
+    ∙ ap (λ r. result_append (g x) r) (concat_alike P f g same xs (All-tail P x _ all))
 
 -- where it is due
 due_alike : (due : Bool) (a b : Result (List ℕ) Error) → (due ≡ true → a ≡ b)
@@ -41,57 +41,57 @@ due_alike false a b same = refl
 module _ (h k : Hand) (big : Bool) (p : Built) (texts : StringTables) where
   -- a text that both write alike
   abbrev pub IsAlike : LineText → Type 0
-  IsAlike t = text_bytes_by h big p.encoding.format texts t ≡ text_bytes_by k big p.encoding.format texts t
+  IsAlike t = text_bytes h big p.encoding.format texts t ≡ text_bytes k big p.encoding.format texts t
 
   form_alike : (form : ℕ) (t : LineText) → IsAlike t
-      → text_in_form_by h big p.encoding.format texts form t ≡ text_in_form_by k big p.encoding.format texts form t
+      → text_in_form h big p.encoding.format texts form t ≡ text_in_form k big p.encoding.format texts form t
   form_alike form t same =
-      ap (λ (r : Result (List ℕ) Error). let s : Result (List ℕ) Error = if nat_eq (text_form t) form then r else Err LineStringFormMismatch in s) same
+      ap (λ r. let s : Result (List ℕ) Error = if nat_eq (text_form t) form then r else Err LineStringFormMismatch in s) same
 
   directories_alike : All IsAlike p.directories
-      → directory_table_bytes_by h big p.encoding.format texts p ≡ directory_table_bytes_by k big p.encoding.format texts p
+      → directory_table_bytes h big p.encoding.format texts p ≡ directory_table_bytes k big p.encoding.format texts p
   directories_alike all =
-      ap (λ (r : Result (List ℕ) Error). result_append (Ok (formats_bytes (directory_formats p) ++ uleb (length p.directories))) r)
-      (concat_alike IsAlike (text_in_form_by h big p.encoding.format texts (first_form p.directories))
-      (text_in_form_by k big p.encoding.format texts (first_form p.directories)) (form_alike (first_form p.directories)) p.directories all)
+      ap (λ r. result_append (Ok (formats_bytes (directory_formats p) ++ uleb (length p.directories))) r)
+      (concat_alike _ _
+      _ (form_alike _) _ all)
 
   source_alike : (f : File) → (p.file_has_source ≡ true → IsAlike (source_of p texts f))
-      → source_bytes_by h big p.encoding.format texts p f ≡ source_bytes_by k big p.encoding.format texts p f
+      → source_bytes h big p.encoding.format texts p f ≡ source_bytes k big p.encoding.format texts p f
   source_alike f same =
       let form = first_form (sources p.files) in
-      due_alike p.file_has_source (text_in_form_by h big p.encoding.format texts form (source_of p texts f))
-      (text_in_form_by k big p.encoding.format texts form (source_of p texts f)) (λ due. form_alike form (source_of p texts f) (same due))
+      due_alike _ _
+      _ (λ due. form_alike _ _ (same due))
 
   file_alike : (f : File) → IsOfFile IsAlike p texts f
-      → file_entry_bytes_by h big p.encoding.format texts p f ≡ file_entry_bytes_by k big p.encoding.format texts p f
+      → file_entry_bytes h big p.encoding.format texts p f ≡ file_entry_bytes k big p.encoding.format texts p f
   file_alike f all =
       let form = first_form (path_texts p.files) in
-      ap (λ (r : Result (List ℕ) Error). result_append r (result_append (Ok (detail_bytes p f)) (source_bytes_by h big p.encoding.format texts p f)))
-      (form_alike form f.0.0 all.path)
-      ∙ ap (λ (r : Result (List ℕ) Error). result_append (text_in_form_by k big p.encoding.format texts form f.0.0) (result_append (Ok (detail_bytes p f)) r))
+      ap (λ r. result_append r (result_append (Ok (detail_bytes p f)) (source_bytes h big p.encoding.format texts p f)))
+      (form_alike _ _ all.path)
+      ∙ ap (λ r. result_append (text_in_form k big p.encoding.format texts form f.0.0) (result_append (Ok (detail_bytes p f)) r))
       (source_alike f all.source)
 
   files_alike : All (IsOfFile IsAlike p texts) p.files
-      → file_table_bytes_by h big p.encoding.format texts p ≡ file_table_bytes_by k big p.encoding.format texts p
+      → file_table_bytes h big p.encoding.format texts p ≡ file_table_bytes k big p.encoding.format texts p
   files_alike all =
-      ap (λ (r : Result (List ℕ) Error). result_append (Ok (formats_bytes (file_formats p) ++ uleb (length p.files))) r)
-      (concat_alike (IsOfFile IsAlike p texts) (file_entry_bytes_by h big p.encoding.format texts p) (file_entry_bytes_by k big p.encoding.format texts p)
-      file_alike p.files all)
+      ap (λ r. result_append (Ok (formats_bytes (file_formats p) ++ uleb (length p.files))) r)
+      (concat_alike _ _ _
+      file_alike _ all)
 
-  tables_alike : (5 ≤ p.encoding.version → All (λ t. IsAlike t.1) (emitted_texts p texts)) → tables_bytes_by h big p texts ≡ tables_bytes_by k big p texts
-  tables_alike all = by (nat_le p.encoding.version 4) refl
+  tables_alike : (5 ≤ p.encoding.version → All (λ t. IsAlike t.1) (emitted_texts p texts)) → tables_bytes h big p texts ≡ tables_bytes k big p texts
+  tables_alike all = by _ refl
     where
       old : Result (List ℕ) Error
       old = result_append (directories_bytes p.directories) (files_bytes p.files)
 
       new : Hand → Result (List ℕ) Error
       new hand =
-          result_append (directory_table_bytes_by hand big p.encoding.format texts p) (file_table_bytes_by hand big p.encoding.format texts p)
+          result_append (directory_table_bytes hand big p.encoding.format texts p) (file_table_bytes hand big p.encoding.format texts p)
 
       new_alike : AreOfTables IsAlike p texts → new h ≡ new k
       new_alike parts =
-          ap (λ (r : Result (List ℕ) Error). result_append r (file_table_bytes_by h big p.encoding.format texts p)) (directories_alike parts.directories)
-          ∙ ap (λ (r : Result (List ℕ) Error). result_append (directory_table_bytes_by k big p.encoding.format texts p) r) (files_alike parts.files)
+          ap (λ r. result_append r (file_table_bytes h big p.encoding.format texts p)) (directories_alike parts.directories)
+          ∙ ap (λ r. result_append (directory_table_bytes k big p.encoding.format texts p) r) (files_alike parts.files)
 
       by : (b : Bool) → nat_le p.encoding.version 4 ≡ b
           → (let r : Result (List ℕ) Error = if b then old else new h in r) ≡ (if b then old else new k)
@@ -100,15 +100,15 @@ module _ (h k : Hand) (big : Bool) (p : Built) (texts : StringTables) where
 
   -- a unit, where the items are written alike too
   pub whole-alike : (items : List BuiltItem) → (5 ≤ p.encoding.version → All (λ t. IsAlike t.1) (emitted_texts p texts))
-      → program_bytes_by h big p ≡ program_bytes_by k big (record p { items = items })
-      → whole_bytes_by h big p texts ≡ whole_bytes_by k big (record p { items = items }) texts
+      → program_bytes h big p ≡ program_bytes k big (record p { items = items })
+      → whole_bytes h big p texts ≡ whole_bytes k big (record p { items = items }) texts
   whole-alike items all same =
       let size : ℕ → Result (List ℕ) Error = λ n. format_word big p.encoding.format n in
       let whole : ℕ → Result (List ℕ) Error = λ n. result_append (Ok (escape_bytes big p.encoding.format)) (length_word big p.encoding.format n) in
-      let header : header_bytes_by h big p texts ≡ header_bytes_by k big p texts =
-      ap (λ (r : Result (List ℕ) Error).
+      let header : header_bytes h big p texts ≡ header_bytes k big p texts =
+      ap (λ r.
       after_length size (result_append (line_encoding_bytes p.encoding.version p.line_encoding) (result_append (Ok opcode_bytes) r)))
       (tables_alike all) in
-      ap (λ (r : Result (List ℕ) Error). after_length whole (result_append (opening_bytes big p.encoding) (result_append r (program_bytes_by h big p)))) header
-      ∙ ap (λ (r : Result (List ℕ) Error). after_length whole (result_append (opening_bytes big p.encoding) (result_append (header_bytes_by k big p texts) r)))
+      ap (λ r. after_length whole (result_append (opening_bytes big p.encoding) (result_append r (program_bytes h big p)))) header
+      ∙ ap (λ r. after_length whole (result_append (opening_bytes big p.encoding) (result_append (header_bytes k big p texts) r)))
       same

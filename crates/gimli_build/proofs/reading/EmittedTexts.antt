@@ -28,17 +28,17 @@ module _ (P : LineText → Type 0) (p : Built) (texts : StringTables) where
 
   first_part : (ts us : List (ℕ × LineText)) → All IsEmitted (ts ++ us) → All IsEmitted ts
   first_part [] us all = All-nil IsEmitted
-  first_part (t ∷ ts) us all = All-cons IsEmitted t ts (All-head IsEmitted t (ts ++ us) all) (first_part ts us (All-tail IsEmitted t (ts ++ us) all))
+  first_part (t ∷ ts) us all = All-cons IsEmitted t _ (All-head IsEmitted t _ all) (first_part ts us (All-tail IsEmitted t _ all))
 
   last_part : (ts us : List (ℕ × LineText)) → All IsEmitted (ts ++ us) → All IsEmitted us
   last_part [] us all = all
-  last_part (t ∷ ts) us all = last_part ts us (All-tail IsEmitted t (ts ++ us) all)
+  last_part (t ∷ ts) us all = last_part ts us (All-tail IsEmitted t _ all)
 
   of-directories : (form : ℕ) (ts : List LineText) → All IsEmitted (map (λ t. (form, t)) ts) → All P ts
   of-directories form [] all = All-nil P
   of-directories form (t ∷ ts) all =
-      All-cons P t ts (All-head IsEmitted (form, t) (map (λ t. (form, t)) ts) all)
-      (of-directories form ts (All-tail IsEmitted (form, t) (map (λ t. (form, t)) ts) all))
+      All-cons P t _ (All-head IsEmitted _ _ all)
+      (of-directories form ts (All-tail IsEmitted _ _ all))
 
   of-file : (f : File) → All IsEmitted (file_texts p texts f) → IsOfFile f
   of-file f all =
@@ -46,8 +46,8 @@ module _ (P : LineText → Type 0) (p : Built) (texts : StringTables) where
       let source : ℕ × LineText = (first_form (sources p.files), source_of p texts f) in
       let last : List (ℕ × LineText) = if p.file_has_source then source ∷ [] else [] in
       record {
-        path = All-head IsEmitted path last all;
-        source = by p.file_has_source source (All-tail IsEmitted path last all);
+        path = All-head IsEmitted _ _ all;
+        source = by _ _ (All-tail IsEmitted _ _ all);
       }
     where
       by : (has : Bool) (t : ℕ × LineText) → All IsEmitted (if has then t ∷ [] else []) → has ≡ true → P t.1
@@ -58,14 +58,14 @@ module _ (P : LineText → Type 0) (p : Built) (texts : StringTables) where
   of-files [] all = All-nil IsOfFile
   of-files (f ∷ fs) all =
       let own = file_texts p texts in
-      All-cons IsOfFile f fs (of-file f (first_part (own f) (flat_map own fs) all)) (of-files fs (last_part (own f) (flat_map own fs) all))
+      All-cons IsOfFile f _ (of-file f (first_part (own f) (flat_map own fs) all)) (of-files fs (last_part (own f) _ all))
 
   -- ---- all that is emitted
 
   pub of-tables : nat_le p.encoding.version 4 ≡ false → All IsEmitted (emitted_texts p texts) → AreOfTables
   of-tables new all =
       let form = first_form p.directories in
-      let named = map (λ (t : LineText). (form, t)) p.directories in
+      let named = map (λ t. (form, t)) p.directories in
       let filed = flat_map (file_texts p texts) p.files in
       let emitted : All IsEmitted (named ++ filed) = rw new at all in
-      record { directories = of-directories form p.directories (first_part named filed emitted); files = of-files p.files (last_part named filed emitted) }
+      record { directories = of-directories _ _ (first_part _ _ emitted); files = of-files _ (last_part _ _ emitted) }

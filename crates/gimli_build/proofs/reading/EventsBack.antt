@@ -15,6 +15,7 @@ use Rattle.gimli_line.specs.run.Machine.{run}
 use Rattle.gimli_line.specs.header.Parameters.{Parameters}
 use Rattle.gimli_line.specs.declared.run.row.LineRow.{LineRow as ReadRow}
 use Rattle.gimli_line.proofs.Backwards.{starts}
+use Rattle.gimli_bytes.specs.Hand.{plain}
 use Rattle.gimli_build.specs.declared.built.row.LineRow.{LineRow}
 use Rattle.gimli_build.specs.declared.built.items.BuiltItem.{BuiltItem}
 use Rattle.gimli_build.specs.declared.built.items.BuiltItem.TheVariants.{SetAddress, Row, End}
@@ -41,26 +42,26 @@ cut_whole notation h bytes list spelled = record { front = bytes; rest = []; par
 spelled_under : (notation : Notation) (h : Header) (encoding : Encoding) (e : LineEncoding) (items : List BuiltItem) (bytes : List ℕ)
     → h.parameters.encoding ≡ encoding → h.parameters.opcode_base ≡ 13 → 11 < notation.limit → CanEncode e → AreBuilt e (0, 0) items
     → AreFit encoding.version items
-    → items_bytes notation.big encoding e (initial_row encoding.version e.default_is_stmt) items ≡ Ok bytes
+    → items_bytes plain notation.big encoding e (initial_row encoding.version e.default_is_stmt) items ≡ Ok bytes
     → Each (SpellsInstruction notation h) bytes (items_instructions encoding.version e (initial_row encoding.version e.default_is_stmt) items)
 spelled_under notation h encoding e items bytes same base wide can built fit written =
-    subst (λ (x : Encoding). AreFit x.version items
-    → items_bytes notation.big x e (initial_row x.version e.default_is_stmt) items ≡ Ok bytes
+    subst (λ x. AreFit x.version items
+    → items_bytes plain notation.big x e (initial_row x.version e.default_is_stmt) items ≡ Ok bytes
     → Each (SpellsInstruction notation h) bytes (items_instructions x.version e (initial_row x.version e.default_is_stmt) items))
     same
-    (items-spelled notation h base wide e can (initial_row h.parameters.encoding.version e.default_is_stmt) items bytes (lit< tt) built)
+    (items-spelled notation h base wide e can _ _ _ (lit< tt) built)
     fit written
 
 -- the instructions of a written program
 pub cut-back : (notation : Notation) (h : Header) (p : Built) → IsBuilt p → 11 < notation.limit → h.parameters ≡ built_rules p.encoding p.line_encoding
-    → program_bytes notation.big p ≡ Ok h.program
+    → program_bytes plain notation.big p ≡ Ok h.program
     → Decodes notation h h.program
     (items_instructions p.encoding.version p.line_encoding (initial_row p.encoding.version p.line_encoding.default_is_stmt) p.items) None
 cut-back notation h p built wide parameters written =
-    cut_whole notation h h.program
-    (items_instructions p.encoding.version p.line_encoding (initial_row p.encoding.version p.line_encoding.default_is_stmt) p.items)
-    (spelled_under notation h p.encoding p.line_encoding p.items h.program (ap (λ (r : Parameters). r.encoding) parameters)
-    (ap (λ (r : Parameters). r.opcode_base) parameters) wide built.is.lines built.is.items_built built.items_fit written)
+    cut_whole _ h _
+    _
+    (spelled_under _ h _ _ _ _ (ap (λ r. r.encoding) parameters)
+    (ap (λ r. r.opcode_base) parameters) wide built.is.lines built.is.items_built built.items_fit written)
 
 -- ---- the rows
 
@@ -90,7 +91,7 @@ rows_given parameters encoding e items same known can version built held =
 
 -- the rows of a written program, where addresses hold its items and none is a tombstone
 pub rows-back : (notation : Notation) (h : Header) (p : Built) → IsBuilt p → p.encoding.version ≤ 5 → 11 < notation.limit
-    → h.parameters ≡ built_rules p.encoding p.line_encoding → program_bytes notation.big p ≡ Ok h.program
+    → h.parameters ≡ built_rules p.encoding p.line_encoding → program_bytes plain notation.big p ≡ Ok h.program
     → AddressesFit p.encoding.address_size 0 (0, 0) p.items
     → (rows : List ReadRow) × Events notation h h.program (map row rows) × RowsMatch p.encoding.version [] p.items rows
 rows-back notation h p built known wide parameters written held =

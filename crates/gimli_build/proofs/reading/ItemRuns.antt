@@ -5,8 +5,7 @@ use Rattle.std.proofs.Math.Nat.{mod-eq_of_lt}
 use Rattle.gimli_core.specs.Numbers.{is_address_size}
 use Rattle.gimli_core.specs.declared.common.Encoding.{Encoding}
 use Rattle.gimli_core.specs.declared.common.LineEncoding.{LineEncoding}
-use Rattle.gimli_line.specs.declared.run.row.LineRow.{LineRow as ReadRow}
-use Rattle.gimli_line.specs.run.Events.{Event, row}
+use Rattle.gimli_line.specs.run.Events.{row}
 use Rattle.gimli_line.specs.run.Machine.{run}
 use Rattle.gimli_build.specs.declared.built.row.LineRow.{LineRow}
 use Rattle.gimli_build.specs.declared.built.items.BuiltItem.{BuiltItem}
@@ -33,16 +32,16 @@ module _ (encoding : Encoding) (e : LineEncoding) (known : IsTrue (is_address_si
   items-run base previous [] position line built held = refl
   items-run base previous (SetAddress a ∷ items) position line built held =
       let next : LineRow = record previous { address_offset = 0; op_index = 0 } in
-      set-address-runs encoding e base (address_value a) previous held.0 held.1 (items_instructions encoding.version e next items)
+      set-address-runs encoding e _ _ previous held.0 held.1 (items_instructions encoding.version e next items)
       ∙ items-run (address_value a) next items (start_position e can) line built.1 held.2
   items-run base previous (Row r ∷ items) position line built held =
-      row-runs encoding e base previous r known can position built.0.0 line built.0.1 held.0 (items_instructions encoding.version e r items)
-      ∙ ap (λ (events : List Event). row (read_row encoding.version base r) ∷ events) (items-run base r items built.0.0.position built.0.1 built.1 held.1)
+      row-runs encoding e _ previous r known can position built.0.0 line built.0.1 held.0 (items_instructions encoding.version e r items)
+      ∙ ap (λ events. row (read_row encoding.version base r) ∷ events) (items-run base r items built.0.0.position built.0.1 built.1 held.1)
   items-run base previous (End o i ∷ items) position line built held =
       let next : LineRow = initial_row encoding.version e.default_is_stmt in
-      end-runs encoding e base previous o i known can position built.0 held.0 (items_instructions encoding.version e next items)
+      end-runs encoding e _ previous o i known can position built.0 held.0 (items_instructions encoding.version e next items)
       ∙ ap
-      (λ (r : ReadRow). row (read_end encoding.version base previous o i) ∷ run (built_rules encoding e) r (items_instructions encoding.version e next items))
+      (λ r. row (read_end encoding.version base previous o i) ∷ run (built_rules encoding e) r (items_instructions encoding.version e next items))
       (start-is encoding e version)
-      ∙ ap (λ (events : List Event). row (read_end encoding.version base previous o i) ∷ events)
+      ∙ ap (λ events. row (read_end encoding.version base previous o i) ∷ events)
       (items-run 0 next items (start_position e can) (lit< tt) built.1 held.1)

@@ -1,7 +1,7 @@
 -- The instructions of items define no file; and what a run is refused for that defines none.
 use Rattle.std.proofs.Common.{◌≡◌, ℕ, Bool, true, false, not, ◌&&◌, List, [], ◌∷◌, ◌++◌, map, refl, sym, ap, ◌∙◌, append_assoc, if◌then◌else◌, nat_eq, nat_le}
 use Rattle.std.proofs.Common.{inl, inr, true≢false}
-use Rattle.std.specs.Prelude.{All, Option, None, ℤ, pos, ◌-ℤ◌, ◌*◌, ◌+◌, ◌-◌}
+use Rattle.std.specs.Prelude.{All, None, ℤ, pos, ◌-ℤ◌, ◌*◌, ◌+◌, ◌-◌}
 use Rattle.std.proofs.lemmas.List.{append-nil}
 use Rattle.std.proofs.lemmas.List.Elements.{All-nil, All-cons, All-head, All-tail, All-append}
 use Rattle.gimli_core.specs.Notation.{Notation}
@@ -14,9 +14,9 @@ use Rattle.gimli_line.specs.header.Orders.{Source}
 use Rattle.gimli_line.specs.header.Header.{Header, without_files}
 use Rattle.gimli_line.specs.header.Parameters.{Parameters}
 use Rattle.gimli_line.specs.declared.run.row.LineRow.{LineRow as ReadRow}
-use Rattle.gimli_line.specs.declared.run.instruction.LineInstruction.TheVariants.{Special, Copy, AdvancePc, AdvanceLine, SetFile, SetColumn, NegateStatement}
-use Rattle.gimli_line.specs.declared.run.instruction.LineInstruction.TheVariants.{SetBasicBlock, ConstAddPc, SetPrologueEnd, SetEpilogueBegin, SetIsa}
-use Rattle.gimli_line.specs.declared.run.instruction.LineInstruction.TheVariants.{EndSequence, SetDiscriminator, SetAddress as ReadAddress}
+use Rattle.gimli_line.specs.declared.run.instruction.LineInstruction.TheVariants.{Special, Copy, AdvancePc, AdvanceLine}
+use Rattle.gimli_line.specs.declared.run.instruction.LineInstruction.TheVariants.{ConstAddPc}
+use Rattle.gimli_line.specs.declared.run.instruction.LineInstruction.TheVariants.{EndSequence, SetAddress as ReadAddress}
 use Rattle.gimli_line.specs.run.Instruction.{Ins, defines_file, makes_row}
 use Rattle.gimli_line.specs.run.InstructionGrammar.{SpellsInstruction, Decodes}
 use Rattle.gimli_line.specs.run.InstructionReading.{decoded_at}
@@ -25,16 +25,15 @@ use Rattle.gimli_line.specs.run.Instruction.{files_after}
 use Rattle.gimli_line.specs.run.Machine.{is_refused, step_of, next_registers, made_from}
 use Rattle.gimli_line.specs.run.RunState.{RunState}
 use Rattle.gimli_line.specs.run.Progress.{with_reset_row, Progress}
-use Rattle.gimli_line.specs.run.Rows.{live_events, events_left, WantsMemory, FaultIs}
+use Rattle.gimli_line.specs.run.Rows.{live_events, WantsMemory, FaultIs}
 use Rattle.gimli_line.proofs.InstructionLaws.{is_decoded, one_decoding}
 use Rattle.gimli_build.specs.declared.built.row.LineRow.{LineRow}
 use Rattle.gimli_build.specs.declared.built.items.BuiltItem.{BuiltItem}
 use Rattle.gimli_build.specs.declared.built.items.BuiltItem.TheVariants.{SetAddress, Row, End}
 use Rattle.gimli_build.specs.Advance.{operations}
 use Rattle.gimli_build.specs.Built.{address_value}
-use Rattle.gimli_build.specs.FileNumber.{file_number}
 use Rattle.gimli_build.specs.Due.{when}
-use Rattle.gimli_build.specs.Encode.{differ, marks, changes, is_special_advance, line_opcode, line_part, still_opcode, constant_advance, row_maker}
+use Rattle.gimli_build.specs.Encode.{marks, changes, is_special_advance, line_opcode, line_part, still_opcode, constant_advance, row_maker}
 use Rattle.gimli_build.specs.Encode.{operation_part, row_instructions, end_instructions}
 use Rattle.gimli_build.specs.Items.{next_previous, item_instructions, items_instructions}
 use Rattle.gimli_build.specs.NoFiles.{DefinesNoFile, program_started}
@@ -50,27 +49,27 @@ none_when false i none = All-nil NoFile
 
 four_when : (a b c d : Bool) (i j k l : Ins) → NoFile i → NoFile j → NoFile k → NoFile l → All NoFile (when a i ++ when b j ++ when c k ++ when d l)
 four_when a b c d i j k l p q r s =
-    All-append NoFile (when a i ++ when b j ++ when c k) (when d l)
-    (All-append NoFile (when a i ++ when b j) (when c k)
-    (All-append NoFile (when a i) (when b j) (none_when a i p) (none_when b j q)) (none_when c k r)) (none_when d l s)
+    All-append NoFile _ _
+    (All-append NoFile _ _
+    (All-append NoFile _ _ (none_when a i p) (none_when b j q)) (none_when c k r)) (none_when d l s)
 
 marks_none : (r : LineRow) → All NoFile (marks r)
 marks_none r =
-    four_when (not (nat_eq r.discriminator 0)) r.basic_block r.prologue_end r.epilogue_begin
-    (SetDiscriminator r.discriminator) SetBasicBlock SetPrologueEnd SetEpilogueBegin refl refl refl refl
+    four_when _ _ _ _
+    _ _ _ _ refl refl refl refl
 
 changes_none : (version : ℕ) (previous r : LineRow) → All NoFile (changes version previous r)
 changes_none version previous r =
-    four_when (differ r.is_statement previous.is_statement) (not (nat_eq r.file previous.file)) (not (nat_eq r.column previous.column))
-    (not (nat_eq r.isa previous.isa))
-    NegateStatement (SetFile (file_number version r.file)) (SetColumn r.column) (SetIsa r.isa) refl refl refl refl
+    four_when _ _ _
+    _
+    _ _ _ _ refl refl refl refl
 
 line_none : (e : LineEncoding) (d : ℤ) → All NoFile (line_part e d)
 line_none e d = by (is_special_advance e d)
   where
     by : (b : Bool) → All NoFile (if b then [] else AdvanceLine d ∷ [])
     by true = All-nil NoFile
-    by false = All-cons NoFile (AdvanceLine d) [] refl (All-nil NoFile)
+    by false = All-cons NoFile _ [] refl (All-nil NoFile)
 
 maker_none : (e : LineEncoding) (s : ℕ) → NoFile (row_maker e s)
 maker_none e s = by (nat_eq s (still_opcode e))
@@ -96,9 +95,9 @@ row_none version e previous r =
     let d = pos r.line -ℤ pos previous.line in
     let n = operations e previous.address_offset previous.op_index r.address_offset r.op_index in
     let s = line_opcode e d in
-    All-append NoFile (marks r ++ changes version previous r ++ line_part e d) (operation_part e s n)
-    (All-append NoFile (marks r ++ changes version previous r) (line_part e d)
-    (All-append NoFile (marks r) (changes version previous r) (marks_none r) (changes_none version previous r)) (line_none e d)) (operation_none e s n)
+    All-append NoFile _ _
+    (All-append NoFile _ _
+    (All-append NoFile _ _ (marks_none r) (changes_none _ previous r)) (line_none e d)) (operation_none e s n)
 
 end_none : (e : LineEncoding) (previous : LineRow) (offset op_index : ℕ) → All NoFile (end_instructions e previous offset op_index)
 end_none e previous offset op_index =
@@ -128,7 +127,7 @@ module _ (notation : Notation) (h : Header) where
   each_joined : (front after : List ℕ) (list more : List Ins) → Spelled front list → Spelled after more → Spelled (front ++ after) (list ++ more)
   each_joined front after [] more s t = rw s t
   each_joined front after (i ∷ list) more s t =
-      (s.0, s.1 ++ after, ap (λ (xs : List ℕ). xs ++ after) s.2 ∙ append_assoc s.0 s.1 after, s.3, each_joined s.1 after list more s.4 t)
+      (s.0, s.1 ++ after, ap (λ xs. xs ++ after) s.2 ∙ append_assoc s.0 s.1 after, s.3, each_joined s.1 after list more s.4 t)
 
   -- what stands after whole instructions of a program is the rest of it
   pub rest_decoded : (bytes front rest : List ℕ) (list passed : List Ins) → Decodes notation h bytes list None → bytes ≡ front ++ rest → Spelled front passed
@@ -136,29 +135,29 @@ module _ (notation : Notation) (h : Header) where
   rest_decoded bytes front rest list passed all parts spelled =
       let more = (decoded_at notation h rest).0 in
       let end = (decoded_at notation h rest).1 in
-      let own = is_decoded notation h rest in
+      let own = is_decoded notation h _ in
       let joined : Decodes notation h bytes (passed ++ more) end = record {
         front = front ++ own.front;
         rest = own.rest;
-        parts = parts ∙ ap (λ (xs : List ℕ). front ++ xs) own.parts ∙ sym (append_assoc front own.front own.rest);
-        spelled = each_joined front own.front passed more spelled own.spelled;
+        parts = parts ∙ ap (λ xs. front ++ xs) own.parts ∙ sym (append_assoc front own.front own.rest);
+        spelled = each_joined _ _ _ _ spelled own.spelled;
         ended = own.ended;
       } in
-      let same : (list, None) ≡ (passed ++ more, end) = one_decoding notation h bytes list None all
-      ∙ sym (one_decoding notation h bytes (passed ++ more) end joined) in
-      let ended : end ≡ None = sym (ap (λ (p : List Ins × Option Error). p.1) same) in
-      (more, ap (λ (p : List Ins × Option Error). p.0) same, rw ended at own)
+      let same : (list, None) ≡ (passed ++ more, end) = one_decoding notation h _ _ _ all
+      ∙ sym (one_decoding notation h _ _ _ joined) in
+      let ended : end ≡ None = sym (ap (λ p. p.1) same) in
+      (more, ap (λ p. p.0) same, rw ended at own)
 
 last_none : (passed more : List Ins) → All NoFile (passed ++ more) → All NoFile more
 last_none [] more all = all
-last_none (i ∷ passed) more all = last_none passed more (All-tail NoFile i (passed ++ more) all)
+last_none (i ∷ passed) more all = last_none passed more (All-tail NoFile i _ all)
 
 -- a run that has gone on still defines no file
 pub goes-none : (a b : RunState) (events : List Event) → DefinesNoFile a → Progress a b events → DefinesNoFile b
 goes-none a b events none p =
-    let rest = rest_decoded a.unread.notation a.fixed a.unread.bytes p.front b.unread.bytes none.list p.list none.decoding p.parts p.spelled in
+    let rest = rest_decoded a.unread.notation a.fixed _ _ _ _ _ none.decoding p.parts p.spelled in
     let all : All NoFile (p.list ++ rest.0) = rw rest.1 at none.none in
-    record { list = rest.0; decoding = rw (p.notation, p.fixed) rest.2; none = last_none p.list rest.0 all }
+    record { list = rest.0; decoding = rw (p.notation, p.fixed) rest.2; none = last_none _ _ all }
 
 -- ---- refusals
 
@@ -203,12 +202,11 @@ only_overflow appends parameters r files seen (i ∷ list) rest e is =
 
 pub refused-none : (a b : RunState) (e : Error) → DefinesNoFile a → FaultIs live_events (with_reset_row a) b e → e ≡ AddressOverflow
 refused-none a b e none (inl memory) =
-    absurd (no_memory (with_reset_row a) b (record { list = none.list; decoding = none.decoding; none = none.none }) memory.1)
+    absurd (no_memory _ b (record { list = none.list; decoding = none.decoding; none = none.none }) memory.1)
 refused-none a b e none (inr next) =
-    let same = one_decoding a.unread.notation a.fixed a.unread.bytes none.list None none.decoding in
-    let whole =
-    ap (λ (p : List Ins × Option Error). given_of (made_from a.appends a.fixed.parameters (with_reset_row a).row a.files p.0 p.1)) same in
-    only_overflow a.appends a.fixed.parameters (with_reset_row a).row a.files b.files none.list (events_left b) e (whole ∙ next.0)
+    let same = one_decoding a.unread.notation a.fixed _ _ _ none.decoding in
+    let whole = ap (λ p. given_of (made_from a.appends a.fixed.parameters (with_reset_row a).row a.files p.0 p.1)) same in
+    only_overflow a.appends a.fixed.parameters (with_reset_row a).row a.files _ none.list _ e (whole ∙ next.0)
 
 -- ---- a program from its start
 
@@ -222,6 +220,6 @@ pub starts-none : (source : Source) (h : Header) (appends : Bool) (list : List I
     → All (λ i. defines_file i ≡ false) list → DefinesNoFile (program_started appends h source)
 starts-none source h appends list d none = record {
   list = list;
-  decoding = record { front = d.front; rest = d.rest; parts = d.parts; spelled = bare_each source.notation h d.front list d.spelled; ended = d.ended };
+  decoding = record { front = d.front; rest = d.rest; parts = d.parts; spelled = bare_each _ h _ _ d.spelled; ended = d.ended };
   none = none;
 }

@@ -27,7 +27,7 @@ added texts = by (list_any (bytes_eq []) texts) refl
   where
     by : (b : Bool) → list_any (bytes_eq []) texts ≡ b → list_any (bytes_eq []) (if b then texts else texts ++ [] ∷ []) ≡ true
     by true h = h
-    by false h = list_any-append (bytes_eq []) texts ([] ∷ []) ∙ ap (λ (b : Bool). b || true) h
+    by false h = list_any-append (bytes_eq []) texts _ ∙ ap (λ b. b || true) h
 
 gained : (due : Bool) (texts : List (List ℕ)) → due ≡ true → list_any (bytes_eq []) (if due then with_text texts [] else texts) ≡ true
 gained true texts is = added texts
@@ -42,7 +42,7 @@ longer texts = by (list_any (bytes_eq []) texts)
     by false = omega (arith, length-append texts ([] ∷ []))
 
 grows : (due : Bool) (texts : List (List ℕ)) → length texts ≤ length (if due then with_text texts [] else texts)
-grows true texts = longer texts
+grows true texts = longer _
 grows false texts = omega arith
 
 within_more : (texts more : StringTables) → length texts.strings ≤ length more.strings → length texts.line_strings ≤ length more.line_strings
@@ -54,9 +54,9 @@ within_more texts more s l (InLineStrings i) within = omega (arith, l, within)
 -- a text that was within the tables is within them once a program is written
 pub within_after : (p : Built) (texts : StringTables) (t : LineText) → IsWithin texts t → IsWithin (texts_after p texts) t
 within_after p texts t within =
-    within_more texts (texts_after p texts)
-    (grows (needs_empty p && nat_eq (first_form (sources p.files)) 0x0e) texts.strings)
-    (grows (needs_empty p && nat_eq (first_form (sources p.files)) 0x1f) texts.line_strings) t within
+    within_more _ _
+    (grows _ _)
+    (grows _ _) t within
 
 -- ---- the empty text in a form
 
@@ -65,7 +65,7 @@ record IsEmpty (texts : StringTables) (t : LineText) : Type 0 where
   none : bytes_in texts t ≡ []
 
 empty_there : (texts : List (List ℕ)) → list_any (bytes_eq []) texts ≡ true → slice_get texts (index_of_text texts []) ≡ Some []
-empty_there texts has = ap (λ (l : List (List ℕ)). slice_get l (index_of_text texts [])) (sym (with_text-there texts [] has)) ∙ with_text-found texts []
+empty_there texts has = ap (λ l. slice_get l (index_of_text texts [])) (sym (with_text-there _ [] has)) ∙ with_text-found texts _
 
 empty_is : (form : ℕ) (texts : StringTables) → (nat_eq form 0x0e ≡ true → list_any (bytes_eq []) texts.strings ≡ true)
     → (nat_eq form 0x1f ≡ true → list_any (bytes_eq []) texts.line_strings ≡ true)
@@ -117,7 +117,7 @@ source_same texts None e empty = (empty refl).none
 
 unmapped : {A B : Type 0} (P : B → Type 0) (f : A → B) (xs : List A) → All P (map f xs) → All (λ x. P (f x)) xs
 unmapped P f [] all = All-nil (λ x. P (f x))
-unmapped P f (x ∷ xs) all = All-cons (λ x. P (f x)) x xs (All-head P (f x) (map f xs) all) (unmapped P f xs (All-tail P (f x) (map f xs) all))
+unmapped P f (x ∷ xs) all = All-cons (λ x. P (f x)) x _ (All-head P _ _ all) (unmapped P f xs (All-tail P _ _ all))
 
 all_three : (a b c : Bool) → a ≡ true → b ≡ true → c ≡ true → (a && b && c) ≡ true
 all_three true true true a b c = refl
@@ -132,7 +132,7 @@ both true false a b = absurd cc
 
 some_within : (texts more : StringTables) → length texts.strings ≤ length more.strings → length texts.line_strings ≤ length more.line_strings
     → (o : Option LineText) → IfSome o (IsWithin texts) → IfSome o (IsWithin more)
-some_within texts more s l (Some t) within = within_more texts more s l t within
+some_within texts more s l (Some t) within = within_more _ _ s l t within
 some_within texts more s l None within = tt
 
 module _ (p : Built) (old_texts : StringTables) (new : nat_le p.encoding.version 4 ≡ false) (built : IsBuilt p) (can : CanWrite p old_texts) where
@@ -146,10 +146,10 @@ module _ (p : Built) (old_texts : StringTables) (new : nat_le p.encoding.version
   late = let above = leb-false p.encoding.version 4 new in omega (arith, above)
 
   more : length old_texts.strings ≤ length texts.strings
-  more = grows (needs_empty p && nat_eq form 0x0e) old_texts.strings
+  more = grows _ _
 
   more_lines : length old_texts.line_strings ≤ length texts.line_strings
-  more_lines = grows (needs_empty p && nat_eq form 0x1f) old_texts.line_strings
+  more_lines = grows _ _
 
   -- where sources are written and a file has none, the empty text is there
   empty_ready : p.file_has_source ≡ true → list_any (λ f. is_none f.1.source) p.files ≡ true → IsEmpty texts (empty_text form texts)

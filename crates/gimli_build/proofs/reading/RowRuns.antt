@@ -116,7 +116,7 @@ less_room parameters p q n le room =
     let m = parameters.line_encoding.minimum_instruction_length in
     let below = div-mul-le_self (p.op_index + q) k in
     let up : (p.op_index + q) / k
-    ≤ (p.op_index + n) / k = le-div ((p.op_index + q) / k) (p.op_index + n) k (omega (arith, room.within)) (omega (arith, below)) in
+    ≤ (p.op_index + n) / k = le-div _ _ k (omega (arith, room.within)) (omega (arith, below)) in
     let wide = mul-le-mul_left m up in
     record {
       within = room.within;
@@ -133,9 +133,9 @@ rest_room parameters p q n le room =
     let pk : 1 ≤ k = omega (arith, room.within) in
     let back : q + (n - q) ≡ n = omega arith in
     let there : ahead parameters.line_encoding (n - q) (ahead parameters.line_encoding q p)
-    ≡ ahead parameters.line_encoding n p = ahead-ahead parameters.line_encoding p q (n - q) pk
-    ∙ ap (λ (x : ℕ). ahead parameters.line_encoding x p) back in
-    let same = ap (λ (x : OperationPointer). x.address) there in
+    ≡ ahead parameters.line_encoding n p = ahead-ahead parameters.line_encoding p q _ pk
+    ∙ ap (λ x. ahead parameters.line_encoding x p) back in
+    let same = ap (λ x. x.address) there in
     let small = mod-lt (p.op_index + q) pk in
     let le_sum = mod-le (p.op_index + q) k in
     record {
@@ -172,7 +172,7 @@ module _ (encoding : Encoding) (e : LineEncoding) where
   -- an instruction that is due or not
   keep : (r s : ReadRow) (due : Bool) (i : Ins) → (due ≡ true → Goes r (i ∷ []) s) → (due ≡ false → r ≡ s) → Goes r (when due i) s
   keep r s true i goes stands list = goes refl list
-  keep r s false i goes stands list = ap (λ (t : ReadRow). run parameters t list) (stands refl)
+  keep r s false i goes stands list = ap (λ t. run parameters t list) (stands refl)
 
   same_from_test : (m n : ℕ) → not (nat_eq m n) ≡ false → m ≡ n
   same_from_test m n h = grind (arith, nat_tests)
@@ -200,18 +200,18 @@ module _ (encoding : Encoding) (e : LineEncoding) where
       let w2 = when built.basic_block SetBasicBlock in
       let w3 = when built.prologue_end SetPrologueEnd in
       let w4 = when built.epilogue_begin SetEpilogueBegin in
-      let s1 : Goes r w1 r1 = keep r r1 (not (nat_eq built.discriminator 0)) (SetDiscriminator built.discriminator) (λ h list. refl)
-      (λ h. ap (λ (x : ℕ). let s : ReadRow = record r { discriminator = x } in s) (d0 ∙ sym (same_from_test built.discriminator 0 h))) in
-      let s2 : Goes r1 w2 r2 = keep r1 r2 built.basic_block SetBasicBlock
-      (λ h list. ap (λ (x : Bool). run parameters (record r1 { basic_block = x }) list) (sym h))
-      (λ h. ap (λ (x : Bool). let s : ReadRow = record r1 { basic_block = x } in s) (b0 ∙ sym h)) in
-      let s3 : Goes r2 w3 r3 = keep r2 r3 built.prologue_end SetPrologueEnd
-      (λ h list. ap (λ (x : Bool). run parameters (record r2 { prologue_end = x }) list) (sym h))
-      (λ h. ap (λ (x : Bool). let s : ReadRow = record r2 { prologue_end = x } in s) (p0 ∙ sym h)) in
-      let s4 : Goes r3 w4 r4 = keep r3 r4 built.epilogue_begin SetEpilogueBegin
-      (λ h list. ap (λ (x : Bool). run parameters (record r3 { epilogue_begin = x }) list) (sym h))
-      (λ h. ap (λ (x : Bool). let s : ReadRow = record r3 { epilogue_begin = x } in s) (e0 ∙ sym h)) in
-      goes_then r r3 r4 (w1 ++ w2 ++ w3) w4 (goes_then r r2 r3 (w1 ++ w2) w3 (goes_then r r1 r2 w1 w2 s1 s2) s3) s4
+      let s1 : Goes r w1 r1 = keep r _ _ _ (λ h list. refl)
+      (λ h. ap (λ x. let s : ReadRow = record r { discriminator = x } in s) (d0 ∙ sym (same_from_test _ 0 h))) in
+      let s2 : Goes r1 w2 r2 = keep _ _ _ _
+      (λ h list. ap (λ x. run parameters (record r1 { basic_block = x }) list) (sym h))
+      (λ h. ap (λ x. let s : ReadRow = record r1 { basic_block = x } in s) (b0 ∙ sym h)) in
+      let s3 : Goes r2 w3 r3 = keep _ _ _ _
+      (λ h list. ap (λ x. run parameters (record r2 { prologue_end = x }) list) (sym h))
+      (λ h. ap (λ x. let s : ReadRow = record r2 { prologue_end = x } in s) (p0 ∙ sym h)) in
+      let s4 : Goes r3 w4 r4 = keep _ _ _ _
+      (λ h list. ap (λ x. run parameters (record r3 { epilogue_begin = x }) list) (sym h))
+      (λ h. ap (λ x. let s : ReadRow = record r3 { epilogue_begin = x } in s) (e0 ∙ sym h)) in
+      goes_then r _ _ (w1 ++ w2 ++ w3) w4 (goes_then r _ _ (w1 ++ w2) w3 (goes_then r _ _ w1 w2 s1 s2) s3) s4
 
   -- what lasts from row to row
   goes-changes : (r : ReadRow) (version : ℕ) (previous built : LineRow) → r.is_stmt ≡ previous.is_statement → r.file ≡ file_number version previous.file
@@ -227,16 +227,16 @@ module _ (encoding : Encoding) (e : LineEncoding) where
       let w2 = when (not (nat_eq built.file previous.file)) (SetFile (file_number version built.file)) in
       let w3 = when (not (nat_eq built.column previous.column)) (SetColumn built.column) in
       let w4 = when (not (nat_eq built.isa previous.isa)) (SetIsa built.isa) in
-      let s1 : Goes r w1 r1 = keep r r1 (differ built.is_statement previous.is_statement) NegateStatement
-      (λ h list. ap (λ (x : Bool). run parameters (record r { is_stmt = x }) list) (ap not hs ∙ turned built.is_statement previous.is_statement h))
-      (λ h. ap (λ (x : Bool). let s : ReadRow = record r { is_stmt = x } in s) (hs ∙ stays built.is_statement previous.is_statement h)) in
-      let s2 : Goes r1 w2 r2 = keep r1 r2 (not (nat_eq built.file previous.file)) (SetFile (file_number version built.file)) (λ h list. refl)
-      (λ h. ap (λ (x : ℕ). let s : ReadRow = record r1 { file = x } in s) (hf ∙ ap (file_number version) (sym (same_from_test built.file previous.file h)))) in
-      let s3 : Goes r2 w3 r3 = keep r2 r3 (not (nat_eq built.column previous.column)) (SetColumn built.column) (λ h list. refl)
-      (λ h. ap (λ (x : ℕ). let s : ReadRow = record r2 { column = x } in s) (hc ∙ sym (same_from_test built.column previous.column h))) in
-      let s4 : Goes r3 w4 r4 = keep r3 r4 (not (nat_eq built.isa previous.isa)) (SetIsa built.isa) (λ h list. refl)
-      (λ h. ap (λ (x : ℕ). let s : ReadRow = record r3 { isa = x } in s) (hi ∙ sym (same_from_test built.isa previous.isa h))) in
-      goes_then r r3 r4 (w1 ++ w2 ++ w3) w4 (goes_then r r2 r3 (w1 ++ w2) w3 (goes_then r r1 r2 w1 w2 s1 s2) s3) s4
+      let s1 : Goes r w1 r1 = keep r _ _ _
+      (λ h list. ap (λ x. run parameters (record r { is_stmt = x }) list) (ap not hs ∙ turned _ _ h))
+      (λ h. ap (λ x. let s : ReadRow = record r { is_stmt = x } in s) (hs ∙ stays _ _ h)) in
+      let s2 : Goes r1 w2 r2 = keep _ _ _ _ (λ h list. refl)
+      (λ h. ap (λ x. let s : ReadRow = record r1 { file = x } in s) (hf ∙ ap (file_number version) (sym (same_from_test _ _ h)))) in
+      let s3 : Goes r2 w3 r3 = keep _ _ _ _ (λ h list. refl)
+      (λ h. ap (λ x. let s : ReadRow = record r2 { column = x } in s) (hc ∙ sym (same_from_test _ _ h))) in
+      let s4 : Goes r3 w4 r4 = keep _ _ _ _ (λ h list. refl)
+      (λ h. ap (λ x. let s : ReadRow = record r3 { isa = x } in s) (hi ∙ sym (same_from_test _ _ h))) in
+      goes_then r _ _ (w1 ++ w2 ++ w3) w4 (goes_then r _ _ (w1 ++ w2) w3 (goes_then r _ _ w1 w2 s1 s2) s3) s4
 
   -- ---- advances
 
@@ -252,7 +252,7 @@ module _ (encoding : Encoding) (e : LineEncoding) where
   makes-special : (r : ReadRow) (u n : ℕ) → 1 ≤ e.line_range → u < e.line_range → r.tombstone ≡ false → HasRoom parameters (pointer_of r) n
       → Makes r (Special (13 + u + n * e.line_range) ∷ []) (record (moved_on e n r) { line = advanced_line (e.line_base +ℤ pos u) r.line })
   makes-special r u n some lt shown room list =
-      let parts = special_parts e.line_range u n some lt in
+      let parts = special_parts _ u n some lt in
       rw (parts.0, parts.1, on-ahead parameters (pointer_of r) n room, not_exceeding parameters (pointer_of r) n room, shown) refl
 
   -- the line after the advance to another line
@@ -280,13 +280,13 @@ module _ (encoding : Encoding) (e : LineEncoding) where
           let g = e.line_range in
           let same : 13 + u + n * g ≡ still_opcode e = grind (arith, nat_tests) in
           let idle : n ≡ 0 = none_of n u g (unsigned_abs e.line_base) (omega (arith, same)) (omega (arith, ints, can.base, can.above)) in
-          let product = ap (λ (x : ℕ). x * g) idle in
+          let product = ap (λ x. x * g) idle in
           let low : u ≡ unsigned_abs e.line_base = omega (arith, same, product) in
           let flat : e.line_base +ℤ pos u ≡ pos 0 = omega (arith, ints, low, can.base) in
-          let line : advanced_line (e.line_base +ℤ pos u) r.line ≡ r.line = rw flat (ap (λ (l : ℕ). l % 2 ^ 64) (add-zero r.line) ∙ mod-eq_of_lt small) in
-          let there : ahead e n (pointer_of r) ≡ pointer_of r = ap (λ (x : ℕ). ahead e x (pointer_of r)) idle ∙ ahead-none e (pointer_of r) room.within in
+          let line : advanced_line (e.line_base +ℤ pos u) r.line ≡ r.line = rw flat (ap (λ l. l % 2 ^ 64) (add-zero r.line) ∙ mod-eq_of_lt small) in
+          let there : ahead e n (pointer_of r) ≡ pointer_of r = ap (λ x. ahead e x (pointer_of r)) idle ∙ ahead-none e _ room.within in
           let stands : r ≡ made u n r = λ j. record (at_pointer (sym there j) r) { line = sym line j } in
-          makes-copy r shown list ∙ ap (λ (s : ReadRow). row s ∷ run parameters (reset_row parameters s) list) stands
+          makes-copy r shown list ∙ ap (λ s. row s ∷ run parameters (reset_row parameters s) list) stands
 
   -- the operations of a row, and the row
   makes-operations : (r : ReadRow) (u n : ℕ) → CanEncode e → u < e.line_range → r.tombstone ≡ false → r.line < 2 ^ 64 → HasRoom parameters (pointer_of r) n
@@ -307,25 +307,25 @@ module _ (encoding : Encoding) (e : LineEncoding) where
           let some : 1 ≤ g = omega (arith, lt) in
           let enough : q ≤ n = enough_of g u n q some lt over (div-mul-le_self 242 g) in
           let back : q + (n - q) ≡ n = omega arith in
-          let there : ahead e (n - q) (ahead e q (pointer_of r)) ≡ ahead e n (pointer_of r) = ahead-ahead e (pointer_of r) q (n - q) can.operations
-          ∙ ap (λ (x : ℕ). ahead e x (pointer_of r)) back in
+          let there : ahead e (n - q) (ahead e q (pointer_of r)) ≡ ahead e n (pointer_of r) = ahead-ahead e _ q _ can.operations
+          ∙ ap (λ x. ahead e x (pointer_of r)) back in
           let s : ReadRow = moved_on e q r in
           let same : made u (n - q) s ≡ made u n r = λ j. record (at_pointer (there j) r) { line = advanced_line (e.line_base +ℤ pos u) r.line } in
-          let first = goes-constant r shown (less_room parameters (pointer_of r) q n enough room) (row_maker e (13 + u + (n - q) * g) ∷ list) in
-          let second = makes-row s u (n - q) can lt shown small (rest_room parameters (pointer_of r) q n enough room) list in
-          first ∙ second ∙ ap (λ (x : ReadRow). row x ∷ run parameters (reset_row parameters x) list) same
+          let first = goes-constant r shown (less_room _ _ q n enough room) (row_maker e (13 + u + (n - q) * g) ∷ list) in
+          let second = makes-row s u _ can lt shown small (rest_room _ _ q n enough room) list in
+          first ∙ second ∙ ap (λ x. row x ∷ run parameters (reset_row parameters x) list) same
       by false h false =
           let s : ReadRow = moved_on e n r in
           let keeps_bytes : 13 + u ≡ 13 + u + 0 * e.line_range = omega arith in
           let none_left : n - n ≡ 0 = omega arith in
-          let rest : HasRoom parameters (ahead e n (pointer_of r)) (n - n) = rest_room parameters (pointer_of r) n n (omega arith) room in
+          let rest : HasRoom parameters (ahead e n (pointer_of r)) (n - n) = rest_room _ _ n n (omega arith) room in
           let room0 : HasRoom parameters (pointer_of s) 0 = rw none_left at rest in
-          let there : ahead e 0 (ahead e n (pointer_of r)) ≡ ahead e n (pointer_of r) = ahead-none e (ahead e n (pointer_of r)) room0.within in
+          let there : ahead e 0 (ahead e n (pointer_of r)) ≡ ahead e n (pointer_of r) = ahead-none e _ room0.within in
           let same : made u 0 s ≡ made u n r = λ j. record (at_pointer (there j) r) { line = advanced_line (e.line_base +ℤ pos u) r.line } in
           let first = goes-advance r n shown room (row_maker e (13 + u) ∷ list) in
           let second = makes-row s u 0 can lt shown small room0 list in
-          first ∙ ap (λ (x : ℕ). run parameters s (row_maker e x ∷ list)) keeps_bytes ∙ second
-          ∙ ap (λ (x : ReadRow). row x ∷ run parameters (reset_row parameters x) list) same
+          first ∙ ap (λ x. run parameters s (row_maker e x ∷ list)) keeps_bytes ∙ second
+          ∙ ap (λ x. row x ∷ run parameters (reset_row parameters x) list) same
 
   -- the line and the operations of a row, and the row
   makes-move : (r : ReadRow) (d : ℤ) (n to : ℕ) → CanEncode e → r.tombstone ≡ false → r.line < 2 ^ 64 → to < 2 ^ 64 → pos to ≡ pos r.line +ℤ d
@@ -344,19 +344,19 @@ module _ (encoding : Encoding) (e : LineEncoding) where
           let u = unsigned_abs (d -ℤ e.line_base) in
           let lt : u < e.line_range = omega (arith, ints, low, high) in
           let same : e.line_base +ℤ pos u ≡ d = omega (arith, ints, low) in
-          let line : advanced_line (e.line_base +ℤ pos u) r.line ≡ to = rw same (advance_to r.line to d there small') in
+          let line : advanced_line (e.line_base +ℤ pos u) r.line ≡ to = rw same (advance_to _ _ d there small') in
           makes-operations r u n can lt shown small room list
-          ∙ ap (λ (l : ℕ). row (record (moved_on e n r) { line = l }) ∷ run parameters (reset_row parameters (record (moved_on e n r) { line = l })) list) line
+          ∙ ap (λ l. row (record (moved_on e n r) { line = l }) ∷ run parameters (reset_row parameters (record (moved_on e n r) { line = l })) list) line
       by false t =
           let s : ReadRow = record r { line = advanced_line d r.line } in
           let u = unsigned_abs e.line_base in
-          let reached = advance_to r.line to d there small' in
+          let reached = advance_to _ _ d there small' in
           let lt : u < e.line_range = omega (arith, ints, can.base, can.above) in
           let flat : e.line_base +ℤ pos u ≡ pos 0 = omega (arith, ints, can.base) in
           let small1 : s.line < 2 ^ 64 = rw reached small' in
-          let line : advanced_line (e.line_base +ℤ pos u) s.line ≡ to = rw (flat, reached) (ap (λ (l : ℕ). l % 2 ^ 64) (add-zero to) ∙ mod-eq_of_lt small') in
+          let line : advanced_line (e.line_base +ℤ pos u) s.line ≡ to = rw (flat, reached) (ap (λ l. l % 2 ^ 64) (add-zero to) ∙ mod-eq_of_lt small') in
           makes-operations s u n can lt shown small1 room list
-          ∙ ap (λ (l : ℕ). row (record (moved_on e n r) { line = l }) ∷ run parameters (reset_row parameters (record (moved_on e n r) { line = l })) list) line
+          ∙ ap (λ l. row (record (moved_on e n r) { line = l }) ∷ run parameters (reset_row parameters (record (moved_on e n r) { line = l })) list) line
 
   -- ---- rows and ends
 
@@ -417,20 +417,20 @@ module _ (encoding : Encoding) (e : LineEncoding) where
       let s1 = goes-marks r0 built refl refl refl refl in
       let s2 = goes-changes r1 version previous built refl refl refl refl in
       let apart : pos built.line ≡ pos previous.line +ℤ d = omega (arith, ints) in
-      let ends = reaches base previous.address_offset previous.op_index built.address_offset built.op_index known can position follows held in
-      let s3 = makes-move r2 d n built.line can refl (omega arith) (omega arith) apart ends.room in
+      let ends = reaches _ _ _ _ _ known can position follows held in
+      let s3 = makes-move _ d n _ can refl (omega arith) (omega arith) apart ends.room in
       let s4 : Makes r2 (line_part e d ++ operation_part e (line_opcode e d) n) (read_row version base built) =
       λ list.
       s3 list
       ∙ ap
-      (λ (p : OperationPointer). row (record (at_pointer p r2) { line = built.line })
+      (λ p. row (record (at_pointer p r2) { line = built.line })
       ∷ run parameters (reset_row parameters (record (at_pointer p r2) { line = built.line })) list)
       ends.there in
-      let s12 = goes_then r0 r1 r2 (marks built) (changes version previous built) s1 s2 in
+      let s12 = goes_then r0 _ _ (marks built) (changes version previous built) s1 s2 in
       λ list.
-      ap (λ (is : List Ins). run parameters r0 (is ++ list))
+      ap (λ is. run parameters r0 (is ++ list))
       (append_assoc (marks built ++ changes version previous built) (line_part e d) (operation_part e (line_opcode e d) n))
-      ∙ makes_then r0 r2 (read_row version base built) (marks built ++ changes version previous built) (line_part e d ++ operation_part e (line_opcode e d) n)
+      ∙ makes_then r0 _ _ (marks built ++ changes version previous built) (line_part e d ++ operation_part e (line_opcode e d) n)
       s12 s4 list
 
   -- the instructions of an end make the end
@@ -441,15 +441,15 @@ module _ (encoding : Encoding) (e : LineEncoding) where
   end-runs base previous o i known can position follows held =
       let r : ReadRow = registers_after_row encoding.version base previous in
       let n = operations e previous.address_offset previous.op_index o i in
-      let ends = reaches base previous.address_offset previous.op_index o i known can position follows held in
+      let ends = reaches _ _ _ o i known can position follows held in
       let s : ReadRow = at_pointer (record { address = base + o; op_index = i }) r in
-      let first : Goes r (when (not (nat_eq n 0)) (AdvancePc n)) s = keep r s (not (nat_eq n 0)) (AdvancePc n)
-      (λ h list. goes-advance r n refl ends.room list ∙ ap (λ (p : OperationPointer). run parameters (at_pointer p r) list) ends.there)
+      let first : Goes r (when (not (nat_eq n 0)) (AdvancePc n)) s = keep r s _ _
+      (λ h list. goes-advance r n refl ends.room list ∙ ap (λ p. run parameters (at_pointer p r) list) ends.there)
       (λ h. let idle : n ≡ 0 = same_from_test n 0 h in
-      let there : pointer_of r ≡ record { address = base + o; op_index = i } = sym (ahead-none e (pointer_of r) position.within)
-      ∙ ap (λ (x : ℕ). ahead e x (pointer_of r)) (sym idle) ∙ ends.there in
+      let there : pointer_of r ≡ record { address = base + o; op_index = i } = sym (ahead-none e _ position.within)
+      ∙ ap (λ x. ahead e x (pointer_of r)) (sym idle) ∙ ends.there in
       λ j. at_pointer (there j) r) in
-      makes_then r s (read_end encoding.version base previous o i) (when (not (nat_eq n 0)) (AdvancePc n)) (EndSequence ∷ []) first (λ list. refl)
+      makes_then r s _ (when (not (nat_eq n 0)) (AdvancePc n)) (EndSequence ∷ []) first (λ list. refl)
 
   -- a set address that doesn't go back moves the registers there
   pub set-address-runs : (base a : ℕ) (previous : LineRow) → base + previous.address_offset ≤ a → a < 2 ^ (8 * encoding.address_size) - 2
@@ -460,7 +460,7 @@ module _ (encoding : Encoding) (e : LineEncoding) where
       let high : nat_le (2 ^ (8 * encoding.address_size) - 2) a ≡ false = lt-leb (2 ^ (8 * encoding.address_size) - 2) a lt in
       let from : a ≡ a + 0 = sym (add-zero a) in
       rw (low, high)
-      (ap (λ (x : ℕ). run parameters (at_pointer (record { address = x; op_index = 0 }) (registers_after_row encoding.version base previous)) list) from)
+      (ap (λ x. run parameters (at_pointer (record { address = x; op_index = 0 }) (registers_after_row encoding.version base previous)) list) from)
 
   -- a sequence starts after its initial row
   pub start-is : encoding.version ≤ 5 → initial parameters ≡ registers_after_row encoding.version 0 (initial_row encoding.version e.default_is_stmt)

@@ -10,6 +10,7 @@ use Rattle.gimli_core.specs.Notation.{Notation}
 use Rattle.gimli_core.specs.Values.{Value}
 use Rattle.gimli_core.specs.declared.common.Format.TheVariants.{Dwarf64}
 use Rattle.gimli_core.specs.declared.attribute_value.AttributeValue.TheVariants.{String}
+use Rattle.gimli_bytes.specs.Hand.{plain}
 use Rattle.gimli_bytes.specs.Texts.{AreTexts, table_bytes, StringTables}
 use Rattle.gimli_bytes.specs.declared.error.Error.{Error}
 use Rattle.gimli_line.specs.header.Header.{UnitEntry}
@@ -79,7 +80,7 @@ module _ (sections : Sections) (texts : StringTables) where
 
   handed_back : (ds : List LineText) → 0 < length ds → AreDirectories (with_handed (option_map (bytes_in texts) (slice_get ds 0)) ds) ds
   handed_back [] some = absurd (omega (arith, some))
-  handed_back (d ∷ ds) some = (refl, texts_back ds)
+  handed_back (d ∷ ds) some = (refl, texts_back _)
 
   -- what a file keeps
   stored_old : (p : Built) (d : Details) → nat_le p.encoding.version 4 ≡ true
@@ -107,25 +108,25 @@ module _ (notation : Notation) (unit_entry : UnitEntry) (sections : Sections) (p
     old_directories_spelled : (bytes : List ℕ) → directories_bytes p.directories ≡ Ok bytes
         → (directory_table notation p.encoding).Spells bytes ([], map String (map (bytes_in texts) (drop 1 p.directories)))
     old_directories_spelled bytes is =
-        let clean = All-drop HasNoZero 1 p.directories built.tables.directories_end in
-        let spelled = directories-spelled texts p.directories bytes (built.is.directories_not_empty (leb-true p.encoding.version 4 old)) clean is in
-        first-chosen (nat_le p.encoding.version 4) _ _ bytes _ old
+        let clean = All-drop HasNoZero 1 _ built.tables.directories_end in
+        let spelled = directories-spelled texts p.directories _ (built.is.directories_not_empty (leb-true p.encoding.version 4 old)) clean is in
+        first-chosen _ _ _ _ _ old
         (map (bytes_in texts) (drop 1 p.directories), bytes, [], sym (append-nil bytes), spelled, (refl, refl))
 
     old_files_spelled : (bytes : List ℕ) → files_bytes p.files ≡ Ok bytes → (file_table notation p.encoding).Spells bytes ([], map (read_file texts) p.files)
     old_files_spelled bytes is =
         let spelled =
-        files-spelled texts p.files bytes (built.is.paths_not_empty (leb-true p.encoding.version 4 old)) built.tables.paths_end built.files_fit is in
-        first-chosen (nat_le p.encoding.version 4) _ _ bytes _ old (map (read_file texts) p.files, bytes, [], sym (append-nil bytes), spelled, (refl, refl))
+        files-spelled texts _ _ (built.is.paths_not_empty (leb-true p.encoding.version 4 old)) built.tables.paths_end built.files_fit is in
+        first-chosen _ _ _ _ _ old (map (read_file texts) p.files, bytes, [], sym (append-nil bytes), spelled, (refl, refl))
 
     old_back : unit_entry.directory ≡ option_map (bytes_in texts) (slice_get p.directories 0)
         → OneByOne (IsDirectory sections texts) (from_zero p unit_entry (map String (map (bytes_in texts) (drop 1 p.directories)))) p.directories
-    old_back known = rw (old, known) (handed_back sections texts p.directories (built.is.working_dir refl))
+    old_back known = rw (old, known) (handed_back sections texts _ (built.is.working_dir refl))
 
     old_tables : (bytes : List ℕ) → unit_entry.directory ≡ option_map (bytes_in texts) (slice_get p.directories 0)
         → result_append (directories_bytes p.directories) (files_bytes p.files) ≡ Ok bytes → TablesBack notation unit_entry sections p texts bytes
     old_tables bytes known is =
-        let b = both_written (directories_bytes p.directories) (files_bytes p.files) bytes is in
+        let b = both_written _ _ _ is in
         record {
           directory_formats = [];
           directories = map String (map (bytes_in texts) (drop 1 p.directories));
@@ -136,10 +137,10 @@ module _ (notation : Notation) (unit_entry : UnitEntry) (sections : Sections) (p
           whole = b.whole;
           directory_formats_are = λ new. absurd cc;
           file_formats_are = λ new. absurd cc;
-          directories_spelled = old_directories_spelled b.first b.first_is;
-          files_spelled = old_files_spelled b.rest b.rest_is;
+          directories_spelled = old_directories_spelled _ b.first_is;
+          files_spelled = old_files_spelled _ b.rest_is;
           directories_back = old_back known;
-          files_back = files_back sections texts p p.files old;
+          files_back = files_back sections texts p _ old;
         }
 
   -- ---- version 5
@@ -149,7 +150,7 @@ module _ (notation : Notation) (unit_entry : UnitEntry) (sections : Sections) (p
       (are_texts : AreTexts texts.strings) (are_line_texts : AreTexts texts.line_strings) (strings_short : length (table_bytes texts.strings) < 2 ^ 64)
       (line_strings_short : length (table_bytes texts.line_strings) < 2 ^ 64)
       (held : p.encoding.format ≡ Dwarf64 → AreHeld notation.limit p texts) where
-    new_directories_spelled : (bytes : List ℕ) → directory_table_bytes notation.big p.encoding.format texts p ≡ Ok bytes → length bytes < 2 ^ 64
+    new_directories_spelled : (bytes : List ℕ) → directory_table_bytes plain notation.big p.encoding.format texts p ≡ Ok bytes → length bytes < 2 ^ 64
         → (directory_table notation p.encoding).Spells bytes (map read_format (directory_formats p), map path_of (map (directory_entry texts) p.directories))
     new_directories_spelled bytes is small =
         let entries = map (directory_entry texts) p.directories in
@@ -157,7 +158,7 @@ module _ (notation : Notation) (unit_entry : UnitEntry) (sections : Sections) (p
         second-chosen (nat_le p.encoding.version 4) _ _ bytes _ new
         ((map read_format (directory_formats p), entries), bytes, [], sym (append-nil bytes), spelled, (refl, refl))
 
-    new_files_spelled : (bytes : List ℕ) → file_table_bytes notation.big p.encoding.format texts p ≡ Ok bytes → length bytes < 2 ^ 64
+    new_files_spelled : (bytes : List ℕ) → file_table_bytes plain notation.big p.encoding.format texts p ≡ Ok bytes → length bytes < 2 ^ 64
         → (file_table notation p.encoding).Spells bytes (map read_format (file_formats p), map file_of_entry (map (file_entry p texts) p.files))
     new_files_spelled bytes is small =
         let entries = map (file_entry p texts) p.files in
@@ -166,14 +167,16 @@ module _ (notation : Notation) (unit_entry : UnitEntry) (sections : Sections) (p
         ((map read_format (file_formats p), entries), bytes, [], sym (append-nil bytes), spelled, (refl, refl))
 
     new_back : OneByOne (IsDirectory sections texts) (from_zero p unit_entry (map path_of (map (directory_entry texts) p.directories))) p.directories
-    new_back = rw new (new-directories-back sections p texts strings_are line_strings_are are_texts are_line_texts p.directories ready.directories)
+    new_back = rw new (new-directories-back sections p texts strings_are line_strings_are are_texts are_line_texts _ ready.directories)
 
     new_tables : (bytes : List ℕ) → length bytes < 2 ^ 64
-        → result_append (directory_table_bytes notation.big p.encoding.format texts p) (file_table_bytes notation.big p.encoding.format texts p) ≡ Ok bytes
+        → result_append (directory_table_bytes plain notation.big p.encoding.format texts p) (file_table_bytes plain notation.big p.encoding.format texts p)
+        ≡ Ok bytes
         → TablesBack notation unit_entry sections p texts bytes
     new_tables bytes small is =
         let b =
-        both_written (directory_table_bytes notation.big p.encoding.format texts p) (file_table_bytes notation.big p.encoding.format texts p) bytes is in
+        both_written (directory_table_bytes plain notation.big p.encoding.format texts p) (file_table_bytes plain notation.big p.encoding.format texts p) bytes
+        is in
         let whole = ap length b.whole ∙ length-append b.first b.rest in
         record {
           directory_formats = map read_format (directory_formats p);
@@ -205,15 +208,17 @@ module _ (notation : Notation) (unit_entry : UnitEntry) (sections : Sections) (p
     pub line_strings_short : length (table_bytes texts.line_strings) < 2 ^ 64
     pub held : nat_le p.encoding.version 4 ≡ false → p.encoding.format ≡ Dwarf64 → AreHeld notation.limit p texts
 
-  pub tables-back : (bytes : List ℕ) → AreReadWell → length bytes < 2 ^ 64 → tables_bytes notation.big p texts ≡ Ok bytes
+  pub tables-back : (bytes : List ℕ) → AreReadWell → length bytes < 2 ^ 64 → tables_bytes plain notation.big p texts ≡ Ok bytes
       → TablesBack notation unit_entry sections p texts bytes
   tables-back bytes well small is =
       by (nat_le p.encoding.version 4) refl (result_append (directories_bytes p.directories) (files_bytes p.files))
-      (result_append (directory_table_bytes notation.big p.encoding.format texts p) (file_table_bytes notation.big p.encoding.format texts p)) refl refl is
+      (result_append (directory_table_bytes plain notation.big p.encoding.format texts p) (file_table_bytes plain notation.big p.encoding.format texts p)) refl
+      refl is
     where
       by : (b : Bool) → nat_le p.encoding.version 4 ≡ b → (r s : Result (List ℕ) Error)
           → r ≡ result_append (directories_bytes p.directories) (files_bytes p.files)
-          → s ≡ result_append (directory_table_bytes notation.big p.encoding.format texts p) (file_table_bytes notation.big p.encoding.format texts p)
+          → s
+          ≡ result_append (directory_table_bytes plain notation.big p.encoding.format texts p) (file_table_bytes plain notation.big p.encoding.format texts p)
           → (if b then r else s) ≡ Ok bytes → TablesBack notation unit_entry sections p texts bytes
       by true old r s first second is = old_tables old bytes (well.directory old) (sym first ∙ is)
       by false new r s first second is =

@@ -5,6 +5,7 @@ use Rattle.std.proofs.lemmas.Bool.{leb-true, leb-false}
 use Rattle.gimli_core.specs.Notation.{Notation}
 use Rattle.gimli_core.specs.declared.common.Encoding.{Encoding}
 use Rattle.gimli_core.specs.declared.common.Format.TheVariants.{Dwarf64}
+use Rattle.gimli_bytes.specs.Hand.{plain}
 use Rattle.gimli_bytes.specs.Texts.{AreTexts, byte_count, StringTables}
 use Rattle.gimli_bytes.proofs.TextLemmas.{length-table_bytes}
 use Rattle.gimli_bytes.specs.declared.error.Error.{Error}
@@ -17,7 +18,7 @@ use Rattle.gimli_build.specs.inside.Conditions.{IsBuilt}
 use Rattle.gimli_build.specs.SameRow.{built_rules}
 use Rattle.gimli_build.specs.Version5Tables.{texts_after}
 use Rattle.gimli_build.specs.ReadsBack.{AreFormats, IsUnit, directories_from_zero, IsDirectory, IsFile, IsReadWell}
-use Rattle.gimli_build.specs.Unit.{operand_counts, program_bytes, whole_bytes, is_incompatible, unit_bytes}
+use Rattle.gimli_build.specs.Unit.{operand_counts, program_bytes, whole_bytes, unit_bytes}
 use Rattle.gimli_build.proofs.reading.ReadyTexts.{tables-ready}
 use Rattle.gimli_build.proofs.reading.HeldOffsets.{are-held}
 use Rattle.gimli_build.proofs.reading.TablesBack.{AreReadWell, tables-back}
@@ -32,14 +33,14 @@ pub record HeaderBack (notation : Notation) (unit_entry : UnitEntry) (sections :
   pub formats : nat_le p.encoding.version 4 ≡ false → AreFormats p header
   pub directories : OneByOne (IsDirectory sections texts) (directories_from_zero header) p.directories
   pub files : OneByOne (IsFile sections p texts) header.files p.files
-  pub program : program_bytes notation.big p ≡ Ok header.program
+  pub program : program_bytes plain notation.big p ≡ Ok header.program
 
 -- a unit that is written is written whole
 pub whole_written : (big : Bool) (unit_encoding : Encoding) (p : Built) (old_texts : StringTables) (unit : List ℕ)
-    → unit_bytes big unit_encoding p old_texts ≡ Ok unit
-    → whole_bytes big p (texts_after p old_texts) ≡ Ok unit
+    → unit_bytes plain big unit_encoding p old_texts ≡ Ok unit
+    → whole_bytes plain big p (texts_after p old_texts) ≡ Ok unit
 whole_written big unit_encoding p old_texts unit is =
-    by (is_incompatible unit_encoding p.encoding) (whole_bytes big p (texts_after p old_texts)) is
+    by _ _ is
   where
     by : (b : Bool) (r : Result (List ℕ) Error) → (let s : Result (List ℕ) Error = if b then Err IncompatibleLineProgramEncoding else r in s) ≡ Ok unit
         → r ≡ Ok unit
@@ -92,12 +93,12 @@ pub header-back : (notation : Notation) (unit_entry : UnitEntry) (sections : Sec
     (old_texts : StringTables) (unit : List ℕ)
     → length unit < 2 ^ 64 → IsBuilt p → CanWrite p old_texts → AreTexts (texts_after p old_texts).strings → AreTexts (texts_after p old_texts).line_strings
     → byte_count (texts_after p old_texts).strings < 2 ^ 64 → byte_count (texts_after p old_texts).line_strings < 2 ^ 64
-    → unit_bytes big unit_encoding p old_texts ≡ Ok unit → IsReadWell notation unit_entry sections big p (texts_after p old_texts) unit
+    → unit_bytes plain big unit_encoding p old_texts ≡ Ok unit → IsReadWell notation unit_entry sections big p (texts_after p old_texts) unit
     → HeaderBack notation unit_entry sections p (texts_after p old_texts) unit
 header-back notation unit_entry sections big unit_encoding p old_texts unit small built can are_texts are_line_texts short line_short is well =
     let texts = texts_after p old_texts in
-    let whole : whole_bytes notation.big p texts ≡ Ok unit =
-    ap (λ (b : Bool). whole_bytes b p texts) well.order ∙ whole_written big unit_encoding p old_texts unit is in
+    let whole : whole_bytes plain notation.big p texts ≡ Ok unit =
+    ap (λ (b : Bool). whole_bytes plain b p texts) well.order ∙ whole_written big unit_encoding p old_texts unit is in
     let same : IsReadWell notation unit_entry sections notation.big p texts unit = record {
       order = refl;
       address_size = well.address_size;

@@ -1,16 +1,17 @@
 -- The first cause of a program is what its bytes are refused for.
-use Rattle.std.proofs.Common.{◌≡◌, ℕ, ◌+◌, Bool, true, false, not, List, [], ◌∷◌, ◌++◌, length, map, Ok, Err, refl, sym, ap, ◌∙◌, if◌then◌else◌, nat_le, nat_eq}
+use Rattle.std.proofs.Common.{◌≡◌, ℕ, Bool, true, false, not, List, [], ◌∷◌, length, map, Ok, Err, refl, sym, ap, ◌∙◌, if◌then◌else◌, nat_le, nat_eq}
 use Rattle.std.proofs.Common.{◌⊎◌, inl, inr}
 use Rattle.std.specs.Prelude.{IsTrue, Option, Some, None, Result, ◌&&◌, nat_lt}
-use Rattle.gimli_core.specs.Numbers.{number_bytes, is_address_size}
+use Rattle.gimli_core.specs.Numbers.{is_address_size}
 use Rattle.gimli_core.specs.Reading.{result_map}
 use Rattle.gimli_core.specs.declared.common.Encoding.{Encoding}
 use Rattle.gimli_core.specs.declared.common.LineEncoding.{LineEncoding}
-use Rattle.gimli_bytes.specs.Number.{udata, uleb, length_word}
+use Rattle.gimli_bytes.specs.Hand.{plain}
+use Rattle.gimli_bytes.specs.Number.{length_word}
 use Rattle.gimli_bytes.specs.Written.{Appends}
 use Rattle.gimli_bytes.specs.declared.address.Address.TheVariants.{Constant, Symbol}
 use Rattle.gimli_bytes.specs.declared.error.Error.{Error}
-use Rattle.gimli_bytes.specs.declared.error.Error.TheVariants.{IncompatibleLineProgramEncoding, UnsupportedVersion, NeedVersion, OutOfMemory}
+use Rattle.gimli_bytes.specs.declared.error.Error.TheVariants.{IncompatibleLineProgramEncoding, UnsupportedVersion, NeedVersion}
 use Rattle.gimli_bytes.specs.Texts.{StringTables}
 use Rattle.gimli_build.specs.declared.built.row.LineRow.{LineRow}
 use Rattle.gimli_build.specs.declared.built.items.BuiltItem.{BuiltItem}
@@ -19,14 +20,13 @@ use Rattle.gimli_build.specs.Built.{Built}
 use Rattle.gimli_build.specs.Rows.{initial_row}
 use Rattle.gimli_build.specs.FormatWord.{format_word}
 use Rattle.gimli_build.specs.Joined.{result_append}
-use Rattle.gimli_build.specs.inside.Joined.{RefusesFor}
 use Rattle.gimli_build.specs.Items.{item_bytes, items_bytes, next_previous}
 use Rattle.gimli_build.specs.Version5Tables.{texts_after}
-use Rattle.gimli_build.specs.Unit.{version_bytes, opening_bytes, operations_bytes, line_encoding_bytes, flag_byte, base_byte, opcode_bytes, tables_bytes}
+use Rattle.gimli_build.specs.Unit.{opening_bytes, operations_bytes, line_encoding_bytes, flag_byte, base_byte, opcode_bytes, tables_bytes}
 use Rattle.gimli_build.specs.Unit.{fields_bytes, header_bytes, program_bytes, inside_bytes, escape_bytes, whole_bytes, is_incompatible, unit_bytes}
 use Rattle.gimli_build.specs.Cause.{cause_if, first_of, text_cause, item_cause, word_cause, unit_length_cause, header_length, unit_length, emitted_texts}
-use Rattle.gimli_build.specs.Cause.{first_cause}
-use Rattle.gimli_build.proofs.refusals.Refusals.{refusal, or_first, first_before_none, first_apart, joined-refusal, after-refusal, tested-refusal}
+use Rattle.gimli_build.specs.Cause.{first_cause, refusal}
+use Rattle.gimli_build.proofs.refusals.Refusals.{or_first, first_before_none, first_apart, joined-refusal, after-refusal, tested-refusal}
 use Rattle.gimli_build.proofs.refusals.Refusals.{barred-refusal, seven_causes}
 use Rattle.gimli_build.proofs.refusals.NumberRefusals.{not_below, word-refusal, length-refusal, address-refusal}
 use Rattle.gimli_build.proofs.refusals.TableRefusals.{tables-refusal}
@@ -62,16 +62,16 @@ opening-refusal : (big : Bool) (encoding : Encoding)
     → refusal (opening_bytes big encoding) ≡ cause_if (not (nat_le 2 encoding.version && nat_le encoding.version 5)) (UnsupportedVersion encoding.version)
 opening-refusal big encoding =
     let version = encoding.version in
-    joined-refusal (version_bytes big version) (Ok (if nat_le version 4 then [] else encoding.address_size ∷ 0 ∷ []))
-    ∙ first_before_none (refusal (version_bytes big version))
-    ∙ tested-refusal (nat_le 2 version && nat_le version 5) (number_bytes big 2 version) (UnsupportedVersion version)
+    joined-refusal _ _
+    ∙ first_before_none _
+    ∙ tested-refusal _ _ _
 
 -- ---- what the header length counts
 
 operations-refusal : (version operations : ℕ) → refusal (operations_bytes version operations) ≡ operations_cause version operations
 operations-refusal version operations =
-    by (nat_le 4 version) (nat_eq operations 1)
-    ∙ ap (λ (b : Bool). cause_if (b && not (nat_eq operations 1)) (NeedVersion 4)) (sym below)
+    by _ _
+    ∙ ap (λ b. cause_if (b && not (nat_eq operations 1)) (NeedVersion 4)) (sym below)
   where
     by : (fourth one : Bool)
         → refusal (if fourth then Ok (operations ∷ []) else (if one then Ok [] else Err (NeedVersion 4))) ≡ cause_if (not fourth && not one) (NeedVersion 4)
@@ -84,7 +84,7 @@ operations-refusal version operations =
     twice false c h = ap not h
 
     below : nat_lt version 4 ≡ not (nat_le 4 version)
-    below = twice (nat_lt version 4) (nat_le 4 version) (not_below version 4)
+    below = twice _ _ (not_below _ 4)
 
 line_encoding-refusal : (version : ℕ) (e : LineEncoding)
     → refusal (line_encoding_bytes version e) ≡ operations_cause version e.maximum_operations_per_instruction
@@ -93,7 +93,7 @@ line_encoding-refusal version e =
     let numbers = flag_byte e.default_is_stmt ∷ base_byte e.line_base ∷ e.line_range ∷ [] in
     joined-refusal (Ok (e.minimum_instruction_length ∷ [])) (result_append operations (Ok numbers))
     ∙ joined-refusal operations (Ok numbers)
-    ∙ first_before_none (refusal operations)
+    ∙ first_before_none _
     ∙ operations-refusal version e.maximum_operations_per_instruction
 
 -- ---- items
@@ -103,32 +103,32 @@ seen-refusal view (Ok bytes) = refl
 seen-refusal view (Err e) = refl
 
 item-refusal : (big : Bool) (encoding : Encoding) (e : LineEncoding) (previous : LineRow) → IsTrue (is_address_size encoding.address_size)
-    → (item : BuiltItem) → refusal (item_bytes big encoding e previous item) ≡ item_cause encoding.address_size item
+    → (item : BuiltItem) → refusal (item_bytes plain big encoding e previous item) ≡ item_cause encoding.address_size item
 item-refusal big encoding e previous known (SetAddress (Constant a)) =
-    seen-refusal (λ operand. 0 ∷ uleb (encoding.address_size + 1) ++ 0x02 ∷ operand) (udata big a encoding.address_size)
-    ∙ address-refusal big a encoding.address_size known
+    seen-refusal _ _
+    ∙ address-refusal _ a _ known
 item-refusal big encoding e previous known (SetAddress (Symbol symbol addend)) = refl
 item-refusal big encoding e previous known (Row r) = refl
 item-refusal big encoding e previous known (End offset op_index) = refl
 
 items-refusal : (big : Bool) (encoding : Encoding) (e : LineEncoding) → IsTrue (is_address_size encoding.address_size)
     → (previous : LineRow) (items : List BuiltItem)
-    → refusal (items_bytes big encoding e previous items) ≡ first_of (map (item_cause encoding.address_size) items)
+    → refusal (items_bytes plain big encoding e previous items) ≡ first_of (map (item_cause encoding.address_size) items)
 items-refusal big encoding e known previous [] = refl
 items-refusal big encoding e known previous (item ∷ items) =
     let size = encoding.address_size in
     let next = next_previous encoding.version e.default_is_stmt previous item in
-    joined-refusal (item_bytes big encoding e previous item) (items_bytes big encoding e next items)
-    ∙ ap (λ (c : Option Error). or_first c (refusal (items_bytes big encoding e next items))) (item-refusal big encoding e previous known item)
-    ∙ ap (λ (c : Option Error). or_first (item_cause size item) c) (items-refusal big encoding e known next items)
+    joined-refusal _ _
+    ∙ ap (λ c. or_first c (refusal (items_bytes plain big encoding e next items))) (item-refusal big encoding e previous known item)
+    ∙ ap (λ c. or_first (item_cause size item) c) (items-refusal big encoding e known next items)
     ∙ sym (first_apart (item_cause size item) (map (item_cause size) items))
 
 -- ---- the unit
 
 module _ (big : Bool) (p : Built) (texts : StringTables) where
-  fields-refusal : refusal (fields_bytes big p texts) ≡ or_first (encoding_cause p) (texts_cause p texts)
+  fields-refusal : refusal (fields_bytes plain big p texts) ≡ or_first (encoding_cause p) (texts_cause p texts)
   fields-refusal =
-      let tables = tables_bytes big p texts in
+      let tables = tables_bytes plain big p texts in
       let rest = result_append (Ok opcode_bytes) tables in
       joined-refusal (line_encoding_bytes p.encoding.version p.line_encoding) rest
       ∙ ap (λ (c : Option Error). or_first c (refusal rest)) (line_encoding-refusal p.encoding.version p.line_encoding)
@@ -138,11 +138,11 @@ module _ (big : Bool) (p : Built) (texts : StringTables) where
   abbrev first_causes : Option Error
   first_causes = or_first (or_first (encoding_cause p) (texts_cause p texts)) (header_cause p texts)
 
-  header-refusal : refusal (header_bytes big p texts) ≡ first_causes
+  header-refusal : refusal (header_bytes plain big p texts) ≡ first_causes
   header-refusal =
       let format = p.encoding.format in
       let cause = header_cause p texts in
-      after-refusal (λ n. format_word big format n) (fields_bytes big p texts) cause
+      after-refusal (λ n. format_word big format n) (fields_bytes plain big p texts) cause
       (λ bytes is. word-refusal big format (length bytes) ∙ ap (word_cause format) (fields_size big p texts bytes is))
       ∙ ap (λ (c : Option Error). or_first c cause) fields-refusal
 
@@ -151,10 +151,10 @@ module _ (big : Bool) (p : Built) (texts : StringTables) where
   inside_cause = or_first (version_cause p) (or_first first_causes (items_cause p))
 
   module _ (known : IsTrue (is_address_size p.encoding.address_size)) where
-    inside-refusal : refusal (inside_bytes big p texts) ≡ inside_cause
+    inside-refusal : refusal (inside_bytes plain big p texts) ≡ inside_cause
     inside-refusal =
-        let program = program_bytes big p in
-        let header = header_bytes big p texts in
+        let program = program_bytes plain big p in
+        let header = header_bytes plain big p texts in
         let rest = result_append header program in
         let first = initial_row p.encoding.version p.line_encoding.default_is_stmt in
         joined-refusal (opening_bytes big p.encoding) rest
@@ -165,37 +165,34 @@ module _ (big : Bool) (p : Built) (texts : StringTables) where
         ∙ ap (λ (c : Option Error). or_first first_causes c)
         (items-refusal big p.encoding p.line_encoding known first p.items))
 
-    whole-refusal : refusal (whole_bytes big p texts) ≡ or_first inside_cause (unit_cause big p texts)
+    whole-refusal : refusal (whole_bytes plain big p texts) ≡ or_first inside_cause (unit_cause big p texts)
     whole-refusal =
         let format = p.encoding.format in
         let cause = unit_cause big p texts in
-        after-refusal (λ n. result_append (Ok (escape_bytes big format)) (length_word big format n)) (inside_bytes big p texts) cause
+        after-refusal (λ n. result_append (Ok (escape_bytes big format)) (length_word big format n)) (inside_bytes plain big p texts) cause
         (λ bytes is. joined-refusal (Ok (escape_bytes big format)) (length_word big format (length bytes))
         ∙ length-refusal big format (length bytes) ∙ ap (unit_length_cause format) (inside_size big p texts bytes is))
         ∙ ap (λ (c : Option Error). or_first c cause) inside-refusal
 
 -- the first cause of a program is what its bytes are refused for
 pub cause-is : (big : Bool) (unit : Encoding) (p : Built) (texts : StringTables) → IsTrue (is_address_size p.encoding.address_size)
-    → first_cause big unit p texts ≡ refusal (unit_bytes big unit p texts)
+    → first_cause big unit p texts ≡ refusal (unit_bytes plain big unit p texts)
 cause-is big unit p texts known =
     let barred = is_incompatible unit p.encoding in
     let bar = cause_if barred IncompatibleLineProgramEncoding in
     let after = texts_after p texts in
     seven_causes bar (version_cause p) (encoding_cause p) (texts_cause p after) (header_cause p after) (items_cause p) (unit_cause big p after)
     ∙ ap (λ (c : Option Error). or_first bar c) (sym (whole-refusal big p after known))
-    ∙ sym (barred-refusal barred IncompatibleLineProgramEncoding (whole_bytes big p after))
+    ∙ sym (barred-refusal barred IncompatibleLineProgramEncoding (whole_bytes plain big p after))
 
 -- ---- what a call knows
 
 -- what was written has no cause
-pub no-cause : (big : Bool) (unit : Encoding) (p : Built) (texts : StringTables) → IsTrue (is_address_size p.encoding.address_size)
-    → (old new : List ℕ) → Appends (unit_bytes big unit p texts) old new → first_cause big unit p texts ≡ None
-no-cause big unit p texts known old new written =
-    let own = appended_bytes (unit_bytes big unit p texts) old new written in
-    cause-is big unit p texts known ∙ ap refusal own.1
+pub no-cause : (cause : Option Error) (wanted : Result (List ℕ) Error) (old new : List ℕ) → cause ≡ refusal wanted → Appends wanted old new → cause ≡ None
+no-cause cause wanted old new is written = is ∙ ap refusal (appended_bytes _ _ _ written).1
 
--- what was refused was so for memory, or for the first cause
-pub refused-for : (big : Bool) (unit : Encoding) (p : Built) (texts : StringTables) → IsTrue (is_address_size p.encoding.address_size)
-    → (e : Error) → RefusesFor (unit_bytes big unit p texts) e → (e ≡ OutOfMemory) ⊎ (first_cause big unit p texts ≡ Some e)
-refused-for big unit p texts known e (inl memory) = inl memory
-refused-for big unit p texts known e (inr is) = inr (cause-is big unit p texts known ∙ ap refusal is)
+-- what was refused was so for the first cause, or for another reason
+pub refused-for : {A : Type 0} (cause : Option Error) (wanted : Result (List ℕ) Error) (e : Error) → cause ≡ refusal wanted → A ⊎ (wanted ≡ Err e)
+    → A ⊎ (cause ≡ Some e)
+refused-for cause wanted e is (inl own) = inl own
+refused-for cause wanted e is (inr wanted_is) = inr (is ∙ ap refusal wanted_is)

@@ -9,8 +9,8 @@ use Rattle.gimli_core.specs.declared.common.Format.TheVariants.{Dwarf32, Dwarf64
 use Rattle.gimli_bytes.specs.Number.{udata, length_word}
 use Rattle.gimli_bytes.specs.declared.error.Error.TheVariants.{ValueTooLarge, UnsupportedWordSize, InitialLengthOverflow}
 use Rattle.gimli_build.specs.FormatWord.{format_word}
-use Rattle.gimli_build.specs.Cause.{cause_if, first_of, word_cause, unit_length_cause}
-use Rattle.gimli_build.proofs.refusals.Refusals.{refusal, tested-refusal}
+use Rattle.gimli_build.specs.Cause.{cause_if, first_of, word_cause, unit_length_cause, refusal}
+use Rattle.gimli_build.proofs.refusals.Refusals.{tested-refusal}
 
 pub not_below : (m n : ℕ) → not (nat_lt m n) ≡ nat_le n m
 not_below m n = by (nat_lt m n) (nat_le n m) refl refl
@@ -24,15 +24,15 @@ not_below m n = by (nat_lt m n) (nat_le n m) refl refl
 -- the word of a header length or an offset
 pub word-refusal : (big : Bool) (format : Format) (n : ℕ) → refusal (format_word big format n) ≡ word_cause format n
 word-refusal big Dwarf32 n =
-    tested-refusal (nat_lt n (2 ^ 32)) (number_bytes big 4 n) ValueTooLarge ∙ ap (λ (b : Bool). cause_if b ValueTooLarge) (not_below n (2 ^ 32))
+    tested-refusal _ _ _ ∙ ap (λ b. cause_if b ValueTooLarge) (not_below n _)
 word-refusal big Dwarf64 n = refl
 
 -- the word of a unit length
 pub length-refusal : (big : Bool) (format : Format) (n : ℕ) → refusal (length_word big format n) ≡ unit_length_cause format n
 length-refusal big Dwarf32 n =
     by (nat_lt n 0xffff_fff0) (nat_lt n (2 ^ 32)) refl refl
-    ∙ ap (λ (b : Bool). first_of (cause_if b ValueTooLarge ∷ cause_if (not (nat_lt n 0xffff_fff0)) InitialLengthOverflow ∷ [])) (not_below n (2 ^ 32))
-    ∙ ap (λ (b : Bool). first_of (cause_if (nat_le (2 ^ 32) n) ValueTooLarge ∷ cause_if b InitialLengthOverflow ∷ [])) (not_below n 0xffff_fff0)
+    ∙ ap (λ b. first_of (cause_if b ValueTooLarge ∷ cause_if (not (nat_lt n 0xffff_fff0)) InitialLengthOverflow ∷ [])) (not_below n _)
+    ∙ ap (λ b. first_of (cause_if (nat_le (2 ^ 32) n) ValueTooLarge ∷ cause_if b InitialLengthOverflow ∷ [])) (not_below n _)
   where
     by : (keeps_bytes held : Bool) → nat_lt n 0xffff_fff0 ≡ keeps_bytes → nat_lt n (2 ^ 32) ≡ held
         → refusal (if keeps_bytes then Ok (number_bytes big 4 n) else (if held then Err InitialLengthOverflow else Err ValueTooLarge))
@@ -52,8 +52,8 @@ known_size false false false four eight h = h
 
 pub address-refusal : (big : Bool) (a size : ℕ) → IsTrue (is_address_size size) → refusal (udata big a size) ≡ cause_if (nat_le (256 ^ size) a) ValueTooLarge
 address-refusal big a size known =
-    ap (λ (b : Bool).
+    ap (λ b.
     refusal (if b then (if nat_lt a (256 ^ size) then Ok (number_bytes big size a) else Err ValueTooLarge) else Err (UnsupportedWordSize size)))
     (known_size (nat_eq size 1) (nat_eq size 2) (nat_eq size 3) (nat_eq size 4) (nat_eq size 8) known)
-    ∙ tested-refusal (nat_lt a (256 ^ size)) (number_bytes big size a) ValueTooLarge
-    ∙ ap (λ (b : Bool). cause_if b ValueTooLarge) (not_below a (256 ^ size))
+    ∙ tested-refusal _ _ _
+    ∙ ap (λ b. cause_if b ValueTooLarge) (not_below a _)

@@ -3,12 +3,7 @@ use Rattle.std.proofs.Common.{◌≡◌, ℕ, Bool, true, false, not, List, [], 
 use Rattle.std.specs.Prelude.{Option, Some, None, Result, flat_map}
 use Rattle.gimli_bytes.specs.declared.error.Error.{Error}
 use Rattle.gimli_build.specs.Joined.{result_append, result_concat, after_length}
-use Rattle.gimli_build.specs.Cause.{cause_if, first_of}
-
--- what bytes are refused for
-abbrev pub refusal : Result (List ℕ) Error → Option Error
-refusal (Ok bytes) = None
-refusal (Err e) = Some e
+use Rattle.gimli_build.specs.Cause.{cause_if, first_of, refusal}
 
 -- ---- causes
 
@@ -42,16 +37,16 @@ causes_append cause (x ∷ xs) ys =
     let first = first_of (map cause xs) in
     let last = first_of (map cause ys) in
     first_apart (cause x) (map cause (xs ++ ys))
-    ∙ ap (λ (c : Option Error). or_first (cause x) c) (causes_append cause xs ys)
+    ∙ ap (λ c. or_first (cause x) c) (causes_append cause xs ys)
     ∙ sym (or_first_apart (cause x) first last)
-    ∙ ap (λ (c : Option Error). or_first c last) (sym (first_apart (cause x) (map cause xs)))
+    ∙ ap (λ c. or_first c last) (sym (first_apart (cause x) (map cause xs)))
 
 pub causes_map : {A B : Type 0} (cause : B → Option Error) (f : A → B) (xs : List A)
     → first_of (map cause (map f xs)) ≡ first_of (map (λ (x : A). cause (f x)) xs)
 causes_map cause f [] = refl
 causes_map {A = A} cause f (x ∷ xs) =
     first_apart (cause (f x)) (map cause (map f xs))
-    ∙ ap (λ (c : Option Error). or_first (cause (f x)) c) (causes_map cause f xs)
+    ∙ ap (λ c. or_first (cause (f x)) c) (causes_map cause f xs)
     ∙ sym (first_apart (cause (f x)) (map (λ (y : A). cause (f y)) xs))
 
 pub causes_flat : {A B : Type 0} (cause : B → Option Error) (f : A → List B) (xs : List A)
@@ -60,7 +55,7 @@ causes_flat cause f [] = refl
 causes_flat {A = A} cause f (x ∷ xs) =
     let first = first_of (map cause (f x)) in
     causes_append cause (f x) (flat_map f xs)
-    ∙ ap (λ (c : Option Error). or_first first c) (causes_flat cause f xs)
+    ∙ ap (λ c. or_first first c) (causes_flat cause f xs)
     ∙ sym (first_apart first (map (λ (y : A). first_of (map cause (f y))) xs))
 
 -- ---- refusals
@@ -74,9 +69,9 @@ pub parts-refusal : {A : Type 0} (part : A → Result (List ℕ) Error) (cause :
     → (xs : List A) → refusal (result_concat part xs) ≡ first_of (map cause xs)
 parts-refusal part cause each [] = refl
 parts-refusal part cause each (x ∷ xs) =
-    joined-refusal (part x) (result_concat part xs)
-    ∙ ap (λ (c : Option Error). or_first c (refusal (result_concat part xs))) (each x)
-    ∙ ap (λ (c : Option Error). or_first (cause x) c) (parts-refusal part cause each xs)
+    joined-refusal _ _
+    ∙ ap (λ c. or_first c (refusal (result_concat part xs))) (each x)
+    ∙ ap (λ c. or_first (cause x) c) (parts-refusal part cause each xs)
     ∙ sym (first_apart (cause x) (map cause xs))
 
 -- a length is refused where nothing before it is
@@ -84,8 +79,8 @@ pub after-refusal : (length_of : ℕ → Result (List ℕ) Error) (counted : Res
     → ((bytes : List ℕ) → counted ≡ Ok bytes → refusal (length_of (length bytes)) ≡ cause)
     → refusal (after_length length_of counted) ≡ or_first (refusal counted) cause
 after-refusal length_of (Ok bytes) cause refused =
-    joined-refusal (length_of (length bytes)) (Ok bytes)
-    ∙ first_before_none (refusal (length_of (length bytes)))
+    joined-refusal _ _
+    ∙ first_before_none _
     ∙ refused bytes refl
 after-refusal length_of (Err e) cause refused = refl
 

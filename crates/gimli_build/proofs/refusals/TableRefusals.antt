@@ -3,6 +3,7 @@ use Rattle.std.proofs.Common.{◌≡◌, ℕ, Bool, true, false, not, List, [], 
 use Rattle.std.proofs.Common.{nat_eq}
 use Rattle.std.specs.Prelude.{Option, Result, flat_map, unwrap_or}
 use Rattle.gimli_core.specs.declared.common.Format.{Format}
+use Rattle.gimli_bytes.specs.Hand.{plain}
 use Rattle.gimli_bytes.specs.Number.{uleb}
 use Rattle.gimli_bytes.specs.Texts.{offset_of, StringTables}
 use Rattle.gimli_bytes.specs.declared.error.Error.{Error}
@@ -10,13 +11,13 @@ use Rattle.gimli_bytes.specs.declared.error.Error.TheVariants.{LineStringFormMis
 use Rattle.gimli_build.specs.LineText.{LineText, Inline, InStrings, InLineStrings}
 use Rattle.gimli_build.specs.Tables.{File}
 use Rattle.gimli_build.specs.Built.{Built}
-use Rattle.gimli_build.specs.Joined.{result_append, result_concat}
+use Rattle.gimli_build.specs.Joined.{result_append}
 use Rattle.gimli_build.specs.Version4Tables.{name_bytes, directories_bytes, file_bytes, files_bytes}
 use Rattle.gimli_build.specs.Version5Tables.{text_form, first_form, path_texts, sources, empty_text, directory_formats, file_formats, formats_bytes}
 use Rattle.gimli_build.specs.Version5Tables.{detail_bytes, text_bytes, text_in_form, directory_table_bytes, source_bytes, file_entry_bytes, file_table_bytes}
 use Rattle.gimli_build.specs.Unit.{tables_bytes}
-use Rattle.gimli_build.specs.Cause.{cause_if, first_of, offset_cause, text_cause, file_texts, emitted_texts}
-use Rattle.gimli_build.proofs.refusals.Refusals.{refusal, or_first, first_before_none, first_apart, first_alone, causes_append, causes_map, causes_flat}
+use Rattle.gimli_build.specs.Cause.{cause_if, first_of, offset_cause, text_cause, file_texts, emitted_texts, refusal}
+use Rattle.gimli_build.proofs.refusals.Refusals.{or_first, first_before_none, first_apart, first_alone, causes_append, causes_map, causes_flat}
 use Rattle.gimli_build.proofs.refusals.Refusals.{joined-refusal, parts-refusal}
 use Rattle.gimli_build.proofs.refusals.NumberRefusals.{word-refusal}
 
@@ -38,21 +39,21 @@ module _ (format : Format) (texts : StringTables) where
 
   directories-refusal : (directories : List LineText) → refusal (directories_bytes directories) ≡ first_of (map name_cause (drop 1 directories))
   directories-refusal directories =
-      joined-refusal (result_concat name_bytes (drop 1 directories)) (Ok (0 ∷ []))
-      ∙ first_before_none (refusal (result_concat name_bytes (drop 1 directories)))
-      ∙ parts-refusal name_bytes name_cause name-refusal (drop 1 directories)
+      joined-refusal _ _
+      ∙ first_before_none _
+      ∙ parts-refusal _ _ name-refusal (drop 1 directories)
 
   file-refusal : (f : File) → refusal (file_bytes f) ≡ name_cause f.0.0
   file-refusal f =
-      joined-refusal (name_bytes f.0.0) (Ok (uleb f.0.1 ++ uleb f.1.timestamp ++ uleb f.1.size))
-      ∙ first_before_none (refusal (name_bytes f.0.0))
-      ∙ name-refusal f.0.0
+      joined-refusal _ _
+      ∙ first_before_none _
+      ∙ name-refusal _
 
   files-refusal : (files : List File) → refusal (files_bytes files) ≡ first_of (map name_cause (path_texts files))
   files-refusal files =
-      joined-refusal (result_concat file_bytes files) (Ok (0 ∷ []))
-      ∙ first_before_none (refusal (result_concat file_bytes files))
-      ∙ parts-refusal file_bytes (λ (f : File). name_cause f.0.0) file-refusal files
+      joined-refusal _ _
+      ∙ first_before_none _
+      ∙ parts-refusal _ _ file-refusal files
       ∙ sym (causes_map name_cause (λ (f : File). f.0.0) files)
 
   old-refusal : (directories : List LineText) (files : List File)
@@ -61,32 +62,32 @@ module _ (format : Format) (texts : StringTables) where
   old-refusal directories files =
       let named = drop 1 directories in
       let paths = path_texts files in
-      joined-refusal (directories_bytes directories) (files_bytes files)
-      ∙ ap (λ (c : Option Error). or_first c (refusal (files_bytes files))) (directories-refusal directories)
-      ∙ ap (λ (c : Option Error). or_first (first_of (map name_cause named)) c) (files-refusal files)
+      joined-refusal _ _
+      ∙ ap (λ c. or_first c (refusal (files_bytes files))) (directories-refusal directories)
+      ∙ ap (λ c. or_first (first_of (map name_cause named)) c) (files-refusal files)
       ∙ sym (causes_append name_cause named paths)
       ∙ sym (causes_map cause_of (λ (t : LineText). (0x08, t)) (named ++ paths))
 
   -- ---- texts of version 5
 
   module _ (big : Bool) where
-    stored-refusal : (t : LineText) → refusal (text_bytes big format texts t) ≡ offset_cause format texts t
+    stored-refusal : (t : LineText) → refusal (text_bytes plain big format texts t) ≡ offset_cause format texts t
     stored-refusal (Inline text) = refl
     stored-refusal (InStrings i) = word-refusal big format (offset_of texts.strings i)
     stored-refusal (InLineStrings i) = word-refusal big format (offset_of texts.line_strings i)
 
-    formed-refusal : (form : ℕ) (t : LineText) → refusal (text_in_form big format texts form t) ≡ cause_of (form, t)
-    formed-refusal form t = by (nat_eq (text_form t) form) (text_bytes big format texts t) (offset_cause format texts t) (stored-refusal t)
+    formed-refusal : (form : ℕ) (t : LineText) → refusal (text_in_form plain big format texts form t) ≡ cause_of (form, t)
+    formed-refusal form t = by (nat_eq (text_form t) form) (text_bytes plain big format texts t) (offset_cause format texts t) (stored-refusal t)
       where
         by : (same : Bool) (written : Result (List ℕ) Error) (cause : Option Error) → refusal written ≡ cause
             → refusal (if same then written else Err LineStringFormMismatch) ≡ first_of (cause_if (not same) LineStringFormMismatch ∷ cause ∷ [])
-        by true written cause h = h ∙ sym (first_alone cause)
+        by true written cause h = h ∙ sym (first_alone _)
         by false written cause h = refl
 
     -- a source that is written, or none
     source-refusal : (has : Bool) (form : ℕ) (t : LineText)
-        → refusal (if has then text_in_form big format texts form t else Ok []) ≡ first_of (map cause_of (if has then (form, t) ∷ [] else []))
-    source-refusal true form t = formed-refusal form t ∙ sym (first_alone (cause_of (form, t)))
+        → refusal (if has then text_in_form plain big format texts form t else Ok []) ≡ first_of (map cause_of (if has then (form, t) ∷ [] else []))
+    source-refusal true form t = formed-refusal _ t ∙ sym (first_alone _)
     source-refusal false form t = refl
 
 -- ---- tables of version 5
@@ -99,15 +100,15 @@ module _ (big : Bool) (p : Built) (texts : StringTables) where
   abbrev own_cause : ℕ × LineText → Option Error
   own_cause t = text_cause p.encoding.format texts t
 
-  entry-refusal : (f : File) → refusal (file_entry_bytes big p.encoding.format texts p f) ≡ first_of (map own_cause (file_texts p texts f))
+  entry-refusal : (f : File) → refusal (file_entry_bytes plain big p.encoding.format texts p f) ≡ first_of (map own_cause (file_texts p texts f))
   entry-refusal f =
       let format = p.encoding.format in
       let path_form = first_form (path_texts p.files) in
       let form = first_form (sources p.files) in
       let source = unwrap_or f.1.source (empty_text form texts) in
       let last = if p.file_has_source then (form, source) ∷ [] else [] in
-      let path = text_in_form big format texts path_form f.0.0 in
-      let written = source_bytes big format texts p f in
+      let path = text_in_form plain big format texts path_form f.0.0 in
+      let written = source_bytes plain big format texts p f in
       let details = Ok (detail_bytes p f) in
       joined-refusal path (result_append details written)
       ∙ ap (λ (c : Option Error). or_first c (refusal (result_append details written))) (formed-refusal format texts big path_form f.0.0)
@@ -115,32 +116,32 @@ module _ (big : Bool) (p : Built) (texts : StringTables) where
       (after-refusal (detail_bytes p f) written (first_of (map own_cause last)) (source-refusal format texts big p.file_has_source form source))
       ∙ sym (first_apart (own_cause (path_form, f.0.0)) (map own_cause last))
 
-  directory_table-refusal : refusal (directory_table_bytes big p.encoding.format texts p)
+  directory_table-refusal : refusal (directory_table_bytes plain big p.encoding.format texts p)
       ≡ first_of (map own_cause (map (λ (t : LineText). (first_form p.directories, t)) p.directories))
   directory_table-refusal =
       let format = p.encoding.format in
       let form = first_form p.directories in
-      let text = text_in_form big format texts form in
-      after-refusal (formats_bytes (directory_formats p) ++ uleb (length p.directories)) (result_concat text p.directories)
-      (first_of (map own_cause (map (λ (t : LineText). (form, t)) p.directories)))
-      (parts-refusal text (λ (t : LineText). own_cause (form, t)) (formed-refusal format texts big form) p.directories
+      let text = text_in_form plain big format texts form in
+      after-refusal (formats_bytes (directory_formats p) ++ uleb (length p.directories)) _
+      _
+      (parts-refusal _ _ (formed-refusal format texts big form) p.directories
       ∙ sym (causes_map own_cause (λ (t : LineText). (form, t)) p.directories))
 
-  file_table-refusal : refusal (file_table_bytes big p.encoding.format texts p)
+  file_table-refusal : refusal (file_table_bytes plain big p.encoding.format texts p)
       ≡ first_of (map own_cause (flat_map (file_texts p texts) p.files))
   file_table-refusal =
-      let entry = file_entry_bytes big p.encoding.format texts p in
+      let entry = file_entry_bytes plain big p.encoding.format texts p in
       let own = file_texts p texts in
-      after-refusal (formats_bytes (file_formats p) ++ uleb (length p.files)) (result_concat entry p.files)
-      (first_of (map own_cause (flat_map own p.files)))
-      (parts-refusal entry (λ (f : File). first_of (map own_cause (own f))) entry-refusal p.files
+      after-refusal (formats_bytes (file_formats p) ++ uleb (length p.files)) _
+      _
+      (parts-refusal _ _ entry-refusal _
       ∙ sym (causes_flat own_cause own p.files))
 
-  new-refusal : refusal (result_append (directory_table_bytes big p.encoding.format texts p) (file_table_bytes big p.encoding.format texts p))
+  new-refusal : refusal (result_append (directory_table_bytes plain big p.encoding.format texts p) (file_table_bytes plain big p.encoding.format texts p))
       ≡ first_of (map own_cause (map (λ (t : LineText). (first_form p.directories, t)) p.directories ++ flat_map (file_texts p texts) p.files))
   new-refusal =
-      let directories = directory_table_bytes big p.encoding.format texts p in
-      let files = file_table_bytes big p.encoding.format texts p in
+      let directories = directory_table_bytes plain big p.encoding.format texts p in
+      let files = file_table_bytes plain big p.encoding.format texts p in
       let named = map (λ (t : LineText). (first_form p.directories, t)) p.directories in
       let filed = flat_map (file_texts p texts) p.files in
       joined-refusal directories files
@@ -151,10 +152,10 @@ module _ (big : Bool) (p : Built) (texts : StringTables) where
   -- ---- both
 
   -- the tables are refused for the first text that has a cause
-  pub tables-refusal : refusal (tables_bytes big p texts) ≡ first_of (map own_cause (emitted_texts p texts))
+  pub tables-refusal : refusal (tables_bytes plain big p texts) ≡ first_of (map own_cause (emitted_texts p texts))
   tables-refusal =
       by (nat_le p.encoding.version 4) (result_append (directories_bytes p.directories) (files_bytes p.files))
-      (result_append (directory_table_bytes big p.encoding.format texts p) (file_table_bytes big p.encoding.format texts p))
+      (result_append (directory_table_bytes plain big p.encoding.format texts p) (file_table_bytes plain big p.encoding.format texts p))
       (map (λ (t : LineText). (0x08, t)) (drop 1 p.directories ++ path_texts p.files))
       (map (λ (t : LineText). (first_form p.directories, t)) p.directories ++ flat_map (file_texts p texts) p.files)
       (old-refusal p.encoding.format texts p.directories p.files) new-refusal

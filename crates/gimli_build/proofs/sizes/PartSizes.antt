@@ -1,14 +1,13 @@
 -- How many bytes the parts of what is written are, where they are written.
-use Rattle.std.proofs.Common.{◌≡◌, ℕ, zero, suc, ◌+◌, Bool, true, false, List, [], ◌∷◌, ◌++◌, length, Ok, Err, refl, sym, ap, ◌∙◌, if◌then◌else◌}
-use Rattle.std.specs.Prelude.{Result, sum_by, nat_lt, ◌^◌}
-use Rattle.std.specs.Int.{bytes_low_first, bytes_high_first}
+use Rattle.std.proofs.Common.{◌≡◌, ℕ, ◌+◌, Bool, true, false, List, [], ◌∷◌, ◌++◌, length, Ok, Err, refl, sym, ap, ◌∙◌, if◌then◌else◌}
+use Rattle.std.specs.Prelude.{Result, sum_by}
 use Rattle.std.proofs.lemmas.List.{length-append}
 use Rattle.std.proofs.lemmas.List.Sums.{sum_by-cons}
-use Rattle.gimli_core.specs.Numbers.{number_bytes, word_size}
+use Rattle.gimli_core.specs.Numbers.{word_size}
 use Rattle.gimli_core.specs.declared.common.Format.{Format}
 use Rattle.gimli_core.specs.declared.common.Format.TheVariants.{Dwarf32, Dwarf64}
 use Rattle.gimli_bytes.specs.declared.error.Error.{Error}
-use Rattle.gimli_bytes.specs.declared.error.Error.TheVariants.{ValueTooLarge}
+use Rattle.gimli_bytes.proofs.RelocationLemmas.{length-number}
 use Rattle.gimli_build.specs.FormatWord.{format_word}
 use Rattle.gimli_build.specs.Joined.{result_append, result_concat, after_length}
 
@@ -28,8 +27,8 @@ pub size_as : (written : Result (List ℕ) Error) (m n : ℕ) → m ≡ n → Ha
 size_as written m n same size bytes is = size bytes is ∙ same
 
 pub size_tested : (test : Bool) (own : List ℕ) (e : Error) → HasSize (if test then Ok own else Err e) (length own)
-size_tested true own e = size_of_ok own
-size_tested false own e = size_of_none e (length own)
+size_tested true own e = size_of_ok _
+size_tested false own e = size_of_none e _
 
 -- one of two, as a test says
 pub size_either : (test : Bool) (first second : Result (List ℕ) Error) (m n : ℕ) → HasSize first m → HasSize second n
@@ -40,39 +39,28 @@ size_either false first second m n one other = other
 pub size_joined : (first rest : Result (List ℕ) Error) (m n : ℕ) → HasSize first m → HasSize rest n → HasSize (result_append first rest) (m + n)
 size_joined (Ok a) (Ok b) m n first rest bytes is =
     let same : a ++ b ≡ bytes = cc in
-    ap length (sym same) ∙ length-append a b ∙ ap (λ (k : ℕ). k + length b) (first a refl) ∙ ap (λ (k : ℕ). m + k) (rest b refl)
+    ap length (sym same) ∙ length-append a b ∙ ap (λ k. k + length b) (first a refl) ∙ ap (λ k. m + k) (rest b refl)
 size_joined (Ok a) (Err e) m n first rest bytes is = absurd cc
 size_joined (Err e) written m n first rest bytes is = absurd cc
 
 pub size_parts : {A : Type 0} (part : A → Result (List ℕ) Error) (size : A → ℕ) → ((x : A) → HasSize (part x) (size x))
     → (xs : List A) → HasSize (result_concat part xs) (sum_by size xs)
-size_parts part size each [] = size_of_ok []
+size_parts part size each [] = size_of_ok _
 size_parts part size each (x ∷ xs) =
-    size_as (result_concat part (x ∷ xs)) (size x + sum_by size xs) (sum_by size (x ∷ xs)) (sym (sum_by-cons size x xs))
-    (size_joined (part x) (result_concat part xs) (size x) (sum_by size xs) (each x) (size_parts part size each xs))
+    size_as _ _ _ (sym (sum_by-cons size x xs))
+    (size_joined _ _ _ _ (each x) (size_parts part size each xs))
 
 pub size_after : (length_of : ℕ → Result (List ℕ) Error) (counted : Result (List ℕ) Error) (m n : ℕ) → ((k : ℕ) → HasSize (length_of k) m) → HasSize counted n
     → HasSize (after_length length_of counted) (m + n)
-size_after length_of (Ok own) m n before counted = size_joined (length_of (length own)) (Ok own) m n (before (length own)) counted
-size_after length_of (Err e) m n before counted = size_of_none e (m + n)
+size_after length_of (Ok own) m n before counted = size_joined _ _ m n (before (length own)) counted
+size_after length_of (Err e) m n before counted = size_of_none e _
 
 -- ---- numbers
-
-low_size : (size i n : ℕ) → length (bytes_low_first i size n) ≡ size
-low_size zero i n = refl
-low_size (suc size) i n = ap suc (low_size size (suc i) n)
-
-high_size : (size n : ℕ) → length (bytes_high_first size n) ≡ size
-high_size zero n = refl
-high_size (suc size) n = ap suc (high_size size n)
-
-pub number_size : (big : Bool) (size n : ℕ) → length (number_bytes big size n) ≡ size
-number_size true size n = high_size size n
-number_size false size n = low_size size 0 n
 
 -- a word of a format
 pub format_word_size : (big : Bool) (format : Format) (n : ℕ) → HasSize (format_word big format n) (word_size format)
 format_word_size big Dwarf32 n =
-    size_as (format_word big Dwarf32 n) (length (number_bytes big 4 n)) 4 (number_size big 4 n)
-    (size_tested (nat_lt n (2 ^ 32)) (number_bytes big 4 n) ValueTooLarge)
-format_word_size big Dwarf64 n = size_as (format_word big Dwarf64 n) (length (number_bytes big 8 n)) 8 (number_size big 8 n) (size_of_ok (number_bytes big 8 n))
+    size_as _ _ 4 (length-number _ 4 n)
+    (size_tested _ _ _)
+format_word_size big Dwarf64 n =
+    size_as _ _ 8 (length-number _ 8 n) (size_of_ok _)

@@ -116,9 +116,9 @@ parts_of encoding e d n can has =
     let g = e.line_range in
     let z = has.opcode - 13 in
     let some : 1 ≤ g = omega (arith, ints, can.base, can.above) in
-    let line : e.line_base +ℤ pos (z % g) ≡ d = some_same (e.line_base +ℤ pos (z % g)) d has.line in
-    let count : z / g ≡ n = some_same (z / g) n has.operations in
-    let whole : n * g + z % g ≡ z = ap (λ (x : ℕ). x * g + z % g) (sym count) ∙ div-add-mod' z g in
+    let line : e.line_base +ℤ pos (z % g) ≡ d = some_same _ d has.line in
+    let count : z / g ≡ n = some_same _ n has.operations in
+    let whole : n * g + z % g ≡ z = ap (λ x. x * g + z % g) (sym count) ∙ div-add-mod' z g in
     let least : 13 ≤ has.opcode = has.least in
     record {
       above = z % g;
@@ -148,7 +148,7 @@ module _ (encoding : Encoding) (e : LineEncoding) (previous built : LineRow) (ca
   left : (u : ℕ) → is_special_advance e advance ≡ true → u ≡ unsigned_abs (advance -ℤ e.line_base)
       → row_instructions encoding.version e previous built ≡ operation_part e (13 + u) count
   left u t same =
-      ap (λ (is : List Ins). is ++ line_part e advance ++ operation_part e (line_opcode e advance) count) (silent encoding.version previous built only)
+      ap (λ is. is ++ line_part e advance ++ operation_part e (line_opcode e advance) count) (silent _ _ _ only)
       ∙ rw (t, same) refl
 
   -- the line advance above the base
@@ -157,10 +157,10 @@ module _ (encoding : Encoding) (e : LineEncoding) (previous built : LineRow) (ca
 
   pub one_byte : HasSpecial (built_rules encoding e) advance count → length (instructions_bytes (row_instructions encoding.version e previous built)) ≡ 1
   one_byte has =
-      let p = parts_of encoding e advance count can has in
-      let whole = left p.above (special_line e advance count p) (above_is count p) in
+      let p = parts_of _ e _ _ can has in
+      let whole = left _ (special_line e _ count p) (above_is count p) in
       let room : nat_le (13 + p.above + count * e.line_range) 255 ≡ true = le-leb (13 + p.above + count * e.line_range) 255 p.fits in
-      ap (λ (is : List Ins). length (instructions_bytes is)) whole ∙ rw room (one_maker (13 + p.above + count * e.line_range))
+      ap (λ is. length (instructions_bytes is)) whole ∙ rw room (one_maker _)
     where
       one_maker : (s : ℕ) → length (instructions_bytes (row_maker e s ∷ [])) ≡ 1
       one_maker s = omega (arith, length-append (instruction_bytes (row_maker e s)) [], maker_bytes e s)

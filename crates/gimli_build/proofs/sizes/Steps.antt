@@ -21,7 +21,7 @@ operations_above m k p j o i pm hp ho le same jk =
     elim (cases_lt p o) [
       | inl below ↦
           (let h0 = apart_by m p o hp ho below in
-          let one : 1 ≤ (o - p) / m = le-div 1 (o - p) m pm (omega (arith, h0)) in
+          let one : 1 ≤ (o - p) / m = le-div 1 _ m pm (omega (arith, h0)) in
           let h : 1 * k ≤ (o - p) / m * k = mul-le-mul_right k one in omega (arith, h))
       | inr above ↦ (let h = same (omega arith) in omega (arith, h))
     ]
@@ -33,10 +33,10 @@ whole_steps m p o pm hp ho le =
     let eo = div-add-mod' o m in
     let t = o / m - p / m in
     let below = div-mul-le_self p m in
-    let up : p / m ≤ o / m = le-div (p / m) o m pm (omega (arith, below)) in
+    let up : p / m ≤ o / m = le-div _ o m pm (omega (arith, below)) in
     let so : o / m ≡ p / m + t = omega arith in
     let parts : (p / m + t) * m ≡ p / m * m + t * m = add-mul (p / m) t m in
-    let step0 : o / m * m ≡ p / m * m + t * m = ap (λ (x : ℕ). x * m) so ∙ parts in
+    let step0 : o / m * m ≡ p / m * m + t * m = ap (λ x. x * m) so ∙ parts in
     let diff : o - p ≡ t * m = omega (arith, ep, eo, step0) in
     let quotient : (o - p) / m ≡ t = rw diff (mul-div_cancel t (omega arith)) in
     rw quotient (let c = mul_comm m t in omega (arith, c, diff))

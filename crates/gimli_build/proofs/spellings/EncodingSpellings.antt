@@ -23,7 +23,6 @@ use Rattle.gimli_line.specs.header.Productions.{positive}
 use Rattle.gimli_line.specs.header.HeaderGrammar.{version_production, address_size_production, line_encoding_production}
 use Rattle.gimli_build.specs.Advance.{CanEncode}
 use Rattle.gimli_build.specs.FormatWord.{format_word}
-use Rattle.gimli_build.specs.Joined.{result_append}
 use Rattle.gimli_build.specs.Unit.{version_bytes, operations_bytes, flag_byte, base_byte, line_encoding_bytes, escape_bytes}
 use Rattle.gimli_build.proofs.sizes.PartSizes.{format_word_size}
 use Rattle.gimli_build.proofs.writing.WrittenParts.{same_written, after_written, before_written}
@@ -99,7 +98,7 @@ rest_spelled e can =
         e.line_range ∷ [],
         refl,
         refl,
-        (e.line_range, e.line_range ∷ [], [], refl, positive-spelled e.line_range LineRangeZero some, (refl, same)),
+        (e.line_range, e.line_range ∷ [], [], refl, positive-spelled _ LineRangeZero some, (refl, same)),
       ),
     )
 
@@ -119,8 +118,8 @@ operations_spelled version n bytes some is = by (nat_le 4 version) refl (nat_eq 
     by false low true t is =
         let below : version < 4 = leb-false 4 version low in
         let only : n ≡ 1 = eqb-true n 1 t in
-        first-chosen (nat_le version 3) (done 1) (positive MaximumOperationsPerInstructionZero) bytes n (le-leb version 3 (omega (arith, below)))
-        (same_written [] bytes is, only)
+        first-chosen _ _ _ _ n (le-leb version 3 (omega (arith, below)))
+        (same_written _ _ is, only)
     by false low false t is = absurd cc
 
 pub encoding-spelled : (version : ℕ) (e : LineEncoding) (bytes : List ℕ) → CanEncode e → line_encoding_bytes version e ≡ Ok bytes
@@ -128,10 +127,10 @@ pub encoding-spelled : (version : ℕ) (e : LineEncoding) (bytes : List ℕ) →
 encoding-spelled version e bytes can is =
     let last = flag_byte e.default_is_stmt ∷ base_byte e.line_base ∷ e.line_range ∷ [] in
     let a =
-    after_written (e.minimum_instruction_length ∷ []) (result_append (operations_bytes version e.maximum_operations_per_instruction) (Ok last)) bytes is in
-    let b = before_written (operations_bytes version e.maximum_operations_per_instruction) last a.rest a.rest_is in
-    let minimum = positive-spelled e.minimum_instruction_length MinimumInstructionLengthZero can.instruction_length in
-    let operations = operations_spelled version e.maximum_operations_per_instruction b.front can.operations b.front_is in (
+    after_written (e.minimum_instruction_length ∷ []) _ _ is in
+    let b = before_written _ _ _ a.rest_is in
+    let minimum = positive-spelled _ MinimumInstructionLengthZero can.instruction_length in
+    let operations = operations_spelled _ _ _ can.operations b.front_is in (
       e.minimum_instruction_length,
       e.minimum_instruction_length ∷ [],
       a.rest,
@@ -158,11 +157,11 @@ version_written big version bytes is = by (nat_le 2 version && nat_le version 5)
     by : (b : Bool) → (nat_le 2 version && nat_le version 5) ≡ b
         → (let r : Result (List ℕ) Error = if b then Ok (number_bytes big 2 version) else Err (UnsupportedVersion version) in r) ≡ Ok bytes
         → VersionWritten big version bytes
-    by true t is = record { bytes_are = same_written (number_bytes big 2 version) bytes is; known = t }
+    by true t is = record { bytes_are = same_written _ _ is; known = t }
     by false t is = absurd cc
 
 pub version-known : (big : Bool) (version : ℕ) (bytes : List ℕ) → version_bytes big version ≡ Ok bytes → version ≤ 5
-version-known big version bytes is = leb-true version 5 (both_true (nat_le 2 version) (nat_le version 5) (version_written big version bytes is).known)
+version-known big version bytes is = leb-true version 5 (both_true (nat_le 2 version) _ (version_written big version _ is).known)
 
 pub version-spelled : (big : Bool) (version : ℕ) (bytes : List ℕ) → version_bytes big version ≡ Ok bytes → (version_production big).Spells bytes version
 version-spelled big version bytes is =
@@ -211,9 +210,9 @@ word_spelled big Dwarf32 n bytes small is = by (nat_lt n (2 ^ 32)) refl is
   where
     by : (b : Bool) → nat_lt n (2 ^ 32) ≡ b → (let r : Result (List ℕ) Error = if b then Ok (number_bytes big 4 n) else Err ValueTooLarge in r) ≡ Ok bytes
         → SpellsNumber big 4 bytes n
-    by true t is = rw (same_written (number_bytes big 4 n) bytes is) (number_spelled big 4 n (ltb-true n (2 ^ 32) t))
+    by true t is = rw (same_written (number_bytes big 4 n) bytes is) (number_spelled _ 4 n (ltb-true n (2 ^ 32) t))
     by false t is = absurd cc
-word_spelled big Dwarf64 n bytes small is = rw (same_written (number_bytes big 8 n) bytes is) (number_spelled big 8 n (omega (arith, small)))
+word_spelled big Dwarf64 n bytes small is = rw (same_written (number_bytes big 8 n) bytes is) (number_spelled _ 8 n (omega (arith, small)))
 
 -- a word has bytes
 pub word-long : (big : Bool) (format : Format) (n : ℕ) (bytes : List ℕ) → format_word big format n ≡ Ok bytes → 0 < length bytes
@@ -234,8 +233,8 @@ offset-spelled notation format n bytes lt small is = (
   bytes,
   [],
   sym (append-nil bytes),
-  word_spelled notation.big format n bytes small is,
-  (tt, [], [], refl, (refl, held notation format n lt), (refl, refl)),
+  word_spelled _ _ n _ small is,
+  (tt, [], [], refl, (refl, held notation _ n lt), (refl, refl)),
 )
 
 -- eight bytes hold any length of the 64-bit format, which is told by no test
@@ -248,15 +247,15 @@ initial_spelled big Dwarf32 n word small is = by (nat_lt n 0xffff_fff0) refl (na
         → SpellsNumber big 4 word n × (n < 0xffff_fff0)
     by true t c is =
         let lt : n < 0xffff_fff0 = ltb-true n 0xffff_fff0 t in
-        (rw (same_written (number_bytes big 4 n) word is) (number_spelled big 4 n (omega (arith, lt))), lt)
+        (rw (same_written (number_bytes big 4 n) word is) (number_spelled _ 4 n (omega (arith, lt))), lt)
     by false t true is = absurd cc
     by false t false is = absurd cc
 initial_spelled big Dwarf64 n word small is = (
   number_bytes big 4 0xffff_ffff,
   word,
   refl,
-  number_spelled big 4 0xffff_ffff (omega arith),
-  rw (same_written (number_bytes big 8 n) word is) (number_spelled big 8 n (omega (arith, small))),
+  number_spelled _ 4 _ (omega arith),
+  rw (same_written (number_bytes big 8 n) word is) (number_spelled _ 8 n (omega (arith, small))),
 )
 
 pub length-spelled : (notation : Notation) (format : Format) (n : ℕ) (word : List ℕ) → (format ≡ Dwarf64 → n < notation.limit) → n < 2 ^ 64
@@ -268,6 +267,6 @@ length-spelled notation format n word lt small is =
       bytes,
       [],
       sym (append-nil bytes),
-      initial_spelled notation.big format n word small is,
-      (tt, [], [], refl, (refl, held notation format n lt), (refl, refl)),
+      initial_spelled _ _ n _ small is,
+      (tt, [], [], refl, (refl, held notation _ n lt), (refl, refl)),
     )

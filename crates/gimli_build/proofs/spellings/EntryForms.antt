@@ -35,37 +35,37 @@ file_with time size has_digest source path directory timestamp bytes md5 text = 
 
 -- a digest of sixteen bytes is read as it is
 digest_read : (md5 : List ℕ) → length md5 ≡ 16 → digest (Block md5) ≡ Some md5
-digest_read md5 whole = ap (λ (n : ℕ). if nat_eq n 16 then Some md5 else None) whole
+digest_read md5 whole = ap (λ n. if nat_eq n 16 then Some md5 else None) whole
 
 with_digest : (o : Option (List ℕ)) (md5 : List ℕ) (f : ReadFile) → o ≡ Some md5
     → record f { md5 = elim o [ Some x ↦ x | None ↦ replicate 16 0 ] } ≡ record f { md5 = md5 }
-with_digest o md5 f is = ap (λ (x : Option (List ℕ)). record f { md5 = elim x [ Some y ↦ y | None ↦ replicate 16 0 ] }) is
+with_digest o md5 f is = ap (λ x. record f { md5 = elim x [ Some y ↦ y | None ↦ replicate 16 0 ] }) is
 
 pub file-read : (time size has_digest source : Bool) (path : Value) (directory timestamp bytes : ℕ) (md5 : List ℕ) (text : Value) → length md5 ≡ 16
     → file_of_entry (entry_of time size has_digest source path directory timestamp bytes md5 text)
     ≡ file_with time size has_digest source path directory timestamp bytes md5 text
 file-read true true true true path directory timestamp bytes md5 text whole =
-    with_digest (digest (Block md5)) md5 (file_with true true true true path directory timestamp bytes md5 text) (digest_read md5 whole)
+    with_digest _ _ (file_with true true true true path directory timestamp bytes md5 text) (digest_read _ whole)
 file-read true true true false path directory timestamp bytes md5 text whole =
-    with_digest (digest (Block md5)) md5 (file_with true true true false path directory timestamp bytes md5 text) (digest_read md5 whole)
+    with_digest _ _ (file_with true true true false path directory timestamp bytes md5 text) (digest_read _ whole)
 file-read true true false true path directory timestamp bytes md5 text whole = refl
 file-read true true false false path directory timestamp bytes md5 text whole = refl
 file-read true false true true path directory timestamp bytes md5 text whole =
-    with_digest (digest (Block md5)) md5 (file_with true false true true path directory timestamp bytes md5 text) (digest_read md5 whole)
+    with_digest _ _ (file_with true false true true path directory timestamp bytes md5 text) (digest_read _ whole)
 file-read true false true false path directory timestamp bytes md5 text whole =
-    with_digest (digest (Block md5)) md5 (file_with true false true false path directory timestamp bytes md5 text) (digest_read md5 whole)
+    with_digest _ _ (file_with true false true false path directory timestamp bytes md5 text) (digest_read _ whole)
 file-read true false false true path directory timestamp bytes md5 text whole = refl
 file-read true false false false path directory timestamp bytes md5 text whole = refl
 file-read false true true true path directory timestamp bytes md5 text whole =
-    with_digest (digest (Block md5)) md5 (file_with false true true true path directory timestamp bytes md5 text) (digest_read md5 whole)
+    with_digest _ _ (file_with false true true true path directory timestamp bytes md5 text) (digest_read _ whole)
 file-read false true true false path directory timestamp bytes md5 text whole =
-    with_digest (digest (Block md5)) md5 (file_with false true true false path directory timestamp bytes md5 text) (digest_read md5 whole)
+    with_digest _ _ (file_with false true true false path directory timestamp bytes md5 text) (digest_read _ whole)
 file-read false true false true path directory timestamp bytes md5 text whole = refl
 file-read false true false false path directory timestamp bytes md5 text whole = refl
 file-read false false true true path directory timestamp bytes md5 text whole =
-    with_digest (digest (Block md5)) md5 (file_with false false true true path directory timestamp bytes md5 text) (digest_read md5 whole)
+    with_digest _ _ (file_with false false true true path directory timestamp bytes md5 text) (digest_read _ whole)
 file-read false false true false path directory timestamp bytes md5 text whole =
-    with_digest (digest (Block md5)) md5 (file_with false false true false path directory timestamp bytes md5 text) (digest_read md5 whole)
+    with_digest _ _ (file_with false false true false path directory timestamp bytes md5 text) (digest_read _ whole)
 file-read false false false true path directory timestamp bytes md5 text whole = refl
 file-read false false false false path directory timestamp bytes md5 text whole = refl
 
@@ -73,7 +73,7 @@ file-read false false false false path directory timestamp bytes md5 text whole 
 
 -- bytes in five parts
 regrouped : (a b c d e : List ℕ) → (a ++ b ++ c ++ d) ++ e ≡ a ++ (b ++ (c ++ (d ++ e)))
-regrouped a b c d e = append_assoc (a ++ b ++ c) d e ∙ nested a b c (d ++ e)
+regrouped a b c d e = append_assoc (a ++ b ++ c) d e ∙ nested a b c _
 
 module _ (notation : Notation) (format : Format) where
   udata_spelled : (n : ℕ) → n < 2 ^ 64 → SpellsForm notation format 0x0f (uleb n) (Udata n)
@@ -94,7 +94,7 @@ module _ (notation : Notation) (format : Format) where
   when_spelled : (due : Bool) (content form : ℕ) (bytes : List ℕ) (v : Value) (formats : List (ℕ × ℕ)) (rest : List ℕ) (entry : Entry)
       → SpellsForm notation format form bytes v → IsSpelled formats rest entry
       → IsSpelled (when due (content, form) ++ formats) ((if due then bytes else []) ++ rest) (when due (content, v) ++ entry)
-  when_spelled true content form bytes v formats rest entry own after = value-spelled content form bytes v formats rest entry own after
+  when_spelled true content form bytes v formats rest entry own after = value-spelled _ form _ v _ _ _ own after
   when_spelled false content form bytes v formats rest entry own after = after
 
   -- a value alone
@@ -104,7 +104,7 @@ module _ (notation : Notation) (format : Format) where
 
   source_spelled : (due : Bool) (form : ℕ) (bytes : List ℕ) (v : Value) → (due ≡ true → SpellsForm notation format form bytes v) → (due ≡ false → bytes ≡ [])
       → IsSpelled (when due (0x2001, form)) bytes (when due (0x2001, v))
-  source_spelled true form bytes v own none = last-spelled 0x2001 form bytes v (own refl)
+  source_spelled true form bytes v own none = last-spelled _ form _ v (own refl)
   source_spelled false form bytes v own none = (none refl, refl)
 
   pub entry-spelled : (time size has_digest source : Bool) (path_form source_form : ℕ) (path : Value) (directory timestamp count : ℕ) (md5 : List ℕ)

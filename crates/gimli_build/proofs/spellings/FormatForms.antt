@@ -46,7 +46,7 @@ one_spelled f is = (
   uleb f.1,
   refl,
   (uleb_shortest f.0 is.fits).spells,
-  (f.1, uleb f.1, [], sym (append-nil (uleb f.1)), small_spelled f.1 is.form, (refl, whole f.0 (min f.0 0xffff) is.content)),
+  (f.1, uleb f.1, [], sym (append-nil (uleb f.1)), small_spelled _ is.form, (refl, whole _ _ is.content)),
 )
   where
     whole : (content least : ℕ) → least ≡ content → read_format (content, f.1) ≡ record { content_type = record { 0 = least }; form = record { 0 = f.1 } }
@@ -63,7 +63,7 @@ more_spelled f formats is rest =
     (read_format f, one_bytes f, bytes, refl, one_spelled f is, (map read_format formats, bytes, [], sym (append-nil bytes), rest, (refl, refl)))
 
 when_spelled : (due : Bool) (f : ℕ × ℕ) (formats : List (ℕ × ℕ)) → IsFormat f → AreSpelled formats → AreSpelled (when due f ++ formats)
-when_spelled true f formats is rest = more_spelled f formats is rest
+when_spelled true f formats is rest = more_spelled f _ is rest
 when_spelled false f formats is rest = rest
 
 last_spelled : (due : Bool) (f : ℕ × ℕ) → IsFormat f → AreSpelled (when due f)
@@ -120,7 +120,7 @@ formats-same p =
     let parts =
     nested (when p.file_has_timestamp (0x0003, 0x0f)) (when p.file_has_size (0x0004, 0x0f)) (when p.file_has_md5 (0x0005, 0x1e))
     (when p.file_has_source (0x2001, first_form (sources p.files))) in
-    ap (λ (l : List (ℕ × ℕ)). (0x0001, first_form (path_texts p.files)) ∷ (0x0002, 0x0f) ∷ l) parts
+    ap (λ l. (0x0001, first_form (path_texts p.files)) ∷ (0x0002, 0x0f) ∷ l) parts
 
 one_path : (time size digest source : Bool) (path_form source_form : ℕ)
     → count_by (is_content 0x0001) (map read_format (formats_of time size digest source path_form source_form)) ≡ 1

@@ -6,6 +6,7 @@ use Rattle.gimli_core.specs.Notation.{Notation}
 use Rattle.gimli_core.specs.Production.{Each}
 use Rattle.gimli_core.specs.declared.common.Encoding.{Encoding}
 use Rattle.gimli_core.specs.declared.common.LineEncoding.{LineEncoding}
+use Rattle.gimli_bytes.specs.Hand.{plain}
 use Rattle.gimli_bytes.specs.declared.address.Address.TheVariants.{Constant, Symbol}
 use Rattle.gimli_bytes.specs.declared.error.Error.{Error}
 use Rattle.gimli_line.specs.header.Header.{Header}
@@ -37,31 +38,32 @@ module _ (notation : Notation) (h : Header) (base : h.parameters.opcode_base ≡
 
   each_append : (a b : List ℕ) (is js : List Ins) → Spelled a is → Spelled b js → Spelled (a ++ b) (is ++ js)
   each_append a b [] js p q = rw p q
-  each_append a b (i ∷ is) js p q = (p.0, p.1 ++ b, ap (λ (l : List ℕ). l ++ b) p.2 ∙ append_assoc p.0 p.1 b, p.3, each_append p.1 b is js p.4 q)
+  each_append a b (i ∷ is) js p q = (p.0, p.1 ++ b, ap (λ l. l ++ b) p.2 ∙ append_assoc p.0 p.1 b, p.3, each_append p.1 b is js p.4 q)
 
   each_joined : (a b bytes : List ℕ) (is js : List Ins) → bytes ≡ a ++ b → Spelled a is → Spelled b js → Spelled bytes (is ++ js)
-  each_joined a b bytes is js whole p q = rw whole (each_append a b is js p q)
+  each_joined a b bytes is js whole p q = rw whole (each_append a b _ _ p q)
 
   same_bytes : (a b : List ℕ) → ◌≡◌ {A = Result (List ℕ) Error} (Ok a) (Ok b) → b ≡ a
   same_bytes a b e = let p : a ≡ b = cc in sym p
 
   pub items-spelled : (previous : LineRow) (items : List BuiltItem) (bytes : List ℕ) → previous.line < 2 ^ 63
       → AreBuilt e (previous.address_offset, previous.op_index) items → AreFit h.parameters.encoding.version items
-      → items_bytes notation.big h.parameters.encoding e previous items ≡ Ok bytes
+      → items_bytes plain notation.big h.parameters.encoding e previous items ≡ Ok bytes
       → Spelled bytes (items_instructions h.parameters.encoding.version e previous items)
   items-spelled previous [] bytes line built fit is = same_bytes [] bytes is
   items-spelled previous (SetAddress (Constant a) ∷ items) bytes line built fit is =
       let next : LineRow = record previous { address_offset = 0; op_index = 0 } in
       let p =
-      joined_ok (item_bytes notation.big h.parameters.encoding e previous (SetAddress (Constant a)))
-      (items_bytes notation.big h.parameters.encoding e next items) bytes is in
+      joined_ok (item_bytes plain notation.big h.parameters.encoding e previous (SetAddress (Constant a)))
+      (items_bytes plain notation.big h.parameters.encoding e next items) bytes is in
       each_joined p.0 p.1 bytes (read.SetAddress a ∷ []) (items_instructions h.parameters.encoding.version e next items) p.4
       (p.0, [], sym (append-nil p.0), address-spelled notation h base wide a p.0 p.2, refl) (items-spelled next items p.1 line built.1 fit.1 p.3)
   items-spelled previous (SetAddress (Symbol s d) ∷ items) bytes line built fit is = absurd cc
   items-spelled previous (Row r ∷ items) bytes line built fit is =
       let version = h.parameters.encoding.version in
       let p =
-      joined_ok (item_bytes notation.big h.parameters.encoding e previous (Row r)) (items_bytes notation.big h.parameters.encoding e r items) bytes is in
+      joined_ok (item_bytes plain notation.big h.parameters.encoding e previous (Row r)) (items_bytes plain notation.big h.parameters.encoding e r items) bytes
+      is in
       let own = each-spelled notation h base wide (row_instructions version e previous r) (all_row version e previous r can built.0.0 line fit.0) in
       each_joined p.0 p.1 bytes (row_instructions version e previous r) (items_instructions version e r items) p.4
       (rw (same_bytes (instructions_bytes (row_instructions version e previous r)) p.0 p.2) own) (items-spelled r items p.1 built.0.1 built.1 fit.1 p.3)
@@ -69,7 +71,8 @@ module _ (notation : Notation) (h : Header) (base : h.parameters.opcode_base ≡
       let version = h.parameters.encoding.version in
       let next : LineRow = initial_row version e.default_is_stmt in
       let p =
-      joined_ok (item_bytes notation.big h.parameters.encoding e previous (End o i)) (items_bytes notation.big h.parameters.encoding e next items) bytes
+      joined_ok (item_bytes plain notation.big h.parameters.encoding e previous (End o i)) (items_bytes plain notation.big h.parameters.encoding e next items)
+      bytes
       is in
       let own = each-spelled notation h base wide (end_instructions e previous o i) (all_end e previous o i built.0) in
       each_joined p.0 p.1 bytes (end_instructions e previous o i) (items_instructions version e next items) p.4
@@ -80,13 +83,13 @@ pub items-spelled-under : (notation : Notation) (h : Header) (encoding : Encodin
     (bytes : List ℕ)
     → h.parameters.encoding ≡ encoding → h.parameters.opcode_base ≡ 13 → 11 < notation.limit → CanEncode e → previous.line < 2 ^ 63
     → AreBuilt e (previous.address_offset, previous.op_index) items
-    → AreFit encoding.version items → items_bytes notation.big encoding e previous items ≡ Ok bytes
+    → AreFit encoding.version items → items_bytes plain notation.big encoding e previous items ≡ Ok bytes
     → Each (SpellsInstruction notation h) bytes (items_instructions encoding.version e previous items)
 items-spelled-under notation h encoding e previous items bytes same base wide can line built fit written =
-    subst (λ (x : Encoding).
-    AreFit x.version items → items_bytes notation.big x e previous items ≡ Ok bytes
+    subst (λ x.
+    AreFit x.version items → items_bytes plain notation.big x e previous items ≡ Ok bytes
     → Each (SpellsInstruction notation h) bytes (items_instructions x.version e previous items))
-    same (items-spelled notation h base wide e can previous items bytes line built) fit written
+    same (items-spelled notation h base wide e can _ _ _ line built) fit written
 
 -- what is true of bytes wherever they are written
 pub if_written : (written : Result (List ℕ) Error) (Is : List ℕ → Type 0) → ((bytes : List ℕ) → written ≡ Ok bytes → Is bytes) → IfOk written Is

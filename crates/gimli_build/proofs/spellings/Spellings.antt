@@ -16,6 +16,7 @@ use Rattle.gimli_core.specs.Numbers.{SpellsUleb128, SpellsNumber, number_bytes}
 use Rattle.gimli_core.specs.Reading.{result_map}
 use Rattle.gimli_core.specs.Production.{below_limit, unsigned, Each}
 use Rattle.gimli_core.proofs.Written.{number_spelled}
+use Rattle.gimli_bytes.specs.Hand.{plain}
 use Rattle.gimli_bytes.specs.Number.{uleb, sleb}
 use Rattle.gimli_bytes.specs.declared.error.Error.{Error}
 use Rattle.gimli_bytes.specs.declared.error.Error.TheVariants.{ValueTooLarge, UnsupportedWordSize}
@@ -126,12 +127,12 @@ module _ (notation : Notation) (h : Header) (base : h.parameters.opcode_base ≡
 
   address_written : (a : ℕ) (bytes : List ℕ) → Operand a bytes → SpellsInstruction notation h bytes (SetAddress a)
   address_written a bytes (size, is, small, fits, written) =
-      let operand : SpellsNumber notation.big size (number_bytes notation.big size a) a = number_spelled notation.big size a fits in
-      let counted : length (number_bytes notation.big size a) + 1 ≡ size + 1 = ap (λ (n : ℕ). n + 1) operand.size_is in
+      let operand : SpellsNumber notation.big size (number_bytes notation.big size a) a = number_spelled _ _ a fits in
+      let counted : length (number_bytes notation.big size a) + 1 ≡ size + 1 = ap (λ n. n + 1) operand.size_is in
       let held : SpellsNumber notation.big h.parameters.encoding.address_size (number_bytes notation.big size a) a = rw is operand in
       let number : SpellsUleb128 64 (uleb (size + 1)) (length (number_bytes notation.big size a) + 1) =
-      rw counted (unsigned_spelled (size + 1) (omega (arith, small))) in
-      rw written (extended (uleb (size + 1)) 2 (number_bytes notation.big size a) (SetAddress a) number (omega (arith, counted, small, wide)) (
+      rw counted (unsigned_spelled _ (omega (arith, small))) in
+      rw written (extended _ 2 _ _ number (omega (arith, counted, small, wide)) (
         (SetAddress a, []),
         [],
         [],
@@ -148,7 +149,7 @@ module _ (notation : Notation) (h : Header) (base : h.parameters.opcode_base ≡
       ))
 
   -- a set address that is written
-  address_operand : (a : ℕ) (bytes : List ℕ) → set_address_bytes notation.big (Constant a) h.parameters.encoding.address_size ≡ Ok bytes → Operand a bytes
+  address_operand : (a : ℕ) (bytes : List ℕ) → set_address_bytes plain notation.big (Constant a) h.parameters.encoding.address_size ≡ Ok bytes → Operand a bytes
   address_operand a bytes is = by h.parameters.encoding.address_size refl is
     where
       sized : (size : ℕ) → (nat_eq size 1 || nat_eq size 2 || nat_eq size 3 || nat_eq size 4 || nat_eq size 8) ≡ true → size ≤ 8
@@ -163,18 +164,18 @@ module _ (notation : Notation) (h : Header) (base : h.parameters.opcode_base ≡
           → Operand a bytes
       tested size same true true t u is =
           let written : 0 ∷ uleb (size + 1) ++ 2 ∷ number_bytes notation.big size a ≡ bytes = cc in
-          (size, same, sized size t, ltb-true a (256 ^ size) u, sym written)
+          (size, same, sized _ t, ltb-true a (256 ^ size) u, sym written)
       tested size same true false t u is = absurd cc
       tested size same false c t u is = absurd cc
 
-      by : (size : ℕ) → h.parameters.encoding.address_size ≡ size → set_address_bytes notation.big (Constant a) size ≡ Ok bytes → Operand a bytes
+      by : (size : ℕ) → h.parameters.encoding.address_size ≡ size → set_address_bytes plain notation.big (Constant a) size ≡ Ok bytes → Operand a bytes
       by size same is =
-          tested size same (nat_eq size 1 || nat_eq size 2 || nat_eq size 3 || nat_eq size 4 || nat_eq size 8) (nat_lt a (256 ^ size)) refl refl is
+          tested _ same _ _ refl refl is
 
   -- a set address that is written spells it
-  pub address-spelled : (a : ℕ) (bytes : List ℕ) → set_address_bytes notation.big (Constant a) h.parameters.encoding.address_size ≡ Ok bytes
+  pub address-spelled : (a : ℕ) (bytes : List ℕ) → set_address_bytes plain notation.big (Constant a) h.parameters.encoding.address_size ≡ Ok bytes
       → SpellsInstruction notation h bytes (SetAddress a)
-  address-spelled a bytes is = address_written a bytes (address_operand a bytes is)
+  address-spelled a bytes is = address_written a _ (address_operand a _ is)
 
   -- instructions one after the other
   pub each-spelled : (is : List Ins) → AllByRecursion IsWritten is → Each (SpellsInstruction notation h) (instructions_bytes is) is
@@ -252,10 +253,10 @@ all_operations e s n low high fits = by (nat_le (s + n * e.line_range) 255) refl
     by : (b : Bool) → nat_le (s + n * e.line_range) 255 ≡ b → (c : Bool) → nat_le (s + (n - constant_advance e) * e.line_range) 255 ≡ c
         → AllByRecursion IsWritten (if b then row_maker e (s + n * e.line_range) ∷ []
         else (if c then ConstAddPc ∷ row_maker e (s + (n - constant_advance e) * e.line_range) ∷ [] else AdvancePc n ∷ row_maker e s ∷ []))
-    by true t c u = let le : s + n * e.line_range ≤ 255 = grind (arith, nat_tests) in (maker_written e (s + n * e.line_range) (omega arith) le, tt)
+    by true t c u = let le : s + n * e.line_range ≤ 255 = grind (arith, nat_tests) in (maker_written e _ (omega arith) le, tt)
     by false t true u =
         let le : s + (n - constant_advance e) * e.line_range ≤ 255 = grind (arith, nat_tests) in
-        (tt, (maker_written e (s + (n - constant_advance e) * e.line_range) (omega arith) le, tt))
+        (tt, (maker_written e _ (omega arith) le, tt))
     by false t false u = (fits, (maker_written e s low high, tt))
 
 -- the operations to a position that can follow are fewer than 2 ^ 64
@@ -270,14 +271,14 @@ all_row version e previous built can follows from fits =
     let n = operations e previous.address_offset previous.op_index built.address_offset built.op_index in
     let small : FitsSigned w64 d = search (rules, ints) in
     let s = line_opcode_is e d can in
-    let a12 = all_append (marks built) (changes version previous built) (all_marks version built fits) (all_changes version previous built fits) in
-    let a123 = all_append (marks built ++ changes version previous built) (line_part e d) a12 (all_line e d small) in
-    all_append (marks built ++ changes version previous built ++ line_part e d) (operation_part e (line_opcode e d) n) a123
-    (all_operations e (line_opcode e d) n s.0 s.1 (operations_fit e previous.address_offset previous.op_index built.address_offset built.op_index follows))
+    let a12 = all_append _ _ (all_marks _ _ fits) (all_changes _ previous _ fits) in
+    let a123 = all_append _ _ a12 (all_line e d small) in
+    all_append _ _ a123
+    (all_operations e _ n s.0 s.1 (operations_fit e _ _ _ _ follows))
 
 pub all_end : (e : LineEncoding) (previous : LineRow) (o i : ℕ) → CanFollow e previous.address_offset previous.op_index o i
     → AllByRecursion IsWritten (end_instructions e previous o i)
 all_end e previous o i follows =
     let n = operations e previous.address_offset previous.op_index o i in
-    all_append (when (not (nat_eq n 0)) (AdvancePc n)) (EndSequence ∷ [])
+    all_append _ _
     (all_when (not (nat_eq n 0)) (AdvancePc n) (operations_fit e previous.address_offset previous.op_index o i follows)) (tt, tt)

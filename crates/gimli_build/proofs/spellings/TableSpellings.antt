@@ -26,7 +26,7 @@ unsigned_spelled n lt = (uleb_shortest n lt).spells
 module _ (texts : StringTables) where
   -- a text in the unit itself is its bytes
   name_spelled : (t : LineText) (bytes : List ℕ) → IsNotEmpty t → HasNoZero t → name_bytes t ≡ Ok bytes → name.Spells bytes (bytes_in texts t)
-  name_spelled (Inline text) bytes some clean is = (some, (recursion_from_All (λ b. b ≢ 0) text clean, same_written (text ++ 0 ∷ []) bytes is))
+  name_spelled (Inline text) bytes some clean is = (some, (recursion_from_All (λ b. b ≢ 0) _ clean, same_written _ _ is))
   name_spelled (InStrings i) bytes some clean is = absurd cc
   name_spelled (InLineStrings i) bytes some clean is = absurd cc
 
@@ -34,17 +34,17 @@ module _ (texts : StringTables) where
 
   names_spelled : (ts : List LineText) (bytes : List ℕ) → All IsNotEmpty ts → All HasNoZero ts → result_concat name_bytes ts ≡ Ok bytes
       → Each name.Spells bytes (map (bytes_in texts) ts)
-  names_spelled [] bytes some clean is = same_written [] bytes is
+  names_spelled [] bytes some clean is = same_written _ _ is
   names_spelled (t ∷ ts) bytes some clean is =
-      let b = both_written (name_bytes t) (result_concat name_bytes ts) bytes is in
-      let own = name_spelled t b.first (All-head IsNotEmpty t ts some) (All-head HasNoZero t ts clean) b.first_is in
-      (b.first, b.rest, b.whole, own, names_spelled ts b.rest (All-tail IsNotEmpty t ts some) (All-tail HasNoZero t ts clean) b.rest_is)
+      let b = both_written _ _ _ is in
+      let own = name_spelled t _ (All-head IsNotEmpty t _ some) (All-head HasNoZero t _ clean) b.first_is in
+      (b.first, b.rest, b.whole, own, names_spelled ts b.rest (All-tail IsNotEmpty t _ some) (All-tail HasNoZero t _ clean) b.rest_is)
 
   pub directories-spelled : (ds : List LineText) (bytes : List ℕ) → All IsNotEmpty (drop 1 ds) → All HasNoZero (drop 1 ds) → directories_bytes ds ≡ Ok bytes
       → SpellsPaths bytes (map (bytes_in texts) (drop 1 ds))
   directories-spelled ds bytes some clean is =
-      let b = before_written (result_concat name_bytes (drop 1 ds)) (0 ∷ []) bytes is in
-      (b.front, b.whole, names_spelled (drop 1 ds) b.front some clean b.front_is)
+      let b = before_written _ _ _ is in
+      (b.front, b.whole, names_spelled _ _ some clean b.front_is)
 
   -- ---- files
 
@@ -63,42 +63,42 @@ module _ (texts : StringTables) where
     uleb directory,
     uleb time ++ uleb size,
     append_assoc (uleb directory) (uleb time) (uleb size),
-    unsigned_spelled directory d,
+    unsigned_spelled _ d,
     (
       time,
       uleb time,
       uleb size,
       refl,
-      unsigned_spelled time t,
-      (size, uleb size, [], sym (append-nil (uleb size)), unsigned_spelled size s, (refl, refl)),
+      unsigned_spelled _ t,
+      (size, uleb size, [], sym (append-nil (uleb size)), unsigned_spelled _ s, (refl, refl)),
     ),
   )
 
   file_spelled : (f : File) (bytes : List ℕ) → IsNotEmpty f.0.0 → HasNoZero f.0.0 → FitsFile f → file_bytes f ≡ Ok bytes
       → entry_production.Spells bytes (read_file f)
   file_spelled f bytes some clean fits is =
-      let b = before_written (name_bytes f.0.0) (uleb f.0.1 ++ uleb f.1.timestamp ++ uleb f.1.size) bytes is in
+      let b = before_written _ _ _ is in
       let path = bytes_in texts f.0.0 in
-      let numbers = numbers_spelled path f.0.1 f.1.timestamp f.1.size fits.directory fits.timestamp fits.size in
-      (path, b.front, uleb f.0.1 ++ uleb f.1.timestamp ++ uleb f.1.size, b.whole, name_spelled f.0.0 b.front some clean b.front_is, numbers)
+      let numbers = numbers_spelled _ _ _ _ fits.directory fits.timestamp fits.size in
+      (path, b.front, uleb f.0.1 ++ uleb f.1.timestamp ++ uleb f.1.size, b.whole, name_spelled _ _ some clean b.front_is, numbers)
 
   each_file_spelled : (fs : List File) (bytes : List ℕ) → All (λ k. IsNotEmpty k.0) (keys_of fs) → All (λ k. HasNoZero k.0) (keys_of fs) → All FitsFile fs
       → result_concat file_bytes fs ≡ Ok bytes
       → Each entry_production.Spells bytes (map read_file fs)
-  each_file_spelled [] bytes some clean fits is = same_written [] bytes is
+  each_file_spelled [] bytes some clean fits is = same_written _ _ is
   each_file_spelled (f ∷ fs) bytes some clean fits is =
-      let b = both_written (file_bytes f) (result_concat file_bytes fs) bytes is in
+      let b = both_written _ _ _ is in
       let own =
-      file_spelled f b.first (All-head (λ k. IsNotEmpty k.0) f.0 (keys_of fs) some) (All-head (λ k. HasNoZero k.0) f.0 (keys_of fs) clean)
-      (All-head FitsFile f fs fits) b.first_is in
+      file_spelled f _ (All-head (λ k. IsNotEmpty k.0) _ _ some) (All-head (λ k. HasNoZero k.0) _ _ clean)
+      (All-head FitsFile f _ fits) b.first_is in
       let rest =
-      each_file_spelled fs b.rest (All-tail (λ k. IsNotEmpty k.0) f.0 (keys_of fs) some) (All-tail (λ k. HasNoZero k.0) f.0 (keys_of fs) clean)
-      (All-tail FitsFile f fs fits) b.rest_is in
+      each_file_spelled fs b.rest (All-tail (λ k. IsNotEmpty k.0) _ _ some) (All-tail (λ k. HasNoZero k.0) _ _ clean)
+      (All-tail FitsFile f _ fits) b.rest_is in
       (b.first, b.rest, b.whole, own, rest)
 
   pub files-spelled : (fs : List File) (bytes : List ℕ) → All (λ k. IsNotEmpty k.0) (keys_of fs) → All (λ k. HasNoZero k.0) (keys_of fs) → All FitsFile fs
       → files_bytes fs ≡ Ok bytes
       → SpellsFiles bytes (map read_file fs)
   files-spelled fs bytes some clean fits is =
-      let b = before_written (result_concat file_bytes fs) (0 ∷ []) bytes is in
-      (b.front, b.whole, each_file_spelled fs b.front some clean fits b.front_is)
+      let b = before_written _ _ _ is in
+      (b.front, b.whole, each_file_spelled _ _ some clean fits b.front_is)

@@ -1,5 +1,5 @@
 -- The texts of a table of version 5 as values: their bytes spell these, and these stand for the texts.
-use Rattle.std.proofs.Common.{◌≡◌, ◌≢◌, ℕ, ◌+◌, ◌<◌, ◌^◌, Bool, true, false, List, [], ◌∷◌, ◌++◌, length, drop, get_or, Some, Ok, refl, sym, ap, ◌∙◌, subst}
+use Rattle.std.proofs.Common.{◌≡◌, ◌≢◌, ℕ, ◌+◌, ◌<◌, ◌^◌, Bool, true, false, List, [], ◌∷◌, length, drop, get_or, Some, Ok, refl, sym, ap, ◌∙◌, subst}
 use Rattle.std.proofs.Common.{arith, if◌then◌else◌, length-append}
 use Rattle.std.specs.Prelude.{Result, Err, nat_eq, slice_get, unwrap_or}
 use Rattle.std.proofs.lemmas.Bool.{eqb-true}
@@ -13,6 +13,7 @@ use Rattle.gimli_core.specs.inside.Form.{SpellsForm}
 use Rattle.gimli_core.specs.declared.common.Format.{Format}
 use Rattle.gimli_core.specs.declared.common.Format.TheVariants.{Dwarf64}
 use Rattle.gimli_core.specs.declared.attribute_value.AttributeValue.TheVariants.{String, DebugStrRef, DebugLineStrRef}
+use Rattle.gimli_bytes.specs.Hand.{plain}
 use Rattle.gimli_bytes.specs.Texts.{AreTexts, table_bytes, offset_of, StringTables}
 use Rattle.gimli_bytes.specs.declared.error.Error.{Error}
 use Rattle.gimli_bytes.specs.declared.error.Error.TheVariants.{LineStringFormMismatch}
@@ -40,10 +41,10 @@ text_there : (section : List ℕ) (texts : List (List ℕ)) (i : ℕ) → sectio
     → IsTextAt section (offset_of texts i) (unwrap_or (slice_get texts i) [])
 text_there section texts i same are within =
     let text = get_or texts i [] in
-    let found : slice_get texts i ≡ Some text = slice_get-get_or texts i [] within in
+    let found : slice_get texts i ≡ Some text = slice_get-get_or _ i _ within in
     rw found (record {
       rest = table_bytes (drop (i + 1) texts);
-      there = ap (drop (offset_of texts i)) same ∙ table_bytes-at texts i text found;
+      there = ap (drop (offset_of texts i)) same ∙ table_bytes-at _ i _ found;
       no_zero = are.no_zero i [] within;
     })
 
@@ -63,57 +64,58 @@ pub record IsReady (texts : StringTables) (t : LineText) : Type 0 where
 module _ (notation : Notation) (format : Format) (texts : StringTables)
     (strings_short : length (table_bytes texts.strings) < 2 ^ 64) (line_strings_short : length (table_bytes texts.line_strings) < 2 ^ 64) where
   text_spelled : (t : LineText) (bytes : List ℕ) → HasNoZero t → IsWithin texts t → (format ≡ Dwarf64 → IsOffsetHeld notation.limit texts t)
-      → text_bytes notation.big format texts t ≡ Ok bytes → (form_production notation format (text_form t)).Spells bytes (read_text texts t)
+      → text_bytes plain notation.big format texts t ≡ Ok bytes → (form_production notation format (text_form t)).Spells bytes (read_text texts t)
   text_spelled (Inline text) bytes clean within held is =
-      (text, bytes, [], sym (append-nil bytes), (recursion_from_All (λ b. b ≢ 0) text clean, same_written (text ++ 0 ∷ []) bytes is), (refl, refl))
+      (text, bytes, [], sym (append-nil bytes), (recursion_from_All (λ b. b ≢ 0) _ clean, same_written _ _ is), (refl, refl))
   text_spelled (InStrings i) bytes clean within held is =
-      let short = offset_short texts.strings i within in (
+      let short = offset_short _ i within in (
         offset_of texts.strings i,
         bytes,
         [],
         sym (append-nil bytes),
-        offset-spelled notation format (offset_of texts.strings i) bytes held (omega (arith, short, strings_short)) is,
+        offset-spelled _ _ _ _ held (omega (arith, short, strings_short)) is,
         (refl, refl),
       )
   text_spelled (InLineStrings i) bytes clean within held is =
-      let short = offset_short texts.line_strings i within in (
+      let short = offset_short _ i within in (
         offset_of texts.line_strings i,
         bytes,
         [],
         sym (append-nil bytes),
-        offset-spelled notation format (offset_of texts.line_strings i) bytes held (omega (arith, short, line_strings_short)) is,
+        offset-spelled _ _ _ _ held (omega (arith, short, line_strings_short)) is,
         (refl, refl),
       )
 
   -- a text that has the form of its table
   pub text-spelled : (form : ℕ) (t : LineText) (bytes : List ℕ) → IsReady texts t → (format ≡ Dwarf64 → IsOffsetHeld notation.limit texts t)
-      → text_in_form notation.big format texts form t ≡ Ok bytes
+      → text_in_form plain notation.big format texts form t ≡ Ok bytes
       → SpellsForm notation format form bytes (read_text texts t)
   text-spelled form t bytes ready held is = by (nat_eq (text_form t) form) refl is
     where
       by : (b : Bool) → nat_eq (text_form t) form ≡ b
-          → (let r : Result (List ℕ) Error = if b then text_bytes notation.big format texts t else Err LineStringFormMismatch in r) ≡ Ok bytes
+          → (let r : Result (List ℕ) Error = if b then text_bytes plain notation.big format texts t else Err LineStringFormMismatch in r) ≡ Ok bytes
           → SpellsForm notation format form bytes (read_text texts t)
       by true same is =
-          subst (λ (n : ℕ). SpellsForm notation format n bytes (read_text texts t)) (eqb-true (text_form t) form same)
-          (text_spelled t bytes ready.clean ready.within held is)
+          subst (λ n. SpellsForm notation format n bytes (read_text texts t)) (eqb-true (text_form t) form same)
+          (text_spelled t _ ready.clean ready.within held is)
       by false same is = absurd cc
 
 -- at least one byte is written of a text
-text_long : (big : Bool) (format : Format) (texts : StringTables) (t : LineText) (bytes : List ℕ) → text_bytes big format texts t ≡ Ok bytes → 0 < length bytes
+text_long : (big : Bool) (format : Format) (texts : StringTables) (t : LineText) (bytes : List ℕ) → text_bytes plain big format texts t ≡ Ok bytes
+    → 0 < length bytes
 text_long big format texts (Inline text) bytes is =
-    let long = ap length (same_written (text ++ 0 ∷ []) bytes is) ∙ length-append text (0 ∷ []) in
+    let long = ap length (same_written _ _ is) ∙ length-append text (0 ∷ []) in
     omega (arith, long)
-text_long big format texts (InStrings i) bytes is = word-long big format (offset_of texts.strings i) bytes is
-text_long big format texts (InLineStrings i) bytes is = word-long big format (offset_of texts.line_strings i) bytes is
+text_long big format texts (InStrings i) bytes is = word-long big format (offset_of texts.strings i) _ is
+text_long big format texts (InLineStrings i) bytes is = word-long big format (offset_of texts.line_strings i) _ is
 
 pub text-long : (big : Bool) (format : Format) (texts : StringTables) (form : ℕ) (t : LineText) (bytes : List ℕ)
-    → text_in_form big format texts form t ≡ Ok bytes → 0 < length bytes
+    → text_in_form plain big format texts form t ≡ Ok bytes → 0 < length bytes
 text-long big format texts form t bytes is = by (nat_eq (text_form t) form) is
   where
-    by : (b : Bool) → (let r : Result (List ℕ) Error = if b then text_bytes big format texts t else Err LineStringFormMismatch in r) ≡ Ok bytes
+    by : (b : Bool) → (let r : Result (List ℕ) Error = if b then text_bytes plain big format texts t else Err LineStringFormMismatch in r) ≡ Ok bytes
         → 0 < length bytes
-    by true is = text_long big format texts t bytes is
+    by true is = text_long _ format _ t _ is
     by false is = absurd cc
 
 -- ---- back
@@ -124,6 +126,6 @@ pub text-back : (sections : Sections) (texts : StringTables) → sections.string
     → (t : LineText) → IsWithin texts t → IsText sections (read_text texts t) (bytes_in texts t)
 text-back sections texts strings_are line_strings_are are_texts are_line_texts (Inline text) within = refl
 text-back sections texts strings_are line_strings_are are_texts are_line_texts (InStrings i) within =
-    text_there sections.strings texts.strings i strings_are are_texts within
+    text_there _ _ i strings_are are_texts within
 text-back sections texts strings_are line_strings_are are_texts are_line_texts (InLineStrings i) within =
-    text_there sections.line_strings texts.line_strings i line_strings_are are_line_texts within
+    text_there _ _ i line_strings_are are_line_texts within

@@ -8,6 +8,7 @@ use Rattle.gimli_core.specs.Numbers.{number_bytes}
 use Rattle.gimli_core.specs.declared.common.Format.{Format}
 use Rattle.gimli_core.specs.declared.common.Format.TheVariants.{Dwarf32, Dwarf64}
 use Rattle.gimli_core.specs.declared.error.Error.TheVariants.{OpcodeBaseZero}
+use Rattle.gimli_bytes.specs.Hand.{plain}
 use Rattle.gimli_bytes.specs.Number.{length_word}
 use Rattle.gimli_bytes.specs.declared.error.Error.{Error}
 use Rattle.gimli_bytes.specs.Texts.{StringTables}
@@ -20,8 +21,8 @@ use Rattle.gimli_build.specs.SameRow.{built_rules}
 use Rattle.gimli_build.specs.ReadsBack.{IsUnit}
 use Rattle.gimli_build.specs.FormatWord.{format_word}
 use Rattle.gimli_build.specs.Joined.{result_append}
-use Rattle.gimli_build.specs.Unit.{version_bytes, opening_bytes, line_encoding_bytes, operand_counts, opcode_bytes, tables_bytes, fields_bytes, header_bytes}
-use Rattle.gimli_build.specs.Unit.{program_bytes, inside_bytes, escape_bytes, whole_bytes}
+use Rattle.gimli_build.specs.Unit.{opening_bytes, line_encoding_bytes, operand_counts, opcode_bytes, tables_bytes, fields_bytes}
+use Rattle.gimli_build.specs.Unit.{program_bytes, escape_bytes, whole_bytes}
 use Rattle.gimli_build.proofs.writing.Frames.{size_4, size_8}
 use Rattle.gimli_build.proofs.writing.WrittenParts.{same_written, both_written, after_written, before_written, counted_written}
 use Rattle.gimli_build.proofs.spellings.EncodingSpellings.{positive-spelled, encoding-spelled, version-spelled, address-spelled, offset-spelled, length-spelled}
@@ -39,29 +40,29 @@ pub record UnitWritten (big : Bool) (p : Built) (texts : StringTables) (unit : L
   pub length_is : length_word big p.encoding.format (length inside) ≡ Ok length_bytes
   pub opening_is : opening_bytes big p.encoding ≡ Ok opening
   pub size_is : format_word big p.encoding.format (length fields) ≡ Ok size
-  pub fields_are : fields_bytes big p texts ≡ Ok fields
-  pub program_is : program_bytes big p ≡ Ok program
+  pub fields_are : fields_bytes plain big p texts ≡ Ok fields
+  pub program_is : program_bytes plain big p ≡ Ok program
   pub inside_is : inside ≡ opening ++ ((size ++ fields) ++ program)
   pub whole : unit ≡ (escape_bytes big p.encoding.format ++ length_bytes) ++ inside
 
 -- a front in two parts
 front_in_two : (whole front rest first second : List ℕ) → whole ≡ front ++ rest → front ≡ first ++ second → whole ≡ (first ++ second) ++ rest
-front_in_two whole front rest first second is parts = is ∙ ap (λ (l : List ℕ). l ++ rest) parts
+front_in_two whole front rest first second is parts = is ∙ ap (λ l. l ++ rest) parts
 
 -- a rest in three parts
 rest_in_three : (whole first rest header size fields last : List ℕ) → whole ≡ first ++ rest → rest ≡ header ++ last → header ≡ size ++ fields
     → whole ≡ first ++ ((size ++ fields) ++ last)
-rest_in_three whole first rest header size fields last is parts inner = is ∙ ap (λ (l : List ℕ). first ++ l) (parts ∙ ap (λ (l : List ℕ). l ++ last) inner)
+rest_in_three whole first rest header size fields last is parts inner = is ∙ ap (λ l. first ++ l) (parts ∙ ap (λ l. l ++ last) inner)
 
-pub unit_written : (big : Bool) (p : Built) (texts : StringTables) (unit : List ℕ) → whole_bytes big p texts ≡ Ok unit → UnitWritten big p texts unit
+pub unit_written : (big : Bool) (p : Built) (texts : StringTables) (unit : List ℕ) → whole_bytes plain big p texts ≡ Ok unit → UnitWritten big p texts unit
 unit_written big p texts unit is =
     let escape = escape_bytes big p.encoding.format in
     let word : ℕ → Result (List ℕ) Error = λ n. length_word big p.encoding.format n in
-    let a = counted_written (λ n. result_append (Ok escape) (word n)) (inside_bytes big p texts) unit is in
-    let b = after_written escape (word (length a.inside)) a.size a.size_is in
-    let c = both_written (opening_bytes big p.encoding) (result_append (header_bytes big p texts) (program_bytes big p)) a.inside a.inside_is in
-    let d = both_written (header_bytes big p texts) (program_bytes big p) c.rest c.rest_is in
-    let e = counted_written (λ n. format_word big p.encoding.format n) (fields_bytes big p texts) d.first d.first_is in
+    let a = counted_written (λ n. result_append (Ok escape) (word n)) _ _ is in
+    let b = after_written escape _ _ a.size_is in
+    let c = both_written _ _ _ a.inside_is in
+    let d = both_written _ _ _ c.rest_is in
+    let e = counted_written (λ n. format_word big p.encoding.format n) _ _ d.first_is in
     record {
       length_bytes = b.rest;
       opening = c.first;
@@ -74,8 +75,8 @@ unit_written big p texts unit is =
       size_is = e.size_is;
       fields_are = e.inside_is;
       program_is = d.rest_is;
-      inside_is = rest_in_three a.inside c.first c.rest d.first e.size e.inside d.rest c.whole d.whole e.whole;
-      whole = front_in_two unit a.size a.inside escape b.rest a.whole b.whole;
+      inside_is = rest_in_three _ _ _ _ e.size e.inside _ c.whole d.whole e.whole;
+      whole = front_in_two _ _ _ escape b.rest a.whole b.whole;
     }
 
 -- the fields, and their parts
@@ -83,25 +84,27 @@ pub record FieldsWritten (big : Bool) (p : Built) (texts : StringTables) (fields
   encoding : List ℕ
   pub tables : List ℕ
   encoding_is : line_encoding_bytes p.encoding.version p.line_encoding ≡ Ok encoding
-  pub tables_are : tables_bytes big p texts ≡ Ok tables
+  pub tables_are : tables_bytes plain big p texts ≡ Ok tables
   whole : fields ≡ (encoding ++ 13 ∷ []) ++ (operand_counts ++ tables)
 
-pub fields_written : (big : Bool) (p : Built) (texts : StringTables) (fields : List ℕ) → fields_bytes big p texts ≡ Ok fields → FieldsWritten big p texts fields
+pub fields_written : (big : Bool) (p : Built) (texts : StringTables) (fields : List ℕ) → fields_bytes plain big p texts ≡ Ok fields
+    → FieldsWritten big p texts fields
 fields_written big p texts fields is =
-    let a = both_written (line_encoding_bytes p.encoding.version p.line_encoding) (result_append (Ok opcode_bytes) (tables_bytes big p texts)) fields is in
-    let b = after_written opcode_bytes (tables_bytes big p texts) a.rest a.rest_is in
+    let a =
+    both_written _ _ _ is in
+    let b = after_written opcode_bytes _ _ a.rest_is in
     record {
       encoding = a.first;
       tables = b.rest;
       encoding_is = a.first_is;
       tables_are = b.rest_is;
-      whole = a.whole ∙ ap (λ (l : List ℕ). a.first ++ l) b.whole ∙ sym (append_assoc a.first (13 ∷ []) (operand_counts ++ b.rest));
+      whole = a.whole ∙ ap (λ l. a.first ++ l) b.whole ∙ sym (append_assoc a.first (13 ∷ []) (operand_counts ++ b.rest));
     }
 
 -- what is written of a unit is no longer than the unit
 pub inside-short : (big : Bool) (p : Built) (texts : StringTables) (unit : List ℕ) (w : UnitWritten big p texts unit) → length w.inside ≤ length unit
 inside-short big p texts unit w =
-    let whole = ap (λ (l : List ℕ). length l) w.whole in
+    let whole = ap (λ l. length l) w.whole in
     omega (arith, whole, length-append (escape_bytes big p.encoding.format ++ w.length_bytes) w.inside)
 
 -- in the 64-bit format twelve bytes stand before what the unit length counts
@@ -117,20 +120,20 @@ length_wide big Dwarf64 n word wide is =
 inside-wide : (big : Bool) (p : Built) (texts : StringTables) (unit : List ℕ) (w : UnitWritten big p texts unit) → p.encoding.format ≡ Dwarf64
     → length w.inside + 12 ≡ length unit
 inside-wide big p texts unit w wide =
-    let whole = ap (λ (l : List ℕ). length l) w.whole in
-    let front = length_wide big p.encoding.format (length w.inside) w.length_bytes wide w.length_is in
+    let whole = ap (λ l. length l) w.whole in
+    let front = length_wide _ _ _ _ wide w.length_is in
     omega (arith, whole, front, length-append (escape_bytes big p.encoding.format ++ w.length_bytes) w.inside)
 
 pub fields-short : (big : Bool) (p : Built) (texts : StringTables) (unit : List ℕ) (w : UnitWritten big p texts unit) → length w.fields ≤ length w.inside
 fields-short big p texts unit w =
-    let whole = ap (λ (l : List ℕ). length l) w.inside_is in
+    let whole = ap (λ l. length l) w.inside_is in
     omega
     (arith, whole, length-append w.opening ((w.size ++ w.fields) ++ w.program), length-append (w.size ++ w.fields) w.program, length-append w.size w.fields)
 
 -- the tables are no longer than the fields
 pub tables-short : (big : Bool) (p : Built) (texts : StringTables) (fields : List ℕ) (w : FieldsWritten big p texts fields) → length w.tables ≤ length fields
 tables-short big p texts fields w =
-    let whole = ap (λ (l : List ℕ). length l) w.whole in
+    let whole = ap (λ l. length l) w.whole in
     omega (arith, whole, length-append (w.encoding ++ 13 ∷ []) (operand_counts ++ w.tables), length-append operand_counts w.tables)
 
 -- ---- the header
@@ -164,8 +167,8 @@ module _ (notation : Notation) (unit_entry : UnitEntry) (sections : Sections) (p
     bytes,
     13 ∷ [],
     refl,
-    encoding-spelled p.encoding.version p.line_encoding bytes built.is.lines is,
-    (13, 13 ∷ [], [], refl, positive-spelled 13 OpcodeBaseZero (omega arith), (refl, refl)),
+    encoding-spelled _ _ _ built.is.lines is,
+    (13, 13 ∷ [], [], refl, positive-spelled _ OpcodeBaseZero (omega arith), (refl, refl)),
   )
 
   fields_spelled : (unit_size : ℕ) (fields program : List ℕ) (w : FieldsWritten notation.big p texts fields) (t : Tables w.tables)
@@ -175,7 +178,7 @@ module _ (notation : Notation) (unit_entry : UnitEntry) (sections : Sections) (p
     w.encoding ++ 13 ∷ [],
     operand_counts ++ w.tables,
     w.whole,
-    rules_spelled w.encoding w.encoding_is,
+    rules_spelled _ w.encoding_is,
     (
       operand_counts,
       operand_counts,
@@ -200,24 +203,24 @@ module _ (notation : Notation) (unit_entry : UnitEntry) (sections : Sections) (p
       → (opening_production notation unit_entry.address_size p.encoding.format).Spells (opening ++ (size ++ fields)) (opening_of fields)
   opening_spelled opening size fields same holds small opening_is size_is =
       let address : List ℕ = if nat_le p.encoding.version 4 then [] else p.encoding.address_size ∷ 0 ∷ [] in
-      let b = before_written (version_bytes notation.big p.encoding.version) address opening opening_is in (
+      let b = before_written _ _ _ opening_is in (
         p.encoding.version,
         b.front,
         address ++ (size ++ fields),
-        ap (λ (l : List ℕ). l ++ (size ++ fields)) b.whole ∙ append_assoc b.front address (size ++ fields),
-        version-spelled notation.big p.encoding.version b.front b.front_is,
+        ap (λ l. l ++ (size ++ fields)) b.whole ∙ append_assoc b.front address (size ++ fields),
+        version-spelled _ _ _ b.front_is,
         (
           p.encoding.address_size,
           address,
           size ++ fields,
           refl,
-          address-spelled p.encoding.version unit_entry.address_size p.encoding.address_size same (built.is.address_size refl),
+          address-spelled _ _ _ same (built.is.address_size refl),
           (
             length fields,
             size,
             fields,
             refl,
-            offset-spelled notation p.encoding.format (length fields) size holds small size_is,
+            offset-spelled _ _ _ _ holds small size_is,
             (fields, fields, [], sym (append-nil fields), (refl, refl), (refl, refl)),
           ),
         ),
@@ -230,18 +233,18 @@ module _ (notation : Notation) (unit_entry : UnitEntry) (sections : Sections) (p
     header = header_of v.tables t (length w.inside) (length w.fields) w.program
 
     unit_fields : (fields_production notation unit_entry (length w.inside) (opening_of w.fields) w.program).Spells w.fields header
-    unit_fields = fields_spelled (length w.inside) w.fields w.program v t
+    unit_fields = fields_spelled _ _ _ v t
 
     unit_spelled : (header_production notation unit_entry).Spells unit header
     unit_spelled =
-        let inside = inside-short notation.big p texts unit w in
+        let inside = inside-short notation.big p texts _ w in
         let fields = fields-short notation.big p texts unit w in
         let inside_held : p.encoding.format ≡ Dwarf64 → length w.inside < notation.limit = λ wide.
-        (let rest = inside-wide notation.big p texts unit w wide in let lt = holds wide in omega (arith, rest, lt)) in
+        (let rest = inside-wide notation.big p texts _ w wide in let lt = holds wide in omega (arith, rest, lt)) in
         let fields_held : p.encoding.format ≡ Dwarf64 → length w.fields < notation.limit = λ wide. (let lt = inside_held wide in omega (arith, fields, lt)) in
         let length_spelled =
-        length-spelled notation p.encoding.format (length w.inside) w.length_bytes inside_held (omega (arith, inside, small)) w.length_is in
-        let opened = opening_spelled w.opening w.size w.fields same fields_held (omega (arith, inside, fields, small)) w.opening_is w.size_is in
+        length-spelled _ _ _ _ inside_held (omega (arith, inside, small)) w.length_is in
+        let opened = opening_spelled _ _ _ same fields_held (omega (arith, inside, fields, small)) w.opening_is w.size_is in
         let parted : w.inside ≡ (w.opening ++ (w.size ++ w.fields)) ++ w.program = w.inside_is
         ∙ sym (append_assoc w.opening (w.size ++ w.fields) w.program) in (
           (length w.inside, p.encoding.format),
@@ -271,11 +274,11 @@ module _ (notation : Notation) (unit_entry : UnitEntry) (sections : Sections) (p
         let front = escape_bytes notation.big p.encoding.format ++ w.length_bytes in
         let inner : w.inside ≡ ((w.opening ++ w.size) ++ w.fields) ++ w.program =
         w.inside_is ∙ sym (append_assoc w.opening (w.size ++ w.fields) w.program)
-        ∙ ap (λ (l : List ℕ). l ++ w.program) (sym (append_assoc w.opening w.size w.fields)) in
+        ∙ ap (λ l. l ++ w.program) (sym (append_assoc w.opening w.size w.fields)) in
         w.whole
-        ∙ ap (λ (l : List ℕ). front ++ l) inner
+        ∙ ap (λ l. front ++ l) inner
         ∙ sym (append_assoc front ((w.opening ++ w.size) ++ w.fields) w.program)
-        ∙ ap (λ (l : List ℕ). l ++ w.program) (sym (append_assoc front (w.opening ++ w.size) w.fields))
+        ∙ ap (λ l. l ++ w.program) (sym (append_assoc front (w.opening ++ w.size) w.fields))
 
     pub unit-is : IsUnit notation unit_entry unit (header_of v.tables t (length w.inside) (length w.fields) w.program)
     unit-is = record {

@@ -10,6 +10,7 @@ use Rattle.gimli_core.specs.Values.{Value}
 use Rattle.gimli_core.specs.Production.{times}
 use Rattle.gimli_core.specs.declared.common.Format.{Format}
 use Rattle.gimli_core.specs.declared.common.Format.TheVariants.{Dwarf64}
+use Rattle.gimli_bytes.specs.Hand.{plain}
 use Rattle.gimli_bytes.specs.Number.{uleb}
 use Rattle.gimli_bytes.specs.Texts.{AreTexts, table_bytes, StringTables}
 use Rattle.gimli_bytes.specs.declared.error.Error.{Error}
@@ -20,7 +21,7 @@ use Rattle.gimli_line.specs.inside.header.HeaderGrammar.{SpellsFormats}
 use Rattle.gimli_build.specs.LineText.{LineText, bytes_in}
 use Rattle.gimli_build.specs.Tables.{File, Details}
 use Rattle.gimli_build.specs.Texts.{Sections, IsText, IsOptionalText, OneByOne}
-use Rattle.gimli_build.specs.Stored.{Stored, stored_details}
+use Rattle.gimli_build.specs.Stored.{stored_details}
 use Rattle.gimli_build.specs.Joined.{result_append, result_concat}
 use Rattle.gimli_build.specs.Built.{Built}
 use Rattle.gimli_build.specs.ReadsBack.{IsDirectory, IsFile}
@@ -40,15 +41,15 @@ module _ (notation : Notation) (format : Format) {X : Type 0} (formats : List (�
     (long : (x : X) (bytes : List ℕ) → part x ≡ Ok bytes → 0 < length bytes) where
   each_spelled : (xs : List X) (bytes : List ℕ) → All P xs → result_concat part xs ≡ Ok bytes
       → (times (length xs) (entry_production notation format (map read_format formats))).Spells bytes (map entry xs)
-  each_spelled [] bytes all is = (same_written [] bytes is, refl)
+  each_spelled [] bytes all is = (same_written _ _ is, refl)
   each_spelled (x ∷ xs) bytes all is =
-      let b = both_written (part x) (result_concat part xs) bytes is in
-      let rest = each_spelled xs b.rest (All-tail P x xs all) b.rest_is in (
+      let b = both_written _ _ _ is in
+      let rest = each_spelled xs b.rest (All-tail P x _ all) b.rest_is in (
         entry x,
         b.first,
         b.rest,
         b.whole,
-        spelled x b.first (All-head P x xs all) b.first_is,
+        spelled x b.first (All-head P x _ all) b.first_is,
         (map entry xs, b.rest, [], sym (append-nil b.rest), rest, (refl, refl)),
       )
 
@@ -56,7 +57,7 @@ module _ (notation : Notation) (format : Format) {X : Type 0} (formats : List (�
   few : (xs : List X) (bytes : List ℕ) → result_concat part xs ≡ Ok bytes → length xs ≤ length bytes
   few [] bytes is = omega arith
   few (x ∷ xs) bytes is =
-      let b = both_written (part x) (result_concat part xs) bytes is in
+      let b = both_written _ _ _ is in
       let whole = ap length b.whole ∙ length-append b.first b.rest in
       let first = long x b.first b.first_is in
       let rest = few xs b.rest b.rest_is in
@@ -102,9 +103,9 @@ module _ (notation : Notation) (p : Built) (texts : StringTables) (ready : AreRe
   IsFileReadable f = IsFileReady p texts f × (p.encoding.format ≡ Dwarf64 → IsFileHeld notation.limit p texts f)
 
   abbrev text_written : ℕ → LineText → Result (List ℕ) Error
-  text_written form t = text_in_form notation.big p.encoding.format texts form t
+  text_written form t = text_in_form plain notation.big p.encoding.format texts form t
 
-  pub new-directories-spelled : (bytes : List ℕ) → directory_table_bytes notation.big p.encoding.format texts p ≡ Ok bytes → length bytes < 2 ^ 64
+  pub new-directories-spelled : (bytes : List ℕ) → directory_table_bytes plain notation.big p.encoding.format texts p ≡ Ok bytes → length bytes < 2 ^ 64
       → (table_production notation p.encoding.format).Spells bytes (map read_format (directory_formats p), map (directory_entry texts) p.directories)
   new-directories-spelled bytes is small =
       let form = first_form p.directories in
@@ -115,50 +116,53 @@ module _ (notation : Notation) (p : Built) (texts : StringTables) (ready : AreRe
       p.directories bytes (directory-formats p) (λ i d lt. (ready.directories i d lt, λ wide. (held wide).directories i d lt)) is small
 
   -- the bytes of a source, where it is written
-  source_written : (f : File) (bytes : List ℕ) → source_bytes notation.big p.encoding.format texts p f ≡ Ok bytes
+  source_written : (f : File) (bytes : List ℕ) → source_bytes plain notation.big p.encoding.format texts p f ≡ Ok bytes
       → (p.file_has_source ≡ true → text_written (first_form (sources p.files)) (source_of p texts f) ≡ Ok bytes) × (p.file_has_source ≡ false → bytes ≡ [])
-  source_written f bytes is = by p.file_has_source (text_written (first_form (sources p.files)) (source_of p texts f)) is
+  source_written f bytes is = by _ _ is
     where
       by : (b : Bool) (r : Result (List ℕ) Error) → (let s : Result (List ℕ) Error = if b then r else Ok [] in s) ≡ Ok bytes
           → (b ≡ true → r ≡ Ok bytes) × (b ≡ false → bytes ≡ [])
       by true r is = (λ same. is, λ same. absurd cc)
-      by false r is = (λ same. absurd cc, λ same. same_written [] bytes is)
+      by false r is = (λ same. absurd cc, λ same. same_written _ _ is)
 
-  file_spelled : (f : File) (bytes : List ℕ) → IsFileReadable f → file_entry_bytes notation.big p.encoding.format texts p f ≡ Ok bytes
+  file_spelled : (f : File) (bytes : List ℕ) → IsFileReadable f → file_entry_bytes plain notation.big p.encoding.format texts p f ≡ Ok bytes
       → IsSpelled notation p.encoding.format (file_formats p) bytes (file_entry p texts f)
   file_spelled f bytes own is =
       let path_form = first_form (path_texts p.files) in
       let source_form = first_form (sources p.files) in
-      let source = source_bytes notation.big p.encoding.format texts p f in
-      let a = both_written (text_written path_form f.0.0) (result_append (Ok (detail_bytes p f)) source) bytes is in
-      let b = after_written (detail_bytes p f) source a.rest a.rest_is in
-      let s = source_written f b.rest b.rest_is in
+      let source = source_bytes plain notation.big p.encoding.format texts p f in
+      let a = both_written _ _ _ is in
+      let b = after_written _ _ _ a.rest_is in
+      let s = source_written f _ b.rest_is in
       let spell = text-spelled notation p.encoding.format texts strings_short line_strings_short in
-      let whole : bytes ≡ a.first ++ (detail_bytes p f ++ b.rest) = a.whole ∙ ap (λ (l : List ℕ). a.first ++ l) b.whole in
+      let whole : bytes ≡ a.first ++ (detail_bytes p f ++ b.rest) = a.whole ∙ ap (λ l. a.first ++ l) b.whole in
       let text = source_of p texts f in
       let list = formats_of p.file_has_timestamp p.file_has_size p.file_has_md5 p.file_has_source path_form source_form in
       let entry = file_entry p texts f in
       let spelled : IsSpelled notation p.encoding.format list (a.first ++ (detail_bytes p f ++ b.rest)) entry =
-      entry-spelled notation p.encoding.format p.file_has_timestamp p.file_has_size p.file_has_md5 p.file_has_source path_form source_form
-      (read_text texts f.0.0) f.0.1 f.1.timestamp f.1.size f.1.md5 (read_text texts text) a.first b.rest
+      entry-spelled notation p.encoding.format _ _ _ _ path_form _
+      _ _ _ _ _ _ _ _
       (spell path_form f.0.0 a.first own.0.path (λ wide. (own.1 wide).path) a.first_is) own.0.fits.directory own.0.fits.timestamp own.0.fits.size own.0.fits.md5
       (λ flag. spell source_form text b.rest (own.0.source flag) (λ wide. (own.1 wide).source flag) (s.0 flag)) s.1 in
       let same : IsSpelled notation p.encoding.format list bytes entry =
-      subst (λ (l : List ℕ). IsSpelled notation p.encoding.format list l entry) (sym whole) spelled in
-      subst (λ (l : List (ℕ × ℕ)). IsSpelled notation p.encoding.format l bytes entry) (sym (formats-same p)) same
+      subst (λ l. IsSpelled notation p.encoding.format list l entry) (sym whole) spelled in
+      subst (λ l. IsSpelled notation p.encoding.format l bytes entry) (sym (formats-same p)) same
 
-  file_long : (f : File) (bytes : List ℕ) → file_entry_bytes notation.big p.encoding.format texts p f ≡ Ok bytes → 0 < length bytes
+  file_long : (f : File) (bytes : List ℕ) → file_entry_bytes plain notation.big p.encoding.format texts p f ≡ Ok bytes → 0 < length bytes
   file_long f bytes is =
       let form = first_form (path_texts p.files) in
-      let a = both_written (text_written form f.0.0) (result_append (Ok (detail_bytes p f)) (source_bytes notation.big p.encoding.format texts p f)) bytes is in
+      let a =
+      both_written (text_written form f.0.0) (result_append (Ok (detail_bytes p f)) (source_bytes plain notation.big p.encoding.format texts p f)) bytes
+      is in
       let whole = ap length a.whole ∙ length-append a.first a.rest in
       let long = text-long notation.big p.encoding.format texts form f.0.0 a.first a.first_is in
       omega (arith, whole, long)
 
-  pub new-files-spelled : (bytes : List ℕ) → file_table_bytes notation.big p.encoding.format texts p ≡ Ok bytes → length bytes < 2 ^ 64
+  pub new-files-spelled : (bytes : List ℕ) → file_table_bytes plain notation.big p.encoding.format texts p ≡ Ok bytes → length bytes < 2 ^ 64
       → (table_production notation p.encoding.format).Spells bytes (map read_format (file_formats p), map (file_entry p texts) p.files)
   new-files-spelled bytes is small =
-      table_spelled notation p.encoding.format (file_formats p) IsFileReadable (file_entry_bytes notation.big p.encoding.format texts p) (file_entry p texts)
+      table_spelled notation p.encoding.format (file_formats p) IsFileReadable (file_entry_bytes plain notation.big p.encoding.format texts p)
+      (file_entry p texts)
       file_spelled file_long p.files bytes (file-formats p) (λ i d lt. (ready.files i d lt, λ wide. (held wide).files i d lt)) is small
 
 -- ---- what is read stands for what was built
@@ -167,13 +171,13 @@ module _ (sections : Sections) (p : Built) (texts : StringTables) (strings_are :
     (line_strings_are : sections.line_strings ≡ table_bytes texts.line_strings)
     (are_texts : AreTexts texts.strings) (are_line_texts : AreTexts texts.line_strings) where
   text_back : (t : LineText) → IsReady texts t → IsText sections (read_text texts t) (bytes_in texts t)
-  text_back t ready = text-back sections texts strings_are line_strings_are are_texts are_line_texts t ready.within
+  text_back t ready = text-back _ _ strings_are line_strings_are are_texts are_line_texts t ready.within
 
   pub new-directories-back : (ts : List LineText) → All (IsReady texts) ts
       → OneByOne (IsDirectory sections texts) (map path_of (map (directory_entry texts) ts)) ts
   new-directories-back [] all = tt
   new-directories-back (t ∷ ts) all =
-      (text_back t (All-head (IsReady texts) t ts all), new-directories-back ts (All-tail (IsReady texts) t ts all))
+      (text_back t (All-head (IsReady texts) t _ all), new-directories-back ts (All-tail (IsReady texts) t _ all))
 
   -- what a file keeps in version 5
   stored_new : (d : Details) → nat_le p.encoding.version 4 ≡ false → stored_details p texts d ≡ record {
@@ -198,26 +202,26 @@ module _ (sections : Sections) (p : Built) (texts : StringTables) (strings_are :
   seen_back f new own =
       let same = stored_new f.1 new in
       record {
-        path = text_back f.0.0 own.path;
+        path = text_back _ own.path;
         directory = refl;
-        timestamp = sym (ap (λ (s : Stored). s.timestamp) same);
-        size = sym (ap (λ (s : Stored). s.size) same);
-        md5 = sym (ap (λ (s : Stored). s.md5) same);
+        timestamp = sym (ap (λ s. s.timestamp) same);
+        size = sym (ap (λ s. s.size) same);
+        md5 = sym (ap (λ s. s.md5) same);
         source =
-            rw (ap (λ (s : Stored). s.source) same)
-            (source_back p.file_has_source (read_text texts (source_of p texts f)) (option_map_or (bytes_in texts) f.1.source [])
-            (λ flag. rw (← own.source_bytes flag) (text_back (source_of p texts f) (own.source flag))));
+            rw (ap (λ s. s.source) same)
+            (source_back _ _ _
+            (λ flag. rw (← own.source_bytes flag) (text_back _ (own.source flag))));
       }
 
   file_back : (f : File) → nat_le p.encoding.version 4 ≡ false → IsFileReady p texts f → IsFile sections p texts (file_of_entry (file_entry p texts f)) f
   file_back f new own =
-      subst (λ (r : ReadFile). IsFile sections p texts r f)
-      (sym (file-read p.file_has_timestamp p.file_has_size p.file_has_md5 p.file_has_source
-      (read_text texts f.0.0) f.0.1 f.1.timestamp f.1.size f.1.md5 (read_text texts (source_of p texts f)) own.fits.md5))
+      subst (λ r. IsFile sections p texts r f)
+      (sym (file-read _ _ _ _
+      _ _ _ _ _ _ own.fits.md5))
       (seen_back f new own)
 
   pub new-files-back : (fs : List File) → nat_le p.encoding.version 4 ≡ false → All (IsFileReady p texts) fs
       → OneByOne (IsFile sections p texts) (map file_of_entry (map (file_entry p texts) fs)) fs
   new-files-back [] new all = tt
   new-files-back (f ∷ fs) new all =
-      (file_back f new (All-head (IsFileReady p texts) f fs all), new-files-back fs new (All-tail (IsFileReady p texts) f fs all))
+      (file_back f new (All-head (IsFileReady p texts) f _ all), new-files-back fs new (All-tail (IsFileReady p texts) f _ all))

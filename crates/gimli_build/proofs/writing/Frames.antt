@@ -1,6 +1,6 @@
 -- A length that is written once what it counts is there.
 use Rattle.std.proofs.Common.{◌≡◌, ℕ, ◌+◌, ◌-◌, ◌<◌, ◌^◌, Bool, true, false, List, [], ◌++◌, length, take, drop, refl, sym, ap, ◌∙◌, arith, append_assoc}
-use Rattle.std.proofs.Common.{length-append, nat_lt, if◌then◌else◌, Ok, Err}
+use Rattle.std.proofs.Common.{length-append, nat_lt, if◌then◌else◌, Ok, Err, OnOk, IfErr, ◌⊎◌}
 use Rattle.std.proofs.lemmas.Bool.{le-ltb, lt-ltb}
 use Rattle.std.proofs.lemmas.List.{take_at, drop_at}
 use Rattle.std.specs.Prelude.{Result}
@@ -10,15 +10,16 @@ use Rattle.gimli_core.specs.declared.common.Format.TheVariants.{Dwarf32, Dwarf64
 use Rattle.gimli_bytes.specs.Written.{Appends, overwrite_of, patch}
 use Rattle.gimli_bytes.specs.Number.{udata, open_length, escape_size, length_word}
 use Rattle.gimli_bytes.specs.declared.error.Error.{Error}
-use Rattle.gimli_bytes.specs.declared.error.Error.TheVariants.{ValueTooLarge, InitialLengthOverflow}
 use Rattle.gimli_build.specs.FormatWord.{format_word}
 use Rattle.gimli_build.specs.Joined.{result_append, after_length}
 use Rattle.gimli_build.specs.Unit.{escape_bytes}
+use Rattle.gimli_build.proofs.writing.Joined.{on_ok, if_err, or_wanted}
+use Rattle.gimli_build.proofs.writing.Writes.{Leaves}
 
 -- other bytes in the middle, as long as those that stand there
 patched_middle : (a b other c : List ℕ) (at : ℕ) → length other ≡ length b → length a ≡ at → overwrite_of (a ++ b ++ c) at other ≡ Ok (a ++ other ++ c)
 patched_middle a b other c at same position =
-    let whole : length (a ++ b ++ c) ≡ length a + length b + length c = length-append (a ++ b) c ∙ ap (λ (x : ℕ). x + length c) (length-append a b) in
+    let whole : length (a ++ b ++ c) ≡ length a + length b + length c = length-append (a ++ b) c ∙ ap (λ x. x + length c) (length-append a b) in
     let first : nat_lt (length (a ++ b ++ c)) at ≡ false = le-ltb (length (a ++ b ++ c)) at (omega (arith, whole, position)) in
     let second : nat_lt (length (a ++ b ++ c)) (at + length other)
     ≡ false = le-ltb (length (a ++ b ++ c)) (at + length other) (omega (arith, whole, position, same)) in
@@ -38,7 +39,7 @@ module _ (full length_of : ℕ → Result (List ℕ) Error) (escape blank old c1
   whole : (bytes : List ℕ) → body ≡ Ok bytes → c2 ≡ (old ++ escape) ++ blank ++ bytes
   whole bytes is =
       let written : c2 ≡ c1 ++ bytes = rw is at written in
-      written ∙ ap (λ (l : List ℕ). l ++ bytes) opened
+      written ∙ ap (λ l. l ++ bytes) opened
 
   count : (bytes : List ℕ) → body ≡ Ok bytes → n ≡ length bytes
   count bytes is =
@@ -48,33 +49,38 @@ module _ (full length_of : ℕ → Result (List ℕ) Error) (escape blank old c1
 
   known : (bytes : List ℕ) → body ≡ Ok bytes → after_length full body ≡ result_append (result_append (Ok escape) (length_of n)) (Ok bytes)
   known bytes is =
-      ap (after_length full) is ∙ ap (λ (r : Result (List ℕ) Error). result_append r (Ok bytes)) (ap full (sym (count bytes is)) ∙ is_full n)
+      ap (after_length full) is ∙ ap (λ r. result_append r (Ok bytes)) (ap full (sym (count _ is)) ∙ is_full n)
 
   put : (bytes word : List ℕ) → body ≡ Ok bytes → length_of n ≡ Ok word → overwrite_of c2 position word ≡ Ok ((old ++ escape) ++ word ++ bytes)
   put bytes word is so =
-      ap (λ (l : List ℕ). overwrite_of l position word) (whole bytes is)
-      ∙ patched_middle (old ++ escape) blank word bytes position (as_long word so) (length-append old escape ∙ sym at)
+      ap (λ l. overwrite_of l position word) (whole _ is)
+      ∙ patched_middle _ _ _ _ _ (as_long word so) (length-append old escape ∙ sym at)
 
-  pub framed : patch (length_of n) c2 position ≡ Ok new → Appends (after_length full body) old new
-  framed h = by body refl (length_of n) refl h
+  framed : patch (length_of n) c2 position ≡ Ok new → Appends (after_length full body) old new
+  framed h = by _ refl _ refl h
     where
       by : (b : Result (List ℕ) Error) → body ≡ b → (w : Result (List ℕ) Error) → length_of n ≡ w → patch w c2 position ≡ Ok new
           → Appends (after_length full body) old new
       by (Err e) is w so h = absurd (rw is at written)
       by (Ok bytes) is (Err e) so h = cc
       by (Ok bytes) is (Ok word) so h =
-          let shape : after_length full body ≡ Ok ((escape ++ word) ++ bytes) = known bytes is
-          ∙ ap (λ (r : Result (List ℕ) Error). result_append (result_append (Ok escape) r) (Ok bytes)) so in
-          let same : new ≡ (old ++ escape) ++ word ++ bytes = sym (same_ok ((old ++ escape) ++ word ++ bytes) new (sym (put bytes word is so) ∙ h)) in
-          rw shape (same ∙ ap (λ (l : List ℕ). l ++ bytes) (append_assoc old escape word) ∙ append_assoc old (escape ++ word) bytes)
+          let shape : after_length full body ≡ Ok ((escape ++ word) ++ bytes) = known _ is
+          ∙ ap (λ r. result_append (result_append (Ok escape) r) (Ok bytes)) so in
+          let same : new ≡ (old ++ escape) ++ word ++ bytes = sym (same_ok _ _ (sym (put _ _ is so) ∙ h)) in
+          rw shape (same ∙ ap (λ l. l ++ bytes) (append_assoc old escape word) ∙ append_assoc old (escape ++ word) bytes)
 
-  pub frame_refused : (e : Error) → patch (length_of n) c2 position ≡ Err e → after_length full body ≡ Err e
-  frame_refused e h = by body refl (length_of n) refl h
+  frame_refused : (e : Error) → patch (length_of n) c2 position ≡ Err e → after_length full body ≡ Err e
+  frame_refused e h = by _ refl _ refl h
     where
       by : (b : Result (List ℕ) Error) → body ≡ b → (w : Result (List ℕ) Error) → length_of n ≡ w → patch w c2 position ≡ Err e → after_length full body ≡ Err e
       by (Err d) is w so h = absurd (rw is at written)
-      by (Ok bytes) is (Err d) so h = known bytes is ∙ ap (λ (r : Result (List ℕ) Error). result_append (result_append (Ok escape) r) (Ok bytes)) so ∙ h
-      by (Ok bytes) is (Ok word) so h = absurd (let never = sym (put bytes word is so) ∙ h in cc)
+      by (Ok bytes) is (Err d) so h = known _ is ∙ ap (λ r. result_append (result_append (Ok escape) r) (Ok bytes)) so ∙ h
+      by (Ok bytes) is (Ok word) so h = absurd (let never = sym (put _ _ is so) ∙ h in cc)
+
+  -- so much of one view of a writer
+  pub framed_leaves : {X : Type 0} {Own : Error → Type 0} {r : Result X Error} → OnOk r (patch (length_of n) c2 position ≡ Ok new)
+      → IfErr r (λ e. Own e ⊎ (patch (length_of n) c2 position ≡ Err e)) → Leaves Own r (after_length full body) old new
+  framed_leaves {r = r} ok err = record { ok = on_ok r framed ok; err = if_err r (λ e. or_wanted (frame_refused e)) err }
 
 -- ---- words
 
@@ -111,13 +117,13 @@ ok_if_if false false xs ys d e h = cc
 
 pub length_word_long : (big : Bool) (format : Format) (n : ℕ) (word : List ℕ) → length_word big format n ≡ Ok word → length word ≡ length (open_word big format)
 length_word_long big Dwarf32 n word h =
-    ap length (ok_if_if (nat_lt n 0xffff_fff0) (nat_lt n (2 ^ 32)) (number_bytes big 4 n) word InitialLengthOverflow ValueTooLarge h) ∙ size_4 big n
-    ∙ sym (size_4 big 0)
-length_word_long big Dwarf64 n word h = ap length (sym (same_ok (number_bytes big 8 n) word h)) ∙ size_8 big n ∙ sym (size_8 big 0)
+    ap length (ok_if_if _ _ _ _ _ _ h) ∙ size_4 _ n
+    ∙ sym (size_4 _ 0)
+length_word_long big Dwarf64 n word h = ap length (sym (same_ok _ _ h)) ∙ size_8 _ n ∙ sym (size_8 _ 0)
 
 pub header_word_long : (big : Bool) (format : Format) (n : ℕ) (word : List ℕ) → format_word big format n ≡ Ok word → length word ≡ length (open_word big format)
-header_word_long big Dwarf32 n word h = ap length (ok_if (nat_lt n (2 ^ 32)) (number_bytes big 4 n) word ValueTooLarge h) ∙ size_4 big n ∙ sym (size_4 big 0)
-header_word_long big Dwarf64 n word h = ap length (sym (same_ok (number_bytes big 8 n) word h)) ∙ size_8 big n ∙ sym (size_8 big 0)
+header_word_long big Dwarf32 n word h = ap length (ok_if _ _ _ _ h) ∙ size_4 _ n ∙ sym (size_4 _ 0)
+header_word_long big Dwarf64 n word h = ap length (sym (same_ok _ _ h)) ∙ size_8 _ n ∙ sym (size_8 _ 0)
 
 -- where 64 bits hold a number, it is written as a word of the format is
 pub word_is : (big : Bool) (format : Format) (n : ℕ) → n < 2 ^ 64 → udata big n (word_size format) ≡ format_word big format n

@@ -7,13 +7,13 @@ use Rattle.gimli_bytes.specs.declared.sink.Sink.{Ghosts}
 use Rattle.gimli_line.specs.run.Instruction.{Ins}
 use Rattle.gimli_build.specs.InstructionBytes.{instructions_bytes}
 use Rattle.gimli_build.specs.Joined.{result_append}
-use Rattle.gimli_build.specs.inside.Writes.{Writes}
+use Rattle.gimli_build.specs.inside.Writes.{Writes, always}
 use Rattle.gimli_build.proofs.writing.Joins.{bytes_append}
 
 -- four parts
 pub four_parts : {W X : Type 0} {sink : Ghosts W} {old new : W} {r : Result X Error} (f g h k : List Ins)
-    → Writes sink old new r (Ok (instructions_bytes f ++ instructions_bytes g ++ instructions_bytes h ++ instructions_bytes k))
-    → Writes sink old new r (Ok (instructions_bytes (f ++ g ++ h ++ k)))
+    → Writes sink old new r (always (Ok (instructions_bytes f ++ instructions_bytes g ++ instructions_bytes h ++ instructions_bytes k)))
+    → Writes sink old new r (always (Ok (instructions_bytes (f ++ g ++ h ++ k))))
 four_parts f g h k so = rw (bytes_append (f ++ g ++ h) k, bytes_append (f ++ g) h, bytes_append f g) so
 
 -- the parts of a set address

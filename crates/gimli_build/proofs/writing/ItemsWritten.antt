@@ -1,5 +1,5 @@
 -- Items written one after the other.
-use Rattle.std.proofs.Common.{IsTrue, inl, inr, ◌≡◌, ℕ, ◌+◌, ◌<◌, ◌^◌, Bool, List, [], ◌∷◌, ◌++◌, Ok, Err, refl, sym, ap, ◌∙◌, append_assoc, lit<, length}
+use Rattle.std.proofs.Common.{IsTrue, ◌≡◌, ℕ, ◌+◌, ◌<◌, ◌^◌, Bool, List, [], ◌∷◌, ◌++◌, Ok, Err, refl, sym, ap, ◌∙◌, append_assoc, lit<, length}
 use Rattle.std.proofs.Common.{get_or, add-one, take}
 use Rattle.std.proofs.lemmas.List.{append-nil}
 use Rattle.std.proofs.Math.Seq.{take-suc}
@@ -16,114 +16,115 @@ use Rattle.gimli_build.specs.declared.built.items.BuiltItem.TheVariants.{SetAddr
 use Rattle.gimli_build.specs.Advance.{CanEncode, IsPosition}
 use Rattle.gimli_build.specs.Conditions.{AreBuilt}
 use Rattle.gimli_build.specs.Joined.{result_append}
-use Rattle.gimli_build.specs.inside.Joined.{RefusesFor}
-use Rattle.gimli_build.specs.inside.Writes.{WritesBy}
-use Rattle.gimli_build.specs.Items.{item_bytes_by, items_bytes_by, next_previous, FitsItem, AreFit}
+use Rattle.gimli_build.specs.inside.Writes.{Writes}
+use Rattle.gimli_build.specs.Items.{item_bytes, items_bytes, next_previous, FitsItem, AreFit}
 use Rattle.gimli_build.proofs.reading.ItemRuns.{start_position}
-use Rattle.gimli_build.proofs.writing.Joined.{appended_bytes, joined-joined, begins_then, or_wanted}
+use Rattle.gimli_build.proofs.writing.Joined.{appended_bytes, joined-joined, begins_self, begins_then}
+use Rattle.gimli_build.proofs.writing.Writes.{later_unwritten, done_written}
 
 -- these bytes stand for the items so far, and those are left
 pub record Standing (hand : Hand) (big : Bool) (encoding : Encoding) (e : LineEncoding) (whole : Result (List ℕ) Error) (old new : List ℕ) (previous : LineRow)
     (left : List BuiltItem) : Type 0 where
   pub done : List ℕ
   pub written : new ≡ old ++ done
-  pub parts : whole ≡ result_append (Ok done) (items_bytes_by hand big encoding e previous left)
+  pub parts : whole ≡ result_append (Ok done) (items_bytes hand big encoding e previous left)
 
 -- one item more
 pub standing_more : (hand : Hand) (big : Bool) (encoding : Encoding) (e : LineEncoding) (whole : Result (List ℕ) Error) (old new newer : List ℕ)
     (previous : LineRow)
     (item : BuiltItem) (left : List BuiltItem)
-    → Standing hand big encoding e whole old new previous (item ∷ left) → Appends (item_bytes_by hand big encoding e previous item) new newer
+    → Standing hand big encoding e whole old new previous (item ∷ left) → Appends (item_bytes hand big encoding e previous item) new newer
     → Standing hand big encoding e whole old newer (next_previous encoding.version e.default_is_stmt previous item) left
 standing_more hand big encoding e whole old new newer previous item left so more =
-    let a = appended_bytes (item_bytes_by hand big encoding e previous item) new newer more in
-    let rest = items_bytes_by hand big encoding e (next_previous encoding.version e.default_is_stmt previous item) left in
+    let a = appended_bytes _ _ _ more in
+    let rest = items_bytes hand big encoding e (next_previous encoding.version e.default_is_stmt previous item) left in
     record {
       done = so.done ++ a.0;
-      written = a.2 ∙ ap (λ (l : List ℕ). l ++ a.0) so.written ∙ append_assoc old so.done a.0;
-      parts = so.parts ∙ ap (λ (r : Result (List ℕ) Error). result_append (Ok so.done) (result_append r rest)) a.1 ∙ joined-joined so.done a.0 rest;
+      written = a.2 ∙ ap (λ l. l ++ a.0) so.written ∙ append_assoc old so.done a.0;
+      parts = so.parts ∙ ap (λ r. result_append (Ok so.done) (result_append r rest)) a.1 ∙ joined-joined _ _ _;
     }
 
 -- a refused item is what refuses
 pub standing_refused : (hand : Hand) (big : Bool) (encoding : Encoding) (e : LineEncoding) (whole : Result (List ℕ) Error) (old new : List ℕ)
     (previous : LineRow)
     (item : BuiltItem) (left : List BuiltItem) (d : Error)
-    → Standing hand big encoding e whole old new previous (item ∷ left) → item_bytes_by hand big encoding e previous item ≡ Err d → whole ≡ Err d
+    → Standing hand big encoding e whole old new previous (item ∷ left) → item_bytes hand big encoding e previous item ≡ Err d → whole ≡ Err d
 standing_refused hand big encoding e whole old new previous item left d so refused =
     so.parts
     ∙ ap
-    (λ (r : Result (List ℕ) Error). result_append (Ok so.done)
-    (result_append r (items_bytes_by hand big encoding e (next_previous encoding.version e.default_is_stmt previous item) left)))
+    (λ r. result_append (Ok so.done)
+    (result_append r (items_bytes hand big encoding e (next_previous encoding.version e.default_is_stmt previous item) left)))
     refused
 
 -- all of them
 pub standing_end : (hand : Hand) (big : Bool) (encoding : Encoding) (e : LineEncoding) (whole : Result (List ℕ) Error) (old new : List ℕ) (previous : LineRow)
     → Standing hand big encoding e whole old new previous [] → Appends whole old new
 standing_end hand big encoding e whole old new previous so =
-    let all : whole ≡ Ok so.done = so.parts ∙ ap (λ (l : List ℕ). let s : Result (List ℕ) Error = Ok l in s) (append-nil so.done) in
+    let all : whole ≡ Ok so.done = so.parts ∙ ap (λ l. let s : Result (List ℕ) Error = Ok l in s) (append-nil so.done) in
     rw all so.written
 
 pub standing_start : (hand : Hand) (big : Bool) (encoding : Encoding) (e : LineEncoding) (old : List ℕ) (previous : LineRow) (items : List BuiltItem)
-    → Standing hand big encoding e (items_bytes_by hand big encoding e previous items) old old previous items
+    → Standing hand big encoding e (items_bytes hand big encoding e previous items) old old previous items
 standing_start hand big encoding e old previous items = record {
   done = [];
   written = sym (append-nil old);
-  parts = nothing (items_bytes_by hand big encoding e previous items);
+  parts = nothing _;
 }
   where
     nothing : (r : Result (List ℕ) Error) → r ≡ result_append (Ok []) r
     nothing (Ok bytes) = refl
     nothing (Err d) = refl
 
--- a refused item, after those so far
-pub items_unwritten : {W X Y : Type 0} {sink : Ghosts W} {old mid new : W} {d : Error} (encoding : Encoding) (e : LineEncoding)
-    (whole : Hand → Result (List ℕ) Error) (previous : LineRow) (item : BuiltItem) (left : List BuiltItem) → Begins (sink.contents old) (sink.contents mid)
-    → sink.big mid ≡ sink.big old → (IsTrue (sink.completes old) → IsTrue (sink.completes mid))
-    → (IsTrue sink.keeps_bytes → Standing plain (sink.big old) encoding e (whole plain) (sink.contents old) (sink.contents mid) previous (item ∷ left))
-    → ((at : Placement) → IsTrue (sink.completes old)
-    → Standing (sink.hand at) (sink.big old) encoding e (whole (sink.hand at)) (sink.completed at old) (sink.completed at mid) previous (item ∷ left))
-    → WritesBy {X = X} sink mid new (Err d) (λ hand. item_bytes_by hand (sink.big old) encoding e previous item) → WritesBy {X = Y} sink old new (Err d) whole
-items_unwritten {sink = sink} {old = old} {mid = mid} {new = new} {d = d} encoding e whole previous item left begins same stays so by refused = record {
-  keeps = begins_then (sink.contents old) (sink.contents mid) (sink.contents new) begins refused.keeps;
-  ordered = refused.ordered ∙ same;
-  stays = λ completes. refused.stays (stays completes);
-  ok = λ keeps_bytes. tt;
-  completed = λ at completes. tt;
-  err = λ keeps_bytes fails_for_memory_alone. first (so keeps_bytes) (refused.err keeps_bytes fails_for_memory_alone);
-  own = λ keeps_bytes.
-      or_wanted (standing_refused plain (sink.big old) encoding e (whole plain) (sink.contents old) (sink.contents mid) previous item left d (so keeps_bytes))
-      (refused.own keeps_bytes);
-  completed_own = λ at completes.
-      or_wanted
-      (standing_refused (sink.hand at) (sink.big old) encoding e (whole (sink.hand at)) (sink.completed at old) (sink.completed at mid) previous item left d
-      (by at completes))
-      (refused.completed_own at (stays completes));
+-- the items so far are written, in a call that writes these
+pub record Written {W : Type 0} (sink : Ghosts W) (big : Bool) (encoding : Encoding) (e : LineEncoding) (whole : Hand → Result (List ℕ) Error) (old new : W)
+    (previous : LineRow) (left : List BuiltItem) : Type 0 where
+  pub keeps : Begins (sink.contents old) (sink.contents new)
+  pub ordered : sink.big new ≡ sink.big old
+  pub stays : IsTrue (sink.completes old) → IsTrue (sink.completes new)
+  pub held : IsTrue sink.keeps_bytes → Standing plain big encoding e (whole plain) (sink.contents old) (sink.contents new) previous left
+  pub linked : (at : Placement) → IsTrue (sink.completes old)
+      → Standing (sink.hand at) big encoding e (whole (sink.hand at)) (sink.completed at old) (sink.completed at new) previous left
+
+pub written_more : {W X : Type 0} {sink : Ghosts W} {old mid new : W} {x : X} {big : Bool} {encoding : Encoding} {e : LineEncoding}
+    {whole : Hand → Result (List ℕ) Error} {previous : LineRow} {item : BuiltItem} {left : List BuiltItem}
+    → Written sink big encoding e whole old mid previous (item ∷ left) → Writes sink mid new (Ok x) (λ hand. item_bytes hand big encoding e previous item)
+    → Written sink big encoding e whole old new (next_previous encoding.version e.default_is_stmt previous item) left
+written_more {sink = sink} {big = big} {encoding = encoding} {e = e} {whole = whole} {previous = previous} {item = item} {left = left} so more = record {
+  keeps = begins_then _ _ _ so.keeps more.keeps;
+  ordered = more.ordered ∙ so.ordered;
+  stays = λ completes. more.stays (so.stays completes);
+  held = λ keeps_bytes. standing_more _ _ _ e _ _ _ _ _ _ _ (so.held keeps_bytes) (more.ok keeps_bytes);
+  linked =
+      λ at completes.
+      standing_more _ _ _ e _ _ _ _ _ _ _ (so.linked at completes)
+      (more.completed at (so.stays completes));
 }
-  where
-    first : Standing plain (sink.big old) encoding e (whole plain) (sink.contents old) (sink.contents mid) previous (item ∷ left)
-        → RefusesFor (item_bytes_by plain (sink.big old) encoding e previous item) d → RefusesFor (whole plain) d
-    first so (inl memory) = inl memory
-    first so (inr is) =
-        inr (standing_refused plain (sink.big old) encoding e (whole plain) (sink.contents old) (sink.contents mid) previous item left d so is)
+
+-- a refused item, after those so far
+pub items_unwritten : {W X Y : Type 0} {sink : Ghosts W} {old mid new : W} {d : Error} {big : Bool} {encoding : Encoding} {e : LineEncoding}
+    {whole : Hand → Result (List ℕ) Error} {previous : LineRow} {item : BuiltItem} {left : List BuiltItem}
+    → Written sink big encoding e whole old mid previous (item ∷ left)
+    → Writes {X = X} sink mid new (Err d) (λ hand. item_bytes hand big encoding e previous item) → Writes {X = Y} sink old new (Err d) whole
+items_unwritten {sink = sink} {d = d} {big = big} {encoding = encoding} {e = e} {whole = whole} {previous = previous} {item = item} {left = left} so refused =
+    later_unwritten _ _ so.keeps so.ordered so.stays
+    (λ keeps_bytes. standing_refused _ _ _ e _ _ _ _ _ _ d (so.held keeps_bytes))
+    (λ at completes. standing_refused _ _ _ e _ _ _ _ _ _ d (so.linked at completes)) refused
 
 -- all items
-pub items_written : {W X : Type 0} {sink : Ghosts W} {old new : W} {x : X} (encoding : Encoding) (e : LineEncoding) (whole : Hand → Result (List ℕ) Error)
-    (previous : LineRow) → Begins (sink.contents old) (sink.contents new) → sink.big new ≡ sink.big old
-    → (IsTrue (sink.completes old) → IsTrue (sink.completes new))
-    → (IsTrue sink.keeps_bytes → Standing plain (sink.big old) encoding e (whole plain) (sink.contents old) (sink.contents new) previous [])
-    → ((at : Placement) → IsTrue (sink.completes old)
-    → Standing (sink.hand at) (sink.big old) encoding e (whole (sink.hand at)) (sink.completed at old) (sink.completed at new) previous [])
-    → WritesBy sink old new (Ok x) whole
-items_written {sink = sink} {old = old} {new = new} encoding e whole previous begins same stays so by = record {
-  keeps = begins;
-  ordered = same;
-  stays = stays;
-  ok = λ keeps_bytes. standing_end plain (sink.big old) encoding e (whole plain) (sink.contents old) (sink.contents new) previous (so keeps_bytes);
-  completed = λ at completes.
-      standing_end (sink.hand at) (sink.big old) encoding e (whole (sink.hand at)) (sink.completed at old) (sink.completed at new) previous (by at completes);
-  err = λ keeps_bytes fails_for_memory_alone. tt;
-  own = λ keeps_bytes. tt;
-  completed_own = λ at completes. tt;
+pub items_written : {W X : Type 0} {sink : Ghosts W} {old new : W} {x : X} {big : Bool} {encoding : Encoding} {e : LineEncoding}
+    {whole : Hand → Result (List ℕ) Error} {previous : LineRow} → Written sink big encoding e whole old new previous [] → Writes sink old new (Ok x) whole
+items_written {sink = sink} {big = big} {encoding = encoding} {e = e} {whole = whole} {previous = previous} so =
+    done_written so.keeps so.ordered so.stays (λ keeps_bytes. standing_end _ _ _ e _ _ _ _ (so.held keeps_bytes))
+    (λ at completes. standing_end _ _ _ e _ _ _ _ (so.linked at completes))
+
+pub none_standing : {W : Type 0} (sink : Ghosts W) (big : Bool) (encoding : Encoding) (e : LineEncoding) (old : W) (previous : LineRow) (items : List BuiltItem)
+    → Written sink big encoding e (λ hand. items_bytes hand big encoding e previous items) old old previous items
+none_standing sink big encoding e old previous items = record {
+  keeps = begins_self _;
+  ordered = refl;
+  stays = λ completes. completes;
+  held = λ keeps_bytes. standing_start _ _ _ e _ _ _;
+  linked = λ at completes. standing_start _ _ _ e _ _ _;
 }
 
 -- where the walk is, and what is left can still be built

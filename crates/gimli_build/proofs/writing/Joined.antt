@@ -9,7 +9,6 @@ use Rattle.std.proofs.lemmas.List.Elements.{All-head, All-drop}
 use Rattle.gimli_bytes.specs.Written.{Begins, Appends}
 use Rattle.gimli_bytes.specs.declared.error.Error.{Error}
 use Rattle.gimli_build.specs.Joined.{result_append, result_concat}
-use Rattle.gimli_build.specs.inside.Joined.{RefusesFor}
 
 pub on_ok : {X : Type 0} (r : Result X Error) {P Q : Type 0} → (P → Q) → OnOk r P → OnOk r Q
 on_ok (Ok x) f p = f p
@@ -28,33 +27,19 @@ pub or_wanted : {A B C : Type 0} → (B → C) → A ⊎ B → A ⊎ C
 or_wanted f (inl own) = inl own
 or_wanted f (inr wanted) = inr (f wanted)
 
--- where bytes are wanted, the refusal is the writer's own
-pub handed_on : {A : Type 0} {e : Error} {xs ys : List ℕ} → A ⊎ ((let r : Result (List ℕ) Error = Ok xs in r) ≡ Err e)
-    → A ⊎ ((let r : Result (List ℕ) Error = Ok ys in r) ≡ Err e)
-handed_on (inl own) = inl own
-handed_on (inr is) = absurd cc
-
 -- ---- two parts
 
 pub appends_joined : (a b : Result (List ℕ) Error) (old new newer : List ℕ) → Appends a old new → Appends b new newer → Appends (result_append a b) old newer
-appends_joined (Ok xs) (Ok ys) old new newer first second = second ∙ ap (λ (l : List ℕ). l ++ ys) first ∙ append_assoc old xs ys
+appends_joined (Ok xs) (Ok ys) old new newer first second = second ∙ ap (λ l. l ++ ys) first ∙ append_assoc old xs ys
 appends_joined (Ok xs) (Err e) old new newer first second = absurd second
 appends_joined (Err e) b old new newer first second = absurd first
 
 pub first_refused : (a b : Result (List ℕ) Error) (e : Error) → a ≡ Err e → result_append a b ≡ Err e
-first_refused a b e is = ap (λ (r : Result (List ℕ) Error). result_append r b) is
+first_refused a b e is = ap (λ r. result_append r b) is
 
 pub second_refused : (a b : Result (List ℕ) Error) (old new : List ℕ) (e : Error) → Appends a old new → b ≡ Err e → result_append a b ≡ Err e
-second_refused (Ok xs) b old new e first is = ap (λ (r : Result (List ℕ) Error). result_append (Ok xs) r) is
+second_refused (Ok xs) b old new e first is = ap (λ r. result_append (Ok xs) r) is
 second_refused (Err d) b old new e first is = absurd first
-
-pub refuses_first : (a b : Result (List ℕ) Error) (e : Error) → RefusesFor a e → RefusesFor (result_append a b) e
-refuses_first a b e (inl memory) = inl memory
-refuses_first a b e (inr is) = inr (first_refused a b e is)
-
-pub refuses_second : (a b : Result (List ℕ) Error) (old new : List ℕ) (e : Error) → Appends a old new → RefusesFor b e → RefusesFor (result_append a b) e
-refuses_second a b old new e first (inl memory) = inl memory
-refuses_second a b old new e first (inr is) = inr (second_refused a b old new e first is)
 
 pub appended_bytes : (r : Result (List ℕ) Error) (old new : List ℕ) → Appends r old new → (bytes : List ℕ) × (r ≡ Ok bytes) × (new ≡ old ++ bytes)
 appended_bytes (Ok bytes) old new h = (bytes, refl, h)
@@ -64,7 +49,7 @@ appended_bytes (Err e) old new h = absurd h
 
 -- two parts that are there, and a third
 pub joined-joined : (a b : List ℕ) (r : Result (List ℕ) Error) → result_append (Ok a) (result_append (Ok b) r) ≡ result_append (Ok (a ++ b)) r
-joined-joined a b (Ok c) = ap (λ (l : List ℕ). let s : Result (List ℕ) Error = Ok l in s) (sym (append_assoc a b c))
+joined-joined a b (Ok c) = ap (λ l. let s : Result (List ℕ) Error = Ok l in s) (sym (append_assoc a b c))
 joined-joined a b (Err e) = refl
 
 -- the parts so far are written, and those of `left` aren't
@@ -74,7 +59,7 @@ pub record SoFar {A : Type 0} (part : A → Result (List ℕ) Error) (all left :
   pub parts : result_concat part all ≡ result_append (Ok done) (result_concat part left)
 
 pub none_so_far : {A : Type 0} (part : A → Result (List ℕ) Error) (all : List A) (old : List ℕ) → SoFar part all all old old
-none_so_far part all old = record { done = []; written = sym (append-nil old); parts = nothing (result_concat part all) }
+none_so_far part all old = record { done = []; written = sym (append-nil old); parts = nothing _ }
   where
     nothing : (r : Result (List ℕ) Error) → r ≡ result_append (Ok []) r
     nothing (Ok bytes) = refl
@@ -83,29 +68,24 @@ none_so_far part all old = record { done = []; written = sym (append-nil old); p
 pub one_more : {A : Type 0} (part : A → Result (List ℕ) Error) (all left : List A) (x : A) (old new newer : List ℕ) → SoFar part all (x ∷ left) old new
     → Appends (part x) new newer → SoFar part all left old newer
 one_more part all left x old new newer so more =
-    let a = appended_bytes (part x) new newer more in
+    let a = appended_bytes _ _ _ more in
     record {
       done = so.done ++ a.0;
-      written = a.2 ∙ ap (λ (l : List ℕ). l ++ a.0) so.written ∙ append_assoc old so.done a.0;
+      written = a.2 ∙ ap (λ l. l ++ a.0) so.written ∙ append_assoc old so.done a.0;
       parts =
-          so.parts ∙ ap (λ (r : Result (List ℕ) Error). result_append (Ok so.done) (result_append r (result_concat part left))) a.1
-          ∙ joined-joined so.done a.0 (result_concat part left);
+          so.parts ∙ ap (λ r. result_append (Ok so.done) (result_append r (result_concat part left))) a.1
+          ∙ joined-joined _ _ _;
     }
 
 pub part_refused : {A : Type 0} (part : A → Result (List ℕ) Error) (all left : List A) (x : A) (old new : List ℕ) (e : Error)
     → SoFar part all (x ∷ left) old new → part x ≡ Err e → result_concat part all ≡ Err e
 part_refused part all left x old new e so is =
-    so.parts ∙ ap (λ (r : Result (List ℕ) Error). result_append (Ok so.done) (result_append r (result_concat part left))) is
-
-pub one_refused : {A : Type 0} (part : A → Result (List ℕ) Error) (all left : List A) (x : A) (old new : List ℕ) (e : Error) → SoFar part all (x ∷ left) old new
-    → RefusesFor (part x) e → RefusesFor (result_concat part all) e
-one_refused part all left x old new e so (inl memory) = inl memory
-one_refused part all left x old new e so (inr is) = inr (part_refused part all left x old new e so is)
+    so.parts ∙ ap (λ r. result_append (Ok so.done) (result_append r (result_concat part left))) is
 
 pub all_done : {A : Type 0} (part : A → Result (List ℕ) Error) (all : List A) (old new : List ℕ) → SoFar part all [] old new
     → Appends (result_concat part all) old new
 all_done part all old new so =
-    let is : result_concat part all ≡ Ok so.done = so.parts ∙ ap (λ (l : List ℕ). let s : Result (List ℕ) Error = Ok l in s) (append-nil so.done) in
+    let is : result_concat part all ≡ Ok so.done = so.parts ∙ ap (λ l. let s : Result (List ℕ) Error = Ok l in s) (append-nil so.done) in
     rw is so.written
 
 -- what is left begins with the next element
@@ -115,20 +95,20 @@ next_left xs i x lt is = rw add-one (drop-cons xs i x lt ∙ ap (λ y. y ∷ dro
 -- what is left begins with the next element, seen by a function
 pub next_seen : {A B : Type 0} (f : A → B) (xs : List A) (i : ℕ) (x : A) → i < length xs → x ≡ get_or xs i x → drop i (map f xs) ≡ f x ∷ drop (i + 1) (map f xs)
 next_seen {B = B} f xs i x lt is =
-    drop-map f i xs ∙ ap (map f) (next_left xs i x lt is) ∙ ap (λ (l : List B). f x ∷ l) (sym (drop-map f (i + 1) xs))
+    drop-map f i _ ∙ ap (map f) (next_left _ i x lt is) ∙ ap (λ l. f x ∷ l) (sym (drop-map f (i + 1) xs))
 
 -- the same by index
 pub next_at : {A : Type 0} (xs : List A) (i : ℕ) (x : A) → slice_get xs i ≡ Some x → drop i xs ≡ x ∷ drop (i + 1) xs
 next_at xs i x is =
-    rw add-one (drop-cons xs i x (slice_get_within xs i x is) ∙ ap (λ y. y ∷ drop (suc i) xs) (get_or_from_slice_get xs i x x is))
+    rw add-one (drop-cons xs i x (slice_get_within xs i x is) ∙ ap (λ y. y ∷ drop (suc i) xs) (get_or_from_slice_get _ i x x is))
 
 pub taken_at : {A : Type 0} (xs : List A) (i : ℕ) (x : A) → slice_get xs i ≡ Some x → take (i + 1) xs ≡ take i xs ++ x ∷ []
 taken_at xs i x is =
-    rw add-one (take-suc xs i x (slice_get_within xs i x is) ∙ ap (λ y. take i xs ++ y ∷ []) (get_or_from_slice_get xs i x x is))
+    rw add-one (take-suc xs i x (slice_get_within xs i x is) ∙ ap (λ y. take i xs ++ y ∷ []) (get_or_from_slice_get _ i x x is))
 
 -- what all elements have, the next one has
 pub all_seen : {A B : Type 0} (P : B → Type 0) (f : A → B) (xs : List A) (i : ℕ) (x : A) → i < length xs → x ≡ get_or xs i x → All P (map f xs) → P (f x)
-all_seen P f xs i x lt is all = All-head P (f x) (drop (i + 1) (map f xs)) (rw (next_seen f xs i x lt is) at (All-drop P i (map f xs) all))
+all_seen P f xs i x lt is all = All-head P _ _ (rw (next_seen f xs i x lt is) at (All-drop P i _ all))
 
 -- ---- beginnings
 
@@ -139,7 +119,7 @@ pub begins_then : (a b c : List ℕ) → Begins a b → Begins b c → Begins a 
 begins_then a b c first second =
     let size : min (length a) (length b) ≡ length a = sym (length-take (length a) b) ∙ ap length first in
     let le : length a ≤ length b = omega (arith, size) in
-    sym (take-take (length a) (length b) c le) ∙ ap (λ (l : List ℕ). take (length a) l) second ∙ first
+    sym (take-take (length a) (length b) c le) ∙ ap (λ l. take (length a) l) second ∙ first
 
 -- a beginning stays where bytes after it change
 pub begins_before : (old bytes new : List ℕ) (at : ℕ) → Begins old bytes → length old ≤ at → take at new ≡ take at bytes → Begins old new

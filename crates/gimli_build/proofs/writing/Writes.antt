@@ -1,212 +1,224 @@
 -- Calls that append, one after the other.
-use Rattle.std.proofs.Common.{◌≡◌, ◌⊎◌, List, [], ◌∷◌, ℕ, Ok, Err, IsTrue, refl, sym, ap, ◌∙◌, inl, inr, subst}
+use Rattle.std.proofs.Common.{◌≡◌, ◌⊎◌, List, [], ◌∷◌, ℕ, Ok, Err, IsTrue, refl, sym, ap, ◌∙◌, inl, inr, subst, OnOk, IfErr}
 use Rattle.std.specs.Prelude.{Result}
+use Rattle.std.proofs.lemmas.List.{append-nil}
 use Rattle.gimli_bytes.specs.Hand.{Hand, Placement, plain}
-use Rattle.gimli_bytes.specs.Written.{Begins, Appends, Refuses, IsAppend, IsAppendBy, IsAppendInParts}
+use Rattle.gimli_bytes.specs.Written.{Begins, Appends, Refuses, IsAppend, IsAppendInParts}
 use Rattle.gimli_bytes.specs.declared.error.Error.{Error}
+use Rattle.gimli_bytes.specs.declared.error.Error.TheVariants.{OutOfMemory}
 use Rattle.gimli_bytes.specs.declared.sink.Sink.{Ghosts}
 use Rattle.gimli_build.specs.Joined.{result_append, result_concat, after_length}
-use Rattle.gimli_build.specs.inside.Joined.{RefusesFor}
-use Rattle.gimli_build.specs.inside.Writes.{Writes, WritesBy}
-use Rattle.gimli_build.proofs.writing.Joined.{SoFar, none_so_far, one_more, one_refused, all_done, on_ok, if_err, or_wanted, handed_on, part_refused}
-use Rattle.gimli_build.proofs.writing.Joined.{first_refused, refuses_first, second_refused, appends_joined, refuses_second, begins_self, begins_then}
+use Rattle.gimli_build.specs.Writes.{WritesOr, OfMemoryOr}
+use Rattle.gimli_build.specs.inside.Writes.{Writes, always}
+use Rattle.gimli_build.proofs.writing.Joined.{SoFar, none_so_far, one_more, all_done, on_ok, if_err, or_wanted, part_refused}
+use Rattle.gimli_build.proofs.writing.Joined.{first_refused, second_refused, appends_joined, begins_self, begins_then}
 
--- two calls
-pub joins_by : {W X Y : Type 0} {sink : Ghosts W} {old mid new : W} {x : X} {r : Result Y Error} {a b : Hand → Result (List ℕ) Error}
-    → WritesBy sink old mid (Ok x) a → WritesBy sink mid new r b → WritesBy sink old new r (λ hand. result_append (a hand) (b hand))
-joins_by {sink = sink} {old = old} {mid = mid} {new = new} {r = r} {a = a} {b = b} first second = record {
-  keeps = begins_then (sink.contents old) (sink.contents mid) (sink.contents new) first.keeps second.keeps;
-  ordered = second.ordered ∙ first.ordered;
-  stays = λ completes. second.stays (first.stays completes);
-  ok =
-      λ keeps_bytes.
-      on_ok r (appends_joined (a plain) (b plain) (sink.contents old) (sink.contents mid) (sink.contents new) (first.ok keeps_bytes)) (second.ok keeps_bytes);
-  completed =
-      λ at completes.
-      on_ok r
-      (appends_joined (a (sink.hand at)) (b (sink.hand at)) (sink.completed at old) (sink.completed at mid) (sink.completed at new)
-      (first.completed at completes))
-      (second.completed at (first.stays completes));
-  err =
-      λ keeps_bytes fails_for_memory_alone.
-      if_err r (λ e. refuses_second (a plain) (b plain) (sink.contents old) (sink.contents mid) e (first.ok keeps_bytes))
-      (second.err keeps_bytes fails_for_memory_alone);
-  own =
-      λ keeps_bytes.
-      if_err r (λ e. or_wanted (second_refused (a plain) (b plain) (sink.contents old) (sink.contents mid) e (first.ok keeps_bytes)))
-      (second.own keeps_bytes);
-  completed_own =
-      λ at completes.
-      if_err r
-      (λ e. or_wanted (second_refused (a (sink.hand at)) (b (sink.hand at)) (sink.completed at old) (sink.completed at mid) e (first.completed at completes)))
-      (second.completed_own at (first.stays completes));
-}
+-- what a call leaves in one view of the writer, before and after
+pub record Leaves {X : Type 0} (Own : Error → Type 0) (result : Result X Error) (wanted : Result (List ℕ) Error) (old new : List ℕ) : Type 0 where
+  pub ok : OnOk result (Appends wanted old new)
+  pub err : IfErr result (λ e. Own e ⊎ (wanted ≡ Err e))
 
--- what is wanted, said otherwise
-pub wanted_alike : {W X : Type 0} {sink : Ghosts W} {old new : W} {r : Result X Error} {a b : Hand → Result (List ℕ) Error} → ((hand : Hand) → a hand ≡ b hand)
-    → WritesBy sink old new r a → WritesBy sink old new r b
-wanted_alike {sink = sink} {old = old} {new = new} {r = r} same so = record {
+-- in each view
+pub record InViews {W X : Type 0} (sink : Ghosts W) (old new : W) (result : Result X Error) (wanted : Hand → Result (List ℕ) Error) : Type 0 where
+  pub keeps : Begins (sink.contents old) (sink.contents new)
+  pub ordered : sink.big new ≡ sink.big old
+  pub stays : IsTrue (sink.completes old) → IsTrue (sink.completes new)
+  pub held : IsTrue sink.keeps_bytes → Leaves sink.refuses result (wanted plain) (sink.contents old) (sink.contents new)
+  pub memory : IsTrue sink.keeps_bytes → IsTrue sink.fails_for_memory_alone
+      → Leaves (λ e. e ≡ OutOfMemory) result (wanted plain) (sink.contents old) (sink.contents new)
+  pub linked : (at : Placement) → IsTrue (sink.completes old)
+      → Leaves sink.refuses result (wanted (sink.hand at)) (sink.completed at old) (sink.completed at new)
+
+pub writes_in : {W X : Type 0} {sink : Ghosts W} {old new : W} {r : Result X Error} {wanted : Hand → Result (List ℕ) Error}
+    → InViews sink old new r wanted → Writes sink old new r wanted
+writes_in so = record {
   keeps = so.keeps;
   ordered = so.ordered;
   stays = so.stays;
-  ok = λ keeps_bytes. on_ok r (subst (λ w. Appends w (sink.contents old) (sink.contents new)) (same plain)) (so.ok keeps_bytes);
-  completed =
-      λ at completes.
-      on_ok r (subst (λ w. Appends w (sink.completed at old) (sink.completed at new)) (same (sink.hand at))) (so.completed at completes);
-  err = λ keeps_bytes fails_for_memory_alone. if_err r (λ e. subst (λ w. RefusesFor w e) (same plain)) (so.err keeps_bytes fails_for_memory_alone);
-  own = λ keeps_bytes. if_err r (λ e. or_wanted (subst (λ w. w ≡ Err e) (same plain))) (so.own keeps_bytes);
-  completed_own = λ at completes. if_err r (λ e. or_wanted (subst (λ w. w ≡ Err e) (same (sink.hand at)))) (so.completed_own at completes);
+  ok = λ keeps_bytes. (so.held keeps_bytes).ok;
+  err = λ keeps_bytes memory_alone. (so.memory keeps_bytes memory_alone).err;
+  own = λ keeps_bytes. (so.held keeps_bytes).err;
+  completed = λ at completes. (so.linked at completes).ok;
+  completed_own = λ at completes. (so.linked at completes).err;
 }
 
-for_it : (wanted : Result (List ℕ) Error) (e : Error) → Refuses wanted e → RefusesFor wanted e
+views_of : {W X : Type 0} {sink : Ghosts W} {old new : W} {r : Result X Error} {wanted : Hand → Result (List ℕ) Error}
+    → Writes sink old new r wanted → InViews sink old new r wanted
+views_of so = record {
+  keeps = so.keeps;
+  ordered = so.ordered;
+  stays = so.stays;
+  held = λ keeps_bytes. record { ok = so.ok keeps_bytes; err = so.own keeps_bytes };
+  memory = λ keeps_bytes memory_alone. record { ok = so.ok keeps_bytes; err = so.err keeps_bytes memory_alone };
+  linked = λ at completes. record { ok = so.completed at completes; err = so.completed_own at completes };
+}
+
+-- two calls
+leaves_joined : {X Y : Type 0} {Own : Error → Type 0} {x : X} {r : Result Y Error} (a b : Result (List ℕ) Error) (old mid new : List ℕ)
+    → Leaves Own (let s : Result X Error = Ok x in s) a old mid → Leaves Own r b mid new → Leaves Own r (result_append a b) old new
+leaves_joined {r = r} a b old mid new first second = record {
+  ok = on_ok r (appends_joined a b _ _ _ first.ok) second.ok;
+  err = if_err r (λ e. or_wanted (second_refused a b _ _ e first.ok)) second.err;
+}
+
+pub joins : {W X Y : Type 0} {sink : Ghosts W} {old mid new : W} {x : X} {r : Result Y Error} {a b : Hand → Result (List ℕ) Error}
+    → Writes sink old mid (Ok x) a → Writes sink mid new r b → Writes sink old new r (λ hand. result_append (a hand) (b hand))
+joins {sink = sink} {a = a} {b = b} first second =
+    let one = views_of first in
+    let other = views_of second in
+    writes_in (record {
+      keeps = begins_then _ _ _ first.keeps second.keeps;
+      ordered = second.ordered ∙ first.ordered;
+      stays = λ completes. second.stays (first.stays completes);
+      held = λ keeps_bytes. leaves_joined _ _ _ _ _ (one.held keeps_bytes) (other.held keeps_bytes);
+      memory =
+          λ keeps_bytes memory_alone.
+          leaves_joined _ _ _ _ _ (one.memory keeps_bytes memory_alone) (other.memory keeps_bytes memory_alone);
+      linked =
+          λ at completes.
+          leaves_joined _ _ _ _ _ (one.linked at completes) (other.linked at (first.stays completes));
+    })
+
+-- what is wanted, said otherwise
+pub wanted_alike : {W X : Type 0} {sink : Ghosts W} {old new : W} {r : Result X Error} {a b : Hand → Result (List ℕ) Error} → ((hand : Hand) → a hand ≡ b hand)
+    → Writes sink old new r a → Writes sink old new r b
+wanted_alike {sink = sink} {old = old} {new = new} {r = r} same so =
+    let views = views_of so in
+    let alike = λ (Own : Error → Type 0) (hand : Hand) (before after : List ℕ). subst (λ w. Leaves Own r w before after) (same hand) in
+    writes_in (record {
+      keeps = so.keeps;
+      ordered = so.ordered;
+      stays = so.stays;
+      held = λ keeps_bytes. alike sink.refuses plain (sink.contents old) (sink.contents new) (views.held keeps_bytes);
+      memory = λ keeps_bytes memory_alone.
+          alike (λ e. e ≡ OutOfMemory) plain (sink.contents old) (sink.contents new) (views.memory keeps_bytes memory_alone);
+      linked = λ at completes. alike sink.refuses (sink.hand at) (sink.completed at old) (sink.completed at new) (views.linked at completes);
+    })
+
+for_it : (wanted : Result (List ℕ) Error) (e : Error) → Refuses wanted e → (e ≡ OutOfMemory) ⊎ (wanted ≡ Err e)
 for_it (Ok bytes) e memory = inl memory
-for_it (Err d) e is = inr (ap (λ (x : Error). let s : Result (List ℕ) Error = Err x in s) (sym is))
+for_it (Err d) e is = inr (ap (λ x. let s : Result (List ℕ) Error = Err x in s) (sym is))
 
 -- a call of the writer itself
-pub writes_by : {W X : Type 0} {sink : Ghosts W} {old new : W} {r : Result X Error} (wanted : Hand → Result (List ℕ) Error)
-    → IsAppendBy sink old new r wanted → WritesBy sink old new r wanted
-writes_by {r = r} wanted append = record {
-  keeps = append.keeps;
-  ordered = append.ordered;
-  stays = append.stays;
-  ok = append.ok;
-  completed = append.completed;
-  err = λ keeps_bytes fails_for_memory_alone. if_err r (for_it (wanted plain)) (append.err fails_for_memory_alone);
-  own = λ keeps_bytes. append.own;
-  completed_own = append.completed_own;
-}
-
-pub writes : {W X : Type 0} {sink : Ghosts W} {old new : W} {r : Result X Error} (wanted : Result (List ℕ) Error) → IsAppend sink old new r wanted
-    → Writes sink old new r wanted
+pub writes : {W X : Type 0} {sink : Ghosts W} {old new : W} {r : Result X Error} (wanted : Hand → Result (List ℕ) Error)
+    → IsAppend sink old new r wanted → Writes sink old new r wanted
 writes {r = r} wanted append = record {
   keeps = append.keeps;
   ordered = append.ordered;
   stays = append.stays;
   ok = append.ok;
-  completed = append.completed;
-  err = λ keeps_bytes fails_for_memory_alone. if_err r (for_it wanted) (append.err fails_for_memory_alone);
+  err = λ keeps_bytes memory_alone. if_err r (for_it _) (append.err memory_alone);
   own = λ keeps_bytes. append.own;
-  completed_own = λ at completes. append.own;
+  completed = append.completed;
+  completed_own = append.completed_own;
 }
-
--- ---- bytes that no linker changes
-
-pub by_writes : {W X : Type 0} {sink : Ghosts W} {old new : W} {r : Result X Error} {wanted : Result (List ℕ) Error} → Writes sink old new r wanted
-    → WritesBy sink old new r (λ hand. wanted)
-by_writes so = record {
-  keeps = so.keeps;
-  ordered = so.ordered;
-  stays = so.stays;
-  ok = so.ok;
-  completed = so.completed;
-  err = so.err;
-  own = so.own;
-  completed_own = so.completed_own;
-}
-
-pub from_by : {W X : Type 0} {sink : Ghosts W} {old new : W} {r : Result X Error} {wanted : Result (List ℕ) Error} → WritesBy sink old new r (λ hand. wanted)
-    → Writes sink old new r wanted
-from_by so = record {
-  keeps = so.keeps;
-  ordered = so.ordered;
-  stays = so.stays;
-  ok = so.ok;
-  completed = so.completed;
-  err = so.err;
-  own = so.own;
-  completed_own = so.completed_own;
-}
-
-pub joins : {W X Y : Type 0} {sink : Ghosts W} {old mid new : W} {x : X} {r : Result Y Error} {a b : Result (List ℕ) Error} → Writes sink old mid (Ok x) a
-    → Writes sink mid new r b → Writes sink old new r (result_append a b)
-joins first second = from_by (joins_by (by_writes first) (by_writes second))
-
--- where bytes are wanted, a refusal is for memory, whatever they are
-pub unwritten : {W X Y Z : Type 0} {sink : Ghosts W} {old mid new : W} {x : X} {e : Error} {wanted : Result (List ℕ) Error} {ys : List ℕ} (zs : List ℕ)
-    → Writes sink old mid (Ok x) wanted → Writes {X = Y} sink mid new (Err e) (Ok ys) → Writes {X = Z} sink old new (Err e) (Ok zs)
-unwritten {sink = sink} {old = old} {mid = mid} {new = new} {e = e} {ys = ys} zs first refused = record {
-  keeps = begins_then (sink.contents old) (sink.contents mid) (sink.contents new) first.keeps refused.keeps;
-  ordered = refused.ordered ∙ first.ordered;
-  stays = λ completes. refused.stays (first.stays completes);
-  ok = λ keeps_bytes. tt;
-  completed = λ at completes. tt;
-  err = λ keeps_bytes fails_for_memory_alone. memory (refused.err keeps_bytes fails_for_memory_alone);
-  own = λ keeps_bytes. handed_on (refused.own keeps_bytes);
-  completed_own = λ at completes. handed_on (refused.completed_own at (first.stays completes));
-}
-  where
-    memory : RefusesFor (Ok ys) e → RefusesFor (Ok zs) e
-    memory (inl is) = inl is
-    memory (inr is) = absurd cc
 
 -- the same bytes, said otherwise
-pub same_bytes : {W X : Type 0} {sink : Ghosts W} {old new : W} {r : Result X Error} {xs ys : List ℕ} → xs ≡ ys → Writes sink old new r (Ok xs)
-    → Writes sink old new r (Ok ys)
-same_bytes {sink = sink} {old = old} {new = new} {r = r} same so = subst (λ (l : List ℕ). Writes sink old new r (Ok l)) same so
+pub same_bytes : {W X : Type 0} {sink : Ghosts W} {old new : W} {r : Result X Error} {xs ys : List ℕ} → xs ≡ ys → Writes sink old new r (always (Ok xs))
+    → Writes sink old new r (always (Ok ys))
+same_bytes {sink = sink} {old = old} {new = new} {r = r} same so = subst (λ l. Writes sink old new r (always (Ok l))) same so
+
+-- what is there of all
+pub done_written : {W X : Type 0} {sink : Ghosts W} {old new : W} {y : X} {wanted : Hand → Result (List ℕ) Error}
+    → Begins (sink.contents old) (sink.contents new) → sink.big new ≡ sink.big old → (IsTrue (sink.completes old) → IsTrue (sink.completes new))
+    → (IsTrue sink.keeps_bytes → Appends (wanted plain) (sink.contents old) (sink.contents new))
+    → ((at : Placement) → IsTrue (sink.completes old) → Appends (wanted (sink.hand at)) (sink.completed at old) (sink.completed at new))
+    → Writes sink old new (Ok y) wanted
+done_written begins same stays held linked = record {
+  keeps = begins;
+  ordered = same;
+  stays = stays;
+  ok = held;
+  err = λ keeps_bytes memory_alone. tt;
+  own = λ keeps_bytes. tt;
+  completed = linked;
+  completed_own = λ at completes. tt;
+}
+
+-- the same bytes under another answer
+pub answered : {W X Y : Type 0} {sink : Ghosts W} {old new : W} {x : X} {y : Y} {wanted : Hand → Result (List ℕ) Error}
+    → Writes sink old new (Ok x) wanted → Writes sink old new (Ok y) wanted
+answered so = done_written so.keeps so.ordered so.stays so.ok so.completed
+
+-- where nothing is wanted, nothing is called
+pub none_called : {W X : Type 0} {sink : Ghosts W} {w : W} {x : X} → Writes sink w w (Ok x) (always (Ok []))
+none_called {sink = sink} {w = w} =
+    done_written (begins_self _) refl (λ completes. completes) (λ keeps_bytes. sym (append-nil (sink.contents w)))
+    (λ at completes. sym (append-nil (sink.completed at w)))
 
 -- ---- refused
 
+-- after what is written so far: what refuses it, refuses the whole
+pub later_unwritten : {W X Y : Type 0} {sink : Ghosts W} {old mid new : W} {e : Error} (part whole : Hand → Result (List ℕ) Error)
+    → Begins (sink.contents old) (sink.contents mid) → sink.big mid ≡ sink.big old → (IsTrue (sink.completes old) → IsTrue (sink.completes mid))
+    → (IsTrue sink.keeps_bytes → part plain ≡ Err e → whole plain ≡ Err e)
+    → ((at : Placement) → IsTrue (sink.completes old) → part (sink.hand at) ≡ Err e → whole (sink.hand at) ≡ Err e)
+    → Writes {X = X} sink mid new (Err e) part → Writes {X = Y} sink old new (Err e) whole
+later_unwritten part whole begins same stays held linked refused = record {
+  keeps = begins_then _ _ _ begins refused.keeps;
+  ordered = refused.ordered ∙ same;
+  stays = λ completes. refused.stays (stays completes);
+  ok = λ keeps_bytes. tt;
+  err = λ keeps_bytes memory_alone. or_wanted (held keeps_bytes) (refused.err keeps_bytes memory_alone);
+  own = λ keeps_bytes. or_wanted (held keeps_bytes) (refused.own keeps_bytes);
+  completed = λ at completes. tt;
+  completed_own = λ at completes. or_wanted (linked at completes) (refused.completed_own at (stays completes));
+}
+
+-- with nothing before it
+only_unwritten : {W X Y : Type 0} {sink : Ghosts W} {old new : W} {e : Error} (part whole : Hand → Result (List ℕ) Error)
+    → ((hand : Hand) → part hand ≡ Err e → whole hand ≡ Err e)
+    → Writes {X = X} sink old new (Err e) part → Writes {X = Y} sink old new (Err e) whole
+only_unwritten {sink = sink} {old = old} part whole why refused =
+    later_unwritten _ _ (begins_self _) refl (λ completes. completes) (λ keeps_bytes. why plain)
+    (λ at completes. why (sink.hand at)) refused
+
 -- before anything is known of what is wanted after it
 pub first_unwritten : {W X Y : Type 0} {sink : Ghosts W} {old new : W} {e : Error} {a : Hand → Result (List ℕ) Error} (b : Hand → Result (List ℕ) Error)
-    → WritesBy {X = X} sink old new (Err e) a
-    → WritesBy {X = Y} sink old new (Err e) (λ hand. result_append (a hand) (b hand))
-first_unwritten {sink = sink} {e = e} {a = a} b refused = record {
-  keeps = refused.keeps;
-  ordered = refused.ordered;
-  stays = refused.stays;
-  ok = λ keeps_bytes. tt;
-  completed = λ at completes. tt;
-  err = λ keeps_bytes fails_for_memory_alone. refuses_first (a plain) (b plain) e (refused.err keeps_bytes fails_for_memory_alone);
-  own = λ keeps_bytes. or_wanted (first_refused (a plain) (b plain) e) (refused.own keeps_bytes);
-  completed_own = λ at completes. or_wanted (first_refused (a (sink.hand at)) (b (sink.hand at)) e) (refused.completed_own at completes);
-}
+    → Writes {X = X} sink old new (Err e) a
+    → Writes {X = Y} sink old new (Err e) (λ hand. result_append (a hand) (b hand))
+first_unwritten {e = e} {a = a} b refused =
+    only_unwritten a _ (λ hand. first_refused _ _ e) refused
 
--- where bytes are wanted, for memory, or as the writer refuses
-not_wanted : {A B : Type 0} {e : Error} {xs : List ℕ} → A ⊎ ((let r : Result (List ℕ) Error = Ok xs in r) ≡ Err e) → A ⊎ B
-not_wanted (inl own) = inl own
-not_wanted (inr is) = absurd cc
+-- where bytes are wanted, for memory, or as the writer refuses, whatever is wanted of the whole
+never : {A : Type 0} {e : Error} {xs : List ℕ} → (let r : Result (List ℕ) Error = Ok xs in r) ≡ Err e → A
+never is = absurd cc
 
 pub bytes_unwritten : {W X Y : Type 0} {sink : Ghosts W} {old new : W} {e : Error} {xs : List ℕ} {wanted : Hand → Result (List ℕ) Error}
-    → Writes {X = X} sink old new (Err e) (Ok xs) → WritesBy {X = Y} sink old new (Err e) wanted
-bytes_unwritten refused = record {
-  keeps = refused.keeps;
-  ordered = refused.ordered;
-  stays = refused.stays;
-  ok = λ keeps_bytes. tt;
-  completed = λ at completes. tt;
-  err = λ keeps_bytes fails_for_memory_alone. not_wanted (refused.err keeps_bytes fails_for_memory_alone);
-  own = λ keeps_bytes. not_wanted (refused.own keeps_bytes);
-  completed_own = λ at completes. not_wanted (refused.completed_own at completes);
-}
+    → Writes {X = X} sink old new (Err e) (always (Ok xs)) → Writes {X = Y} sink old new (Err e) wanted
+bytes_unwritten {xs = xs} {wanted = wanted} refused = only_unwritten _ _ (λ hand. never) refused
+
+pub refused_alike : {W X Y : Type 0} {sink : Ghosts W} {old new : W} {e : Error} {xs : List ℕ} (ys : List ℕ)
+    → Writes {X = X} sink old new (Err e) (always (Ok xs)) → Writes {X = Y} sink old new (Err e) (always (Ok ys))
+refused_alike ys refused = bytes_unwritten refused
 
 pub parts_unwritten : {W X Y : Type 0} {sink : Ghosts W} {old new : W} {e : Error} {xs : List ℕ} {wanted : Hand → Result (List ℕ) Error}
-    → IsAppendInParts {X = X} sink old new (Err e) (Ok xs) → WritesBy {X = Y} sink old new (Err e) wanted
+    → IsAppendInParts {X = X} sink old new (Err e) xs → Writes {X = Y} sink old new (Err e) wanted
 parts_unwritten refused = record {
   keeps = refused.keeps;
   ordered = refused.ordered;
   stays = refused.stays;
   ok = λ keeps_bytes. tt;
+  err = λ keeps_bytes memory_alone. inl (refused.err memory_alone);
+  own = λ keeps_bytes. inl refused.own;
   completed = λ at completes. tt;
-  err = λ keeps_bytes fails_for_memory_alone. inl (refused.err fails_for_memory_alone);
-  own = λ keeps_bytes. not_wanted refused.own;
-  completed_own = λ at completes. not_wanted refused.own;
+  completed_own = λ at completes. inl refused.own;
 }
+
+pub unwritten : {W X Y Z : Type 0} {sink : Ghosts W} {old mid new : W} {x : X} {e : Error} {first_wanted : Hand → Result (List ℕ) Error} {ys : List ℕ}
+    (zs : List ℕ) → Writes sink old mid (Ok x) first_wanted → Writes {X = Y} sink mid new (Err e) (always (Ok ys))
+    → Writes {X = Z} sink old new (Err e) (always (Ok zs))
+unwritten {ys = ys} zs first refused =
+    later_unwritten _ _ first.keeps first.ordered first.stays (λ keeps_bytes. never) (λ at completes. never) refused
 
 -- what a length counts
 pub counted_unwritten : {W X Y : Type 0} {sink : Ghosts W} {old mid new : W} {e : Error} {body : Hand → Result (List ℕ) Error}
     (full : ℕ → Result (List ℕ) Error) → Begins (sink.contents old) (sink.contents mid) → sink.big mid ≡ sink.big old
-    → (IsTrue (sink.completes old) → IsTrue (sink.completes mid)) → WritesBy {X = X} sink mid new (Err e) body
-    → WritesBy {X = Y} sink old new (Err e) (λ hand. after_length full (body hand))
-counted_unwritten {sink = sink} {old = old} {mid = mid} {new = new} {e = e} {body = body} full begins same stays refused = record {
-  keeps = begins_then (sink.contents old) (sink.contents mid) (sink.contents new) begins refused.keeps;
-  ordered = refused.ordered ∙ same;
-  stays = λ completes. refused.stays (stays completes);
-  ok = λ keeps_bytes. tt;
-  completed = λ at completes. tt;
-  err = λ keeps_bytes fails_for_memory_alone. or_wanted (ap (after_length full)) (refused.err keeps_bytes fails_for_memory_alone);
-  own = λ keeps_bytes. or_wanted (ap (after_length full)) (refused.own keeps_bytes);
-  completed_own = λ at completes. or_wanted (ap (after_length full)) (refused.completed_own at (stays completes));
-}
+    → (IsTrue (sink.completes old) → IsTrue (sink.completes mid)) → Writes {X = X} sink mid new (Err e) body
+    → Writes {X = Y} sink old new (Err e) (λ hand. after_length full (body hand))
+counted_unwritten {body = body} full begins same stays refused =
+    later_unwritten _ _ begins same stays (λ keeps_bytes. ap (after_length full))
+    (λ at completes. ap (after_length full)) refused
 
 -- ---- the parts of a list
 
@@ -215,62 +227,89 @@ pub record WritesSoFar {W A : Type 0} (sink : Ghosts W) (part : Hand → A → R
   pub keeps : Begins (sink.contents old) (sink.contents new)
   pub ordered : sink.big new ≡ sink.big old
   pub stays : IsTrue (sink.completes old) → IsTrue (sink.completes new)
-  pub put : IsTrue sink.keeps_bytes → SoFar (part plain) all left (sink.contents old) (sink.contents new)
-  pub completed : (at : Placement) → IsTrue (sink.completes old) → SoFar (part (sink.hand at)) all left (sink.completed at old) (sink.completed at new)
+  pub held : IsTrue sink.keeps_bytes → SoFar (part plain) all left (sink.contents old) (sink.contents new)
+  pub linked : (at : Placement) → IsTrue (sink.completes old) → SoFar (part (sink.hand at)) all left (sink.completed at old) (sink.completed at new)
 
 pub none_written : {W A : Type 0} (sink : Ghosts W) (part : Hand → A → Result (List ℕ) Error) (all : List A) (old : W)
     → WritesSoFar sink part all all old old
 none_written sink part all old = record {
-  keeps = begins_self (sink.contents old);
+  keeps = begins_self _;
   ordered = refl;
   stays = λ completes. completes;
-  put = λ keeps_bytes. none_so_far (part plain) all (sink.contents old);
-  completed = λ at completes. none_so_far (part (sink.hand at)) all (sink.completed at old);
+  held = λ keeps_bytes. none_so_far _ _ _;
+  linked = λ at completes. none_so_far _ _ _;
 }
 
 pub one_written : {W A X : Type 0} {sink : Ghosts W} {part : Hand → A → Result (List ℕ) Error} {all left : List A} {x : A} {old mid new : W} {y : X}
-    → WritesSoFar sink part all (x ∷ left) old mid → WritesBy sink mid new (Ok y) (λ hand. part hand x) → WritesSoFar sink part all left old new
-one_written {sink = sink} {part = part} {all = all} {left = left} {x = x} {old = old} {mid = mid} {new = new} so more = record {
-  keeps = begins_then (sink.contents old) (sink.contents mid) (sink.contents new) so.keeps more.keeps;
+    → WritesSoFar sink part all (x ∷ left) old mid → Writes sink mid new (Ok y) (λ hand. part hand x) → WritesSoFar sink part all left old new
+one_written {sink = sink} {part = part} {all = all} {left = left} {x = x} so more = record {
+  keeps = begins_then _ _ _ so.keeps more.keeps;
   ordered = more.ordered ∙ so.ordered;
   stays = λ completes. more.stays (so.stays completes);
-  put = λ keeps_bytes. one_more (part plain) all left x (sink.contents old) (sink.contents mid) (sink.contents new) (so.put keeps_bytes) (more.ok keeps_bytes);
-  completed =
-      λ at completes.
-      one_more (part (sink.hand at)) all left x (sink.completed at old) (sink.completed at mid) (sink.completed at new) (so.completed at completes)
-      (more.completed at (so.stays completes));
+  held = λ keeps_bytes. one_more _ _ _ x _ _ _ (so.held keeps_bytes) (more.ok keeps_bytes);
+  linked = λ at completes. one_more _ _ _ x _ _ _ (so.linked at completes) (more.completed at (so.stays completes));
 }
 
 pub one_unwritten : {W A X Y : Type 0} {sink : Ghosts W} {part : Hand → A → Result (List ℕ) Error} {all left : List A} {x : A} {old mid new : W} {e : Error}
-    → WritesSoFar sink part all (x ∷ left) old mid → WritesBy {X = X} sink mid new (Err e) (λ hand. part hand x)
-    → WritesBy {X = Y} sink old new (Err e) (λ hand. result_concat (part hand) all)
-one_unwritten {sink = sink} {part = part} {all = all} {left = left} {x = x} {old = old} {mid = mid} {new = new} {e = e} so refused = record {
-  keeps = begins_then (sink.contents old) (sink.contents mid) (sink.contents new) so.keeps refused.keeps;
-  ordered = refused.ordered ∙ so.ordered;
-  stays = λ completes. refused.stays (so.stays completes);
-  ok = λ keeps_bytes. tt;
-  completed = λ at completes. tt;
-  err =
-      λ keeps_bytes fails_for_memory_alone.
-      one_refused (part plain) all left x (sink.contents old) (sink.contents mid) e (so.put keeps_bytes) (refused.err keeps_bytes fails_for_memory_alone);
-  own =
-      λ keeps_bytes.
-      or_wanted (part_refused (part plain) all left x (sink.contents old) (sink.contents mid) e (so.put keeps_bytes)) (refused.own keeps_bytes);
-  completed_own =
-      λ at completes.
-      or_wanted (part_refused (part (sink.hand at)) all left x (sink.completed at old) (sink.completed at mid) e (so.completed at completes))
-      (refused.completed_own at (so.stays completes));
-}
+    → WritesSoFar sink part all (x ∷ left) old mid → Writes {X = X} sink mid new (Err e) (λ hand. part hand x)
+    → Writes {X = Y} sink old new (Err e) (λ hand. result_concat (part hand) all)
+one_unwritten {sink = sink} {part = part} {all = all} {left = left} {x = x} {e = e} so refused =
+    later_unwritten _ _ so.keeps so.ordered so.stays
+    (λ keeps_bytes. part_refused _ _ _ x _ _ e (so.held keeps_bytes))
+    (λ at completes. part_refused _ _ _ x _ _ e (so.linked at completes)) refused
 
 pub all_written : {W A X : Type 0} {sink : Ghosts W} {part : Hand → A → Result (List ℕ) Error} {all : List A} {old new : W} {y : X}
-    → WritesSoFar sink part all [] old new → WritesBy sink old new (Ok y) (λ hand. result_concat (part hand) all)
-all_written {sink = sink} {part = part} {all = all} {old = old} {new = new} so = record {
+    → WritesSoFar sink part all [] old new → Writes sink old new (Ok y) (λ hand. result_concat (part hand) all)
+all_written {sink = sink} {part = part} {all = all} so =
+    done_written so.keeps so.ordered so.stays (λ keeps_bytes. all_done _ _ _ _ (so.held keeps_bytes))
+    (λ at completes. all_done _ _ _ _ (so.linked at completes))
+
+-- ---- a call that may be refused for memory of its own
+
+own_or_memory : {A B C : Type 0} → B ⊎ C → (A ⊎ B) ⊎ C
+own_or_memory (inl own) = inl (inr own)
+own_or_memory (inr wanted) = inr wanted
+
+pub written_or_memory : {W X Y : Type 0} {sink : Ghosts W} {old new : W} {x : X} {y : Y} {wanted : Hand → Result (List ℕ) Error}
+    → Writes sink old new (Ok x) wanted → WritesOr sink (OfMemoryOr sink.refuses) old new (Ok y) wanted
+written_or_memory so = record {
   keeps = so.keeps;
   ordered = so.ordered;
   stays = so.stays;
-  ok = λ keeps_bytes. all_done (part plain) all (sink.contents old) (sink.contents new) (so.put keeps_bytes);
-  completed = λ at completes. all_done (part (sink.hand at)) all (sink.completed at old) (sink.completed at new) (so.completed at completes);
-  err = λ keeps_bytes fails_for_memory_alone. tt;
+  ok = so.ok;
+  err = λ keeps_bytes memory_alone. tt;
   own = λ keeps_bytes. tt;
+  completed = so.completed;
   completed_own = λ at completes. tt;
 }
+
+pub refused_or_memory : {W X Y : Type 0} {sink : Ghosts W} {old new : W} {e : Error} {wanted : Hand → Result (List ℕ) Error}
+    → Writes {X = X} sink old new (Err e) wanted → WritesOr {X = Y} sink (OfMemoryOr sink.refuses) old new (Err e) wanted
+refused_or_memory so = record {
+  keeps = so.keeps;
+  ordered = so.ordered;
+  stays = so.stays;
+  ok = λ keeps_bytes. tt;
+  err = so.err;
+  own = λ keeps_bytes. own_or_memory (so.own keeps_bytes);
+  completed = λ at completes. tt;
+  completed_own = λ at completes. own_or_memory (so.completed_own at completes);
+}
+
+-- before anything is written
+pub nothing_written : {W X : Type 0} (sink : Ghosts W) (w : W) (e : Error) (wanted : Hand → Result (List ℕ) Error)
+    → ((hand : Hand) → (e ≡ OutOfMemory) ⊎ (wanted hand ≡ Err e)) → WritesOr {X = X} sink (OfMemoryOr sink.refuses) w w (Err e) wanted
+nothing_written sink w e wanted why = record {
+  keeps = begins_self _;
+  ordered = refl;
+  stays = λ completes. completes;
+  ok = λ keeps_bytes. tt;
+  err = λ keeps_bytes memory_alone. why plain;
+  own = λ keeps_bytes. own (why plain);
+  completed = λ at completes. tt;
+  completed_own = λ at completes. own (why (sink.hand at));
+}
+  where
+    own : {A B C : Type 0} → A ⊎ C → (A ⊎ B) ⊎ C
+    own (inl memory) = inl (inl memory)
+    own (inr wanted) = inr wanted

@@ -52,6 +52,6 @@ pub record Counted (length_of : ℕ → Result (List ℕ) Error) (r : Result (Li
 pub counted_written : (length_of : ℕ → Result (List ℕ) Error) (r : Result (List ℕ) Error) (bytes : List ℕ) → after_length length_of r ≡ Ok bytes
     → Counted length_of r bytes
 counted_written length_of (Ok inside) bytes e =
-    let b = before_written (length_of (length inside)) inside bytes e in
+    let b = before_written _ _ _ e in
     record { inside = inside; size = b.front; inside_is = refl; size_is = b.front_is; whole = b.whole }
 counted_written length_of (Err d) bytes e = absurd cc

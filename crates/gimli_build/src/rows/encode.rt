@@ -4,7 +4,7 @@ ghost use Rattle.std.specs.Prelude.{◌≡◌, ℕ, Bool, not, nat_eq, nat_le, i
 ghost use Rattle.std.specs.Prelude.{◌++◌, ◌+◌, ◌*◌, ◌<◌, ◌≤◌, ◌^◌, Some, None, IfOk, OnOk, Ok, pos};
 ghost use Rattle.std.specs.Prelude.{◌-ℤ◌, unsigned_abs};
 ghost use Rattle.gimli_build.specs.Conditions.{CanBuild, AreBuilt};
-ghost use Rattle.gimli_build.specs.Items.{next_previous, item_bytes_by, items_bytes_by};
+ghost use Rattle.gimli_build.specs.Items.{next_previous, item_bytes, items_bytes};
 ghost use Rattle.gimli_build.specs.Items.{FitsItem, AreFit};
 ghost use Rattle.gimli_build.specs.Built.{position_after};
 ghost use Rattle.gimli_build.specs.Rows.{initial_row, at_position};
@@ -15,7 +15,7 @@ ghost use Rattle.gimli_build.specs.Encode.{line_part, row_maker, operation_part,
 ghost use Rattle.gimli_build.specs.InstructionBytes.{instructions_bytes, FitsInstructions};
 ghost use Rattle.gimli_build.specs.FileNumber.{file_number};
 ghost use Rattle.gimli_build.specs.inside.ReadAs.{read_as};
-ghost use Rattle.gimli_build.specs.inside.Writes.{Writes, WritesBy};
+ghost use Rattle.gimli_build.specs.inside.Writes.{Writes, always};
 ghost use Rattle.gimli_line.specs.declared.run.instruction.LineInstruction.TheVariants.{
   AdvancePc,
   EndSequence,
@@ -43,8 +43,8 @@ pub(crate) fn write_items<W: Writer>(
 ) -> Result<()>
     requires can { CanEncode line_encoding }
     requires built { AreBuilt line_encoding (0, 0) items.now }
-    ensures writes { WritesBy W.Sink w.old w.new result
-        (λ hand. items_bytes_by hand (W.big w.old) encoding line_encoding
+    ensures writes { Writes W.Sink w.old w.new result
+        (λ hand. items_bytes hand (W.big w.old) encoding line_encoding
         (initial_row encoding.version line_encoding.default_is_stmt) items.now) }
     ensures fit { OnOk result (AreFit encoding.version items.now) }
 {
@@ -91,8 +91,8 @@ fn write_item<W: Writer>(
     requires stands { IsPosition line_encoding position.0 position.1 }
     requires previous_line { previous.now.line < 2 ^ 63 }
     requires built { CanBuild line_encoding position item.now }
-    ensures writes { WritesBy W.Sink w.old w.new result
-        (λ hand. item_bytes_by hand (W.big w.old) encoding line_encoding
+    ensures writes { Writes W.Sink w.old w.new result
+        (λ hand. item_bytes hand (W.big w.old) encoding line_encoding
         (at_position position previous.now)
         item.now) }
     ensures fit { OnOk result (FitsItem encoding.version item.now) }
@@ -128,9 +128,9 @@ pub(crate) fn write_row<W: Writer>(
     requires previous_line { previous.now.line < 2 ^ 63 }
     requires line { row.now.line < 2 ^ 63 }
     ensures writes { Writes W.Sink w.old w.new result
-        (Ok (instructions_bytes
+        (always (Ok (instructions_bytes
         (row_instructions encoding.version line_encoding (at_position position previous.now)
-        row.now))) }
+        row.now)))) }
     ensures fit { OnOk result (FitsInstructions encoding.version row.now) }
 {
     write_marks(w, row)?;
@@ -145,8 +145,8 @@ pub(crate) fn write_row<W: Writer>(
 /// few, so it stands apart from rows.
 #[inline(never)]
 pub(crate) fn write_end<W: Writer>(w: &mut W, count: u64) -> Result<()>
-    ensures { Writes W.Sink w.old w.new result (Ok (instructions_bytes
-        (when (not (nat_eq count 0)) (AdvancePc count) ++ EndSequence ∷ []))) }
+    ensures { Writes W.Sink w.old w.new result (always (Ok (instructions_bytes
+        (when (not (nat_eq count 0)) (AdvancePc count) ++ EndSequence ∷ [])))) }
 {
     write_if(w, count != 0, LineInstruction::AdvancePc(count))?;
     write_instruction(w, LineInstruction::EndSequence)
@@ -154,7 +154,8 @@ pub(crate) fn write_end<W: Writer>(w: &mut W, count: u64) -> Result<()>
 
 /// Appends what stands for the row alone.
 fn write_marks<W: Writer>(w: &mut W, row: &LineRow) -> Result<()>
-    ensures writes { Writes W.Sink w.old w.new result (Ok (instructions_bytes (marks row.now))) }
+    ensures writes { Writes W.Sink w.old w.new result
+        (always (Ok (instructions_bytes (marks row.now)))) }
     ensures fit { OnOk result (row.now.discriminator < 2 ^ 64) }
 {
     let discriminator = LineInstruction::SetDiscriminator(row.discriminator);
@@ -173,7 +174,7 @@ fn write_changes<W: Writer>(
     row: &LineRow,
 ) -> Result<()>
     ensures writes { Writes W.Sink w.old w.new result
-        (Ok (instructions_bytes (changes version previous.now row.now))) }
+        (always (Ok (instructions_bytes (changes version previous.now row.now)))) }
     ensures fit { OnOk result ((file_number version row.now.file < 2 ^ 64)
         × (row.now.column < 2 ^ 64) × (row.now.isa < 2 ^ 64)) }
 {
@@ -202,7 +203,7 @@ fn write_line_advance<W: Writer>(
 ) -> Result<u8>
     requires can { CanEncode line_encoding.now }
     ensures writes { Writes W.Sink w.old w.new result
-        (Ok (instructions_bytes (line_part line_encoding.now advance))) }
+        (always (Ok (instructions_bytes (line_part line_encoding.now advance)))) }
     ensures opcode { IfOk result (λ s. s ≡ line_opcode line_encoding.now advance) }
 {
     if has_special(line_encoding, advance) {
@@ -230,7 +231,7 @@ fn write_operation_advance<W: Writer>(
 ) -> Result<()>
     requires can { CanEncode line_encoding.now }
     ensures { Writes W.Sink w.old w.new result
-        (Ok (instructions_bytes (operation_part line_encoding.now opcode count))) }
+        (always (Ok (instructions_bytes (operation_part line_encoding.now opcode count)))) }
 {
     let range = u64::from(line_encoding.line_range);
     if let Some(special) = special_opcode(opcode, count, range) {

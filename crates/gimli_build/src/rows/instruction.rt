@@ -6,11 +6,11 @@ ghost use Rattle.gimli_bytes.specs.Number.{has_seven_bits as holds_seven_bits};
 ghost use Rattle.gimli_build.specs.InstructionBytes.{
   instruction_bytes,
   instructions_bytes,
-  set_address_bytes_by,
+  set_address_bytes,
 };
 ghost use Rattle.gimli_build.specs.Due.{when};
 ghost use Rattle.gimli_build.specs.inside.ReadAs.{read_as};
-ghost use Rattle.gimli_build.specs.inside.Writes.{Writes, WritesBy};
+ghost use Rattle.gimli_build.specs.inside.Writes.{Writes, always};
 ghost use Rattle.gimli_line.specs.declared.run.instruction.LineInstruction.TheVariants.{
   SetDiscriminator,
 };
@@ -41,7 +41,8 @@ pub(crate) enum LineInstruction {
 /// Appends an instruction.
 #[inline(always)]
 pub(crate) fn write_instruction<W: Writer>(w: &mut W, instruction: LineInstruction) -> Result<()>
-    ensures { Writes W.Sink w.old w.new result (Ok (instruction_bytes (read_as instruction))) }
+    ensures { Writes W.Sink w.old w.new result
+        (always (Ok (instruction_bytes (read_as instruction)))) }
 {
     match instruction {
         LineInstruction::Special(opcode) => write_byte(w, opcode),
@@ -65,7 +66,7 @@ pub(crate) fn write_instruction<W: Writer>(w: &mut W, instruction: LineInstructi
 #[inline(always)]
 pub(crate) fn write_if<W: Writer>(w: &mut W, due: bool, instruction: LineInstruction) -> Result<()>
     ensures { Writes W.Sink w.old w.new result
-        (Ok (instructions_bytes (when due (read_as instruction)))) }
+        (always (Ok (instructions_bytes (when due (read_as instruction))))) }
 {
     if due {
         write_instruction(w, instruction)?;
@@ -77,8 +78,8 @@ pub(crate) fn write_if<W: Writer>(w: &mut W, due: bool, instruction: LineInstruc
 /// refusal is handed on.
 #[inline(never)]
 pub(crate) fn write_set_address<W: Writer>(w: &mut W, address: &Address, size: u8) -> Result<()>
-    ensures { WritesBy W.Sink w.old w.new result
-        (λ hand. set_address_bytes_by hand (W.big w.old) address.now size) }
+    ensures { Writes W.Sink w.old w.new result
+        (λ hand. set_address_bytes hand (W.big w.old) address.now size) }
 {
     write_byte(w, 0)?;
     w.write_uleb128(u64::from(size) + 1)?;
@@ -90,7 +91,7 @@ pub(crate) fn write_set_address<W: Writer>(w: &mut W, address: &Address, size: u
 #[inline(always)]
 fn write_discriminator<W: Writer>(w: &mut W, discriminator: u64) -> Result<()>
     ensures { Writes W.Sink w.old w.new result
-        (Ok (instruction_bytes (SetDiscriminator discriminator))) }
+        (always (Ok (instruction_bytes (SetDiscriminator discriminator)))) }
 {
     let operand = Leb128::unsigned(discriminator);
     write_byte(w, 0)?;
@@ -102,7 +103,7 @@ fn write_discriminator<W: Writer>(w: &mut W, discriminator: u64) -> Result<()>
 /// Appends a standard opcode and its unsigned operand.
 #[inline(always)]
 fn write_unsigned<W: Writer>(w: &mut W, opcode: DwLns, operand: u64) -> Result<()>
-    ensures { Writes W.Sink w.old w.new result (Ok (opcode.0 ∷ uleb operand)) }
+    ensures { Writes W.Sink w.old w.new result (always (Ok (opcode.0 ∷ uleb operand))) }
 {
     if operand < 128 {
         return w.write(&[opcode.0, operand as u8]);
@@ -113,7 +114,7 @@ fn write_unsigned<W: Writer>(w: &mut W, opcode: DwLns, operand: u64) -> Result<(
 /// Appends a standard opcode and its unsigned operand, by a call for each.
 #[inline(always)]
 fn write_long_unsigned<W: Writer>(w: &mut W, opcode: DwLns, operand: u64) -> Result<()>
-    ensures { Writes W.Sink w.old w.new result (Ok (opcode.0 ∷ uleb operand)) }
+    ensures { Writes W.Sink w.old w.new result (always (Ok (opcode.0 ∷ uleb operand))) }
 {
     write_byte(w, opcode.0)?;
     w.write_uleb128(operand)
@@ -122,7 +123,7 @@ fn write_long_unsigned<W: Writer>(w: &mut W, opcode: DwLns, operand: u64) -> Res
 /// Appends a standard opcode and its signed operand.
 #[inline(always)]
 fn write_signed<W: Writer>(w: &mut W, opcode: DwLns, operand: i64) -> Result<()>
-    ensures { Writes W.Sink w.old w.new result (Ok (opcode.0 ∷ sleb operand)) }
+    ensures { Writes W.Sink w.old w.new result (always (Ok (opcode.0 ∷ sleb operand))) }
 {
     if has_seven_bits(operand) {
         return w.write(&[opcode.0, low_bits(operand)]);

@@ -8,7 +8,7 @@ ghost use Rattle.gimli_build.specs.TableFields.{details};
 ghost use Rattle.gimli_build.specs.Joined.{result_append, result_concat};
 ghost use Rattle.gimli_build.specs.Version4Tables.{name_bytes, directories_bytes, file_bytes};
 ghost use Rattle.gimli_build.specs.Version4Tables.{files_bytes};
-ghost use Rattle.gimli_build.specs.inside.Writes.{Writes};
+ghost use Rattle.gimli_build.specs.inside.Writes.{Writes, always};
 
 use crate::built::files::{DirectoryId, FileInfo, FileTable};
 use crate::built::line_string::LineString;
@@ -18,7 +18,8 @@ use gimli_bytes::{Error, Result, Writer};
 /// Appends the directories and the files.
 pub(crate) fn write_version_4_tables<W: Writer>(w: &mut W, tables: &FileTable) -> Result<()>
     ensures writes { Writes W.Sink w.old w.new result
-        (result_append (directories_bytes tables.now.directories) (files_bytes tables.now.files)) }
+        (always (result_append (directories_bytes tables.now.directories)
+        (files_bytes tables.now.files))) }
     ensures fit { OnOk result (All FitsFile tables.now.files) }
 {
     write_directories(w, tables.directories())?;
@@ -27,7 +28,8 @@ pub(crate) fn write_version_4_tables<W: Writer>(w: &mut W, tables: &FileTable) -
 
 /// Appends the directories but for the working directory, and what closes them.
 fn write_directories<W: Writer>(w: &mut W, directories: &[LineString]) -> Result<()>
-    ensures { Writes W.Sink w.old w.new result (directories_bytes (map line_text directories.now)) }
+    ensures { Writes W.Sink w.old w.new result
+        (always (directories_bytes (map line_text directories.now))) }
 {
     write_names(w, others(directories))?;
     write_byte(w, 0)
@@ -46,7 +48,7 @@ fn others(directories: &[LineString]) -> &[LineString]
 /// Appends names one after the other.
 fn write_names<W: Writer>(w: &mut W, names: &[LineString]) -> Result<()>
     ensures { Writes W.Sink w.old w.new result
-        (result_concat name_bytes (map line_text names.now)) }
+        (always (result_concat name_bytes (map line_text names.now))) }
 {
     for name in names {
         write_name(w, name)?;
@@ -56,7 +58,7 @@ fn write_names<W: Writer>(w: &mut W, names: &[LineString]) -> Result<()>
 
 /// Appends a name that is in the program itself, and a zero byte.
 fn write_name<W: Writer>(w: &mut W, name: &LineString) -> Result<()>
-    ensures { Writes W.Sink w.old w.new result (name_bytes (line_text name.now)) }
+    ensures { Writes W.Sink w.old w.new result (always (name_bytes (line_text name.now))) }
 {
     match name {
         LineString::String(text) => write_text(w, text.as_slice()),
@@ -66,7 +68,7 @@ fn write_name<W: Writer>(w: &mut W, name: &LineString) -> Result<()>
 
 /// Appends the files, and what closes them.
 fn write_files<W: Writer>(w: &mut W, tables: &FileTable) -> Result<()>
-    ensures writes { Writes W.Sink w.old w.new result (files_bytes tables.now.files) }
+    ensures writes { Writes W.Sink w.old w.new result (always (files_bytes tables.now.files)) }
     ensures fit { OnOk result (All FitsFile tables.now.files) }
 {
     write_each_file(w, tables)?;
@@ -75,7 +77,8 @@ fn write_files<W: Writer>(w: &mut W, tables: &FileTable) -> Result<()>
 
 /// Appends files one after the other.
 fn write_each_file<W: Writer>(w: &mut W, tables: &FileTable) -> Result<()>
-    ensures writes { Writes W.Sink w.old w.new result (result_concat file_bytes tables.now.files) }
+    ensures writes { Writes W.Sink w.old w.new result
+        (always (result_concat file_bytes tables.now.files)) }
     ensures fit { OnOk result (All FitsFile tables.now.files) }
 {
     for index in 0..tables.file_count() {
@@ -93,7 +96,7 @@ fn write_file<W: Writer>(
     info: &FileInfo,
 ) -> Result<()>
     ensures writes { Writes W.Sink w.old w.new result
-        (file_bytes ((line_text path.now, directory), details info.now)) }
+        (always (file_bytes ((line_text path.now, directory), details info.now))) }
     ensures fit { OnOk result (FitsFile ((line_text path.now, directory), details info.now)) }
 {
     write_name(w, path)?;
@@ -103,7 +106,7 @@ fn write_file<W: Writer>(
 /// Appends a file's directory, its timestamp and its size.
 fn write_numbers<W: Writer>(w: &mut W, directory: DirectoryId, info: &FileInfo) -> Result<()>
     ensures writes { Writes W.Sink w.old w.new result
-        (Ok (uleb directory ++ uleb info.now.timestamp ++ uleb info.now.size)) }
+        (always (Ok (uleb directory ++ uleb info.now.timestamp ++ uleb info.now.size))) }
     ensures fit { OnOk result (FitsFile ((Inline [], directory), details info.now)) }
 {
     w.write_uleb128(directory.index() as u64)?;

@@ -16,12 +16,12 @@ ghost use Rattle.gimli_build.specs.Conditions.{CanWrite};
 ghost use Rattle.gimli_build.specs.Joined.{result_append, result_concat};
 ghost use Rattle.gimli_build.specs.Version5Tables.{first_form, path_texts, sources, needs_empty};
 ghost use Rattle.gimli_build.specs.Version5Tables.{empty_text, formats_bytes, file_formats};
-ghost use Rattle.gimli_build.specs.Version5Tables.{text_in_form_by, directory_table_bytes_by};
-ghost use Rattle.gimli_build.specs.Version5Tables.{source_bytes_by, file_entry_bytes_by};
-ghost use Rattle.gimli_build.specs.Version5Tables.{file_table_bytes_by};
+ghost use Rattle.gimli_build.specs.Version5Tables.{text_in_form, directory_table_bytes};
+ghost use Rattle.gimli_build.specs.Version5Tables.{source_bytes, file_entry_bytes};
+ghost use Rattle.gimli_build.specs.Version5Tables.{file_table_bytes};
 ghost use Rattle.gimli_build.specs.WrittenTables.{HaveEmptySource};
 ghost use Rattle.gimli_build.specs.inside.EmptySource.{IsEmptySource, StandsForNone};
-ghost use Rattle.gimli_build.specs.inside.Writes.{Writes, WritesBy};
+ghost use Rattle.gimli_build.specs.inside.Writes.{Writes, always};
 
 use crate::built::files::{DirectoryId, FileInfo, FileTable};
 use crate::built::line_program::LineProgram;
@@ -162,11 +162,11 @@ pub(crate) fn write_version_5_tables<W: Writer>(
     requires empty { StandsForNone program.now (texts_in strings.now line_strings.now)
         (line_text empty.now) }
     requires version { 5 ≤ program.now.encoding.version }
-    ensures writes { WritesBy W.Sink w.old w.new result
+    ensures writes { Writes W.Sink w.old w.new result
         (λ hand. let texts = texts_in strings.now line_strings.now in
         let format = program.now.encoding.format in
-        result_append (directory_table_bytes_by hand (W.big w.old) format texts program.now)
-        (file_table_bytes_by hand (W.big w.old) format texts program.now)) }
+        result_append (directory_table_bytes hand (W.big w.old) format texts program.now)
+        (file_table_bytes hand (W.big w.old) format texts program.now)) }
     ensures fit { OnOk result (All FitsFile program.now.files) }
 {
     write_directory_table(w, program, line_strings, strings)?;
@@ -181,8 +181,8 @@ fn write_directory_table<W: Writer>(
     strings: &StringTable,
 ) -> Result<()>
     requires { All (IsWithin (texts_in strings.now line_strings.now)) program.now.directories }
-    ensures { WritesBy W.Sink w.old w.new result
-        (λ hand. directory_table_bytes_by hand (W.big w.old) program.now.encoding.format
+    ensures { Writes W.Sink w.old w.new result
+        (λ hand. directory_table_bytes hand (W.big w.old) program.now.encoding.format
         (texts_in strings.now line_strings.now) program.now) }
 {
     let directories = program.tables().directories();
@@ -201,7 +201,7 @@ fn write_directory_table<W: Writer>(
 /// Appends the formats of directories, and their number.
 fn write_directory_formats<W: Writer>(w: &mut W, form: DwForm, count: usize) -> Result<()>
     ensures { Writes W.Sink w.old w.new result
-        (Ok (formats_bytes ((0x0001, form.0) ∷ []) ++ uleb count)) }
+        (always (Ok (formats_bytes ((0x0001, form.0) ∷ []) ++ uleb count))) }
 {
     write_byte(w, 1)?;
     write_format(w, constants::DW_LNCT_path, form)?;
@@ -210,7 +210,7 @@ fn write_directory_formats<W: Writer>(w: &mut W, form: DwForm, count: usize) -> 
 
 /// Appends a content type and a form.
 fn write_format<W: Writer>(w: &mut W, content: DwLnct, form: DwForm) -> Result<()>
-    ensures { Writes W.Sink w.old w.new result (Ok (uleb content.0 ++ uleb form.0)) }
+    ensures { Writes W.Sink w.old w.new result (always (Ok (uleb content.0 ++ uleb form.0))) }
 {
     w.write_uleb128(u64::from(content.0))?;
     w.write_uleb128(u64::from(form.0))
@@ -226,8 +226,8 @@ fn write_texts<W: Writer>(
     strings: &StringTable,
 ) -> Result<()>
     requires { All (IsWithin (texts_in strings.now line_strings.now)) (map line_text texts.now) }
-    ensures { WritesBy W.Sink w.old w.new result
-        (λ hand. result_concat (text_in_form_by hand (W.big w.old) format
+    ensures { Writes W.Sink w.old w.new result
+        (λ hand. result_concat (text_in_form hand (W.big w.old) format
         (texts_in strings.now line_strings.now) form.0) (map line_text texts.now)) }
 {
     for text in texts {
@@ -247,8 +247,8 @@ fn write_line_string<W: Writer>(
     strings: &StringTable,
 ) -> Result<()>
     requires { IsWithin (texts_in strings.now line_strings.now) (line_text text.now) }
-    ensures { WritesBy W.Sink w.old w.new result
-        (λ hand. text_in_form_by hand (W.big w.old) format
+    ensures { Writes W.Sink w.old w.new result
+        (λ hand. text_in_form hand (W.big w.old) format
         (texts_in strings.now line_strings.now) form.0 (line_text text.now)) }
 {
     if text.form() != form {
@@ -279,8 +279,8 @@ fn write_file_table<W: Writer>(
     requires empty { StandsForNone program.now (texts_in strings.now line_strings.now)
         (line_text empty.now) }
     requires version { 5 ≤ program.now.encoding.version }
-    ensures writes { WritesBy W.Sink w.old w.new result
-        (λ hand. file_table_bytes_by hand (W.big w.old) program.now.encoding.format
+    ensures writes { Writes W.Sink w.old w.new result
+        (λ hand. file_table_bytes hand (W.big w.old) program.now.encoding.format
         (texts_in strings.now line_strings.now) program.now) }
     ensures fit { OnOk result (All FitsFile program.now.files) }
 {
@@ -297,7 +297,8 @@ fn write_file_formats<W: Writer>(
 ) -> Result<()>
     requires { source_form.0 ≡ first_form (sources program.now.files) }
     ensures { Writes W.Sink w.old w.new result
-        (Ok (formats_bytes (file_formats program.now) ++ uleb (length program.now.files))) }
+        (always
+        (Ok (formats_bytes (file_formats program.now) ++ uleb (length program.now.files)))) }
 {
     write_key_formats(w, program)?;
     write_detail_formats(w, program)?;
@@ -313,9 +314,9 @@ fn write_file_formats<W: Writer>(
 /// Appends the number of formats of files, and those of the path and the directory.
 fn write_key_formats<W: Writer>(w: &mut W, program: &LineProgram) -> Result<()>
     ensures { Writes W.Sink w.old w.new result
-        (Ok (length (file_formats program.now)
+        (always (Ok (length (file_formats program.now)
         ∷ (uleb 0x0001 ++ uleb (first_form (path_texts program.now.files))) ++ uleb 0x0002
-        ++ uleb 0x0f)) }
+        ++ uleb 0x0f))) }
 {
     write_byte(w, format_count(program))?;
     write_format(w, constants::DW_LNCT_path, path_form(program.tables()))?;
@@ -339,9 +340,9 @@ fn format_count(program: &LineProgram) -> u8
 /// Appends the formats of what else is stored of files, but for their sources.
 fn write_detail_formats<W: Writer>(w: &mut W, program: &LineProgram) -> Result<()>
     ensures { Writes W.Sink w.old w.new result
-        (Ok ((if program.now.file_has_timestamp then uleb 0x0003 ++ uleb 0x0f else [])
+        (always (Ok ((if program.now.file_has_timestamp then uleb 0x0003 ++ uleb 0x0f else [])
         ++ (if program.now.file_has_size then uleb 0x0004 ++ uleb 0x0f else [])
-        ++ (if program.now.file_has_md5 then uleb 0x0005 ++ uleb 0x1e else []))) }
+        ++ (if program.now.file_has_md5 then uleb 0x0005 ++ uleb 0x1e else [])))) }
 {
     let udata = constants::DW_FORM_udata;
     let data16 = constants::DW_FORM_data16;
@@ -358,7 +359,7 @@ fn write_detail_formats<W: Writer>(w: &mut W, program: &LineProgram) -> Result<(
 /// Appends a content type and a form, where they are due.
 fn write_format_if<W: Writer>(w: &mut W, due: bool, content: DwLnct, form: DwForm) -> Result<()>
     ensures { Writes W.Sink w.old w.new result
-        (Ok (if due then uleb content.0 ++ uleb form.0 else [])) }
+        (always (Ok (if due then uleb content.0 ++ uleb form.0 else []))) }
 {
     if !due {
         return Ok(());
@@ -380,8 +381,8 @@ fn write_file_entries<W: Writer>(
         (line_text empty.now) }
     requires version { 5 ≤ program.now.encoding.version }
     requires source_form { source_form.0 ≡ first_form (sources program.now.files) }
-    ensures writes { WritesBy W.Sink w.old w.new result
-        (λ hand. result_concat (file_entry_bytes_by hand (W.big w.old) program.now.encoding.format
+    ensures writes { Writes W.Sink w.old w.new result
+        (λ hand. result_concat (file_entry_bytes hand (W.big w.old) program.now.encoding.format
         (texts_in strings.now line_strings.now) program.now) program.now.files) }
     ensures fit { OnOk result (All FitsFile program.now.files) }
 {
@@ -409,8 +410,8 @@ fn write_file_entry<W: Writer>(
     requires empty { program.now.file_has_source ≡ true → (details file.2.now).source ≡ None
         → IsEmptySource program.now (texts_in strings.now line_strings.now) (line_text empty.now) }
     requires source_form { source_form.0 ≡ first_form (sources program.now.files) }
-    ensures writes { WritesBy W.Sink w.old w.new result
-        (λ hand. file_entry_bytes_by hand (W.big w.old) program.now.encoding.format
+    ensures writes { Writes W.Sink w.old w.new result
+        (λ hand. file_entry_bytes hand (W.big w.old) program.now.encoding.format
         (texts_in strings.now line_strings.now) program.now
         ((line_text file.entry.0.now, file.entry.1), details file.entry.2.now)) }
     ensures fit { OnOk result
@@ -439,10 +440,10 @@ fn write_details<W: Writer>(
     info: &FileInfo,
 ) -> Result<()>
     ensures writes { Writes W.Sink w.old w.new result
-        (Ok (uleb directory
+        (always (Ok (uleb directory
         ++ (if program.now.file_has_timestamp then uleb info.now.timestamp else [])
         ++ (if program.now.file_has_size then uleb info.now.size else [])
-        ++ (if program.now.file_has_md5 then info.now.md5 else []))) }
+        ++ (if program.now.file_has_md5 then info.now.md5 else [])))) }
     ensures fit { OnOk result (FitsFile ((Inline [], directory), details info.now)) }
 {
     w.write_uleb128(directory.index() as u64)?;
@@ -453,7 +454,7 @@ fn write_details<W: Writer>(
 
 /// Appends a number as LEB128, where it is due.
 fn write_number_if<W: Writer>(w: &mut W, due: bool, number: u64) -> Result<()>
-    ensures { Writes W.Sink w.old w.new result (Ok (if due then uleb number else [])) }
+    ensures { Writes W.Sink w.old w.new result (always (Ok (if due then uleb number else []))) }
 {
     if !due {
         return Ok(());
@@ -463,7 +464,7 @@ fn write_number_if<W: Writer>(w: &mut W, due: bool, number: u64) -> Result<()>
 
 /// Appends a digest, where it is due.
 fn write_digest_if<W: Writer>(w: &mut W, due: bool, digest: &[u8; 16]) -> Result<()>
-    ensures { Writes W.Sink w.old w.new result (Ok (if due then digest.now else [])) }
+    ensures { Writes W.Sink w.old w.new result (always (Ok (if due then digest.now else []))) }
 {
     if !due {
         return Ok(());
@@ -486,8 +487,8 @@ fn write_source<W: Writer>(
     requires empty { program.now.file_has_source ≡ true → (details info.now).source ≡ None
         → IsEmptySource program.now (texts_in strings.now line_strings.now) (line_text empty.now) }
     requires form { form.0 ≡ first_form (sources program.now.files) }
-    ensures { WritesBy W.Sink w.old w.new result
-        (λ hand. source_bytes_by hand (W.big w.old) program.now.encoding.format
+    ensures { Writes W.Sink w.old w.new result
+        (λ hand. source_bytes hand (W.big w.old) program.now.encoding.format
         (texts_in strings.now line_strings.now) program.now ((Inline [], 0), details info.now)) }
 {
     if !program.file_has_source {

@@ -6,9 +6,9 @@ ghost use Rattle.gimli_build.specs.LineText.{line_text};
 ghost use Rattle.gimli_build.specs.inside.Tables.{FitsFile};
 ghost use Rattle.gimli_build.specs.Conditions.{CanWrite};
 ghost use Rattle.gimli_build.specs.inside.EmptySource.{StandsForNone};
-ghost use Rattle.gimli_build.specs.Unit.{operations_bytes, line_encoding_bytes, tables_bytes_by};
-ghost use Rattle.gimli_build.specs.Unit.{fields_bytes_by, header_bytes_by};
-ghost use Rattle.gimli_build.specs.inside.Writes.{Writes, WritesBy};
+ghost use Rattle.gimli_build.specs.Unit.{operations_bytes, line_encoding_bytes, tables_bytes};
+ghost use Rattle.gimli_build.specs.Unit.{fields_bytes, header_bytes};
+ghost use Rattle.gimli_build.specs.inside.Writes.{Writes, always};
 
 use crate::built::line_program::LineProgram;
 use crate::built::line_string::LineString;
@@ -30,8 +30,8 @@ pub(crate) fn write_header<W: Writer>(
     requires can { CanWrite program.now (texts_in strings.now line_strings.now) }
     requires empty { StandsForNone program.now (texts_in strings.now line_strings.now)
         (line_text empty.now) }
-    ensures writes { WritesBy W.Sink w.old w.new result
-        (λ hand. header_bytes_by hand (W.big w.old) program.now
+    ensures writes { Writes W.Sink w.old w.new result
+        (λ hand. header_bytes hand (W.big w.old) program.now
         (texts_in strings.now line_strings.now)) }
     ensures fit { OnOk result (All FitsFile program.now.files) }
 {
@@ -55,8 +55,8 @@ fn write_fields<W: Writer>(
     requires can { CanWrite program.now (texts_in strings.now line_strings.now) }
     requires empty { StandsForNone program.now (texts_in strings.now line_strings.now)
         (line_text empty.now) }
-    ensures writes { WritesBy W.Sink w.old w.new result
-        (λ hand. fields_bytes_by hand (W.big w.old) program.now
+    ensures writes { Writes W.Sink w.old w.new result
+        (λ hand. fields_bytes hand (W.big w.old) program.now
         (texts_in strings.now line_strings.now)) }
     ensures fit { OnOk result (All FitsFile program.now.files) }
 {
@@ -71,7 +71,8 @@ fn write_line_encoding<W: Writer>(
     version: u16,
     line_encoding: LineEncoding,
 ) -> Result<()>
-    ensures { Writes W.Sink w.old w.new result (line_encoding_bytes version line_encoding) }
+    ensures { Writes W.Sink w.old w.new result
+        (always (line_encoding_bytes version line_encoding)) }
 {
     write_byte(w, line_encoding.minimum_instruction_length)?;
     write_operation_count(w, version, line_encoding.maximum_operations_per_instruction)?;
@@ -84,7 +85,7 @@ fn write_line_encoding<W: Writer>(
 
 /// Appends how many operations an instruction has, which before version 4 is one, and isn't said.
 fn write_operation_count<W: Writer>(w: &mut W, version: u16, operations: u8) -> Result<()>
-    ensures { Writes W.Sink w.old w.new result (operations_bytes version operations) }
+    ensures { Writes W.Sink w.old w.new result (always (operations_bytes version operations)) }
 {
     if version >= 4 {
         return write_byte(w, operations);
@@ -106,8 +107,8 @@ fn write_tables<W: Writer>(
     requires can { CanWrite program.now (texts_in strings.now line_strings.now) }
     requires empty { StandsForNone program.now (texts_in strings.now line_strings.now)
         (line_text empty.now) }
-    ensures writes { WritesBy W.Sink w.old w.new result
-        (λ hand. tables_bytes_by hand (W.big w.old) program.now
+    ensures writes { Writes W.Sink w.old w.new result
+        (λ hand. tables_bytes hand (W.big w.old) program.now
         (texts_in strings.now line_strings.now)) }
     ensures fit { OnOk result (All FitsFile program.now.files) }
 {

@@ -1,9 +1,8 @@
 use Rattle.gimli_core.specs.Numbers.{word_size}
-use Rattle.gimli_bytes.specs.Hand.{Hand}
-use Rattle.gimli_build.proofs.writing.Writes.{writes_by}
+use Rattle.gimli_build.proofs.writing.Writes.{writes}
 use Rattle.gimli_build.proofs.bytes.write_section_offset.Goals as goal
 
 pub returns : goal.returns
 returns g c =
     let put = rw c.word_size.ensures at c.write_offset.ensures in
-    writes_by (λ (hand : Hand). hand.offset (g.W.Sink.big c.args.w.now) c.args.section c.args.offset (word_size c.args.format)) put
+    writes _ put

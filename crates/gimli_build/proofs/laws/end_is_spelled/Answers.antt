@@ -1,7 +1,6 @@
-use Rattle.gimli_build.specs.Runs.{written_end}
 use Rattle.gimli_build.proofs.spellings.Spellings.{each-spelled, all_end}
 use Rattle.gimli_build.proofs.laws.end_is_spelled.Goals as goal
 
 pub returns : goal.returns
 returns c = λ u here o i follows.
-    each-spelled u.notation u.header u.opcode_base u.longest (written_end here o i) (all_end here.line_encoding here.previous o i follows)
+    each-spelled u.notation u.header u.opcode_base u.longest _ (all_end _ here.previous o i follows)

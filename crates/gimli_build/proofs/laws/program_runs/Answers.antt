@@ -1,5 +1,4 @@
 use Rattle.std.proofs.Common.{ap, ◌∙◌, lit<}
-use Rattle.gimli_line.specs.declared.run.row.LineRow.{LineRow as ReadRow}
 use Rattle.gimli_line.specs.run.Machine.{run}
 use Rattle.gimli_build.specs.Rows.{initial_row}
 use Rattle.gimli_build.specs.SameRow.{built_rules}
@@ -13,6 +12,6 @@ returns c = λ p can.
     let encoding = p.encoding in
     let e = p.line_encoding in
     let first = initial_row encoding.version e.default_is_stmt in
-    ap (λ (r : ReadRow). run (built_rules encoding e) r (program_instructions p)) (start-is encoding e can.version)
-    ∙ items-run encoding e can.accepts.address_size can.accepts.lines can.version 0 first p.items (start_position e can.accepts.lines) (lit< tt) can.built
+    ap (λ r. run (built_rules encoding e) r (program_instructions p)) (start-is encoding e can.version)
+    ∙ items-run encoding e can.accepts.address_size can.accepts.lines can.version 0 _ _ (start_position e can.accepts.lines) (lit< tt) can.built
     can.addresses

@@ -1,8 +1,7 @@
-use Rattle.gimli_build.specs.Runs.{written_row}
 use Rattle.gimli_build.proofs.spellings.Spellings.{each-spelled, all_row}
 use Rattle.gimli_build.proofs.laws.row_is_spelled.Goals as goal
 
 pub returns : goal.returns
 returns c = λ u here r can.
-    each-spelled u.notation u.header u.opcode_base u.longest (written_row here r)
-    (all_row here.encoding.version here.line_encoding here.previous r can.encode can.follows can.line_before can.fits)
+    each-spelled u.notation u.header u.opcode_base u.longest _
+    (all_row _ _ here.previous r can.encode can.follows can.line_before can.fits)

@@ -2,4 +2,4 @@ use Rattle.gimli_build.proofs.sizes.RowSizes.{row_short}
 use Rattle.gimli_build.proofs.laws.rows_are_short.Goals as goal
 
 pub returns : goal.returns
-returns c = λ here r. row_short here.encoding.version here.line_encoding here.previous r
+returns c = λ here r. row_short _ here.line_encoding here.previous r

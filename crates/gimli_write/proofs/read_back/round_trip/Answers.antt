@@ -1,8 +1,11 @@
 use Rattle.std.proofs.Common.{ℕ, List, drop, refl, subst}
-use Rattle.std.specs.Prelude.{IfErr}
+use Rattle.std.specs.Prelude.{Result, Ok, Err, OnOk, IfErr}
 use Rattle.gimli_bytes.specs.Texts.{texts_in}
 use Rattle.gimli_build.specs.Version5Tables.{texts_after}
+use Rattle.gimli_bytes.specs.Hand.{plain}
 use Rattle.gimli_build.specs.Cause.{first_cause}
+use Rattle.gimli_build.specs.Unit.{unit_bytes}
+use Rattle.gimli_build.proofs.refusals.Causes.{no-cause, refused-for}
 use Rattle.gimli_write.specs.RoundTrip.{RefusesUnit, slice_notation, unit_entry_of, to_write}
 use Rattle.gimli_write.proofs.RoundTrips.{write_refused, unwritten_refused, memory_refused, unit_not_answered}
 use Rattle.gimli_build.proofs.building.EmptySource.{can-write-after}
@@ -25,16 +28,30 @@ returns-in-Ok-clause-refusal g c =
     (RefusesUnit (slice_notation other) (unit_entry_of program (texts_in c.write.new.strings line_strings)) later))
     c.in-Ok.ensures.tables.line_strings c.read_unit.ensures.err) in
     unit_not_answered big other (to_write big c.args.encoding program (texts_in c.args.strings.now c.args.line_strings.now)) (unit_entry_of program texts)
-    c.args.w.now.0.bytes c.write.new.w.0.bytes c.in-Ok.offset.0 c.read_unit.result c.in-Ok.ensures.ordered (c.in-Ok.ensures.no_cause refl)
-    (c.in-Ok.ensures.unit refl) c.in-Ok.ensures.offset read
+    c.args.w.now.0.bytes c.write.new.w.0.bytes c.in-Ok.offset.0 c.read_unit.result c.in-Ok.ensures.writes.ordered
+    (no-cause _ (unit_bytes plain big c.args.encoding program (texts_in c.args.strings.now c.args.line_strings.now)) _ _ c.in-Ok.ensures.cause
+    (c.in-Ok.ensures.writes.ok refl))
+    (c.in-Ok.ensures.writes.ok refl) c.in-Ok.ensures.offset read
+
+always : {X E P : Type 0} (r : Result X E) → P → OnOk r P
+always (Ok x) p = p
+always (Err e) p = tt
+
+pub returns-in-Ok-clause-no_cause : goal.returns-in-Ok-clause-no_cause
+returns-in-Ok-clause-no_cause g c =
+    let unit = unit_bytes plain (g.E.Endianity.big c.args.w.now.0.endian) c.args.encoding c.args.program.now
+    (texts_in c.args.strings.now c.args.line_strings.now) in
+    always c.read_unit.result (no-cause _ unit _ _ c.in-Ok.ensures.cause (c.in-Ok.ensures.writes.ok refl))
 
 pub returns-in-Err-clause-refusal : goal.returns-in-Err-clause-refusal
 returns-in-Err-clause-refusal g c =
     let big = g.E.Endianity.big c.args.w.now.0.endian in
     let program = c.args.program.now in
+    let unit = unit_bytes plain big c.args.encoding program (texts_in c.args.strings.now c.args.line_strings.now) in
+    let why = refused-for _ unit c.in-Err.e c.in-Err.ensures.cause (c.in-Err.ensures.writes.err refl refl) in
     write_refused big (to_write big c.args.encoding program (texts_in c.args.strings.now c.args.line_strings.now))
     (unit_entry_of program (texts_after program (texts_in c.args.strings.now c.args.line_strings.now)))
-    c.args.w.now.0.bytes c.write.new.w.0.bytes c.in-Err.e c.from_write.result (c.in-Err.ensures.err refl refl) c.from_write.ensures.memory
+    c.args.w.now.0.bytes c.write.new.w.0.bytes c.in-Err.e c.from_write.result why c.from_write.ensures.memory
     c.from_write.ensures.other
 
 pub returns-in-Ok-clause-never_read : goal.returns-in-Ok-clause-never_read
@@ -45,10 +62,12 @@ returns-in-Ok-clause-never_read g c held =
 
 pub returns-in-Err-clause-never_read : goal.returns-in-Err-clause-never_read
 returns-in-Err-clause-never_read g c held =
+    let unit = unit_bytes plain (g.E.Endianity.big c.args.w.now.0.endian) c.args.encoding c.args.program.now
+    (texts_in c.args.strings.now c.args.line_strings.now) in
     unwritten_refused
     (first_cause (g.E.Endianity.big c.args.w.now.0.endian) c.args.encoding c.args.program.now (texts_in c.args.strings.now c.args.line_strings.now)) c.in-Err.e
     c.from_write.result
-    (c.in-Err.ensures.err refl refl) c.from_write.ensures.memory c.from_write.ensures.other
+    (refused-for _ unit c.in-Err.e c.in-Err.ensures.cause (c.in-Err.ensures.writes.err refl refl)) c.from_write.ensures.memory c.from_write.ensures.other
 
 pub read_unit-requires-clause-within : goal.read_unit-requires-clause-within
 read_unit-requires-clause-within g c =

@@ -7,7 +7,7 @@ overflow_sub-result c =
     let e = c.args.line_encoding.now in
     let r = c.requires in
     let h =
-    operations_above e.minimum_instruction_length e.maximum_operations_per_instruction c.args.position.0 c.args.position.1 c.args.address_offset
-    c.args.op_index
+    operations_above _ _ _ _ _
+    _
     (omega arith) r.stands.divides r.follows.position.divides r.follows.after r.follows.later r.stands.within in
     rw (c.instruction_count-instructions.ensures, c.from-operations.ensures) h

@@ -7,7 +7,7 @@ use Rattle.gimli_build.specs.Due.{when}
 use Rattle.gimli_build.specs.Encode.{changes, differ}
 use Rattle.gimli_build.specs.InstructionBytes.{instructions_bytes}
 use Rattle.gimli_build.proofs.writing.InstructionsWritten.{four_parts}
-use Rattle.gimli_build.proofs.writing.Writes.{joins, unwritten}
+use Rattle.gimli_build.proofs.writing.Writes.{bytes_unwritten, joins, unwritten}
 use Rattle.gimli_build.proofs.rows.encode.write_changes.Goals as goal
 
 differs : (a b : Bool) → not (beq a b) ≡ differ a b
@@ -46,3 +46,8 @@ returns-clause-writes g c =
     let file = rw (c.ne.ensures, c.raw.ensures) at c.in_ok-write_if-2.ensures in
     four_parts first second third fourth
     (joins (joins (joins statement file) c.in_ok-write_if-3.ensures) c.in_ok-write_if-4.ensures)
+
+pub returns-in_err-write_if-clause-writes : goal.returns-in_err-write_if-clause-writes
+returns-in_err-write_if-clause-writes g c =
+    let p = err_from_is_err_and c.from_residual.result c.from_residual.ensures.1 in
+    rw (p.1, p.2) (bytes_unwritten c.in_err-write_if.ensures)

@@ -9,7 +9,7 @@ use Rattle.gimli_line.specs.declared.run.instruction.LineInstruction.TheVariants
 use Rattle.gimli_build.specs.Advance.{CanEncode}
 use Rattle.gimli_build.specs.Encode.{is_special_advance, line_part}
 use Rattle.gimli_build.specs.InstructionBytes.{instruction_bytes, instructions_bytes}
-use Rattle.gimli_build.proofs.writing.OneCall.{none_called, answered, refused_alike}
+use Rattle.gimli_build.proofs.writing.Writes.{none_called, answered, refused_alike}
 use Rattle.gimli_build.proofs.rows.encode.write_line_advance.Goals as goal
 
 same_word : (d : ℤ) → FitsSigned w64 d → to_z w64 (of_z w64 d) ≡ d
@@ -51,7 +51,7 @@ pub returns-then-has_special-clause-writes : goal.returns-then-has_special-claus
 returns-then-has_special-clause-writes g c =
     let e = c.args.line_encoding.now in
     let d = c.args.advance in
-    let special = told e d c.has_special.result true c.ranges.advance c.has_special.ensures c.if-has_special.true in
+    let special = told e d _ _ c.ranges.advance c.has_special.ensures c.if-has_special.true in
     rw special none_called
 
 pub returns-then-has_special-clause-opcode : goal.returns-then-has_special-clause-opcode
@@ -59,8 +59,8 @@ returns-then-has_special-clause-opcode g c =
     let e = c.args.line_encoding.now in
     let d = c.args.advance in
     let back = same_word d c.ranges.advance in
-    let special = told e d c.has_special.result true c.ranges.advance c.has_special.ensures c.if-has_special.true in
-    let is = is_special e d c.from.result c.requires.can special c.from.ensures in
+    let special = told e d _ _ c.ranges.advance c.has_special.ensures c.if-has_special.true in
+    let is = is_special e d _ c.requires.can special c.from.ensures in
     rw (back, is.base_is, is.back, special) refl
 
 pub overflow_sub-result : goal.overflow_sub-result
@@ -68,8 +68,8 @@ overflow_sub-result g c =
     let e = c.args.line_encoding.now in
     let d = c.args.advance in
     let back = same_word d c.ranges.advance in
-    let special = told e d c.has_special.result true c.ranges.advance c.has_special.ensures c.if-has_special.true in
-    let is = is_special e d c.from.result c.requires.can special c.from.ensures in
+    let special = told e d _ _ c.ranges.advance c.has_special.ensures c.if-has_special.true in
+    let is = is_special e d _ c.requires.can special c.from.ensures in
     rw (back, is.base_is) is.fits
 
 pub overflow_cast-result : goal.overflow_cast-result
@@ -77,8 +77,8 @@ overflow_cast-result g c =
     let e = c.args.line_encoding.now in
     let d = c.args.advance in
     let back = same_word d c.ranges.advance in
-    let special = told e d c.has_special.result true c.ranges.advance c.has_special.ensures c.if-has_special.true in
-    let is = is_special e d c.from.result c.requires.can special c.from.ensures in
+    let special = told e d _ _ c.ranges.advance c.has_special.ensures c.if-has_special.true in
+    let is = is_special e d _ c.requires.can special c.from.ensures in
     rw (back, is.base_is, is.back) (omega (arith, ints, is.low), omega (arith, is.lt, c.requires.can.range))
 
 pub overflow_add-result : goal.overflow_add-result
@@ -86,8 +86,8 @@ overflow_add-result g c =
     let e = c.args.line_encoding.now in
     let d = c.args.advance in
     let back = same_word d c.ranges.advance in
-    let special = told e d c.has_special.result true c.ranges.advance c.has_special.ensures c.if-has_special.true in
-    let is = is_special e d c.from.result c.requires.can special c.from.ensures in
+    let special = told e d _ _ c.ranges.advance c.has_special.ensures c.if-has_special.true in
+    let is = is_special e d _ c.requires.can special c.from.ensures in
     rw (back, is.base_is, is.back) (omega (arith, is.lt, c.requires.can.range))
 
 pub returns-in_err-write_instruction-clause-writes : goal.returns-in_err-write_instruction-clause-writes
@@ -100,7 +100,7 @@ returns-clause-writes g c =
     let e = c.args.line_encoding.now in
     let d = c.args.advance in
     let back = same_word d c.ranges.advance in
-    let other = told e d c.has_special.result false c.ranges.advance c.has_special.ensures c.if-has_special.false in
+    let other = told e d _ _ c.ranges.advance c.has_special.ensures c.if-has_special.false in
     let written = rw back at c.in_ok-write_instruction.ensures in
     rw (other, append-nil (instruction_bytes (AdvanceLine d))) (answered written)
 
@@ -108,7 +108,7 @@ pub returns-clause-opcode : goal.returns-clause-opcode
 returns-clause-opcode g c =
     let e = c.args.line_encoding.now in
     let d = c.args.advance in
-    let other = told e d c.has_special.result false c.ranges.advance c.has_special.ensures c.if-has_special.false in
+    let other = told e d _ _ c.ranges.advance c.has_special.ensures c.if-has_special.false in
     rw (other, c.unsigned_abs.ensures.value, small_base e c.requires.can) refl
 
 pub overflow_add-result-2 : goal.overflow_add-result-2

@@ -5,7 +5,7 @@ use Rattle.gimli_build.specs.Due.{when}
 use Rattle.gimli_build.specs.Encode.{marks}
 use Rattle.gimli_build.specs.InstructionBytes.{instructions_bytes}
 use Rattle.gimli_build.proofs.writing.InstructionsWritten.{four_parts}
-use Rattle.gimli_build.proofs.writing.Writes.{joins, unwritten}
+use Rattle.gimli_build.proofs.writing.Writes.{bytes_unwritten, joins, unwritten}
 use Rattle.gimli_build.proofs.rows.encode.write_marks.Goals as goal
 
 pub returns-in_err-write_if-2-clause-writes : goal.returns-in_err-write_if-2-clause-writes
@@ -31,3 +31,8 @@ returns-clause-writes g c =
     four_parts (when (not (nat_eq row.discriminator 0)) (SetDiscriminator row.discriminator)) (when row.basic_block SetBasicBlock)
     (when row.prologue_end SetPrologueEnd) (when row.epilogue_begin SetEpilogueBegin)
     (joins (joins (joins c.in_ok-write_if.ensures c.in_ok-write_if-2.ensures) c.in_ok-write_if-3.ensures) c.in_ok-write_if-4.ensures)
+
+pub returns-in_err-write_if-clause-writes : goal.returns-in_err-write_if-clause-writes
+returns-in_err-write_if-clause-writes g c =
+    let p = err_from_is_err_and c.from_residual.result c.from_residual.ensures.1 in
+    rw (p.1, p.2) (bytes_unwritten c.in_err-write_if.ensures)

@@ -3,7 +3,7 @@ use Rattle.std.proofs.lemmas.List.{append-nil}
 use Rattle.std.proofs.lemmas.Result.{err_from_is_err_and}
 use Rattle.gimli_build.specs.Encode.{row_maker, constant_advance, operation_part}
 use Rattle.gimli_build.specs.InstructionBytes.{instruction_bytes, instructions_bytes}
-use Rattle.gimli_build.proofs.writing.OneCall.{refused_alike}
+use Rattle.gimli_build.proofs.writing.Writes.{refused_alike}
 use Rattle.gimli_build.proofs.writing.Joins.{past, found, by_advance, by_constant}
 use Rattle.gimli_build.proofs.writing.Writes.{joins, unwritten}
 use Rattle.gimli_build.proofs.rows.encode.write_operation_advance.Goals as goal
@@ -14,10 +14,10 @@ returns g c =
     let s = c.args.opcode in
     let n = c.args.count in
     let over : nat_le (s + n * e.line_range) 255
-    ≡ false = past (nat_le (s + n * e.line_range) 255) (s + n * e.line_range) (rw (c.special_opcode.ensures, c.from-range.ensures) at c.in_default.is) in
+    ≡ false = past _ _ (rw (c.special_opcode.ensures, c.from-range.ensures) at c.in_default.is) in
     let m = n - constant_advance e in
     let rest : nat_le (s + m * e.line_range) 255
-    ≡ false = past (nat_le (s + m * e.line_range) 255) (s + m * e.line_range)
+    ≡ false = past _ _
     (rw c.from-range.ensures at (rw (c.special_opcode-2.ensures, c.saturating_sub-rest.ensures, c.from.ensures) at c.in_default-special_opcode.is)) in
     let last = rw c.maker-2.ensures at c.in_ok-write_instruction-3.ensures in
     rw (by_advance e s n over rest, append-nil (instruction_bytes (row_maker e s))) (joins c.in_ok-write_instruction-2.ensures last)
@@ -44,9 +44,9 @@ returns-in-Some-special_opcode g c =
     let s = c.args.opcode in
     let n = c.args.count in
     let over : nat_le (s + n * e.line_range) 255
-    ≡ false = past (nat_le (s + n * e.line_range) 255) (s + n * e.line_range) (rw (c.special_opcode.ensures, c.from-range.ensures) at c.in_default.is) in
+    ≡ false = past _ _ (rw (c.special_opcode.ensures, c.from-range.ensures) at c.in_default.is) in
     let m = n - constant_advance e in
-    let there = found (nat_le (s + m * e.line_range) 255) (s + m * e.line_range) c.in-Some-special_opcode.shorter
+    let there = found _ _ _
     (rw c.from-range.ensures at (rw (c.special_opcode-2.ensures, c.saturating_sub-rest.ensures, c.from.ensures) at c.in-Some-special_opcode.is)) in
     let last = rw (c.maker-in-Some-special_opcode.ensures, there.1) at c.write_instruction-in-Some-special_opcode-2.ensures in
     rw (by_constant e s n over there.0, append-nil (instruction_bytes (row_maker e (s + m * e.line_range)))) (joins c.in_ok-write_instruction.ensures last)

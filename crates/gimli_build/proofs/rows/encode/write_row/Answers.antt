@@ -6,7 +6,7 @@ use Rattle.gimli_build.specs.Encode.{marks, changes, line_part, line_opcode, ope
 use Rattle.gimli_build.specs.Rows.{at_position}
 use Rattle.gimli_build.specs.InstructionBytes.{instructions_bytes}
 use Rattle.gimli_build.proofs.writing.InstructionsWritten.{four_parts}
-use Rattle.gimli_build.proofs.writing.Writes.{joins, unwritten}
+use Rattle.gimli_build.proofs.writing.Writes.{bytes_unwritten, joins, unwritten}
 use Rattle.gimli_build.proofs.rows.encode.write_row.Goals as goal
 
 pub returns-in_err-write_changes-clause-writes : goal.returns-in_err-write_changes-clause-writes
@@ -46,3 +46,8 @@ returns-clause-writes g c =
     let fourth = rw (o, c.operation_advance-count.ensures) at c.in_ok-write_operation_advance.ensures in
     four_parts (marks row) (changes version previous row) (line_part e d) (operation_part e (line_opcode e d) n)
     (joins (joins (joins c.in_ok-write_marks.ensures.writes c.in_ok-write_changes.ensures.writes) third) fourth)
+
+pub returns-in_err-write_marks-clause-writes : goal.returns-in_err-write_marks-clause-writes
+returns-in_err-write_marks-clause-writes g c =
+    let p = err_from_is_err_and c.from_residual.result c.from_residual.ensures.1 in
+    rw (p.1, p.2) (bytes_unwritten c.in_err-write_marks.ensures.writes)

@@ -1,4 +1,3 @@
-use Rattle.std.proofs.Common.{[], ◌∷◌, Ok}
 use Rattle.gimli_build.proofs.writing.Writes.{writes}
 use Rattle.gimli_build.proofs.rows.instruction.write_instruction.Goals as goal
 
@@ -38,7 +37,7 @@ returns-in-SetIsa g c = rw c.in-SetIsa.is c.write_unsigned-in-SetIsa.ensures
 pub returns-in-EndSequence : goal.returns-in-EndSequence
 returns-in-EndSequence g c =
     let put = c.write.ensures in
-    rw c.in-EndSequence.is (writes (Ok (0 ∷ 1 ∷ 0x01 ∷ [])) put)
+    rw c.in-EndSequence.is (writes _ put)
 
 pub returns-in-SetDiscriminator : goal.returns-in-SetDiscriminator
 returns-in-SetDiscriminator g c = rw c.in-SetDiscriminator.is c.write_discriminator.ensures

@@ -1,8 +1,9 @@
-use Rattle.std.proofs.Common.{◌≡◌, [], ◌∷◌, Ok, true, sym, ap, ◌∙◌, arith, to_z, of_z, w64}
+use Rattle.std.proofs.Common.{◌≡◌, true, sym, ap, ◌∙◌, arith, to_z, of_z, w64}
 use Rattle.std.proofs.lemmas.Int.{ints}
-use Rattle.gimli_bytes.specs.Number.{sleb, low_bits, has_seven_bits}
+use Rattle.gimli_bytes.specs.Number.{low_bits, has_seven_bits}
 use Rattle.gimli_bytes.proofs.LebLemmas.{sleb_one}
-use Rattle.gimli_build.proofs.writing.Writes.{joins, writes}
+use Rattle.std.proofs.lemmas.Result.{err_from_is_err_and}
+use Rattle.gimli_build.proofs.writing.Writes.{bytes_unwritten, joins, writes}
 use Rattle.gimli_build.proofs.rows.instruction.write_signed.Goals as goal
 
 pub returns-then-has_seven_bits : goal.returns-then-has_seven_bits
@@ -11,11 +12,16 @@ returns-then-has_seven_bits g c =
     let one : has_seven_bits c.args.operand ≡ true = ap has_seven_bits (sym back) ∙ sym c.if-has_seven_bits.ensures in
     let low : c.low_bits.result ≡ low_bits c.args.operand = c.low_bits.ensures ∙ ap low_bits back in
     let put = c.write.ensures in
-    rw (sleb_one c.args.operand one, ← low) (writes (Ok (c.args.opcode.0 ∷ c.low_bits.result ∷ [])) put)
+    rw (sleb_one c.args.operand one, ← low) (writes _ put)
 
 pub returns : goal.returns
 returns g c =
     let back : to_z w64 (of_z w64 c.args.operand) ≡ c.args.operand = omega (arith, ints) in
     let put = c.write_sleb128.ensures.appends in
-    let second = rw back at (writes (Ok (sleb (to_z w64 (of_z w64 c.args.operand)))) put) in
+    let second = rw back at (writes _ put) in
     joins c.in_ok-write_byte.ensures second
+
+pub returns-in_err-write_byte : goal.returns-in_err-write_byte
+returns-in_err-write_byte g c =
+    let p = err_from_is_err_and c.from_residual.result c.from_residual.ensures.1 in
+    rw (p.1, p.2) (bytes_unwritten c.in_err-write_byte.ensures)

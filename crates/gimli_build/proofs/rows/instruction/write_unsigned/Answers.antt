@@ -1,4 +1,3 @@
-use Rattle.std.proofs.Common.{[], ◌∷◌, Ok}
 use Rattle.gimli_bytes.proofs.LebLemmas.{uleb_one}
 use Rattle.gimli_build.proofs.writing.Writes.{writes}
 use Rattle.gimli_build.proofs.rows.instruction.write_unsigned.Goals as goal
@@ -6,4 +5,4 @@ use Rattle.gimli_build.proofs.rows.instruction.write_unsigned.Goals as goal
 pub returns-then-operand-lt128 : goal.returns-then-operand-lt128
 returns-then-operand-lt128 g c =
     let put = c.write.ensures in
-    rw (uleb_one c.args.operand c.if-operand-lt128.true) (writes (Ok (c.args.opcode.0 ∷ c.args.operand ∷ [])) put)
+    rw (uleb_one c.args.operand c.if-operand-lt128.true) (writes _ put)

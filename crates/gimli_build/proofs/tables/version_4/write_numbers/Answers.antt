@@ -1,14 +1,12 @@
-use Rattle.std.proofs.Common.{Ok}
-use Rattle.gimli_bytes.specs.Number.{uleb}
 use Rattle.gimli_build.proofs.writing.Writes.{joins, writes}
 use Rattle.gimli_build.proofs.tables.version_4.write_numbers.Goals as goal
 
 pub returns-clause-writes : goal.returns-clause-writes
 returns-clause-writes g c =
     let put = c.in_ok-write_uleb128.ensures.appends in
-    let first = rw c.index.ensures at (writes (Ok (uleb c.index.result)) put) in
+    let first = rw c.index.ensures at (writes _ put) in
     let next = c.in_ok-write_uleb128-2.ensures.appends in
-    let second = writes (Ok (uleb c.args.info.now.timestamp)) next in
+    let second = writes _ next in
     let last = c.write_uleb128-3.ensures.appends in
-    let third = writes (Ok (uleb c.args.info.now.size)) last in
+    let third = writes _ last in
     joins (joins first second) third

@@ -8,4 +8,4 @@ use Rattle.gimli_build.proofs.tables.version_5.path_form.Goals as goal
 pub returns : goal.returns
 returns c =
     let file : File = ((line_text c.file.result.0.now, c.file.result.1), details c.file.result.2.now) in
-    c.form.ensures ∙ first_path c.args.tables.now.files file c.file.ensures
+    c.form.ensures ∙ first_path _ _ c.file.ensures

@@ -1,6 +1,6 @@
 use Rattle.gimli_build.proofs.writing.Writes.{joins, unwritten}
 use Rattle.std.proofs.lemmas.Result.{err_from_is_err_and}
-use Rattle.gimli_build.proofs.writing.OneCall.{refused_alike}
+use Rattle.gimli_build.proofs.writing.Writes.{refused_alike}
 use Rattle.gimli_build.proofs.tables.version_5.write_detail_formats.Goals as goal
 
 pub returns : goal.returns

@@ -1,9 +1,19 @@
 use Rattle.std.proofs.Common.{◌≡◌, length, map, ap, sym, ◌∙◌}
 use Rattle.std.proofs.lemmas.List.{length-map}
+use Rattle.std.proofs.lemmas.Result.{err_from_is_err_and}
 use Rattle.gimli_build.specs.LineText.{line_text}
 use Rattle.gimli_build.specs.Version5Tables.{first_form}
-use Rattle.gimli_build.proofs.writing.Writes.{by_writes, joins_by}
+use Rattle.gimli_build.proofs.writing.Writes.{bytes_unwritten, joins}
 use Rattle.gimli_build.proofs.tables.version_5.write_directory_table.Goals as goal
+
+pub returns-in_err-write_directory_formats : goal.returns-in_err-write_directory_formats
+returns-in_err-write_directory_formats g c =
+    let p = err_from_is_err_and c.from_residual.result c.from_residual.ensures.1 in
+    let list = c.args.program.now.directories in
+    let same : map line_text c.directories-directories.result.now ≡ list = c.directories-directories.ensures ∙ c.tables.ensures.directories in
+    let form : c.directory_form-form.result.0 ≡ first_form list = c.directory_form-form.ensures ∙ ap first_form same in
+    let count : length c.directories-directories.result.now ≡ length list = sym (length-map c.directories-directories.result.now line_text) ∙ ap length same in
+    rw (p.1, p.2) (bytes_unwritten (rw (form, count) at c.in_err-write_directory_formats.ensures))
 
 pub returns : goal.returns
 returns g c =
@@ -14,4 +24,4 @@ returns g c =
     ∙ ap length same in
     let first = rw (form, count) at c.in_ok-write_directory_formats.ensures in
     let second = rw (first.ordered, form, c.format.ensures, same) at c.write_texts.ensures in
-    joins_by (by_writes first) second
+    joins first second

@@ -1,4 +1,4 @@
-use Rattle.std.proofs.Common.{◌≡◌, ◌≤◌, length, take, slice_get, Some, sym, ap, ◌∙◌, arith}
+use Rattle.std.proofs.Common.{◌≡◌, ◌≤◌, length, slice_get, Some, sym, ap, ◌∙◌, arith}
 use Rattle.std.specs.Prelude.{List}
 use Rattle.std.proofs.lemmas.Result.{err_from_is_err_and}
 use Rattle.std.proofs.lemmas.List.{take_all, drop_all}
@@ -9,7 +9,7 @@ use Rattle.gimli_build.specs.LineText.{line_text}
 use Rattle.gimli_build.specs.Tables.{File}
 use Rattle.gimli_build.specs.inside.Tables.{FitsFile}
 use Rattle.gimli_build.specs.TableFields.{details}
-use Rattle.gimli_build.specs.Version5Tables.{file_entry_bytes_by}
+use Rattle.gimli_build.specs.Version5Tables.{file_entry_bytes}
 use Rattle.gimli_build.proofs.writing.Joined.{next_at, taken_at}
 use Rattle.gimli_build.proofs.writing.Writes.{none_written, one_written, one_unwritten, all_written}
 use Rattle.gimli_build.proofs.building.EmptySource.{needs-empty}
@@ -19,16 +19,16 @@ pub write_file_entry-requires-clause-empty : goal.write_file_entry-requires-clau
 write_file_entry-requires-clause-empty g c = λ has without.
     let p = c.args.program.now in
     let file : File = ((line_text c.file-file.result.0.now, c.file-file.result.1), details c.file-file.result.2.now) in
-    let there : slice_get p.files c.loop-index.index ≡ Some file = ap (λ (l : List File). slice_get l c.loop-index.index) (sym c.tables-tables.ensures.files)
+    let there : slice_get p.files c.loop-index.index ≡ Some file = ap (λ l. slice_get l c.loop-index.index) (sym c.tables-tables.ensures.files)
     ∙ c.file-file.ensures in
-    c.requires.empty (needs-empty p c.loop-index.index file c.requires.version there has without)
+    c.requires.empty (needs-empty p _ _ c.requires.version there has without)
 
 pub loop-index-init : goal.loop-index-init
 loop-index-init g c =
     let p = c.args.program.now in
     let part =
-    λ (hand : Hand). file_entry_bytes_by hand (g.W.Sink.big c.args.w.now) p.encoding.format (texts_in c.args.strings.now c.args.line_strings.now) p in
-    record { so = none_written g.W.Sink part p.files c.args.w.now; fit = All-nil FitsFile }
+    λ (hand : Hand). file_entry_bytes hand (g.W.Sink.big c.args.w.now) p.encoding.format (texts_in c.args.strings.now c.args.line_strings.now) p in
+    record { so = none_written _ _ _ _; fit = All-nil FitsFile }
 
 pub returns-in_err-write_file_entry-clause-writes : goal.returns-in_err-write_file_entry-clause-writes
 returns-in_err-write_file_entry-clause-writes g c =
@@ -46,11 +46,11 @@ loop-index-preserved g c =
     let p = c.args.program.now in
     let i = c.loop-index.index in
     let file : File = ((line_text c.file-file.result.0.now, c.file-file.result.1), details c.file-file.result.2.now) in
-    let there : slice_get p.files i ≡ Some file = ap (λ (l : List File). slice_get l i) (sym c.tables-tables.ensures.files) ∙ c.file-file.ensures in
+    let there : slice_get p.files i ≡ Some file = ap (λ l. slice_get l i) (sym c.tables-tables.ensures.files) ∙ c.file-file.ensures in
     let so = rw (next_at p.files i file there) at c.loop-index.invariant.so in
     record {
       so = one_written so (rw c.loop-index.invariant.so.ordered at c.in_ok-write_file_entry.ensures.writes);
-      fit = rw (taken_at p.files i file there) (All-push FitsFile (take i p.files) file c.loop-index.invariant.fit c.in_ok-write_file_entry.ensures.fit);
+      fit = rw (taken_at p.files i file there) (All-push FitsFile _ _ c.loop-index.invariant.fit c.in_ok-write_file_entry.ensures.fit);
     }
 
 pub returns-clause-writes : goal.returns-clause-writes

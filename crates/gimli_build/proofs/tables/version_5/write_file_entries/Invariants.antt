@@ -2,14 +2,14 @@ use Rattle.std.proofs.Common.{drop, take, All}
 use Rattle.gimli_bytes.specs.Hand.{Hand}
 use Rattle.gimli_bytes.specs.Texts.{texts_in}
 use Rattle.gimli_build.specs.inside.Tables.{FitsFile}
-use Rattle.gimli_build.specs.Version5Tables.{file_entry_bytes_by}
+use Rattle.gimli_build.specs.Version5Tables.{file_entry_bytes}
 use Rattle.gimli_build.proofs.writing.Writes.{WritesSoFar}
 use Rattle.gimli_build.proofs.tables.version_5.write_file_entries.Given as goal
 
 abbrev pub invariant-loop-index : goal.invariant-loop-index
 invariant-loop-index g l = record {
   so : WritesSoFar g.W.Sink
-      (λ (hand : Hand). file_entry_bytes_by hand (g.W.Sink.big l.fn.w) l.program.encoding.format (texts_in l.strings l.line_strings) l.program) l.program.files
+      (λ (hand : Hand). file_entry_bytes hand (g.W.Sink.big l.fn.w) l.program.encoding.format (texts_in l.strings l.line_strings) l.program) l.program.files
       (drop l.index l.program.files) l.fn.w l.w;
   fit : All FitsFile (take l.index l.program.files);
 }

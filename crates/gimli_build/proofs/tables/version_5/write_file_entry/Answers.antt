@@ -3,15 +3,15 @@ use Rattle.gimli_build.specs.Tables.{File}
 use Rattle.gimli_build.specs.Version5Tables.{first_form, path_texts}
 use Rattle.std.proofs.lemmas.Result.{err_from_is_err_and}
 use Rattle.gimli_build.proofs.writing.Joined.{always_ok}
-use Rattle.gimli_build.proofs.writing.Writes.{by_writes, first_unwritten, joins_by}
+use Rattle.gimli_build.proofs.writing.Writes.{first_unwritten, joins}
 use Rattle.gimli_build.proofs.tables.version_5.write_file_entry.Goals as goal
 
 pub returns-clause-writes : goal.returns-clause-writes
 returns-clause-writes g c =
-    let form = c.path_form-form.ensures ∙ ap (λ (files : List File). first_form (path_texts files)) c.tables.ensures.files in
+    let form = c.path_form-form.ensures ∙ ap (λ files. first_form (path_texts files)) c.tables.ensures.files in
     let first = rw (form, c.format.ensures) at c.in_ok-write_line_string.ensures in
     let third = rw (c.in_ok-write_details.ensures.writes.ordered ∙ c.in_ok-write_line_string.ensures.ordered) at c.write_source.ensures in
-    joins_by first (joins_by (by_writes c.in_ok-write_details.ensures.writes) third)
+    joins first (joins c.in_ok-write_details.ensures.writes third)
 
 pub returns-clause-fit : goal.returns-clause-fit
 returns-clause-fit g c =
@@ -30,4 +30,4 @@ returns-in_err-write_details-clause-writes g c =
     let p = err_from_is_err_and c.from_residual-in_err-write_details.result c.from_residual-in_err-write_details.ensures.1 in
     let form = c.path_form-form.ensures ∙ ap (λ (files : List File). first_form (path_texts files)) c.tables.ensures.files in
     let first = rw (form, c.format.ensures) at c.in_ok-write_line_string.ensures in
-    rw (p.1, p.2) (joins_by first (first_unwritten _ (by_writes c.in_err-write_details.ensures.writes)))
+    rw (p.1, p.2) (joins first (first_unwritten _ c.in_err-write_details.ensures.writes))

@@ -1,10 +1,9 @@
-use Rattle.std.proofs.Common.{◌∷◌, ◌++◌, List, length, sym, ap, ◌∙◌, append_assoc}
+use Rattle.std.proofs.Common.{◌∷◌, ◌++◌, length, sym, ap, ◌∙◌, append_assoc}
 use Rattle.gimli_bytes.specs.Number.{uleb}
-use Rattle.gimli_build.specs.Tables.{File}
 use Rattle.gimli_build.specs.Version5Tables.{first_form, path_texts, file_formats}
 use Rattle.gimli_build.proofs.writing.Writes.{joins, same_bytes, unwritten}
 use Rattle.std.proofs.lemmas.Result.{err_from_is_err_and}
-use Rattle.gimli_build.proofs.writing.OneCall.{refused_alike}
+use Rattle.gimli_build.proofs.writing.Writes.{refused_alike}
 use Rattle.gimli_build.proofs.tables.version_5.write_key_formats.Goals as goal
 
 pub returns : goal.returns
@@ -12,7 +11,7 @@ returns g c =
     let p = c.args.program.now in
     let path = first_form (path_texts p.files) in
     let first = rw c.format_count.ensures at c.in_ok-write_byte.ensures in
-    let form = c.path_form.ensures ∙ ap (λ (files : List File). first_form (path_texts files)) c.tables.ensures.files in
+    let form = c.path_form.ensures ∙ ap (λ files. first_form (path_texts files)) c.tables.ensures.files in
     let second = rw form at c.in_ok-write_format.ensures in
     same_bytes (sym (append_assoc (length (file_formats p) ∷ (uleb 0x0001 ++ uleb path)) (uleb 0x0002) (uleb 0x0f)))
     (joins (joins first second) c.write_format-2.ensures)

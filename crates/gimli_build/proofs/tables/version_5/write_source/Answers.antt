@@ -17,5 +17,5 @@ returns g c =
     let source = (details c.args.info.now).source in
     let has : p.file_has_source ≡ true = search rules in
     let text : line_text c.source_or-text.result.now ≡ unwrap_or source (empty_text (first_form (sources p.files)) texts) = c.source_or-text.ensures
-    ∙ stands source (line_text c.args.empty.now) (empty_text (first_form (sources p.files)) texts) (λ none. (c.requires.empty has none).is) in
+    ∙ stands _ _ _ (λ none. (c.requires.empty has none).is) in
     rw has (rw (c.requires.form, text, c.format.ensures) at c.write_line_string.ensures)

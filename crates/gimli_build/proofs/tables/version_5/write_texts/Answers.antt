@@ -4,7 +4,7 @@ use Rattle.std.proofs.lemmas.Result.{err_from_is_err_and}
 use Rattle.gimli_bytes.specs.Hand.{Hand}
 use Rattle.gimli_bytes.specs.Texts.{texts_in}
 use Rattle.gimli_build.specs.LineText.{line_text, IsWithin}
-use Rattle.gimli_build.specs.Version5Tables.{text_in_form_by}
+use Rattle.gimli_build.specs.Version5Tables.{text_in_form}
 use Rattle.gimli_build.proofs.writing.Joined.{next_seen, all_seen}
 use Rattle.gimli_build.proofs.writing.Writes.{none_written, one_written, one_unwritten, all_written}
 use Rattle.gimli_build.proofs.tables.version_5.write_texts.Goals as goal
@@ -13,14 +13,14 @@ pub write_line_string-requires : goal.write_line_string-requires
 write_line_string-requires g c =
     let texts = c.args.texts.now in
     let lt : c.loop-text.text-index < length texts = omega arith in
-    all_seen (IsWithin (texts_in c.args.strings.now c.args.line_strings.now)) line_text texts c.loop-text.text-index c.text-item.result lt c.text-item.is
+    all_seen (IsWithin (texts_in c.args.strings.now c.args.line_strings.now)) _ _ _ _ lt c.text-item.is
     c.requires
 
 pub loop-text-init : goal.loop-text-init
 loop-text-init g c =
     let part =
-    λ (hand : Hand). text_in_form_by hand (g.W.Sink.big c.args.w.now) c.args.format (texts_in c.args.strings.now c.args.line_strings.now) c.args.form.0 in
-    record { so = none_written g.W.Sink part (map line_text c.args.texts.now) c.args.w.now }
+    λ (hand : Hand). text_in_form hand (g.W.Sink.big c.args.w.now) c.args.format (texts_in c.args.strings.now c.args.line_strings.now) c.args.form.0 in
+    record { so = none_written _ _ _ _ }
 
 pub returns-in_err-write_line_string : goal.returns-in_err-write_line_string
 returns-in_err-write_line_string g c =

@@ -1,87 +1,69 @@
 use Rattle.std.proofs.Common.{◌≡◌, ℕ, List, [], IsTrue, ◌+◌, ◌-◌, ◌<◌, ◌≤◌, ◌^◌, ◌++◌, length, sym, ap, ◌∙◌, arith, inr, Ok}
 use Rattle.std.specs.Prelude.{Result}
 use Rattle.std.proofs.lemmas.List.{append-nil}
-use Rattle.gimli_bytes.specs.Hand.{Hand, Placement, plain}
+use Rattle.gimli_bytes.specs.Hand.{Hand, plain}
 use Rattle.gimli_bytes.specs.Written.{Appends}
 use Rattle.gimli_bytes.specs.declared.error.Error.{Error}
+use Rattle.gimli_bytes.specs.declared.error.Error.TheVariants.{OutOfMemory}
 use Rattle.gimli_bytes.specs.Texts.{texts_in}
 use Rattle.gimli_build.specs.FormatWord.{format_word}
-use Rattle.gimli_build.specs.Unit.{fields_bytes_by}
+use Rattle.gimli_build.specs.Unit.{fields_bytes}
 use Rattle.std.proofs.lemmas.Result.{err_from_is_err_and}
-use Rattle.gimli_build.proofs.writing.Joined.{on_ok, if_err, or_wanted, begins_then, begins_before}
-use Rattle.gimli_build.proofs.writing.Frames.{framed, frame_refused, open_word, word_is, zero_word, no_escape, header_word_long}
-use Rattle.gimli_build.proofs.writing.Writes.{bytes_unwritten, counted_unwritten, writes}
+use Rattle.gimli_build.specs.inside.Writes.{always}
+use Rattle.gimli_build.proofs.writing.Joined.{if_err, begins_then, begins_before}
+use Rattle.gimli_build.proofs.writing.Frames.{framed_leaves, open_word, word_is, zero_word, no_escape, header_word_long}
+use Rattle.gimli_build.proofs.writing.Writes.{writes_in, bytes_unwritten, counted_unwritten, writes}
 use Rattle.gimli_build.proofs.unit.header.write_header.Goals as goal
 
 pub returns-clause-writes : goal.returns-clause-writes
 returns-clause-writes g c =
-    let contents = g.W.Sink.contents in
-    let completed = g.W.Sink.completed in
-    let big = g.W.Sink.big c.args.w.now in
+    let sink = g.W.Sink in
+    let contents = sink.contents in
+    let big = sink.big c.args.w.now in
     let format = c.args.program.now.encoding.format in
-    let old = contents c.args.w.now in
-    let c1 = contents c.write_udata.new.self in
-    let c2 = contents c.write_fields.new.w in
-    let c3 = contents c.write_udata_at.new.self in
+    let opened = c.write_udata.new.self in
+    let filled = c.write_fields.new.w in
+    let closed = c.write_udata_at.new.self in
     let start = c.len-length.result in
     let zero = c.in_ok-write_udata.ensures in
     let fields = c.in_ok-write_fields.ensures.writes in
+    let call = c.write_udata_at.ensures in
+    let there = λ (completes : IsTrue (sink.completes c.args.w.now)). zero.stays completes in
     let n = c.len.result - c.len-start.result in
-    let word : ℕ → Result (List ℕ) Error = λ k. format_word big format k in
-    let bytes = λ (hand : Hand). fields_bytes_by hand big c.args.program.now (texts_in c.args.strings.now c.args.line_strings.now) in
-    let ordered = fields.ordered ∙ zero.ordered in
-    let opened : IsTrue g.W.Sink.keeps_bytes → c1 ≡ (old ++ []) ++ open_word big format = λ keeps_bytes.
-    rw (c.word_size-size.ensures, c.format.ensures, zero_word big format) at (zero.ok keeps_bytes)
-    ∙ ap (λ (l : List ℕ). l ++ open_word big format) (sym (append-nil old)) in
-    let opened_by : (at : Placement) → IsTrue (g.W.Sink.completes c.args.w.now)
-    → completed at c.write_udata.new.self ≡ (completed at c.args.w.now ++ []) ++ open_word big format = λ at completes.
-    rw (c.word_size-size.ensures, c.format.ensures, zero_word big format) at (zero.completed at completes)
-    ∙ ap (λ (l : List ℕ). l ++ open_word big format) (sym (append-nil (completed at c.args.w.now))) in
-    let at_old : start ≡ length old + 0 = omega (arith, c.len-length.ensures.contents) in
-    let at_by : (at : Placement) → IsTrue (g.W.Sink.completes c.args.w.now) → start ≡ length (completed at c.args.w.now) + 0 = λ at completes.
-    omega (arith, c.len-length.ensures.completed at completes) in
-    let le : length old ≤ start = omega (arith, c.len-length.ensures.contents) in
-    let written : IsTrue g.W.Sink.keeps_bytes → Appends (bytes plain) c1 c2 = λ keeps_bytes. rw zero.ordered at (fields.ok keeps_bytes) in
-    let written_by : (at : Placement) → IsTrue (g.W.Sink.completes c.args.w.now)
-    → Appends (bytes (g.W.Sink.hand at)) (completed at c.write_udata.new.self) (completed at c.write_fields.new.w) = λ at completes.
-    rw zero.ordered at (fields.completed at (zero.stays completes)) in
-    let counted : n ≡ length c2 - length c1 = omega (arith, c.len.ensures.contents, c.len-start.ensures.contents) in
-    let counted_by : (at : Placement) → IsTrue (g.W.Sink.completes c.args.w.now)
-    → n ≡ length (completed at c.write_fields.new.w) - length (completed at c.write_udata.new.self) = λ at completes.
-    omega (arith, c.len.ensures.completed at (fields.stays (zero.stays completes)), c.len-start.ensures.completed at (zero.stays completes)) in
     let small : n < 2 ^ 64 = omega arith in
     let known = word_is big format n small in
-    record {
-      keeps = begins_before old c2 c3 start (begins_then old c1 c2 zero.keeps fields.keeps) le c.write_udata_at.ensures.before;
-      ordered = c.write_udata_at.ensures.ordered ∙ ordered;
-      stays = λ completes. c.write_udata_at.ensures.stays (fields.stays (zero.stays completes));
-      ok = λ keeps_bytes. on_ok c.write_udata_at.result
-          (framed word word [] (open_word big format) old c1 c2 c3 start n (bytes plain) (λ k. no_escape (word k)) (opened keeps_bytes) at_old
-          (written keeps_bytes) counted (λ w is. header_word_long big format n w is))
-          (rw (ordered, c.word_size-size.ensures, c.format.ensures, known) at (c.write_udata_at.ensures.ok keeps_bytes));
-      completed = λ at completes. on_ok c.write_udata_at.result
-          (framed word word [] (open_word big format) (completed at c.args.w.now) (completed at c.write_udata.new.self) (completed at c.write_fields.new.w)
-          (completed at c.write_udata_at.new.self) start n (bytes (g.W.Sink.hand at)) (λ k. no_escape (word k)) (opened_by at completes) (at_by at completes)
-          (written_by at completes) (counted_by at completes) (λ w is. header_word_long big format n w is))
-          (rw (ordered, c.word_size-size.ensures, c.format.ensures, known) at (c.write_udata_at.ensures.completed at (fields.stays (zero.stays completes))));
-      err = λ keeps_bytes fails_for_memory_alone. if_err c.write_udata_at.result
-          (λ e refused. inr (frame_refused word word [] (open_word big format) old c1 c2 c3 start n (bytes plain) (λ k. no_escape (word k))
-          (opened keeps_bytes) at_old (written keeps_bytes) counted (λ w is. header_word_long big format n w is) e refused))
-          (rw (ordered, c.word_size-size.ensures, c.format.ensures, known) at (c.write_udata_at.ensures.err fails_for_memory_alone));
-      own = λ keeps_bytes. if_err c.write_udata_at.result
-          (λ e. or_wanted (λ refused.
-          frame_refused word word [] (open_word big format) old c1 c2 c3 start n (bytes plain) (λ k. no_escape (word k)) (opened keeps_bytes) at_old
-          (written keeps_bytes) counted (λ w is. header_word_long big format n w is) e refused))
-          (rw (ordered, c.word_size-size.ensures, c.format.ensures, known) at (c.write_udata_at.ensures.own));
-      completed_own = λ at completes. if_err c.write_udata_at.result
-          (λ e. or_wanted (λ refused.
-          frame_refused word word [] (open_word big format) (completed at c.args.w.now) (completed at c.write_udata.new.self)
-          (completed at c.write_fields.new.w) (completed at c.write_udata_at.new.self) start n (bytes (g.W.Sink.hand at)) (λ k. no_escape (word k))
-          (opened_by at completes) (at_by at completes) (written_by at completes) (counted_by at completes) (λ w is. header_word_long big format n w is) e
-          refused))
-          (rw (ordered, c.word_size-size.ensures, c.format.ensures, known) at
-          (c.write_udata_at.ensures.completed_own at (fields.stays (zero.stays completes))));
-    }
+    let word : ℕ → Result (List ℕ) Error = λ k. format_word big format k in
+    let bytes = λ (hand : Hand). fields_bytes hand big c.args.program.now (texts_in c.args.strings.now c.args.line_strings.now) in
+    let ordered = fields.ordered ∙ zero.ordered in
+    let le : length (contents c.args.w.now) ≤ start = omega (arith, c.len-length.ensures.contents) in
+    let framed = λ (own : Error → Type 0) (hand : Hand) (old c1 c2 c3 : List ℕ) (opens : c1 ≡ old ++ open_word big format) (at : start ≡ length old + 0)
+    (written : Appends (bytes hand) c1 c2) (counted : n ≡ length c2 - length c1).
+    framed_leaves word word [] (open_word big format) old c1 c2 c3 start n (bytes hand) (λ k. no_escape (word k))
+    (opens ∙ ap (λ (l : List ℕ). l ++ open_word big format) (sym (append-nil old))) at written counted
+    (λ w is. header_word_long big format n w is) {Own = own} {r = c.write_udata_at.result} in
+    let held = λ (own : Error → Type 0) (keeps_bytes : IsTrue sink.keeps_bytes).
+    framed own plain (contents c.args.w.now) (contents opened) (contents filled) (contents closed)
+    (rw (c.word_size-size.ensures, c.format.ensures, zero_word big format) at (zero.ok keeps_bytes)) (omega (arith, c.len-length.ensures.contents))
+    (rw zero.ordered at (fields.ok keeps_bytes)) (omega (arith, c.len.ensures.contents, c.len-start.ensures.contents)) in
+    writes_in (record {
+      keeps =
+          begins_before (contents c.args.w.now) (contents filled) (contents closed) start (begins_then _ _ _ zero.keeps fields.keeps) le call.before;
+      ordered = call.ordered ∙ ordered;
+      stays = λ completes. call.stays (fields.stays (there completes));
+      held = λ keeps_bytes. held sink.refuses keeps_bytes (rw (ordered, c.word_size-size.ensures, c.format.ensures, known) at (call.ok keeps_bytes))
+          (rw (ordered, c.word_size-size.ensures, c.format.ensures, known) at call.own);
+      memory =
+          λ keeps_bytes memory_alone.
+          held (λ e. e ≡ OutOfMemory) keeps_bytes (rw (ordered, c.word_size-size.ensures, c.format.ensures, known) at (call.ok keeps_bytes))
+          (if_err c.write_udata_at.result (λ e. inr) (rw (ordered, c.word_size-size.ensures, c.format.ensures, known) at (call.err memory_alone)));
+      linked = λ at completes.
+          framed sink.refuses (sink.hand at) (sink.completed at c.args.w.now) (sink.completed at opened) (sink.completed at filled) (sink.completed at closed)
+          (rw (c.word_size-size.ensures, c.format.ensures, zero_word big format) at (zero.completed at completes))
+          (omega (arith, c.len-length.ensures.completed at completes)) (rw zero.ordered at (fields.completed at (there completes)))
+          (omega (arith, c.len.ensures.completed at (fields.stays (there completes)), c.len-start.ensures.completed at (there completes)))
+          (rw (ordered, c.word_size-size.ensures, c.format.ensures, known) at (call.completed at (fields.stays (there completes))))
+          (rw (ordered, c.word_size-size.ensures, c.format.ensures, known) at (call.completed_own at (fields.stays (there completes))));
+    })
 
 pub returns-in_err-write_udata-clause-writes : goal.returns-in_err-write_udata-clause-writes
 returns-in_err-write_udata-clause-writes g c =
@@ -89,7 +71,7 @@ returns-in_err-write_udata-clause-writes g c =
     let big = g.W.Sink.big c.args.w.now in
     let format = c.args.program.now.encoding.format in
     let put = rw (c.word_size-size.ensures, c.format.ensures, zero_word big format) at c.in_err-write_udata.ensures in
-    rw (p.1, p.2) (bytes_unwritten (writes (Ok (open_word big format)) put))
+    rw (p.1, p.2) (bytes_unwritten (writes (always (Ok (open_word big format))) put))
 
 pub returns-in_err-write_fields-clause-writes : goal.returns-in_err-write_fields-clause-writes
 returns-in_err-write_fields-clause-writes g c =

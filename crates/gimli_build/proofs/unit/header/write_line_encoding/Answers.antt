@@ -1,6 +1,8 @@
 use Rattle.std.proofs.Common.{◌≡◌, [], ◌∷◌, Ok, rules}
+use Rattle.std.proofs.lemmas.Result.{err_from_is_err_and}
 use Rattle.gimli_build.specs.Unit.{flag_byte, base_byte}
-use Rattle.gimli_build.proofs.writing.Writes.{joins, writes}
+use Rattle.gimli_build.specs.inside.Writes.{always}
+use Rattle.gimli_build.proofs.writing.Writes.{first_unwritten, joins, writes}
 use Rattle.gimli_build.proofs.unit.header.write_line_encoding.Goals as goal
 
 pub returns : goal.returns
@@ -11,5 +13,15 @@ returns g c =
     let flag : c.from.result ≡ flag_byte e.default_is_stmt = search rules in
     let base : c.cast_unsigned.result ≡ base_byte e.line_base = search rules in
     let last = c.write.ensures in
-    let third = rw (flag, base) at (writes (Ok bytes) last) in
+    let third = rw (flag, base) at (writes (always (Ok bytes)) last) in
     joins c.in_ok-write_byte.ensures (joins c.in_ok-write_operation_count.ensures third)
+
+pub returns-in_err-write_byte : goal.returns-in_err-write_byte
+returns-in_err-write_byte g c =
+    let p = err_from_is_err_and c.from_residual.result c.from_residual.ensures.1 in
+    rw (p.1, p.2) (first_unwritten _ c.in_err-write_byte.ensures)
+
+pub returns-in_err-write_operation_count : goal.returns-in_err-write_operation_count
+returns-in_err-write_operation_count g c =
+    let p = err_from_is_err_and c.from_residual-in_err-write_operation_count.result c.from_residual-in_err-write_operation_count.ensures.1 in
+    rw (p.1, p.2) (joins c.in_ok-write_byte.ensures (first_unwritten _ c.in_err-write_operation_count.ensures))

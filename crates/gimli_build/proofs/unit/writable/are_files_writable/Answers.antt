@@ -16,6 +16,6 @@ loop-index-preserved c =
     let file : File = ((line_text c.file.result.0.now, c.file.result.1), details c.file.result.2.now) in
     record {
       left =
-          all_passed (λ (f : File). IsFileWritable c.args.writes_sources texts f.0.0 f.1) files i file
-          (next_at files i file c.file.ensures) (c.if-not-is_file_writable.ensures.0 refl) c.loop-index.invariant.left;
+          all_passed (λ f. IsFileWritable c.args.writes_sources texts f.0.0 f.1) files i file
+          (next_at _ i _ c.file.ensures) (c.if-not-is_file_writable.ensures.0 refl) c.loop-index.invariant.left;
     }

@@ -12,7 +12,7 @@ returns-then-not-is_within c =
     let lt : i < length texts = omega arith in (
       λ no. absurd cc,
       λ all. c.if-not-is_within.ensures.1
-          (all_seen (IsWithin (texts_in c.args.strings.now c.args.line_strings.now)) line_text texts i c.text-item.result lt c.text-item.is all),
+          (all_seen (IsWithin (texts_in c.args.strings.now c.args.line_strings.now)) _ _ i _ lt c.text-item.is all),
     )
 
 pub loop-text-preserved : goal.loop-text-preserved
@@ -23,5 +23,5 @@ loop-text-preserved c =
     record {
       left =
           all_passed (IsWithin (texts_in c.args.strings.now c.args.line_strings.now)) (map line_text texts) i (line_text c.text-item.result)
-          (next_seen line_text texts i c.text-item.result lt c.text-item.is) (c.if-not-is_within.ensures.0 refl) c.loop-text.invariant.left;
+          (next_seen _ _ i _ lt c.text-item.is) (c.if-not-is_within.ensures.0 refl) c.loop-text.invariant.left;
     }

@@ -19,6 +19,7 @@ returns g c =
       completed = λ at inside. on_ok r (λ is. completed_bytes at v w c.args.bytes.now inside is) e.ok;
       err = λ memory. absurd (no_truth memory);
       own = if_err r (λ d is. inl (bytes_refused v c.args.bytes.now d is)) e.cause;
+      completed_own = λ at inside. if_err r (λ d is. inl (bytes_refused v c.args.bytes.now d is)) e.cause;
       untouched = λ keeps. absurd (no_truth keeps);
       none = λ all. on_err r (λ same. rw same refl) e.err;
     }

@@ -1,6 +1,4 @@
-use Rattle.std.proofs.Common.{List, ◌∙◌, ap}
-use Rattle.gimli_build.specs.LineText.{LineText, line_text}
-use Rattle.gimli_build.specs.Tables.{keys_of}
+use Rattle.std.proofs.Common.{◌∙◌, ap}
 use Rattle.gimli_build.specs.inside.TableFields.{directories_of, files_of}
 use Rattle.gimli_build.proofs.building.TableLemmas.{directories_insert, index_of_equal_directory, with_directory-AreTables}
 use Rattle.gimli_build.proofs.built.files.FileTable.add_directory.Goals as goal
@@ -8,12 +6,12 @@ use Rattle.gimli_build.proofs.built.files.FileTable.add_directory.Goals as goal
 pub invariant_of-self-2 : goal.invariant_of-self-2
 invariant_of-self-2 c =
     let added = ap directories_of c.in_ok-index.ensures.keys ∙ directories_insert c.self.inside.directories.keys c.args.directory in
-    rw added (with_directory-AreTables (directories_of c.self.inside.directories.keys) (keys_of (files_of c.self.inside.files.entries))
-    (line_text c.args.directory) c.self.invariant c.requires)
+    rw added (with_directory-AreTables _ _
+    _ c.self.invariant c.requires)
 
 pub returns-clause-ok : goal.returns-clause-ok
 returns-clause-ok c =
-    rw (← c.self.view_is) (ap (λ (ds : List LineText). record { directories = ds; files = files_of c.self.inside.files.entries })
+    rw (← c.self.view_is) (ap (λ ds. record { directories = ds; files = files_of c.self.inside.files.entries })
     (ap directories_of c.in_ok-index.ensures.keys ∙ directories_insert c.self.inside.directories.keys c.args.directory))
 
 pub returns-clause-id : goal.returns-clause-id

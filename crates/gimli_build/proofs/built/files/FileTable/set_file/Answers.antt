@@ -1,20 +1,19 @@
-use Rattle.std.proofs.Common.{◌<◌, List, ◌∙◌, ap, length, sym, subst}
-use Rattle.gimli_build.specs.Tables.{File, Tables}
+use Rattle.std.proofs.Common.{◌<◌, ◌∙◌, ap, length, sym, subst}
 use Rattle.gimli_build.specs.TableFields.{details}
-use Rattle.gimli_build.specs.inside.TableFields.{key, directories_of, files_of}
+use Rattle.gimli_build.specs.inside.TableFields.{directories_of, files_of}
 use Rattle.gimli_build.proofs.building.TableLemmas.{files_insert, index_of_equal_file, with_file-AreTables}
 use Rattle.gimli_build.proofs.built.files.FileTable.set_file.Goals as goal
 
 pub invariant_of-self-2 : goal.invariant_of-self-2
 invariant_of-self-2 c =
     let added = ap files_of c.in_ok-index.ensures.entries ∙ files_insert c.self.inside.files.entries (c.args.path, c.args.directory) c.args.info in
-    let within = subst (λ (t : Tables). c.args.directory < length t.directories) (sym c.self.view_is) c.requires.within in
-    rw added (with_file-AreTables (directories_of c.self.inside.directories.keys) (files_of c.self.inside.files.entries) (key (c.args.path, c.args.directory))
+    let within = subst (λ t. c.args.directory < length t.directories) (sym c.self.view_is) c.requires.within in
+    rw added (with_file-AreTables _ _ _
     (details c.args.info) c.self.invariant c.requires.text within)
 
 pub returns-clause-ok : goal.returns-clause-ok
 returns-clause-ok c =
-    rw (← c.self.view_is) (ap (λ (fs : List File). record { directories = directories_of c.self.inside.directories.keys; files = fs })
+    rw (← c.self.view_is) (ap (λ fs. record { directories = directories_of c.self.inside.directories.keys; files = fs })
     (ap files_of c.in_ok-index.ensures.entries ∙ files_insert c.self.inside.files.entries (c.args.path, c.args.directory) c.args.info))
 
 pub returns-clause-id : goal.returns-clause-id

@@ -15,7 +15,7 @@ returns c =
       cases =
           rw (← c.self.view_is)
           (λ i. record {
-            directories = directories_cloned c.self.inside.directories.keys c.in_ok-clone.field-0.keys c.in_ok-clone.ensures.cases i;
-            files = files_cloned c.self.inside.files.entries c.in_ok-clone-2.field-0.entries c.in_ok-clone-2.ensures.cases i;
+            directories = directories_cloned _ _ c.in_ok-clone.ensures.cases i;
+            files = files_cloned _ _ c.in_ok-clone-2.ensures.cases i;
           });
     }

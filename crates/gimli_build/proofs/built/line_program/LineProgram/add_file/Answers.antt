@@ -1,9 +1,8 @@
 use Rattle.std.proofs.Common.{◌≤◌, sym, subst, ap, ◌∙◌, option_map, slice_get, arith}
 use Rattle.std.proofs.lemmas.List.{length-map}
 use Rattle.gimli_build.specs.LineText.{line_text, IsNotEmpty}
-use Rattle.gimli_build.specs.Tables.{File, FileKey, Tables, keys_of, Keeps, with_file}
+use Rattle.gimli_build.specs.Tables.{File, FileKey, keys_of, Keeps, with_file}
 use Rattle.gimli_build.specs.TableFields.{details}
-use Rattle.gimli_build.specs.Built.{Built}
 use Rattle.gimli_build.specs.Conditions.{IsProgram}
 use Rattle.gimli_build.proofs.building.TableLemmas.{file_found_at, file_keeps, file_others, some_within}
 use Rattle.gimli_build.proofs.building.BuiltLemmas.{file_added}
@@ -11,19 +10,19 @@ use Rattle.gimli_build.proofs.built.line_program.LineProgram.add_file.Goals as g
 
 pub invariant_of-self-2 : goal.invariant_of-self-2
 invariant_of-self-2 c =
-    let not_empty = subst (λ (p : Built). p.encoding.version ≤ 4 → IsNotEmpty (line_text c.args.file)) (sym c.self.view_is) c.requires.not_empty in
-    subst (λ (t : Tables). IsProgram c.self.inside.none c.self.inside.encoding c.self.inside.line_encoding t.directories (keys_of t.files) c.self.inside.items)
+    let not_empty = subst (λ p. p.encoding.version ≤ 4 → IsNotEmpty (line_text c.args.file)) (sym c.self.view_is) c.requires.not_empty in
+    subst (λ t. IsProgram c.self.inside.none c.self.inside.encoding c.self.inside.line_encoding t.directories (keys_of t.files) c.self.inside.items)
     (sym c.in_ok-id.ensures.ok)
-    (file_added c.self.inside.tables.files (line_text c.args.file, c.args.directory) (option_map details c.args.info) c.self.invariant not_empty)
+    (file_added _ _ _ c.self.invariant not_empty)
 
 pub returns-clause-found : goal.returns-clause-found
 returns-clause-found c =
     let files = c.self.inside.tables.files in
     let k : FileKey = (line_text c.args.file, c.args.directory) in
     let given = option_map details c.args.info in
-    ap (λ (t : Tables). slice_get (keys_of t.files) c.in_ok-id.id) c.in_ok-id.ensures.ok
+    ap (λ t. slice_get (keys_of t.files) c.in_ok-id.id) c.in_ok-id.ensures.ok
     ∙ ap (slice_get (keys_of (with_file files k given))) c.in_ok-id.ensures.id
-    ∙ file_found_at files k given
+    ∙ file_found_at _ k _
 
 pub returns-clause-within : goal.returns-clause-within
 returns-clause-within c =
@@ -32,13 +31,13 @@ returns-clause-within c =
 
 pub returns-clause-keeps : goal.returns-clause-keeps
 returns-clause-keeps c =
-    rw (← c.self.view_is) (subst (λ (t : Tables). Keeps (keys_of c.self.inside.tables.files) (keys_of t.files)) (sym c.in_ok-id.ensures.ok)
-    (file_keeps c.self.inside.tables.files (line_text c.args.file, c.args.directory) (option_map details c.args.info)))
+    rw (← c.self.view_is) (subst (λ t. Keeps (keys_of c.self.inside.tables.files) (keys_of t.files)) (sym c.in_ok-id.ensures.ok)
+    (file_keeps _ _ _))
 
 pub returns-clause-others : goal.returns-clause-others
 returns-clause-others c =
     rw (← c.self.view_is)
     (λ i short other.
-    ap (λ (t : Tables). slice_get t.files i) c.in_ok-id.ensures.ok
-    ∙ file_others c.self.inside.tables.files (line_text c.args.file, c.args.directory) (option_map details c.args.info) i short (λ e.
+    ap (λ t. slice_get t.files i) c.in_ok-id.ensures.ok
+    ∙ file_others _ _ _ i short (λ e.
     other (e ∙ sym c.in_ok-id.ensures.id)))

@@ -3,4 +3,4 @@ use Rattle.gimli_build.proofs.built.line_program.LineProgram.can_generate_row.Go
 
 pub can_follow-requires-clause-stands : goal.can_follow-requires-clause-stands
 can_follow-requires-clause-stands c =
-    rw c.position-offset.ensures (previous_stands c.self.inside.line_encoding c.self.inside.items c.self.invariant.lines c.self.invariant.items_built)
+    rw c.position-offset.ensures (previous_stands _ _ c.self.invariant.lines c.self.invariant.items_built)

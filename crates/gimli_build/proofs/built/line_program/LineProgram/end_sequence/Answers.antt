@@ -1,11 +1,9 @@
 use Rattle.std.proofs.Common.{sym, subst}
-use Rattle.gimli_build.specs.Built.{Built}
 use Rattle.gimli_build.specs.Conditions.{CanEndSequence}
-use Rattle.gimli_build.specs.declared.built.items.BuiltItem.TheVariants.{End}
 use Rattle.gimli_build.proofs.building.BuiltLemmas.{item_pushed}
 use Rattle.gimli_build.proofs.built.line_program.LineProgram.end_sequence.Goals as goal
 
 pub invariant_of-self-2 : goal.invariant_of-self-2
 invariant_of-self-2 c =
-    let can = subst (λ (p : Built). CanEndSequence p c.args.address_offset) (sym c.self.view_is) c.requires.can in
-    rw c.in_ok-push.ensures.ok (item_pushed c.self.inside.items (End c.args.address_offset c.self.inside.row.op_index) c.self.invariant can)
+    let can = subst (λ p. CanEndSequence p c.args.address_offset) (sym c.self.view_is) c.requires.can in
+    rw c.in_ok-push.ensures.ok (item_pushed _ _ c.self.invariant can)

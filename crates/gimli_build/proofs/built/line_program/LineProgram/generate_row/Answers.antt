@@ -1,11 +1,9 @@
 use Rattle.std.proofs.Common.{sym, subst}
-use Rattle.gimli_build.specs.Built.{Built}
 use Rattle.gimli_build.specs.Conditions.{CanGenerateRow}
-use Rattle.gimli_build.specs.declared.built.items.BuiltItem.TheVariants.{Row}
 use Rattle.gimli_build.proofs.building.BuiltLemmas.{item_pushed}
 use Rattle.gimli_build.proofs.built.line_program.LineProgram.generate_row.Goals as goal
 
 pub invariant_of-self-2 : goal.invariant_of-self-2
 invariant_of-self-2 c =
-    let can = subst (λ (p : Built). CanGenerateRow p) (sym c.self.view_is) c.requires.can in
-    rw c.in_ok-push.ensures.ok (item_pushed c.self.inside.items (Row c.self.inside.row) c.self.invariant can)
+    let can = subst (λ p. CanGenerateRow p) (sym c.self.view_is) c.requires.can in
+    rw c.in_ok-push.ensures.ok (item_pushed _ _ c.self.invariant can)

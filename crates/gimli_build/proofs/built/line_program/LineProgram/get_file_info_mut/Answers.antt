@@ -1,6 +1,5 @@
-use Rattle.gimli_build.specs.TableFields.{details}
 use Rattle.gimli_build.proofs.building.BuiltLemmas.{details_written}
 use Rattle.gimli_build.proofs.built.line_program.LineProgram.get_file_info_mut.Goals as goal
 
 pub invariant_of-self-lent : goal.invariant_of-self-lent
-invariant_of-self-lent c = λ w. details_written c.self.inside.tables.files c.args.id (details w) c.self.invariant
+invariant_of-self-lent c = λ w. details_written _ _ _ c.self.invariant

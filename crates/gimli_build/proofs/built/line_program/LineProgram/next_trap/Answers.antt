@@ -27,13 +27,13 @@ loop-index-preserved c =
     let i = c.loop-index.index in
     let item = c.index-items-index.result in
     let lt : i < length items = omega arith in
-    let more = past_more items i item lt c.index-items-index.is in
-    let at = at_item p items i item c.loop-index.base c.loop-index.begins c.built_items-items.ensures.items lt c.index-items-index.is
+    let more = past_more _ i _ lt c.index-items-index.is in
+    let at = at_item p _ i _ _ _ c.built_items-items.ensures.items lt c.index-items-index.is
     c.loop-index.invariant.base c.loop-index.invariant.begins in
     let told = rw (take_rest items (i + 1)) at c.trap_of-trap.ensures in
     record {
       base = rw more (c.base_after-base.ensures (reverse (take i items)) c.loop-index.invariant.base);
       begins = rw more (c.begins_after-begins.ensures (reverse (take i items)));
-      none = none_more p c.args.from i c.loop-index.invariant.none (λ low.
+      none = none_more p _ i c.loop-index.invariant.none (λ low.
           elim c.match-trap.branch [ in-Some+else-index-from w ↦ absurd (omega arith) | in_default w ↦ at ∙ sym told ∙ w.in_default.is ]);
     }

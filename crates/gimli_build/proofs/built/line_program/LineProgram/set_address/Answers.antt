@@ -1,6 +1,5 @@
-use Rattle.gimli_build.specs.declared.built.items.BuiltItem.TheVariants.{SetAddress}
 use Rattle.gimli_build.proofs.building.BuiltLemmas.{item_pushed}
 use Rattle.gimli_build.proofs.built.line_program.LineProgram.set_address.Goals as goal
 
 pub invariant_of-self-2 : goal.invariant_of-self-2
-invariant_of-self-2 c = rw c.in_ok-push.ensures.ok (item_pushed c.self.inside.items (SetAddress c.args.address) c.self.invariant tt)
+invariant_of-self-2 c = rw c.in_ok-push.ensures.ok (item_pushed _ _ c.self.invariant tt)

@@ -1,0 +1,9 @@
+use Rattle.std.proofs.Common.{rules, ◌≡◌, true, nat_eq}
+use Rattle.gimli_build.specs.LineText.{line_text}
+use Rattle.gimli_build.specs.Version5Tables.{text_form}
+use Rattle.gimli_build.proofs.tables.version_5.write_line_string.Goals as goal
+
+pub returns-in-String : goal.returns-in-String
+returns-in-String g c =
+    let same : nat_eq (text_form (line_text c.args.text.now)) c.args.form.0 ≡ true = search rules in
+    rw (same, c.in-String.is) (rw c.as_slice.ensures.value at c.write_text.ensures)

@@ -1,0 +1,7 @@
+use Rattle.std.proofs.Common.{rules, ◌≡◌, true, nat_le}
+use Rattle.gimli_build.proofs.unit.header.write_tables.Goals as goal
+
+pub returns-then-version-le4-clause-writes : goal.returns-then-version-le4-clause-writes
+returns-then-version-le4-clause-writes g c =
+    let old : nat_le c.args.program.now.encoding.version 4 ≡ true = search rules in
+    rw old (rw (c.tables.ensures.directories, c.tables.ensures.files) at c.write_version_4_tables.ensures.writes)
