@@ -65,7 +65,8 @@ int main(int argc, char **argv) {
 
     /* How much room it takes is asked first. */
     size_t size, count;
-    gimli_line_status status = gimli_line_write_relocatable(&contents, NULL, 0, &size, NULL, 0, &count);
+    gimli_line_status status =
+        gimli_line_write_relocatable(&contents, NULL, 0, &size, NULL, 0, &count);
     if (status != GIMLI_LINE_NO_ROOM) stop_if(status);
     uint8_t *unit = malloc(size);
     gimli_line_relocation *relocations = malloc(count * sizeof *relocations);
