@@ -96,7 +96,7 @@ impl Contents<'_> {
             (length order.items) (slice_index order.items)) }
     {
         let mut ranks = self.ranks(alloc)?;
-        ranks.sort_unstable();
+        ranks.sort()?;
         indices_of(alloc, &ranks)
     }
 }
