@@ -8,7 +8,7 @@ fn small_index() -> Vec<u8> {
     index.extend(1u32.to_le_bytes());
     index.extend([8, 0, 4, 0]);
     index.extend(0x1000u64.to_le_bytes());
-    for size in [3u32, 2, 4, 2] {
+    for size in [3u32, 2, 4, 2, 1, 0] {
         index.extend(size.to_le_bytes());
     }
     for (unit, size, reason) in [(7u64, 4u32, 0u32), (9, 0, 4)] {
@@ -24,6 +24,7 @@ fn small_index() -> Vec<u8> {
     for entry in [[0, 5, 2 | 1 << 31], [1, 6, 0], [u32::MAX, 0, 0]] {
         entry.iter().for_each(|number| index.extend(number.to_le_bytes()));
     }
+    index.extend(0u32.to_le_bytes()); // the order: the first start alone is a statement
     index.extend(b"/a.cid");
     index
 }

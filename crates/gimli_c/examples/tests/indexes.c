@@ -42,6 +42,19 @@ static void put_text(bytes *index, const char *text, size_t size) {
 
 static char paths[SOURCES][32]; /* /source/K.c, but for source 1, which has the reason 4 */
 
+static int by_number(const void *one, const void *other) {
+    uint64_t a = *(const uint64_t *)one, b = *(const uint64_t *)other;
+    return (a > b) - (a < b);
+}
+
+/* The key of a statement in the order: the number of the name of its file, and below it the line. */
+static uint64_t order_key(size_t source, uint64_t line) {
+    uint64_t number = 0;
+    const char *name = strrchr(paths[source], '/');
+    for (name = name != NULL ? name + 1 : ""; *name != 0; name++) number = (number * 31 + (uint8_t)*name) % (UINT64_C(1) << 31);
+    return (number << 32) + line;
+}
+
 /* `ranges` ranges of 16 bytes, each third one a gap: range i has the line i + 1, the column i % 7, and the source i % sources. Where i is
  * even, it is a statement. Starts have `size` bytes. */
 static bytes made(size_t ranges, size_t sources, size_t size) {
@@ -58,6 +71,14 @@ static bytes made(size_t ranges, size_t sources, size_t size) {
     put(&index, sources, 4);
     put(&index, paths_size, 4);
     put(&index, 5, 4);
+    uint64_t *keys = malloc((ranges + 1) * sizeof *keys);
+    is(keys != NULL, "memory for an order");
+    size_t statements = 0;
+    for (size_t i = 0; i < ranges; i++)
+        if (i % 2 == 0 && i % 3 != 2) keys[statements++] = order_key(i % sources, i + 1);
+    qsort(keys, statements, sizeof *keys, by_number);
+    put(&index, statements, 4);
+    put(&index, 0, 4);
     for (size_t i = 0, at = 0; i < sources; at += strlen(paths[i++])) {
         put(&index, i * 1000, 8);
         put(&index, i == 1 ? 0 : at, 4);
@@ -70,6 +91,8 @@ static bytes made(size_t ranges, size_t sources, size_t size) {
         put(&index, i % 3 == 2 ? 0 : i + 1, 4);
         put(&index, i % 3 == 2 ? 0 : i % 7 + (i % 2 == 0 ? UINT32_C(1) << 31 : 0), 4);
     }
+    for (size_t i = 0; i < statements; i++) put(&index, (uint32_t)keys[i] - 1, 4); /* the line of range i is i + 1 */
+    free(keys);
     for (size_t i = 0; i < sources; i++) put_text(&index, paths[i], strlen(paths[i]));
     put_text(&index, "build", 5);
     return index;
