@@ -41,17 +41,17 @@ kept_bytes bytes text is = by (list_any _ bytes) is
     by false so = cc
 
 source_read : (r : Result (List ℕ) Error) (text : List ℕ) → (result_map_both (λ text. text) Read r >>= without_zero) ≡ Ok text → r ≡ Ok text
-source_read (Ok bytes) text is = ap Ok (kept_bytes bytes text is)
+source_read (Ok bytes) text is = ap Ok (kept_bytes _ _ is)
 source_read (Err e) text is = absurd cc
 
 pub source_text_of : (sections : Sections) (v : Value) (text : List ℕ) → source_text sections v ≡ Ok text → text_of sections v ≡ Ok text
 source_text_of sections (DebugStrRefSup offset) text is = absurd cc
-source_text_of sections v text is = source_read (text_of sections v) text is
+source_text_of sections v text is = source_read _ _ is
 
 pub source_path_of : (version : ℕ) (sections : Sections) (v : Value) (path : List ℕ) → source_path version sections v ≡ Ok path → text_of sections v ≡ Ok path
 source_path_of version sections v path is =
-    let t = took (source_text sections v) _ path is in
-    source_text_of sections v path (t.1 ∙ ap Ok (by t.0 _ t.2))
+    let t = took _ _ _ is in
+    source_text_of _ v _ (t.1 ∙ ap Ok (by t.0 _ t.2))
   where
     by : (text : List ℕ) (b : Bool) → (if b then Err InvalidAttributeValue else Ok text) ≡ Ok path → text ≡ path
     by text true so = absurd cc
@@ -62,8 +62,8 @@ first_path_of : (version : ℕ) (sections : Sections) (h : Header) (v : Value) (
 first_path_of version sections h v path is = by (nat_le h.parameters.encoding.version 4) is
   where
     by : (old : Bool) → (if old then source_text sections v else source_path version sections v) ≡ Ok path → text_of sections v ≡ Ok path
-    by true so = source_text_of sections v path so
-    by false so = source_path_of version sections v path so
+    by true so = source_text_of _ v _ so
+    by false so = source_path_of _ _ v _ so
 
 -- ---- entries of tables
 
@@ -82,8 +82,8 @@ begins_at false = 0
 pub entry_at : {A : Type 0} (old : Bool) (handed : Option A) (done rest : List A) (x : A) (i : ℕ) → i ≡ begins_at old + length done
     → (if old then from_one handed (done ++ x ∷ rest) i else slice_get (done ++ x ∷ rest) i) ≡ Some x
 entry_at true handed done rest x zero is = absurd (omega arith)
-entry_at true handed done rest x (suc i) is = at_seam done rest x i (omega arith)
-entry_at false handed done rest x i is = at_seam done rest x i (omega arith)
+entry_at true handed done rest x (suc i) is = at_seam _ _ x i (omega arith)
+entry_at false handed done rest x i is = at_seam _ _ x i (omega arith)
 
 pub first_count : (version : ℕ) → length (first_ids version) ≡ begins_at (nat_le version 4)
 first_count version = by (nat_le version 4)
@@ -113,8 +113,8 @@ longer_texts version old new directories path id has so =
     let same = sym (has.same path so.made) in
     record {
       made = has.there path so.made;
-      present = subst (λ (t : LineText). list_any (line_text_eq t) directories ≡ true) same so.present;
-      index = subst (λ (t : LineText). id ≡ index_of_directory directories t) same so.index;
+      present = subst (λ t. list_any (line_text_eq t) directories ≡ true) same so.present;
+      index = subst (λ t. id ≡ index_of_directory directories t) same so.index;
     }
 
 more_directories : (version : ℕ) (line_strings : List (List ℕ)) (directories : List LineText) (t : LineText) (path : List ℕ) (id : ℕ)
@@ -123,8 +123,8 @@ more_directories version line_strings directories t path id so =
     let test = line_text_eq (made_text version line_strings path) in
     record {
       made = so.made;
-      present = grown_any test (list_any (line_text_eq t) directories) directories t so.present;
-      index = so.index ∙ sym (grown_index test (list_any (line_text_eq t) directories) directories t so.present);
+      present = grown_any test _ _ t so.present;
+      index = so.index ∙ sym (grown_index test _ _ t so.present);
     }
 
 -- it is found there
@@ -133,22 +133,22 @@ pub directory_there : (version : ℕ) (line_strings : List (List ℕ)) (director
 directory_there version line_strings directories path id so =
     let t = made_text version line_strings path in
     ap (slice_get directories) so.index
-    ∙ subst (λ (ds : List LineText). slice_get ds (index_of_directory directories t) ≡ Some t)
-    (ap (λ (b : Bool). if b then directories else directories ++ t ∷ []) so.present) (directory_found directories t)
+    ∙ subst (λ ds. slice_get ds (index_of_directory directories t) ≡ Some t)
+    (ap (λ b. if b then directories else directories ++ t ∷ []) so.present) (directory_found _ t)
 
 -- so one id has one path
 pub one_path : (version : ℕ) (line_strings : List (List ℕ)) (directories : List LineText) (a b : List ℕ) (id : ℕ)
     → IsDirectoryId version line_strings directories a id → IsDirectoryId version line_strings directories b id → a ≡ b
 one_path version line_strings directories a b id x y =
-    let first = directory_there version line_strings directories a id x in
-    let second = directory_there version line_strings directories b id y in
+    let first = directory_there _ _ _ a _ x in
+    let second = directory_there _ _ _ b _ y in
     let same : made_text version line_strings a ≡ made_text version line_strings b = cc in
-    made_differ version line_strings a b x.made y.made same
+    made_differ _ _ a b x.made y.made same
 
 -- the texts that were there are there after a source, if one is made
 pub sources_has : (version : ℕ) (paths : List (List ℕ)) (source : Option (List ℕ)) → HasMade version paths (sources_table version paths source)
 sources_has version paths (Some text) = table_has version paths text
-sources_has version paths None = has_itself version paths
+sources_has version paths None = has_itself _ _
 
 -- ---- all directories
 

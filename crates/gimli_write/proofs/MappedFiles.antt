@@ -39,7 +39,7 @@ pub one_by_one_at : {A B : Type 0} (R : A → B → Type 0) (xs : List A) (ys : 
     → (y : B) × (slice_get ys i ≡ Some y) × R x y
 one_by_one_at R [] ys i x all is = absurd cc
 one_by_one_at R (a ∷ xs) [] i x all is = elim all [ ]
-one_by_one_at {A = A} R (a ∷ xs) (b ∷ ys) zero x all is = let same : a ≡ x = cc in (b, refl, subst (λ (z : A). R z b) same all.0)
+one_by_one_at {A = A} R (a ∷ xs) (b ∷ ys) zero x all is = let same : a ≡ x = cc in (b, refl, subst (λ z. R z b) same all.0)
 one_by_one_at R (a ∷ xs) (b ∷ ys) (suc i) x all is = one_by_one_at R xs ys i x all.1 is
 
 pub one_by_one_back : {A B : Type 0} (R : A → B → Type 0) (xs : List A) (ys : List B) (i : ℕ) (y : B) → OneByOne R xs ys → slice_get ys i ≡ Some y
@@ -60,12 +60,12 @@ module _ (q : FileKey → Bool) where
   details_any : (files : List BuiltFile) (i : ℕ) (d : Details) → list_any (λ f. q f.0) (with_details files i d) ≡ list_any (λ f. q f.0) files
   details_any [] i d = refl
   details_any (f ∷ files) zero d = refl
-  details_any (f ∷ files) (suc i) d = ap (λ (b : Bool). q f.0 || b) (details_any files i d)
+  details_any (f ∷ files) (suc i) d = ap (λ b. q f.0 || b) (details_any files i d)
 
   details_index : (files : List BuiltFile) (i : ℕ) (d : Details) → position_or_len (λ f. q f.0) (with_details files i d) ≡ position_or_len (λ f. q f.0) files
   details_index [] i d = refl
   details_index (f ∷ files) zero d = refl
-  details_index (f ∷ files) (suc i) d = ap (λ (n : ℕ). cond (not (q f.0)) (1 + n) 0) (details_index files i d)
+  details_index (f ∷ files) (suc i) d = ap (λ n. cond (not (q f.0)) (1 + n) 0) (details_index files i d)
 
 details_at : (files : List BuiltFile) (i : ℕ) (d : Details) → slice_get (with_details files i d) i ≡ option_map (λ f. (f.0, d)) (slice_get files i)
 details_at [] i d = refl
@@ -78,15 +78,15 @@ module _ (files : List BuiltFile) (k : FileKey) (d : Details) where
   old_any l is = by (has_file files k)
     where
       by : (b : Bool) → has_file (if b then with_details files (index_of_file files k) d else files ++ (k, d) ∷ []) l ≡ true
-      by true = details_any (key_eq l) files (index_of_file files k) d ∙ is
-      by false = any_stays (λ f. key_eq l f.0) files ((k, d) ∷ []) is
+      by true = details_any (key_eq l) _ _ d ∙ is
+      by false = any_stays (λ f. key_eq l f.0) _ _ is
 
   old_index : (l : FileKey) → has_file files l ≡ true → index_of_file (with_file files k (Some d)) l ≡ index_of_file files l
   old_index l is = by (has_file files k)
     where
       by : (b : Bool) → index_of_file (if b then with_details files (index_of_file files k) d else files ++ (k, d) ∷ []) l ≡ index_of_file files l
-      by true = details_index (key_eq l) files (index_of_file files k) d
-      by false = index_stays (λ f. key_eq l f.0) files ((k, d) ∷ []) is
+      by true = details_index (key_eq l) _ _ d
+      by false = index_stays (λ f. key_eq l f.0) _ _ is
 
   -- the one that is added is there, at its index
   new_any : has_file (with_file files k (Some d)) k ≡ true
@@ -145,9 +145,9 @@ same_paths : (a b : FileParts) → SamePaths a b ⊎ (SamePaths a b → ⊥)
 same_paths a b = by (bytes_eq a.path b.path) (nat_eq a.directory b.directory) refl refl
   where
     by : (p d : Bool) → bytes_eq a.path b.path ≡ p → nat_eq a.directory b.directory ≡ d → SamePaths a b ⊎ (SamePaths a b → ⊥)
-    by true true path directory = inl ((bytes_eq-Decides a.path b.path).0 path, eqb-true a.directory b.directory directory)
+    by true true path directory = inl ((bytes_eq-Decides _ _).0 path, eqb-true a.directory b.directory directory)
     by true false path directory = inr (λ same. true≢false (sym (eq-eqb a.directory b.directory same.1) ∙ directory))
-    by false d path directory = inr (λ same. true≢false (sym ((bytes_eq-Decides a.path b.path).1 same.0) ∙ path))
+    by false d path directory = inr (λ same. true≢false (sym ((bytes_eq-Decides _ _).1 same.0) ∙ path))
 
 -- the parts of a file, in a program of this version with these ids of directories
 abbrev pub HasParts : Sections → ℕ → List ℕ → FileParts → File → Type 0

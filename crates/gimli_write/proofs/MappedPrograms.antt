@@ -42,8 +42,8 @@ same_others : (source_version version base : ℕ) (built : LineRow) (source back
 same_others source_version version base built source back mapped matches =
     let number = file_number version built.file in
     matches
-    ∙ ap (λ (r : ReadRow). let s : ReadRow = record r { file = number } in s) (sym mapped)
-    ∙ ap (λ (n : ℕ). let s : ReadRow = record source { file = n } in s) (sym (ap (λ (r : ReadRow). r.file) matches))
+    ∙ ap (λ r. let s : ReadRow = record r { file = number } in s) (sym mapped)
+    ∙ ap (λ n. let s : ReadRow = record source { file = n } in s) (sym (ap (λ r. r.file) matches))
 
 -- ---- the whole
 
@@ -59,8 +59,8 @@ module _ (notation : Notation) (sections : Sections) (h : Header) (given : Hande
 
   decodes_once : (list : List Ins) (end : Option Error) → Decodes notation h bytes list end → list ≡ reads.list
   decodes_once list end decoding =
-      ap (λ (p : List Ins × Option Error). p.0)
-      (one_decoding notation h bytes list end decoding ∙ sym (one_decoding notation h bytes reads.list reads.end reads.decoding))
+      ap (λ p. p.0)
+      (one_decoding notation h _ _ _ decoding ∙ sym (one_decoding notation h _ _ _ reads.decoding))
 
   whole : Rest sections h.parameters first (encoding_of h given).address_size c [] reads.list reads.end 0 (0, 0) first.program
   whole =

@@ -23,17 +23,17 @@ use Rattle.gimli_write.specs.RoundTrip.{IsRunRefusal}
 
 events_of_at : (files : List File) (es : List Event) → events_of (with_files files es) ≡ es
 events_of_at files [] = refl
-events_of_at files (e ∷ es) = ap (λ (xs : List Event). e ∷ xs) (events_of_at files es)
+events_of_at files (e ∷ es) = ap (λ xs. e ∷ xs) (events_of_at files es)
 
 events_of_after : (a : Bool) (h : Header) (past list : List Ins) (end : Option Error)
     → events_of (events_with_files_after a h past list end) ≡ events_after h.parameters past list ++ end_events end
-events_of_after a h past [] end = events_of_at (files_at a h.files past) (end_events end)
+events_of_after a h past [] end = events_of_at _ _
 events_of_after a h past (i ∷ list) end =
     let files = files_at a h.files past in
     let here = events_at h.parameters past i in
-    map-append (λ (t : EventWithFiles). t.event) (with_files files here) (events_with_files_after a h (i ∷ past) list end)
-    ∙ ap (λ (xs : List Event). xs ++ events_of (events_with_files_after a h (i ∷ past) list end)) (events_of_at files here)
-    ∙ ap (λ (xs : List Event). here ++ xs) (events_of_after a h (i ∷ past) list end)
+    map-append (λ t. t.event) (with_files files here) (events_with_files_after a h (i ∷ past) list end)
+    ∙ ap (λ xs. xs ++ events_of (events_with_files_after a h (i ∷ past) list end)) (events_of_at _ _)
+    ∙ ap (λ xs. here ++ xs) (events_of_after a h (i ∷ past) list end)
     ∙ sym (append_assoc here (events_after h.parameters (i ∷ past) list) (end_events end))
 
 -- ---- a run to its end
@@ -45,7 +45,7 @@ run_ended notation h events left rows tells so_far none = record {
   list = tells.list;
   end = tells.end;
   decoding = tells.decoding;
-  given = sym (append-nil (map row rows)) ∙ ap (λ (l : List EventWithFiles). map row rows ++ events_of l) (sym none) ∙ sym so_far
+  given = sym (append-nil (map row rows)) ∙ ap (λ l. map row rows ++ events_of l) (sym none) ∙ sym so_far
       ∙ ap events_of tells.given ∙ events_of_after true h [] tells.list tells.end;
 }
 
@@ -66,7 +66,7 @@ first_fault notation h events left rest rows files e tells so_far next = record 
   rows = rows;
   rest = events_of rest;
   given = sym (events_of_after true h [] tells.list tells.end) ∙ sym (ap events_of tells.given) ∙ so_far
-      ∙ ap (λ (l : List EventWithFiles). map row rows ++ events_of l) next;
+      ∙ ap (λ l. map row rows ++ events_of l) next;
 }
 
 -- a refusal after rows is the first fault, or `OutOfMemory`, and has the name that conversions give it
@@ -76,5 +76,5 @@ pub run_refused : (notation : Notation) (h : Header) (events : List EventWithFil
 run_refused notation h events old new rows e r tells so_far (inl memory) named other = rw (named memory.0) tt
 run_refused notation h events old new rows e r tells so_far (inr next) named other = elim (is_memory e) [
   | inl memory ↦ rw (named memory) tt
-  | inr not_memory ↦ rw (other not_memory) (first_fault notation h events (events_left old) (events_left new) rows new.files e tells so_far next.0)
+  | inr not_memory ↦ rw (other not_memory) (first_fault _ h _ _ _ _ _ e tells so_far next.0)
 ]

@@ -5,7 +5,6 @@ use Rattle.gimli_core.specs.Notation.{Notation}
 use Rattle.gimli_core.specs.declared.error.Error.{Error}
 use Rattle.gimli_core.specs.declared.error.Error.TheVariants.{AddressOverflow}
 use Rattle.gimli_line.specs.header.Header.{Header}
-use Rattle.gimli_line.specs.declared.run.row.LineRow.{LineRow}
 use Rattle.gimli_line.specs.declared.run.instruction.LineInstruction.TheVariants.{EndSequence, SetAddress}
 use Rattle.gimli_line.specs.run.Instruction.{Ins, makes_row}
 use Rattle.gimli_line.specs.run.InstructionReading.{decoded_at}
@@ -44,12 +43,12 @@ pending_is i past = refl
 state_is : (h : Header) (u : Unread) (past : List Ins) (i : Ins) → state_after i (state_at h past u) ≡ state_at h (i ∷ past) u
 state_is h u past i =
     ap
-    (λ (b : ℕ). let s : SourceRun =
+    (λ b. let s : SourceRun =
     record { header = h; row = registers_after h.parameters (i ∷ past); base = b; pending = pending_after i (pending_address past); unread = u } in
     s)
-    (base_is i past)
+    (base_is i _)
     ∙ ap
-    (λ (p : Option ℕ). let s : SourceRun =
+    (λ p. let s : SourceRun =
     record { header = h; row = registers_after h.parameters (i ∷ past); base = base_at (i ∷ past); pending = p; unread = u } in
     s)
     (pending_is i past)
@@ -59,7 +58,7 @@ state_is h u past i =
 row_same : (h : Header) (u : Unread) (past : List Ins) (i : Ins) → makes_row i ≡ true → is_under_tombstone h.parameters past ≡ false
     → row_made (state_at h past u) i ≡ source_row h.parameters past i
 row_same h u past i loud seen =
-    ap (λ (row : LineRow). let r : SourceRow = record { set_address = pending_address past; address_offset = row.address - base_at past; row = row } in r)
+    ap (λ row. let r : SourceRow = record { set_address = pending_address past; address_offset = row.address - base_at past; row = row } in r)
     (row_after h.parameters past i loud seen)
 
 module _ (give : SourceRow → Reading) (stop rest : Reading) where
@@ -74,7 +73,7 @@ module _ (give : SourceRow → Reading) (stop rest : Reading) where
       → (made ≡ true → tombstone ≡ false → r ≡ d)
       → (if refused then stop else (if made && not is_tombstone then give r else rest))
       ≡ (if over then stop else (if made && not tombstone then give d else rest))
-  same_point made refused over is_tombstone tombstone r d e f same = rw (e, f) (same_parts made over tombstone r d same)
+  same_point made refused over is_tombstone tombstone r d e f same = rw (e, f) (same_parts _ _ _ r d same)
 
 point_is : (h : Header) (u : Unread) (past : List Ins) (tables : TablesAndTexts) (i : Ins) (rest : Reading)
     → instruction_reading (state_at h past u) tables i rest ≡ reading_at h.parameters tables past i rest

@@ -30,7 +30,7 @@ same_lists : (sections : Sections) (u v : Unread) (s : SourceRun) (tables : Tabl
     → tables_after sections (record s { unread = u }) tables list ≡ tables_after sections (record s { unread = v }) tables list
 same_lists sections u v s tables [] = refl
 same_lists sections u v s tables (i ∷ list) =
-    ap (λ (rest : TablesAndTexts). if refuses s tables i then tables else rest)
+    ap (λ rest. if refuses s tables i then tables else rest)
     (by (λ next. same_lists sections u v (state_after i s) next list) (tables_after_definition sections tables i))
   where
     by : ((next : TablesAndTexts)
@@ -43,12 +43,12 @@ same_lists sections u v s tables (i ∷ list) =
 
 module _ (sections : Sections) (tables : TablesAndTexts) (s : SourceRun) where
   pub none_last : s.unread.bytes ≡ [] → tables_at_end sections s tables ≡ tables
-  none_last e = ap (λ (c : List Ins × Option Error). tables_after sections s tables c.0) (decoded_none s.unread.notation s.header s.unread.bytes e)
+  none_last e = ap (λ c. tables_after sections s tables c.0) (decoded_none s.unread.notation s.header s.unread.bytes e)
 
   pub fault_last : (e : Error) → s.unread.bytes ≢ [] → (instruction_production s.unread.notation s.header).Fault s.unread.bytes e
       → tables_at_end sections s tables ≡ tables
   fault_last e some f =
-      ap (λ (c : List Ins × Option Error). tables_after sections s tables c.0) (decoded_fault s.unread.notation s.header s.unread.bytes e some f)
+      ap (λ c. tables_after sections s tables c.0) (decoded_fault s.unread.notation s.header s.unread.bytes e some f)
 
   module _ (u : Unread) (notation : u.notation ≡ s.unread.notation) (i : Ins) (front : List ℕ) (parts : s.unread.bytes ≡ front ++ u.bytes)
       (spelled : SpellsInstruction s.unread.notation s.header front i) where

@@ -17,7 +17,7 @@ returns-in_err-row-clause-err g c =
 
 pub returns-in_err-row-clause-stays : goal.returns-in_err-row-clause-stays
 returns-in_err-row-clause-stays g c =
-    kept_then c.args.line_strings.now c.rows.line_strings c.read_row.new.line_strings c.rows.invariant.stays c.in_err-row.ensures.reads_on.texts
+    kept_then _ _ _ c.rows.invariant.stays c.in_err-row.ensures.reads_on.texts
 
 pub rows-smaller : goal.rows-smaller
 rows-smaller g c =
@@ -55,7 +55,7 @@ returns-in_err-feed-in-Some-clause-err g c =
 
 pub returns-in_err-feed-in-Some-clause-stays : goal.returns-in_err-feed-in-Some-clause-stays
 returns-in_err-feed-in-Some-clause-stays g c =
-    kept_then c.args.line_strings.now c.rows.line_strings c.read_row.new.line_strings c.rows.invariant.stays c.in_ok-row.ensures.reads_on.texts
+    kept_then _ _ _ c.rows.invariant.stays c.in_ok-row.ensures.reads_on.texts
 
 pub returns-in-None-clause-err : goal.returns-in-None-clause-err
 returns-in-None-clause-err g c =
@@ -67,7 +67,7 @@ returns-in-None-clause-err g c =
 
 pub returns-in-None-clause-stays : goal.returns-in-None-clause-stays
 returns-in-None-clause-stays g c =
-    kept_then c.args.line_strings.now c.rows.line_strings c.read_row.new.line_strings c.rows.invariant.stays c.in_ok-row.ensures.reads_on.texts
+    kept_then _ _ _ c.rows.invariant.stays c.in_ok-row.ensures.reads_on.texts
 
 pub returns-in-None-2-clause-ok : goal.returns-in-None-2-clause-ok
 returns-in-None-2-clause-ok g c =
@@ -79,7 +79,7 @@ returns-in-None-2-clause-ok g c =
 
 pub returns-in-None-2-clause-stays : goal.returns-in-None-2-clause-stays
 returns-in-None-2-clause-stays g c =
-    kept_then c.args.line_strings.now c.rows.line_strings c.read_row.new.line_strings c.rows.invariant.stays c.in_ok-row.ensures.reads_on.texts
+    kept_then _ _ _ c.rows.invariant.stays c.in_ok-row.ensures.reads_on.texts
 
 pub returns-in-None-2-clause-writable : goal.returns-in-None-2-clause-writable
 returns-in-None-2-clause-writable g c = writable_then c.rows.invariant.writable c.in_ok-row.ensures.reads_on.writable

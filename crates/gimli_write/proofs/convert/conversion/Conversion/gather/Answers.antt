@@ -8,7 +8,7 @@ use Rattle.gimli_write.specs.declared.convert.rows.ConvertLineRow.TheVariants.{S
 use Rattle.gimli_write.specs.declared.convert.rows.ConvertLineSequenceEnd.TheVariants.{Address}
 use Rattle.gimli_write.specs.convert.Items.{Reading, offers}
 use Rattle.gimli_write.specs.convert.Sequences.{SequenceRead, sequence_with, sequence_from}
-use Rattle.gimli_write.specs.convert.Conversion.{beside, tables_of, still_to_read}
+use Rattle.gimli_write.specs.convert.Conversion.{tables_of, still_to_read}
 use Rattle.gimli_write.proofs.ConvertSteps.{refused_same}
 use Rattle.gimli_write.proofs.Outcomes.{one_fewer}
 use Rattle.gimli_write.proofs.ReadLemmas.{reads_then, reads_kept}
@@ -120,7 +120,7 @@ returns-in_err-push-in-Some-Row-clause-reads_on g c = reads_then c.rows.invarian
 pub returns-in-Some-SetAddress-2-clause-reads_on : goal.returns-in-Some-SetAddress-2-clause-reads_on
 returns-in-Some-SetAddress-2-clause-reads_on g c =
     rw c.give_back.ensures
-    (reads_kept (beside c.args.line_strings.now c.args.self.now) (beside c.read_row.new.line_strings c.read_row.new.self) _ refl refl
+    (reads_kept _ _ _ refl refl
     (reads_then c.rows.invariant.reads_on c.in_ok-row.ensures.reads_on))
 
 pub returns-in-Some-EndSequence-clause-reads_on : goal.returns-in-Some-EndSequence-clause-reads_on

@@ -1,10 +1,7 @@
 use Rattle.std.proofs.Common.{List, ℕ, sym, ap, ◌∙◌}
-use Rattle.std.specs.Prelude.{Result}
 use Rattle.std.proofs.lemmas.Result.{err_from_is_err_and}
 use Rattle.gimli_line.specs.header.File.{file_seen}
-use Rattle.gimli_line.specs.header.Header.{Header}
-use Rattle.gimli_write.specs.declared.convert_error.ConvertError.{ConvertError}
-use Rattle.gimli_write.specs.convert.SourceTables.{SourceTables, TablesAndTexts, tables_with, file_added}
+use Rattle.gimli_write.specs.convert.SourceTables.{SourceTables, tables_with, file_added}
 use Rattle.gimli_write.specs.convert.TablesAtEnd.{unless_refused, tables_at_end}
 use Rattle.gimli_write.specs.convert.Items.{defines, defines_first, after_definitions}
 use Rattle.gimli_write.specs.convert.Conversion.{without_built, source_left}
@@ -34,10 +31,10 @@ steps-preserved g c =
     record {
       left =
           sym (ap after_definitions
-          (read a.sections (without_built before) ∙ ap defines (file_taken a.sections c.step.new.self before f after c.in_ok-add_file-in-Defines.ensures.ok)))
+          (read a.sections (without_built before) ∙ ap defines (file_taken a.sections c.step.new.self before f _ c.in_ok-add_file-in-Defines.ensures.ok)))
           ∙ c.steps.invariant.left;
       first = λ more. c.steps.invariant.first (ap defines_first (read a.sections (without_built before)));
-      version = ap (λ (h : Header). h.parameters.encoding.version) c.in_ok-step.ensures.header ∙ c.steps.invariant.version;
+      version = ap (λ h. h.parameters.encoding.version) c.in_ok-step.ensures.header ∙ c.steps.invariant.version;
       sections = c.steps.invariant.sections;
       address = c.steps.invariant.address;
       held = c.steps.invariant.held;
@@ -50,7 +47,7 @@ steps-preserved g c =
       });
       last =
           sym (leaves a.sections before
-          ∙ ap (λ (there : Result TablesAndTexts ConvertError). unless_refused before there (λ next. tables_at_end a.sections c.step.new.self next))
+          ∙ ap (λ there. unless_refused before there (λ next. tables_at_end a.sections c.step.new.self next))
           c.in_ok-add_file-in-Defines.ensures.ok)
           ∙ c.steps.invariant.last;
     }
