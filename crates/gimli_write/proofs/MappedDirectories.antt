@@ -207,16 +207,16 @@ module _ (sections : Sections) (h : Header) where
   directories_next : (done rest : List Value) (tables last : TablesAndTexts) → h.directories ≡ done ++ rest
       → length tables.directory_ids ≡ begins_at (nat_le h.parameters.encoding.version 4) + length done
       → all_added (directory_added sections) rest tables ≡ Ok last → AreDirectories sections h tables → AreDirectories sections h last
-  directories_next done [] tables last parts count is so = subst (AreDirectories sections h) (same_ok tables last is) so
+  directories_next done [] tables last parts count is so = subst (AreDirectories sections h) (same_ok _ _ is) so
   directories_next done (v ∷ rest) tables last parts count is so =
-      let t = took (directory_added sections tables v) (all_added (directory_added sections) rest) last is in
+      let t = took _ _ _ is in
       let here : directory_of h (length tables.directory_ids) ≡ Some v =
       ap
-      (λ (ds : List Value). if nat_le h.parameters.encoding.version 4 then from_one (option_map String h.comp_dir) ds (length tables.directory_ids)
+      (λ ds. if nat_le h.parameters.encoding.version 4 then from_one (option_map String h.comp_dir) ds (length tables.directory_ids)
       else slice_get ds (length tables.directory_ids))
       parts
-      ∙ entry_at (nat_le h.parameters.encoding.version 4) (option_map String h.comp_dir) done rest v (length tables.directory_ids) count in
-      let next = directory_next tables t.0 v here t.1 so in
+      ∙ entry_at _ _ _ _ v _ count in
+      let next = directory_next _ _ v here t.1 so in
       directories_next (done ++ v ∷ []) rest t.0 last (parts ∙ sym (append_assoc done (v ∷ []) rest))
       (omega (arith, next.1, count, length-append done (v ∷ []))) t.2 next.0
 
@@ -231,13 +231,13 @@ module _ (sections : Sections) (h : Header) where
 
       by : (o : Option Value) → option_map_or (first_path version sections h) o (needed_from_5 version [] MissingCompilationDirectory) ≡ Ok directory
           → IsDirectoryPath sections o directory
-      by (Some v) so = text_read sections v directory (first_path_of version sections h v directory so)
-      by None so = none (nat_le version 4) so
+      by (Some v) so = text_read _ v _ (first_path_of _ _ h v _ so)
+      by None so = none _ so
 
   directories_first : (encoding : Encoding) (line_encoding : LineEncoding) (line_strings : List (List ℕ)) (directory : List ℕ) (file : SourceFile)
       → IsDirectoryPath sections (directory_of h 0) directory
       → AreDirectories sections h (start_of_tables encoding line_encoding h (first_texts encoding.version line_strings directory file))
-  directories_first encoding line_encoding line_strings directory file read = record { each = each (nat_le h.parameters.encoding.version 4) }
+  directories_first encoding line_encoding line_strings directory file read = record { each = each _ }
     where
       working : LineText
       working = made_text encoding.version line_strings directory
@@ -250,19 +250,19 @@ module _ (sections : Sections) (h : Header) where
       alone =
           let t = made_text encoding.version line_strings directory in
           let same = sym (is_same encoding.version line_strings directory) in
-          let found : list_any (line_text_eq t) (t ∷ []) ≡ true = or_left (line_text_eq t t) false (same_text t) in
+          let found : list_any (line_text_eq t) (t ∷ []) ≡ true = or_left _ _ (same_text t) in
           let at : 0 ≡ index_of_directory (t ∷ []) t = rw (same_text t) refl in
           record {
             made = is_made encoding.version line_strings directory;
-            present = subst (λ (x : LineText). list_any (line_text_eq x) (t ∷ []) ≡ true) same found;
-            index = subst (λ (x : LineText). 0 ≡ index_of_directory (t ∷ []) x) same at;
+            present = subst (λ x. list_any (line_text_eq x) (t ∷ []) ≡ true) same found;
+            index = subst (λ x. 0 ≡ index_of_directory (t ∷ []) x) same at;
           }
 
       with_own : (last : List (List ℕ)) (working : LineText) (own : Option LineText) (old : Bool)
           → IsDirectoryId encoding.version last (working ∷ []) directory 0
           → IsDirectoryId encoding.version last (if old then working ∷ [] else option_map_or (with_directory (working ∷ [])) own (working ∷ [])) directory 0
       with_own last working own true so = so
-      with_own last working (Some t) false so = more_directories encoding.version last (working ∷ []) t directory 0 so
+      with_own last working (Some t) false so = more_directories _ _ _ t _ 0 so
       with_own last working None false so = so
 
       each : (old : Bool) (d id : ℕ) → slice_get (if old then 0 ∷ [] else []) d ≡ Some id
@@ -279,9 +279,9 @@ module _ (sections : Sections) (h : Header) where
             directory,
             read,
             subst (IsDirectoryId encoding.version last (first_directories encoding.version working own) directory) zero_is
-                (with_own last working own (nat_le encoding.version 4)
-                (longer_texts encoding.version third last (working ∷ []) directory 0 (table_has encoding.version third file.path)
-                (longer_texts encoding.version second third (working ∷ []) directory 0 (sources_has encoding.version second file.directory) alone))),
+                (with_own _ _ _ _
+                (longer_texts _ _ _ _ _ 0 (table_has encoding.version third file.path)
+                (longer_texts _ _ _ _ _ 0 (sources_has _ _ _) alone))),
           )
       each true (suc d) id at = absurd cc
       each false d id at = absurd cc

@@ -90,7 +90,7 @@ module _ (convert_address : ℕ → Option Address) (s : Source) (line_strings :
   module _ (can : CanBeFaithful convert_address s) where
     mapped_rows : AreRowsMapped s.notation s.header s.header.program c
     mapped_rows =
-        let w = was_converted convert_address s line_strings c so in
+        let w = was_converted _ s _ c so in
         rows_mapped s.notation s.sections s.header s.given line_strings w.first s.header.program w.reading convert_address c w.ready w.reads can.itself can.wide
         can.no_end_under_tombstone w.is
 
@@ -102,7 +102,7 @@ module _ (convert_address : ℕ → Option Address) (s : Source) (line_strings :
 
     conversion_constant : HasConstantAddresses c.program
     conversion_constant =
-        let w = was_converted convert_address s line_strings c so in
+        let w = was_converted _ s _ c so in
         constants_set s.notation s.sections s.header s.given line_strings w.first s.header.program w.reading convert_address c w.ready w.reads can.itself
         can.wide can.no_end_under_tombstone w.is
 

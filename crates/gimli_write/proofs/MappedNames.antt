@@ -191,10 +191,10 @@ pub files_mapped : (sections : Sections) (h : Header) (strings : List (List ℕ)
 files_mapped sections h strings tables source c directories so directories_same files_same ids_same texts_same =
     let version = h.parameters.encoding.version in
     let all =
-    one_by_one_map (IsFileOf sections (version_of tables) tables.line_strings tables.directory_ids tables.program.files source)
-    (IsMappedFile sections h source strings c)
-    (λ f id is. file_mapped sections h strings tables directories source c f id directories_same files_same texts_same is) source so.ids so.each in
+    one_by_one_map _
+    _
+    (λ f id is. file_mapped sections h strings tables directories _ c f _ directories_same files_same texts_same is) _ _ so.each in
     record {
-      each = each_number version (IsMappedFile sections h source strings c) source so.ids c.file_ids all (nat_le version 4) refl (ids_same ∙ so.ids_are);
-      only = only_number version (IsMappedFile sections h source strings c) source so.ids c.file_ids all (nat_le version 4) refl (ids_same ∙ so.ids_are);
+      each = each_number version (IsMappedFile sections h source strings c) source so.ids c.file_ids all _ refl (ids_same ∙ so.ids_are);
+      only = only_number version (IsMappedFile sections h source strings c) source so.ids c.file_ids all _ refl (ids_same ∙ so.ids_are);
     }

@@ -64,12 +64,12 @@ module _ (notation : Notation) (sections : Sections) (h : Header) (given : Hande
 
   whole : Rest sections h.parameters first (encoding_of h given).address_size c [] reads.list reads.end 0 (0, 0) first.program
   whole =
-      rest_mapped sections h.parameters first convert_address itself (encoding_of h given).address_size (pow_mono (omega (arith, wide))) c [] reads.list
-      reads.end 0 (0, 0) first.program
-      (follows_start h.parameters)
-      (subst (NoneEndsUnderTombstone h.parameters []) (decodes_once no_end_under_tombstone.list no_end_under_tombstone.end no_end_under_tombstone.decoding)
+      rest_mapped sections h.parameters first convert_address itself (encoding_of h given).address_size (pow_mono (omega (arith, wide))) c _ _
+      _ 0 _ _
+      (follows_start _)
+      (subst (NoneEndsUnderTombstone h.parameters []) (decodes_once _ _ no_end_under_tombstone.decoding)
       no_end_under_tombstone.seen)
-      (ap (λ (r : Reading). outcome_of convert_address r first.program) (sym reads.given) ∙ is)
+      (ap (λ r. outcome_of convert_address r first.program) (sym reads.given) ∙ is)
 
   -- what was built is what was built after the start
   all_items : c.program.items ≡ whole.items
@@ -79,7 +79,7 @@ module _ (notation : Notation) (sections : Sections) (h : Header) (given : Hande
   rows_mapped = record {
     rows = whole.rows;
     events = record { list = reads.list; end = reads.end; decoding = reads.decoding; given = sym whole.events };
-    mapped = subst (λ (items : List BuiltItem). RowsMapped h.parameters.encoding.version c.file_ids 0 items whole.rows) (sym all_items) whole.mapped;
+    mapped = subst (λ items. RowsMapped h.parameters.encoding.version c.file_ids 0 items whole.rows) (sym all_items) whole.mapped;
   }
 
   pub addresses_fit : AddressesFit c.program.encoding.address_size 0 (0, 0) c.program.items
@@ -90,7 +90,7 @@ module _ (notation : Notation) (sections : Sections) (h : Header) (given : Hande
 
   pub constants_set : HasConstantAddresses c.program
   constants_set =
-      All-from_recursion _ c.program.items (subst (λ (items : List BuiltItem). AllByRecursion SetsConstant items) (sym all_items) whole.constants)
+      All-from_recursion _ _ (subst (λ items. AllByRecursion SetsConstant items) (sym all_items) whole.constants)
 
 -- ---- what is read back of it
 

@@ -12,7 +12,7 @@ use Rattle.gimli_bytes.specs.declared.address.Address.TheVariants.{Constant}
 use Rattle.gimli_line.specs.declared.run.row.LineRow.{LineRow as ReadRow}
 use Rattle.gimli_line.specs.declared.run.instruction.LineInstruction.TheVariants.{DefineFile}
 use Rattle.gimli_line.specs.header.Parameters.{Parameters}
-use Rattle.gimli_line.specs.run.Events.{row, fault, row_at, events_at, events_after, end_events}
+use Rattle.gimli_line.specs.run.Events.{Event, row, fault, row_at, events_at, events_after, end_events}
 use Rattle.gimli_line.specs.run.Instruction.{Ins, is_end, makes_row}
 use Rattle.gimli_line.specs.run.OperationPointer.{address_limit, pointer_at, is_under_tombstone, overflows}
 use Rattle.gimli_build.specs.Calls.{after_address, after_row, after_end}
@@ -280,7 +280,7 @@ module _ (sections : Sections) (parameters : Parameters) (first : TablesAndTexts
             → outcome_of convert_address (row_offered (r >>= λ file. Ok (row_in (source_row parameters past i) file)) tables rest) p ≡ Ok c
             → Rest sections parameters first size c past (i ∷ list) end base position p
         known (Err e) at inner so = absurd cc
-        known (Ok file) at inner so = row_point_gives base position p file one loud inner seen same at so follow
+        known (Ok file) at inner so = row_point_gives _ _ p _ one loud inner seen same at so follow
 
         by : (b : Bool) → is_end i ≡ b
             → outcome_of convert_address
@@ -289,8 +289,8 @@ module _ (sections : Sections) (parameters : Parameters) (first : TablesAndTexts
             p
             ≡ Ok c
             → Rest sections parameters first size c past (i ∷ list) end base position p
-        by true closes so = end_point_gives base position p one closes seen same so follow
-        by false inner so = known (file_id parameters.encoding.version tables (row_at parameters past i).file) refl inner so
+        by true closes so = end_point_gives _ _ p one closes seen same so follow
+        by false inner so = known _ refl inner so
 
     -- the same after an address that may be pending
     point_gives : (base : ℕ) (position : ℕ × ℕ) (p : Built) → events_at parameters past i ≡ row (row_at parameters past i) ∷ [] → makes_row i ≡ true
@@ -345,13 +345,13 @@ module _ (sections : Sections) (parameters : Parameters) (first : TablesAndTexts
             ≡ Ok c
             → Rest sections parameters first size c past (i ∷ list) end base position p
         by true m tombstone at made seen so = absurd cc
-        by false true false at made seen so = point_gives base position p (gives false true false at made seen) made seen f so follow
+        by false true false at made seen so = point_gives _ _ p (gives _ _ _ at made seen) made seen f so follow
         by false true true at made seen so =
-            passed base position p (gives false true true at made seen)
-            (follow base position p (follows_quiet parameters past i base position.0 (quiet true true made seen refl) no_end_under_tombstone f) so)
+            passed _ _ p (gives _ _ _ at made seen)
+            (follow base position p (follows_quiet _ _ i _ _ (quiet _ _ made seen refl) no_end_under_tombstone f) so)
         by false false tombstone at made seen so =
-            passed base position p (gives false false tombstone at made seen)
-            (follow base position p (follows_quiet parameters past i base position.0 (quiet false tombstone made seen refl) no_end_under_tombstone f) so)
+            passed _ _ p (gives _ _ _ at made seen)
+            (follow base position p (follows_quiet _ _ i _ _ (quiet _ _ made seen refl) no_end_under_tombstone f) so)
 
   -- what comes of the rest of a program
   pub rest_mapped : (past list : List Ins) (end : Option Error) (base : ℕ) (position : ℕ × ℕ) (p : Built) → Follows parameters past base position.0

@@ -1,7 +1,7 @@
 -- Texts that a conversion makes: the same text is made the same, however many others were made since.
 use Rattle.std.proofs.Common.{◌≡◌, ℕ, zero, suc, ◌+◌, Bool, true, false, cond, not, ◌||◌, if◌then◌else◌, List, [], ◌∷◌, ◌++◌, length, refl, sym, ap, subst, ◌∙◌}
 use Rattle.std.proofs.Common.{arith}
-use Rattle.std.specs.Prelude.{nat_le, Some, unwrap_or, slice_get, bytes_eq}
+use Rattle.std.specs.Prelude.{nat_le, Option, Some, unwrap_or, slice_get, bytes_eq}
 use Rattle.std.specs.List.{list_any, position_or_len}
 use Rattle.std.proofs.lemmas.Bool.{or_left, or_right, or_parts, eq-eqb}
 use Rattle.std.proofs.lemmas.List.Folds.{list_any-append}
@@ -111,7 +111,7 @@ module _ (version : ℕ) (line_strings : List (List ℕ)) (text : List ℕ) wher
   made_any false is = own_any (bytes_eq text) (list_any (bytes_eq text) line_strings) line_strings text refl (same_bytes text)
 
   pub is_made : IsMade version (made_table version line_strings text) text
-  is_made = record { any = λ new. made_any (nat_le version 4) new }
+  is_made = record { any = λ new. made_any _ new }
 
   made_same : (old : Bool) → (if old then Inline text else InLineStrings (index_of_text (if old then line_strings else with_text line_strings text) text))
       ≡ (if old then Inline text else InLineStrings (index_of_text line_strings text))
@@ -120,7 +120,7 @@ module _ (version : ℕ) (line_strings : List (List ℕ)) (text : List ℕ) wher
 
   -- at the index at which it was made
   pub is_same : made_text version (made_table version line_strings text) text ≡ made_text version line_strings text
-  is_same = made_same (nat_le version 4)
+  is_same = made_same _
 
   -- and those that were there
   others_any : (other : List ℕ) (old : Bool) → list_any (bytes_eq other) line_strings ≡ true
