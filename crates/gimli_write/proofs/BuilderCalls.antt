@@ -22,6 +22,6 @@ module _ {R Endian Offset A : Type 0} (result : Result A ConvertError) (built : 
   builds same is kept = record {
     ok = on_ok_weaker result (ap with_tables) is;
     kept = on_err_weaker result (ap with_tables) kept;
-    writable = writable_built result old.conversion.tables tables old.line_strings.now built same is kept;
+    writable = writable_built _ _ _ _ _ same is kept;
     string_tables = record { line_strings = refl; strings = refl; lent_line_strings = refl; lent_strings = refl };
   }

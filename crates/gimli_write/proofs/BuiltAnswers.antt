@@ -35,10 +35,10 @@ use Rattle.gimli_write.proofs.ReadUnits.{read_back, AreShort}
 
 -- a value stands for one text
 text_same : (s : Sections) (v : Value) (text other : List ℕ) → IsText s v text → IsText s v other → other ≡ text
-text_same s v text other is also = let both = sym (text_there s v other also) ∙ text_there s v text is in cc
+text_same s v text other is also = let both = sym (text_there s v _ also) ∙ text_there s v _ is in cc
 
 optional_same : (s : Sections) (v : Option Value) (text other : Option (List ℕ)) → IsOptionalText s v text → IsOptionalText s v other → other ≡ text
-optional_same s (Some v) (Some text) (Some other) is also = ap (λ (t : List ℕ). Some t) (text_same s v text other is also)
+optional_same s (Some v) (Some text) (Some other) is also = ap (λ t. Some t) (text_same s v _ _ is also)
 optional_same s None None None is also = refl
 optional_same s (Some v) (Some text) None is also = absurd also
 optional_same s (Some v) None other is also = absurd is
@@ -64,23 +64,23 @@ one_by_one_same IsBuilt IsAnswered f same (x ∷ xs) (y ∷ ys) [] built answere
 same_file : (a b : FileAnswer) → a.path ≡ b.path → a.directory_index ≡ b.directory_index → a.timestamp ≡ b.timestamp → a.size ≡ b.size
     → a.md5 ≡ b.md5 → a.source ≡ b.source → a ≡ b
 same_file a b path directory time size md5 source =
-    ap (λ (x : List ℕ). let f : FileAnswer = record a { path = x } in f) path
-    ∙ ap (λ (x : ℕ). let f : FileAnswer = record a { path = b.path; directory_index = x } in f) directory
-    ∙ ap (λ (x : ℕ). let f : FileAnswer = record b { timestamp = x; size = a.size; md5 = a.md5; source = a.source } in f) time
-    ∙ ap (λ (x : ℕ). let f : FileAnswer = record b { size = x; md5 = a.md5; source = a.source } in f) size
-    ∙ ap (λ (x : List ℕ). let f : FileAnswer = record b { md5 = x; source = a.source } in f) md5
-    ∙ ap (λ (x : Option (List ℕ)). let f : FileAnswer = record b { source = x } in f) source
+    ap (λ x. let f : FileAnswer = record a { path = x } in f) path
+    ∙ ap (λ x. let f : FileAnswer = record a { path = b.path; directory_index = x } in f) directory
+    ∙ ap (λ x. let f : FileAnswer = record b { timestamp = x; size = a.size; md5 = a.md5; source = a.source } in f) time
+    ∙ ap (λ x. let f : FileAnswer = record b { size = x; md5 = a.md5; source = a.source } in f) size
+    ∙ ap (λ x. let f : FileAnswer = record b { md5 = x; source = a.source } in f) md5
+    ∙ ap (λ x. let f : FileAnswer = record b { source = x } in f) source
 
 file_same : (s : Sections) (p : Built) (texts : StringTables) (read : ReadFile) (built : File) (answer : FileAnswer)
     → IsFile s p texts read built → IsFileAnswer s read answer → answer ≡ built_file p texts built
 file_same s p texts read built answer is also =
-    same_file answer (built_file p texts built)
-    (text_same s read.path_name (bytes_in texts built.0.0) answer.path is.path also.path)
+    same_file _ _
+    (text_same s _ _ _ is.path also.path)
     (also.directory_index ∙ is.directory)
     (also.timestamp ∙ is.timestamp)
     (also.size ∙ is.size)
     (also.md5 ∙ is.md5)
-    (optional_same s read.source (stored_details p texts built.1).source answer.source is.source also.source)
+    (optional_same s _ _ _ is.source also.source)
 
 -- ---- one run
 
@@ -88,8 +88,8 @@ file_same s p texts read built answer is also =
 pub events_same : (notation : Notation) (h : Header) (bytes : List ℕ) (es fs : List Event) → Events notation h bytes es → Events notation h bytes fs → es ≡ fs
 events_same notation h bytes es fs a b =
     a.given
-    ∙ ap (λ (c : List Ins × Option Error). program_events h.parameters c.0 c.1)
-    (one_decoding notation h bytes a.list a.end a.decoding ∙ sym (one_decoding notation h bytes b.list b.end b.decoding))
+    ∙ ap (λ c. program_events h.parameters c.0 c.1)
+    (one_decoding notation h _ _ _ a.decoding ∙ sym (one_decoding notation h _ _ _ b.decoding))
     ∙ sym b.given
 
 pub rows_same : (rows others : List ReadRow) → map row rows ≡ map row others → rows ≡ others
@@ -121,8 +121,8 @@ rows_refused notation h rows (Read e) given refused =
       decoding = refused.decoding;
       given = refl;
     } in
-    absurd (no_fault_among rows refused.rows e refused.rest
-    (events_same notation h h.program (map row rows) (program_events h.parameters refused.list refused.end) given whole ∙ refused.given))
+    absurd (no_fault_among _ _ e _
+    (events_same _ h _ _ _ given whole ∙ refused.given))
 rows_refused notation h rows e given refused = absurd refused
 
 -- ---- a unit
@@ -133,35 +133,35 @@ module _ (notation : Notation) (unit_entry : UnitEntry) (sections : Sections) (p
   begins h is = (unit, [], sym (append-nil unit), is.spelled)
 
   header_same : (h : Header) → IsUnit notation unit_entry unit h → h ≡ back.header
-  header_same h is = one_header notation unit_entry unit h back.header (begins h is) (begins back.header back.is_unit)
+  header_same h is = one_header notation unit_entry _ h _ (begins h is) (begins _ back.is_unit)
 
   answered : (a : Answers) → AnswersUnit notation unit_entry sections unit a → AreAnswers notation sections back.header a
-  answered a is = subst (λ (h : Header). AreAnswers notation sections h a) (header_same is.header is.is_unit) is.answered
+  answered a is = subst (λ h. AreAnswers notation sections h a) (header_same _ is.is_unit) is.answered
 
   directories_built : (a : Answers) → AnswersUnit notation unit_entry sections unit a → a.directories ≡ map (bytes_in texts) p.directories
   directories_built a is =
-      one_by_one_same (IsDirectory sections texts) (IsText sections) (bytes_in texts)
-      (λ v built text is also. text_same sections v (bytes_in texts built) text is also)
-      (directories_from_zero back.header) p.directories a.directories back.directories (answered a is).directories
+      one_by_one_same _ _ _
+      (λ v built text is also. text_same _ v _ _ is also)
+      _ _ _ back.directories (answered a is).directories
 
   files_built : (a : Answers) → AnswersUnit notation unit_entry sections unit a → a.files ≡ map (built_file p texts) p.files
   files_built a is =
-      one_by_one_same (IsFile sections p texts) (IsFileAnswer sections) (built_file p texts)
-      (λ read built answer is also. file_same sections p texts read built answer is also)
-      back.header.files p.files a.files back.files (answered a is).files
+      one_by_one_same _ _ _
+      (λ read built answer is also. file_same _ p _ _ _ _ is also)
+      _ _ _ back.files (answered a is).files
 
   rows_built : (a : Answers) → AnswersUnit notation unit_entry sections unit a → AddressesFit p.encoding.address_size 0 (0, 0) p.items
       → RowsMatch p.encoding.version [] p.items a.rows
   rows_built a is held =
       let rows = back.rows held in
-      let same = rows_same rows.0 a.rows (events_same notation back.header back.header.program (map row rows.0) (map row a.rows) rows.1 (answered a is).rows) in
-      subst (λ (xs : List ReadRow). RowsMatch p.encoding.version [] p.items xs) same rows.2
+      let same = rows_same _ _ (events_same _ _ _ _ _ rows.1 (answered a is).rows) in
+      subst (λ xs. RowsMatch p.encoding.version [] p.items xs) same rows.2
 
   refused_for_memory : (e : ConvertError) → AddressesFit p.encoding.address_size 0 (0, 0) p.items → RefusesUnit notation unit_entry unit e → e ≡ NoMemory
   refused_for_memory e held refused =
       let rows = back.rows held in
-      rows_refused notation back.header rows.0 e rows.1
-      (subst (λ (h : Header). IsRunRefusal notation h e) (header_same refused.0 refused.1) refused.2)
+      rows_refused _ _ _ e rows.1
+      (subst (λ h. IsRunRefusal notation h e) (header_same _ refused.1) refused.2)
 
 -- ---- the unit of a program
 
@@ -172,15 +172,15 @@ module _ (big : Bool) (p : Built) (texts : StringTables) (section : List ℕ) (n
 
   pub built_directories : (r : Result RoundTrip ConvertError) → IfOk r (AnswersProgram big p texts (drop n section))
       → IfOk r (λ answer. map (λ text. text.items) answer.directories.items ≡ map (bytes_in texts) p.directories)
-  built_directories r is = IfOk-weaker r _ _ (λ answer a. directories_built _ _ _ p texts _ read_again (answers answer) a) is
+  built_directories r is = IfOk-weaker r _ _ (λ answer a. directories_built _ _ _ p texts _ read_again _ a) is
 
   pub built_files : (r : Result RoundTrip ConvertError) → IfOk r (AnswersProgram big p texts (drop n section))
       → IfOk r (λ answer. map file_answer answer.files.items ≡ map (built_file p texts) p.files)
-  built_files r is = IfOk-weaker r _ _ (λ answer a. files_built _ _ _ p texts _ read_again (answers answer) a) is
+  built_files r is = IfOk-weaker r _ _ (λ answer a. files_built _ _ _ p texts _ read_again _ a) is
 
   pub built_rows : (r : Result RoundTrip ConvertError) → IfOk r (AnswersProgram big p texts (drop n section))
       → IfOk r (λ answer. AddressesFit p.encoding.address_size 0 (0, 0) p.items → RowsMatch p.encoding.version [] p.items answer.rows.items)
-  built_rows r is = IfOk-weaker r _ _ (λ answer a. rows_built _ _ _ p texts _ read_again (answers answer) a) is
+  built_rows r is = IfOk-weaker r _ _ (λ answer a. rows_built _ _ _ p texts _ read_again _ a) is
 
   pub never_read : (r : Result RoundTrip ConvertError) → IfErr r (RefusesUnit (slice_notation big) (unit_entry_of p texts) (drop n section))
       → AddressesFit p.encoding.address_size 0 (0, 0) p.items → IfErr r (λ e. e ≡ NoMemory)

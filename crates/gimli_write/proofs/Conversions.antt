@@ -27,7 +27,7 @@ use Rattle.gimli_write.proofs.MappedTables.{took, same_ok, is_prepared}
 
 pub plain_file : (s : Sections) (tables : TablesAndTexts) (f : File)
     → file_added s (without_built tables) f ≡ (file_added s tables f >>= λ next. Ok (without_built next))
-plain_file s tables f = by (file_parts (version_of tables) s tables.directory_ids f)
+plain_file s tables f = by _
   where
     by : (r : Result FileParts ConvertError)
         → (r >>= λ parts. Ok (with_parts (without_built tables) f parts))
@@ -37,7 +37,7 @@ plain_file s tables f = by (file_parts (version_of tables) s tables.directory_id
 
 pub plain_directory : (s : Sections) (tables : TablesAndTexts) (v : Value)
     → directory_added s (without_built tables) v ≡ (directory_added s tables v >>= λ next. Ok (without_built next))
-plain_directory s tables v = by (source_path (version_of tables) s v)
+plain_directory s tables v = by _
   where
     by : (r : Result (List ℕ) ConvertError)
         → (r >>= λ path. Ok (with_path (without_built tables) path)) ≡ ((r >>= λ path. Ok (with_path tables path)) >>= λ next. Ok (without_built next))
@@ -56,13 +56,13 @@ module _ (sections : Sections) (s : SourceRun) (tables : TablesAndTexts) (f : Fi
   pub file_taken : (next : TablesAndTexts) → file_added sections tables f ≡ Ok next
       → reading_upon sections s (file_added sections (without_built tables) f) ≡ reading_left sections s (without_built next)
   file_taken next is =
-      ap (reading_upon sections s) (plain_file sections tables f ∙ ap (λ (r : Result TablesAndTexts ConvertError). r >>= λ n. Ok (without_built n)) is)
+      ap (reading_upon sections s) (plain_file _ _ f ∙ ap (λ r. r >>= λ n. Ok (without_built n)) is)
 
   pub file_refused : (e : ConvertError) → file_added sections tables f ≡ Err e
       → reading_upon sections s (file_added sections (without_built tables) f) ≡ stops e
   file_refused e is =
-      ap (reading_upon sections s) (plain_file sections tables f ∙ ap (λ (r : Result TablesAndTexts ConvertError). r >>= λ n. Ok (without_built n)) is)
-      ∙ stops_there sections s e (decoded_at s.unread.notation s.header s.unread.bytes).0 (decoded_at s.unread.notation s.header s.unread.bytes).1
+      ap (reading_upon sections s) (plain_file _ _ f ∙ ap (λ r. r >>= λ n. Ok (without_built n)) is)
+      ∙ stops_there _ s e _ _
 
   -- its refusal, where other files are defined before it
   pub file_refusal : (now old : Reading) (e : ConvertError) → now ≡ defines (reading_upon sections s (file_added sections (without_built tables) f))
@@ -77,15 +77,15 @@ module _ {A : Type 0} (add : TablesAndTexts → A → Result TablesAndTexts Conv
     (commutes : (tables : TablesAndTexts) (x : A) → add (without_built tables) x ≡ (add tables x >>= λ next. Ok (without_built next))) where
   one_plain : (tables next : TablesAndTexts) (x : A) → without_built tables ≡ tables → add tables x ≡ Ok next → without_built next ≡ next
   one_plain tables next x is added =
-      same_ok (without_built next) next
-      (sym (commutes tables x ∙ ap (λ (r : Result TablesAndTexts ConvertError). r >>= λ n. Ok (without_built n)) added)
-      ∙ ap (λ (l : TablesAndTexts). add l x) is ∙ added)
+      same_ok _ _
+      (sym (commutes tables x ∙ ap (λ r. r >>= λ n. Ok (without_built n)) added)
+      ∙ ap (λ l. add l x) is ∙ added)
 
   all_plain : (xs : List A) (tables next : TablesAndTexts) → without_built tables ≡ tables → all_added add xs tables ≡ Ok next → without_built next ≡ next
-  all_plain [] tables next is added = subst (λ (l : TablesAndTexts). without_built l ≡ l) (same_ok tables next added) is
+  all_plain [] tables next is added = subst (λ l. without_built l ≡ l) (same_ok _ _ added) is
   all_plain (x ∷ xs) tables next is added =
-      let one = took (add tables x) (all_added add xs) next added in
-      all_plain xs one.0 next (one_plain tables one.0 x is one.1) one.2
+      let one = took _ _ _ added in
+      all_plain xs one.0 next (one_plain _ _ x is one.1) one.2
 
 pub prepared_plain : (sections : Sections) (h : Header) (given : Handed) (line_strings : List (List ℕ)) (tables : TablesAndTexts)
     → tables_of_header sections h given line_strings ≡ Ok tables → without_built tables ≡ tables
@@ -100,22 +100,22 @@ prepared_plain sections h given line_strings tables is =
 
 module _ (version : ℕ) (tables : TablesAndTexts) (r : SourceRow) (rest : Reading) (ends_not : r.row.end_sequence ≡ false) where
   by_file : row_or_end_offered version tables r rest ≡ row_offered (built_row version tables r) tables rest
-  by_file = ap (λ (b : Bool). if b then offers (EndSequence r.address_offset) tables rest else row_offered (built_row version tables r) tables rest) ends_not
+  by_file = ap (λ b. if b then offers (EndSequence r.address_offset) tables rest else row_offered (built_row version tables r) tables rest) ends_not
 
   pub row_taken : (file : ℕ) → Ok file ≡ file_id version tables r.row.file → row_or_end_offered version tables r rest ≡ offers (Row (row_in r file)) tables rest
-  row_taken file is = by_file ∙ ap (λ (x : Result ℕ ConvertError). row_offered (x >>= λ n. Ok (row_in r n)) tables rest) (sym is)
+  row_taken file is = by_file ∙ ap (λ x. row_offered (x >>= λ n. Ok (row_in r n)) tables rest) (sym is)
 
   pub row_refused : (e : ConvertError) → Err e ≡ file_id version tables r.row.file → row_or_end_offered version tables r rest ≡ stops e
-  row_refused e is = by_file ∙ ap (λ (x : Result ℕ ConvertError). row_offered (x >>= λ n. Ok (row_in r n)) tables rest) (sym is)
+  row_refused e is = by_file ∙ ap (λ x. row_offered (x >>= λ n. Ok (row_in r n)) tables rest) (sym is)
 
   -- so a file has its number, or none has
   pub file_found : (file : ℕ) → Ok file ≡ file_id version tables r.row.file → lacks_file version tables r ≡ false
   file_found file is =
-      ap (λ (b : Bool). not b && is_err (file_id version tables r.row.file)) ends_not ∙ ap (λ (x : Result ℕ ConvertError). is_err x) (sym is)
+      ap (λ b. not b && is_err (file_id version tables r.row.file)) ends_not ∙ ap (λ x. is_err x) (sym is)
 
   pub file_lacks : (e : ConvertError) → Err e ≡ file_id version tables r.row.file → lacks_file version tables r ≡ true
   file_lacks e is =
-      ap (λ (b : Bool). not b && is_err (file_id version tables r.row.file)) ends_not ∙ ap (λ (x : Result ℕ ConvertError). is_err x) (sym is)
+      ap (λ b. not b && is_err (file_id version tables r.row.file)) ends_not ∙ ap (λ x. is_err x) (sym is)
 
 -- ---- the state of a conversion, by its parts
 
@@ -147,14 +147,14 @@ module _ (sections : Sections) (source : SourceRun) (tables : SourceTables) (add
       → final_tables (conversion sections source tables after taken failed) line_strings
       ≡ final_tables (conversion sections source tables address held failed) line_strings
   held_last none found =
-      ap (λ (o : Option SourceRow). if is_some failed then now else tables_after_row version_here now o rest) none
-      ∙ sym (ap (λ (o : Option SourceRow). if is_some failed then now else tables_after_row version_here now o rest) is
-      ∙ ap (λ (b : Bool). if is_some failed then now else (if b then now else rest)) found)
+      ap (λ o. if is_some failed then now else tables_after_row version_here now o rest) none
+      ∙ sym (ap (λ o. if is_some failed then now else tables_after_row version_here now o rest) is
+      ∙ ap (λ b. if is_some failed then now else (if b then now else rest)) found)
 
   -- no file has its number
   pub held_stops : failed ≡ None → lacks_file version_here now r ≡ true
       → now ≡ final_tables (conversion sections source tables address held failed) line_strings
   held_stops well lacks =
-      sym (ap (λ (o : Option ConvertError). if is_some o then now else tables_after_row version_here now held rest) well
-      ∙ ap (λ (o : Option SourceRow). tables_after_row version_here now o rest) is
-      ∙ ap (λ (b : Bool). if b then now else rest) lacks)
+      sym (ap (λ o. if is_some o then now else tables_after_row version_here now held rest) well
+      ∙ ap (λ o. tables_after_row version_here now o rest) is
+      ∙ ap (λ b. if b then now else rest) lacks)

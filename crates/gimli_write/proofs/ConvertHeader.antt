@@ -25,10 +25,10 @@ ok_by_three (Err e) P Q R S f p q r = tt
 module _ {A B C : Type 0} (a : Result A ConvertError) (b : Result B ConvertError) (f : A → B → Result C ConvertError) (x : A) (y : B) (first : a ≡ Ok x)
     (second : b ≡ Ok y) where
   pub at_third : (a >>= λ x. b >>= λ y. f x y) ≡ f x y
-  at_third = done_first a (λ x. b >>= λ y. f x y) x first ∙ done_first b (λ y. f x y) y second
+  at_third = done_first a _ x first ∙ done_first b _ y second
 
   pub refused_at_third : (e : ConvertError) → IsRefusedBy (f x y) e → IsRefusedBy (a >>= λ x. b >>= λ y. f x y) e
-  refused_at_third e refused = refused_same (f x y) (a >>= λ x. b >>= λ y. f x y) e (sym at_third) refused
+  refused_at_third e refused = refused_same _ _ e (sym at_third) refused
 
 -- ---- the preparation
 
@@ -38,19 +38,19 @@ module _ (s : Sections) (h : Header) (given : Handed) (line_strings : List (List
 
   whole : (start >>= λ tables. lists_added s h tables) ≡ tables_of_header s h given line_strings
   whole =
-      ap (λ (e : Encoding). tables_at_start s h e given.line_encoding given.name line_strings >>= λ tables. lists_added s h tables) target
+      ap (λ e. tables_at_start s h e given.line_encoding given.name line_strings >>= λ tables. lists_added s h tables) target
 
   pub refused_at_start : (e : ConvertError) → IsRefusedBy (tables_at_start s h encoding given.line_encoding given.name line_strings) e
       → IsRefusedBy (tables_of_header s h given line_strings) e
   refused_at_start e refused =
-      refused_same (start >>= λ tables. lists_added s h tables) (tables_of_header s h given line_strings) e whole
-      (refused_first start (λ tables. lists_added s h tables) e refused)
+      refused_same _ _ e whole
+      (refused_first _ _ e refused)
 
   pub at_listed : (tables : TablesAndTexts) → tables_at_start s h encoding given.line_encoding given.name line_strings ≡ Ok tables
       → lists_added s h tables ≡ tables_of_header s h given line_strings
-  at_listed tables is = sym (done_first start (λ tables. lists_added s h tables) tables is) ∙ whole
+  at_listed tables is = sym (done_first _ _ _ is) ∙ whole
 
   pub refused_at_listed : (tables : TablesAndTexts) (e : ConvertError)
       → tables_at_start s h encoding given.line_encoding given.name line_strings ≡ Ok tables
       → IsRefusedBy (lists_added s h tables) e → IsRefusedBy (tables_of_header s h given line_strings) e
-  refused_at_listed tables e is refused = refused_same (lists_added s h tables) (tables_of_header s h given line_strings) e (at_listed tables is) refused
+  refused_at_listed tables e is refused = refused_same _ _ e (at_listed _ is) refused

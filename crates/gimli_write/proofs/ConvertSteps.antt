@@ -43,7 +43,7 @@ pub directory_is_added : (s : Sections) (tables : TablesAndTexts) (v : Value) (p
       line_strings = line_strings;
     })
 directory_is_added s tables v path text line_strings is made after =
-    rw (made, after) (done_first (source_path (version_of tables) s v) (λ (p : List ℕ). Ok (with_path tables p)) path is)
+    rw (made, after) (done_first _ _ _ is)
 
 -- the tables after a file of these parts, by the texts that were made of its path and its source
 pub parts_are_added : (tables : TablesAndTexts) (f : File) (parts : FileParts) (path : LineText) (source : Option LineText) (paths line_strings : List (List ℕ))
@@ -69,8 +69,8 @@ pub next_added : {A B : Type 0} (add : TablesAndTexts → B → Result TablesAnd
     → i < length xs → x ≡ get_or xs i x
     → all_added add (map seen (drop i xs)) tables ≡ (add tables (seen x) >>= λ next. all_added add (map seen (drop (i + 1) xs)) next)
 next_added {A = A} add seen xs i x tables lt is =
-    at_drop_more (λ (l : List A). all_added add (map seen l) tables) xs i x lt
-    ∙ ap (λ (y : A). add tables (seen y) >>= λ next. all_added add (map seen (drop (i + 1) xs)) next) (sym is)
+    at_drop_more (λ (l : List A). all_added add (map seen l) tables) _ i x lt
+    ∙ ap (λ y. add tables (seen y) >>= λ next. all_added add (map seen (drop (i + 1) xs)) next) (sym is)
 
 -- ---- the line strings
 
@@ -78,10 +78,10 @@ pub kept_self : (texts : List (List ℕ)) → KeepsTexts texts texts
 kept_self texts = record { text = λ i lt. refl; offset = λ i lt. refl }
 
 pub still_there : (old new : List (List ℕ)) (i : ℕ) → KeepsTexts old new → i < length old → i < length new
-still_there old new i kept lt = slice_get_within new i (get_or old i []) (kept.text i lt ∙ slice_get-get_or old i [] lt)
+still_there old new i kept lt = slice_get_within new i (get_or old i []) (kept.text i lt ∙ slice_get-get_or _ i _ lt)
 
 pub kept_then : (old between new : List (List ℕ)) → KeepsTexts old between → KeepsTexts between new → KeepsTexts old new
 kept_then old between new first second = record {
-  text = λ i lt. second.text i (still_there old between i first lt) ∙ first.text i lt;
-  offset = λ i lt. second.offset i (still_there old between i first lt) ∙ first.offset i lt;
+  text = λ i lt. second.text i (still_there _ _ i first lt) ∙ first.text i lt;
+  offset = λ i lt. second.offset i (still_there _ _ i first lt) ∙ first.offset i lt;
 }

@@ -49,7 +49,7 @@ address_ends start (row ∷ rows) a old rest tables hands some = gathered_first 
 module _ (c d : Conversion) (line_strings : List (List ℕ)) (a : ℕ) where
   pub given_back : c.failed ≡ None → c.address ≡ None → d ≡ record c { address = Some a }
       → offers (SetAddress a) (tables_of c line_strings) (still_to_read c line_strings) ≡ still_to_read d line_strings
-  given_back well none is = by c.failed c.address well none ∙ ap (λ (x : Conversion). still_to_read x line_strings) (sym is)
+  given_back well none is = by _ _ well none ∙ ap (λ x. still_to_read x line_strings) (sym is)
     where
       tables : TablesAndTexts
       tables = tables_of c line_strings
@@ -84,4 +84,4 @@ gather_refused start rows old e (inr memory) = inl memory.0
 
 -- files that are added, and then more
 pub added_then : (old between new : Built) → AddsFiles old between → AddsFiles between new → AddsFiles old new
-added_then old between new first second = second ∙ ap (λ (p : Built). let q : Built = record p { files = new.files } in q) first
+added_then old between new first second = second ∙ ap (λ p. let q : Built = record p { files = new.files } in q) first

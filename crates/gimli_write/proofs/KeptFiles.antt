@@ -22,17 +22,17 @@ module _ {A : Type 0} where
   keeps_more xs x = record {
     grows = omega (arith, length-append xs (x ∷ []));
     stays = λ i h.
-        slice_get-get_or (xs ++ x ∷ []) i x (omega (arith, length-append xs (x ∷ [])))
+        slice_get-get_or _ i x (omega (arith, length-append xs (x ∷ [])))
         ∙ ap Some (get_or_append_left xs (x ∷ []) x i h)
-        ∙ sym (slice_get-get_or xs i x h);
+        ∙ sym (slice_get-get_or _ i x h);
   }
 
 pub files_self : (c : SourceTables) → KeepsFiles c c
-files_self c = record { files = keeps_self (keys_of c.program.files); numbers = keeps_self c.file_ids; directories = refl }
+files_self c = record { files = keeps_self _; numbers = keeps_self _; directories = refl }
 
 pub files_then : (a b c : SourceTables) → KeepsFiles a b → KeepsFiles b c → KeepsFiles a c
 files_then a b c first second = record {
-  files = keeps_then (keys_of a.program.files) (keys_of b.program.files) (keys_of c.program.files) first.files second.files;
-  numbers = keeps_then a.file_ids b.file_ids c.file_ids first.numbers second.numbers;
+  files = keeps_then _ _ _ first.files second.files;
+  numbers = keeps_then _ _ _ first.numbers second.numbers;
   directories = second.directories ∙ first.directories;
 }

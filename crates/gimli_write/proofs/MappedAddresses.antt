@@ -39,11 +39,11 @@ next_within : (parameters : Parameters) (tombstone : Bool) (i : Ins) (p : Operat
     → (next_pointer parameters tombstone i p).address < address_limit parameters
 next_within parameters tombstone EndSequence p lt = omega arith
 next_within parameters tombstone (SetAddress a) p lt = set_within parameters a p lt
-next_within parameters tombstone (Special o) p lt = advance_within parameters tombstone (Special o) p (advanced_by parameters _ p) refl lt
-next_within parameters tombstone (AdvancePc n) p lt = advance_within parameters tombstone (AdvancePc n) p (advanced_by parameters n p) refl lt
-next_within parameters tombstone ConstAddPc p lt = advance_within parameters tombstone ConstAddPc p (advanced_by parameters _ p) refl lt
+next_within parameters tombstone (Special o) p lt = advance_within parameters _ (Special o) p (advanced_by parameters _ p) refl lt
+next_within parameters tombstone (AdvancePc n) p lt = advance_within parameters _ (AdvancePc n) p (advanced_by parameters n p) refl lt
+next_within parameters tombstone ConstAddPc p lt = advance_within parameters _ ConstAddPc p (advanced_by parameters _ p) refl lt
 next_within parameters tombstone (FixedAddPc n) p lt =
-    advance_within parameters tombstone (FixedAddPc n) p (record { address = p.address + n; op_index = 0 }) refl lt
+    advance_within parameters _ (FixedAddPc n) p (record { address = p.address + n; op_index = 0 }) refl lt
 next_within parameters tombstone i p lt = lt
 
 pub address_within : (parameters : Parameters) (past : List Ins) → (pointer_at parameters past).address < address_limit parameters
@@ -57,13 +57,13 @@ address_within parameters (i ∷ past) =
 pub set_seen : (parameters : Parameters) (a : ℕ) (p : OperationPointer) → is_tombstone parameters a p ≡ false
     → (p.address ≤ a) × (a < address_limit parameters - 2)
 set_seen parameters a p seen =
-    let parts = or_parts (nat_lt a p.address) (nat_le (address_limit parameters - 2) a) seen in
+    let parts = or_parts _ _ seen in
     (ltb-false a p.address parts.0, leb-false (address_limit parameters - 2) a parts.1)
 
 pub set_moves : (parameters : Parameters) (a : ℕ) (p : OperationPointer) (tombstone : Bool) → is_tombstone parameters a p ≡ false
     → (next_pointer parameters tombstone (SetAddress a) p).address ≡ a
 set_moves parameters a p tombstone seen =
-    ap (λ (b : Bool). (if b then p else (let q : OperationPointer = record { address = a; op_index = 0 } in q)).address) seen
+    ap (λ b. (if b then p else (let q : OperationPointer = record { address = a; op_index = 0 } in q)).address) seen
 
 pub pending_is_base : (past : List Ins) (a : ℕ) → pending_address past ≡ Some a → base_at past ≡ a
 pending_is_base [] a is = absurd cc

@@ -41,17 +41,17 @@ kept_bytes bytes text is = by (list_any _ bytes) is
     by false so = cc
 
 source_read : (r : Result (List ℕ) Error) (text : List ℕ) → (result_map_both (λ text. text) Read r >>= without_zero) ≡ Ok text → r ≡ Ok text
-source_read (Ok bytes) text is = ap Ok (kept_bytes bytes text is)
+source_read (Ok bytes) text is = ap Ok (kept_bytes _ _ is)
 source_read (Err e) text is = absurd cc
 
 pub source_text_of : (sections : Sections) (v : Value) (text : List ℕ) → source_text sections v ≡ Ok text → text_of sections v ≡ Ok text
 source_text_of sections (DebugStrRefSup offset) text is = absurd cc
-source_text_of sections v text is = source_read (text_of sections v) text is
+source_text_of sections v text is = source_read _ _ is
 
 pub source_path_of : (version : ℕ) (sections : Sections) (v : Value) (path : List ℕ) → source_path version sections v ≡ Ok path → text_of sections v ≡ Ok path
 source_path_of version sections v path is =
-    let t = took (source_text sections v) _ path is in
-    source_text_of sections v path (t.1 ∙ ap Ok (by t.0 _ t.2))
+    let t = took _ _ _ is in
+    source_text_of _ v _ (t.1 ∙ ap Ok (by t.0 _ t.2))
   where
     by : (text : List ℕ) (b : Bool) → (if b then Err InvalidAttributeValue else Ok text) ≡ Ok path → text ≡ path
     by text true so = absurd cc
@@ -62,8 +62,8 @@ first_path_of : (version : ℕ) (sections : Sections) (h : Header) (v : Value) (
 first_path_of version sections h v path is = by (nat_le h.parameters.encoding.version 4) is
   where
     by : (old : Bool) → (if old then source_text sections v else source_path version sections v) ≡ Ok path → text_of sections v ≡ Ok path
-    by true so = source_text_of sections v path so
-    by false so = source_path_of version sections v path so
+    by true so = source_text_of _ v _ so
+    by false so = source_path_of _ _ v _ so
 
 -- ---- entries of tables
 
@@ -82,8 +82,8 @@ begins_at false = 0
 pub entry_at : {A : Type 0} (old : Bool) (handed : Option A) (done rest : List A) (x : A) (i : ℕ) → i ≡ begins_at old + length done
     → (if old then from_one handed (done ++ x ∷ rest) i else slice_get (done ++ x ∷ rest) i) ≡ Some x
 entry_at true handed done rest x zero is = absurd (omega arith)
-entry_at true handed done rest x (suc i) is = at_seam done rest x i (omega arith)
-entry_at false handed done rest x i is = at_seam done rest x i (omega arith)
+entry_at true handed done rest x (suc i) is = at_seam _ _ x i (omega arith)
+entry_at false handed done rest x i is = at_seam _ _ x i (omega arith)
 
 pub first_count : (version : ℕ) → length (first_ids version) ≡ begins_at (nat_le version 4)
 first_count version = by (nat_le version 4)
@@ -113,8 +113,8 @@ longer_texts version old new directories path id has so =
     let same = sym (has.same path so.made) in
     record {
       made = has.there path so.made;
-      present = subst (λ (t : LineText). list_any (line_text_eq t) directories ≡ true) same so.present;
-      index = subst (λ (t : LineText). id ≡ index_of_directory directories t) same so.index;
+      present = subst (λ t. list_any (line_text_eq t) directories ≡ true) same so.present;
+      index = subst (λ t. id ≡ index_of_directory directories t) same so.index;
     }
 
 more_directories : (version : ℕ) (line_strings : List (List ℕ)) (directories : List LineText) (t : LineText) (path : List ℕ) (id : ℕ)
@@ -123,8 +123,8 @@ more_directories version line_strings directories t path id so =
     let test = line_text_eq (made_text version line_strings path) in
     record {
       made = so.made;
-      present = grown_any test (list_any (line_text_eq t) directories) directories t so.present;
-      index = so.index ∙ sym (grown_index test (list_any (line_text_eq t) directories) directories t so.present);
+      present = grown_any test _ _ t so.present;
+      index = so.index ∙ sym (grown_index test _ _ t so.present);
     }
 
 -- it is found there
@@ -133,22 +133,22 @@ pub directory_there : (version : ℕ) (line_strings : List (List ℕ)) (director
 directory_there version line_strings directories path id so =
     let t = made_text version line_strings path in
     ap (slice_get directories) so.index
-    ∙ subst (λ (ds : List LineText). slice_get ds (index_of_directory directories t) ≡ Some t)
-    (ap (λ (b : Bool). if b then directories else directories ++ t ∷ []) so.present) (directory_found directories t)
+    ∙ subst (λ ds. slice_get ds (index_of_directory directories t) ≡ Some t)
+    (ap (λ b. if b then directories else directories ++ t ∷ []) so.present) (directory_found _ t)
 
 -- so one id has one path
 pub one_path : (version : ℕ) (line_strings : List (List ℕ)) (directories : List LineText) (a b : List ℕ) (id : ℕ)
     → IsDirectoryId version line_strings directories a id → IsDirectoryId version line_strings directories b id → a ≡ b
 one_path version line_strings directories a b id x y =
-    let first = directory_there version line_strings directories a id x in
-    let second = directory_there version line_strings directories b id y in
+    let first = directory_there _ _ _ a _ x in
+    let second = directory_there _ _ _ b _ y in
     let same : made_text version line_strings a ≡ made_text version line_strings b = cc in
-    made_differ version line_strings a b x.made y.made same
+    made_differ _ _ a b x.made y.made same
 
 -- the texts that were there are there after a source, if one is made
 pub sources_has : (version : ℕ) (paths : List (List ℕ)) (source : Option (List ℕ)) → HasMade version paths (sources_table version paths source)
 sources_has version paths (Some text) = table_has version paths text
-sources_has version paths None = has_itself version paths
+sources_has version paths None = has_itself _ _
 
 -- ---- all directories
 
@@ -207,16 +207,16 @@ module _ (sections : Sections) (h : Header) where
   directories_next : (done rest : List Value) (tables last : TablesAndTexts) → h.directories ≡ done ++ rest
       → length tables.directory_ids ≡ begins_at (nat_le h.parameters.encoding.version 4) + length done
       → all_added (directory_added sections) rest tables ≡ Ok last → AreDirectories sections h tables → AreDirectories sections h last
-  directories_next done [] tables last parts count is so = subst (AreDirectories sections h) (same_ok tables last is) so
+  directories_next done [] tables last parts count is so = subst (AreDirectories sections h) (same_ok _ _ is) so
   directories_next done (v ∷ rest) tables last parts count is so =
-      let t = took (directory_added sections tables v) (all_added (directory_added sections) rest) last is in
+      let t = took _ _ _ is in
       let here : directory_of h (length tables.directory_ids) ≡ Some v =
       ap
-      (λ (ds : List Value). if nat_le h.parameters.encoding.version 4 then from_one (option_map String h.comp_dir) ds (length tables.directory_ids)
+      (λ ds. if nat_le h.parameters.encoding.version 4 then from_one (option_map String h.comp_dir) ds (length tables.directory_ids)
       else slice_get ds (length tables.directory_ids))
       parts
-      ∙ entry_at (nat_le h.parameters.encoding.version 4) (option_map String h.comp_dir) done rest v (length tables.directory_ids) count in
-      let next = directory_next tables t.0 v here t.1 so in
+      ∙ entry_at _ _ _ _ v _ count in
+      let next = directory_next _ _ v here t.1 so in
       directories_next (done ++ v ∷ []) rest t.0 last (parts ∙ sym (append_assoc done (v ∷ []) rest))
       (omega (arith, next.1, count, length-append done (v ∷ []))) t.2 next.0
 
@@ -231,13 +231,13 @@ module _ (sections : Sections) (h : Header) where
 
       by : (o : Option Value) → option_map_or (first_path version sections h) o (needed_from_5 version [] MissingCompilationDirectory) ≡ Ok directory
           → IsDirectoryPath sections o directory
-      by (Some v) so = text_read sections v directory (first_path_of version sections h v directory so)
-      by None so = none (nat_le version 4) so
+      by (Some v) so = text_read _ v _ (first_path_of _ _ h v _ so)
+      by None so = none _ so
 
   directories_first : (encoding : Encoding) (line_encoding : LineEncoding) (line_strings : List (List ℕ)) (directory : List ℕ) (file : SourceFile)
       → IsDirectoryPath sections (directory_of h 0) directory
       → AreDirectories sections h (start_of_tables encoding line_encoding h (first_texts encoding.version line_strings directory file))
-  directories_first encoding line_encoding line_strings directory file read = record { each = each (nat_le h.parameters.encoding.version 4) }
+  directories_first encoding line_encoding line_strings directory file read = record { each = each _ }
     where
       working : LineText
       working = made_text encoding.version line_strings directory
@@ -250,19 +250,19 @@ module _ (sections : Sections) (h : Header) where
       alone =
           let t = made_text encoding.version line_strings directory in
           let same = sym (is_same encoding.version line_strings directory) in
-          let found : list_any (line_text_eq t) (t ∷ []) ≡ true = or_left (line_text_eq t t) false (same_text t) in
+          let found : list_any (line_text_eq t) (t ∷ []) ≡ true = or_left _ _ (same_text t) in
           let at : 0 ≡ index_of_directory (t ∷ []) t = rw (same_text t) refl in
           record {
             made = is_made encoding.version line_strings directory;
-            present = subst (λ (x : LineText). list_any (line_text_eq x) (t ∷ []) ≡ true) same found;
-            index = subst (λ (x : LineText). 0 ≡ index_of_directory (t ∷ []) x) same at;
+            present = subst (λ x. list_any (line_text_eq x) (t ∷ []) ≡ true) same found;
+            index = subst (λ x. 0 ≡ index_of_directory (t ∷ []) x) same at;
           }
 
       with_own : (last : List (List ℕ)) (working : LineText) (own : Option LineText) (old : Bool)
           → IsDirectoryId encoding.version last (working ∷ []) directory 0
           → IsDirectoryId encoding.version last (if old then working ∷ [] else option_map_or (with_directory (working ∷ [])) own (working ∷ [])) directory 0
       with_own last working own true so = so
-      with_own last working (Some t) false so = more_directories encoding.version last (working ∷ []) t directory 0 so
+      with_own last working (Some t) false so = more_directories _ _ _ t _ 0 so
       with_own last working None false so = so
 
       each : (old : Bool) (d id : ℕ) → slice_get (if old then 0 ∷ [] else []) d ≡ Some id
@@ -279,9 +279,9 @@ module _ (sections : Sections) (h : Header) where
             directory,
             read,
             subst (IsDirectoryId encoding.version last (first_directories encoding.version working own) directory) zero_is
-                (with_own last working own (nat_le encoding.version 4)
-                (longer_texts encoding.version third last (working ∷ []) directory 0 (table_has encoding.version third file.path)
-                (longer_texts encoding.version second third (working ∷ []) directory 0 (sources_has encoding.version second file.directory) alone))),
+                (with_own _ _ _ _
+                (longer_texts _ _ _ _ _ 0 (table_has encoding.version third file.path)
+                (longer_texts _ _ _ _ _ 0 (sources_has _ _ _) alone))),
           )
       each true (suc d) id at = absurd cc
       each false d id at = absurd cc

@@ -156,7 +156,7 @@ module _ (convert_address : ℕ → Option Address) (c : Outcome) where
       by false so =
           let done : Outcome = record { program = with_tables tables p; file_ids = tables.file_ids; line_strings = tables.line_strings } in
           let same : done ≡ c = cc in
-          subst (λ (c : Outcome). EndsAs sections first past p c) same (record {
+          subst (λ c. EndsAs sections first past p c) same (record {
             finished = record { tables = tables; there = at; directories = refl; files = refl; file_ids = refl; line_strings = refl };
             kind = record { is_none = refl; encoding = refl; line_encoding = refl };
           })

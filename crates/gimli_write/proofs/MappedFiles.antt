@@ -39,7 +39,7 @@ pub one_by_one_at : {A B : Type 0} (R : A → B → Type 0) (xs : List A) (ys : 
     → (y : B) × (slice_get ys i ≡ Some y) × R x y
 one_by_one_at R [] ys i x all is = absurd cc
 one_by_one_at R (a ∷ xs) [] i x all is = elim all [ ]
-one_by_one_at {A = A} R (a ∷ xs) (b ∷ ys) zero x all is = let same : a ≡ x = cc in (b, refl, subst (λ (z : A). R z b) same all.0)
+one_by_one_at {A = A} R (a ∷ xs) (b ∷ ys) zero x all is = let same : a ≡ x = cc in (b, refl, subst (λ z. R z b) same all.0)
 one_by_one_at R (a ∷ xs) (b ∷ ys) (suc i) x all is = one_by_one_at R xs ys i x all.1 is
 
 pub one_by_one_back : {A B : Type 0} (R : A → B → Type 0) (xs : List A) (ys : List B) (i : ℕ) (y : B) → OneByOne R xs ys → slice_get ys i ≡ Some y
@@ -60,12 +60,12 @@ module _ (q : FileKey → Bool) where
   details_any : (files : List BuiltFile) (i : ℕ) (d : Details) → list_any (λ f. q f.0) (with_details files i d) ≡ list_any (λ f. q f.0) files
   details_any [] i d = refl
   details_any (f ∷ files) zero d = refl
-  details_any (f ∷ files) (suc i) d = ap (λ (b : Bool). q f.0 || b) (details_any files i d)
+  details_any (f ∷ files) (suc i) d = ap (λ b. q f.0 || b) (details_any files i d)
 
   details_index : (files : List BuiltFile) (i : ℕ) (d : Details) → position_or_len (λ f. q f.0) (with_details files i d) ≡ position_or_len (λ f. q f.0) files
   details_index [] i d = refl
   details_index (f ∷ files) zero d = refl
-  details_index (f ∷ files) (suc i) d = ap (λ (n : ℕ). cond (not (q f.0)) (1 + n) 0) (details_index files i d)
+  details_index (f ∷ files) (suc i) d = ap (λ n. cond (not (q f.0)) (1 + n) 0) (details_index files i d)
 
 details_at : (files : List BuiltFile) (i : ℕ) (d : Details) → slice_get (with_details files i d) i ≡ option_map (λ f. (f.0, d)) (slice_get files i)
 details_at [] i d = refl
@@ -78,31 +78,31 @@ module _ (files : List BuiltFile) (k : FileKey) (d : Details) where
   old_any l is = by (has_file files k)
     where
       by : (b : Bool) → has_file (if b then with_details files (index_of_file files k) d else files ++ (k, d) ∷ []) l ≡ true
-      by true = details_any (key_eq l) files (index_of_file files k) d ∙ is
-      by false = any_stays (λ f. key_eq l f.0) files ((k, d) ∷ []) is
+      by true = details_any (key_eq l) _ _ d ∙ is
+      by false = any_stays (λ f. key_eq l f.0) _ _ is
 
   old_index : (l : FileKey) → has_file files l ≡ true → index_of_file (with_file files k (Some d)) l ≡ index_of_file files l
   old_index l is = by (has_file files k)
     where
       by : (b : Bool) → index_of_file (if b then with_details files (index_of_file files k) d else files ++ (k, d) ∷ []) l ≡ index_of_file files l
-      by true = details_index (key_eq l) files (index_of_file files k) d
-      by false = index_stays (λ f. key_eq l f.0) files ((k, d) ∷ []) is
+      by true = details_index (key_eq l) _ _ d
+      by false = index_stays (λ f. key_eq l f.0) _ _ is
 
   -- the one that is added is there, at its index
   new_any : has_file (with_file files k (Some d)) k ≡ true
   new_any = by (has_file files k) refl
     where
       by : (b : Bool) → has_file files k ≡ b → has_file (if b then with_details files (index_of_file files k) d else files ++ (k, d) ∷ []) k ≡ true
-      by true is = details_any (key_eq k) files (index_of_file files k) d ∙ is
-      by false is = any_new (λ f. key_eq k f.0) files (k, d) (same_key k)
+      by true is = details_any (key_eq k) _ _ d ∙ is
+      by false is = any_new (λ f. key_eq k f.0) _ _ (same_key k)
 
   new_index : index_of_file (with_file files k (Some d)) k ≡ index_of_file files k
   new_index = by (has_file files k) refl
     where
       by : (b : Bool) → has_file files k ≡ b
           → index_of_file (if b then with_details files (index_of_file files k) d else files ++ (k, d) ∷ []) k ≡ index_of_file files k
-      by true is = details_index (key_eq k) files (index_of_file files k) d
-      by false is = index_new (λ f. key_eq k f.0) files (k, d) (same_key k) is
+      by true is = details_index (key_eq k) _ _ d
+      by false is = index_new (λ f. key_eq k f.0) _ _ (same_key k) is
 
   -- with the details that are handed
   new_entry : slice_get (with_file files k (Some d)) (index_of_file files k) ≡ Some (k, d)
@@ -145,9 +145,9 @@ same_paths : (a b : FileParts) → SamePaths a b ⊎ (SamePaths a b → ⊥)
 same_paths a b = by (bytes_eq a.path b.path) (nat_eq a.directory b.directory) refl refl
   where
     by : (p d : Bool) → bytes_eq a.path b.path ≡ p → nat_eq a.directory b.directory ≡ d → SamePaths a b ⊎ (SamePaths a b → ⊥)
-    by true true path directory = inl ((bytes_eq-Decides a.path b.path).0 path, eqb-true a.directory b.directory directory)
+    by true true path directory = inl ((bytes_eq-Decides _ _).0 path, eqb-true a.directory b.directory directory)
     by true false path directory = inr (λ same. true≢false (sym (eq-eqb a.directory b.directory same.1) ∙ directory))
-    by false d path directory = inr (λ same. true≢false (sym ((bytes_eq-Decides a.path b.path).1 same.0) ∙ path))
+    by false d path directory = inr (λ same. true≢false (sym ((bytes_eq-Decides _ _).1 same.0) ∙ path))
 
 -- the parts of a file, in a program of this version with these ids of directories
 abbrev pub HasParts : Sections → ℕ → List ℕ → FileParts → File → Type 0
@@ -228,15 +228,15 @@ module _ (sections : Sections) (tables : TablesAndTexts) (g : File) (added : Fil
 
   texts_stay : HasMade (version_of tables) tables.line_strings texts_after
   texts_stay =
-      has_then (version_of tables) tables.line_strings paths_after texts_after (table_has (version_of tables) tables.line_strings added.path)
-      (sources_has (version_of tables) paths_after added.source)
+      has_then _ _ _ _ (table_has (version_of tables) tables.line_strings added.path)
+      (sources_has _ _ _)
 
   own_made : IsMade (version_of tables) texts_after added.path
-  own_made = (sources_has (version_of tables) paths_after added.source).there added.path (is_made (version_of tables) tables.line_strings added.path)
+  own_made = (sources_has _ _ _).there added.path (is_made (version_of tables) tables.line_strings added.path)
 
   own_same : made_text (version_of tables) texts_after added.path ≡ made_text (version_of tables) tables.line_strings added.path
   own_same =
-      (sources_has (version_of tables) paths_after added.source).same added.path (is_made (version_of tables) tables.line_strings added.path)
+      (sources_has _ _ _).same added.path (is_made (version_of tables) tables.line_strings added.path)
       ∙ is_same (version_of tables) tables.line_strings added.path
 
   own_known : IsKnown (version_of tables) texts_after g added.source details_of
@@ -244,8 +244,8 @@ module _ (sections : Sections) (tables : TablesAndTexts) (g : File) (added : Fil
     timestamp = refl;
     size = refl;
     md5 = refl;
-    source_is = source_known (version_of tables) paths_after added.source;
-    source_made = source_there (version_of tables) paths_after added.source;
+    source_is = source_known _ _ _;
+    source_made = source_there _ _ _;
   }
 
   -- the new file
@@ -257,13 +257,13 @@ module _ (sections : Sections) (tables : TablesAndTexts) (g : File) (added : Fil
         parts = added;
         parts_are = added_are;
         made = own_made;
-        present = subst (λ (t : LineText). has_file files_after_it (to t) ≡ true) (sym own_same) (new_any tables.program.files key_of details_of);
+        present = subst (λ t. has_file files_after_it (to t) ≡ true) (sym own_same) (new_any tables.program.files key_of details_of);
         index =
-            subst (λ (t : LineText). index_of_file tables.program.files key_of ≡ index_of_file files_after_it (to t)) (sym own_same)
+            subst (λ t. index_of_file tables.program.files key_of ≡ index_of_file files_after_it (to t)) (sym own_same)
             (sym (new_index tables.program.files key_of details_of));
         details = details_of;
         entry =
-            subst (λ (t : LineText). slice_get files_after_it (index_of_file tables.program.files key_of) ≡ Some (to t, details_of)) (sym own_same)
+            subst (λ t. slice_get files_after_it (index_of_file tables.program.files key_of) ≡ Some (to t, details_of)) (sym own_same)
             (new_entry tables.program.files key_of details_of);
         last = g;
         last_parts = added;
@@ -378,23 +378,23 @@ pub file_next : (sections : Sections) (h : Header) (tables next : TablesAndTexts
     → AreFiles sections h tables source → AreFiles sections h next (source ++ g ∷ [])
 file_next sections h tables next g source is so =
     let version = version_of tables in
-    let t = took (file_parts version sections tables.directory_ids g) (λ parts. Ok (with_parts tables g parts)) next is in
+    let t = took _ _ _ is in
     let parts = t.0 in
     let paths = made_table version tables.line_strings parts.path in
     let after = sources_table version paths parts.source in
     let k : FileKey = (made_text version tables.line_strings parts.path, parts.directory) in
     let d : Details = record { timestamp = g.timestamp; size = g.size; md5 = g.md5; source = option_map (made_text version paths) parts.source } in
     let R = IsFileOf sections version after tables.directory_ids (with_file tables.program.files k (Some d)) (source ++ g ∷ []) in
-    subst (λ (l : TablesAndTexts). AreFiles sections h l (source ++ g ∷ [])) (same_ok (with_parts tables g parts) next t.2) (record {
+    subst (λ l. AreFiles sections h l (source ++ g ∷ [])) (same_ok _ _ t.2) (record {
       ids = so.ids ++ index_of_file tables.program.files k ∷ [];
       ids_are =
-          ap (λ (l : List ℕ). l ++ index_of_file tables.program.files k ∷ []) so.ids_are
+          ap (λ l. l ++ index_of_file tables.program.files k ∷ []) so.ids_are
           ∙ append_assoc (first_ids h.parameters.encoding.version) so.ids (index_of_file tables.program.files k ∷ []);
       each =
-          one_by_one_push R source so.ids g (index_of_file tables.program.files k)
-          (one_by_one_map (IsFileOf sections version tables.line_strings tables.directory_ids tables.program.files source) R
-          (file_old sections tables g parts t.1 source) source so.ids so.each)
-          (file_new sections tables g parts t.1 source);
+          one_by_one_push R _ _ g _
+          (one_by_one_map _ R
+          (file_old sections tables g parts t.1 _) _ _ so.each)
+          (file_new sections tables g parts t.1 _);
     })
 
 -- those of a header
@@ -402,22 +402,22 @@ pub files_next : (sections : Sections) (h : Header) (done rest : List File) (tab
     → all_added (file_added sections) rest tables ≡ Ok last
     → AreFiles sections h tables done → AreFiles sections h last (done ++ rest)
 files_next sections h done [] tables last is so =
-    subst (AreFiles sections h last) (sym (append-nil done)) (subst (λ (l : TablesAndTexts). AreFiles sections h l done) (same_ok tables last is) so)
+    subst (AreFiles sections h last) (sym (append-nil done)) (subst (λ l. AreFiles sections h l done) (same_ok _ _ is) so)
 files_next sections h done (g ∷ rest) tables last is so =
-    let t = took (file_added sections tables g) (all_added (file_added sections) rest) last is in
+    let t = took _ _ _ is in
     subst (AreFiles sections h last) (append_assoc done (g ∷ []) rest)
-    (files_next sections h (done ++ g ∷ []) rest t.0 last t.2 (file_next sections h tables t.0 g done t.1 so))
+    (files_next sections h (done ++ g ∷ []) rest t.0 last t.2 (file_next _ h _ _ g _ t.1 so))
 
 -- and those that a program defines
 pub files_defined : (sections : Sections) (h : Header) (first : TablesAndTexts) (past : List Ins) (tables : TablesAndTexts)
     → tables_at sections first past ≡ Ok tables
     → AreFiles sections h first h.files → AreFiles sections h tables (defined_files h.files past)
-files_defined sections h first [] tables is so = subst (λ (l : TablesAndTexts). AreFiles sections h l h.files) (same_ok first tables is) so
+files_defined sections h first [] tables is so = subst (λ l. AreFiles sections h l h.files) (same_ok _ _ is) so
 files_defined sections h first (i ∷ past) tables is so =
-    let t = took (tables_at sections first past) (λ l. tables_after_definition sections l i) tables is in
-    one i t.0 t.2 (files_defined sections h first past t.0 t.1 so)
+    let t = took _ _ _ is in
+    one i _ t.2 (files_defined sections h first past t.0 t.1 so)
   where
     one : (i : Ins) (before : TablesAndTexts) → tables_after_definition sections before i ≡ Ok tables → AreFiles sections h before (defined_files h.files past)
         → AreFiles sections h tables (defined_files h.files (i ∷ past))
-    one (DefineFile f) before at q = file_next sections h before tables f (defined_files h.files past) at q
-    one i before at q = subst (λ (l : TablesAndTexts). AreFiles sections h l (defined_files h.files past)) (same_ok before tables at) q
+    one (DefineFile f) before at q = file_next _ h _ _ f _ at q
+    one i before at q = subst (λ l. AreFiles sections h l (defined_files h.files past)) (same_ok _ _ at) q

@@ -1,15 +1,13 @@
 -- What the laws of conversions say.
-use Rattle.std.proofs.Common.{◌≡◌, ℕ, Bool, true, false, ◌&&◌, if◌then◌else◌, List, [], ◌∷◌, map, refl, sym, ap, subst, ◌∙◌}
+use Rattle.std.proofs.Common.{◌≡◌, ℕ, Bool, true, false, ◌&&◌, if◌then◌else◌, List, [], map, refl, sym, ap, subst, ◌∙◌}
 use Rattle.std.specs.Prelude.{nat_eq, slice_get, Option, Some, unwrap_or, option_map, Result, Ok, Err, MatchResult, All}
 use Rattle.std.proofs.lemmas.Option.{slice_get-map, slice_get_within, get_or_from_slice_get}
-use Rattle.gimli_core.specs.Notation.{Notation}
 use Rattle.gimli_core.specs.declared.error.Error.{Error}
 use Rattle.gimli_bytes.specs.declared.address.Address.{Address}
 use Rattle.gimli_bytes.specs.Texts.{KeepsTexts, with_text, StringTables, texts_in}
 use Rattle.gimli_bytes.proofs.TextLemmas.{with_text-KeepsTexts}
 use Rattle.gimli_line.specs.declared.run.row.LineRow.{LineRow as ReadRow}
-use Rattle.gimli_line.specs.header.Header.{Header}
-use Rattle.gimli_line.specs.run.Events.{Event, row, Events, program_events, defined_files, past_at_end}
+use Rattle.gimli_line.specs.run.Events.{row, Events, defined_files, past_at_end}
 use Rattle.gimli_line.specs.run.EventsWithFiles.{FilesAtEnd}
 use Rattle.gimli_line.specs.header.File.{File}
 use Rattle.gimli_line.specs.run.Instruction.{Ins}
@@ -63,7 +61,7 @@ bytes_longer : (strings old new : List (List ℕ)) (t : LineText) → KeepsTexts
     → bytes_in (texts_in strings new) t ≡ bytes_in (texts_in strings old) t
 bytes_longer strings old new (Inline bytes) keeps within = refl
 bytes_longer strings old new (InStrings i) keeps within = refl
-bytes_longer strings old new (InLineStrings i) keeps within = ap (λ (o : Option (List ℕ)). unwrap_or o []) (keeps.text i within)
+bytes_longer strings old new (InLineStrings i) keeps within = ap (λ o. unwrap_or o []) (keeps.text i within)
 
 keeps_after : (p : Built) (texts : StringTables) → KeepsTexts texts.line_strings (texts_after p texts).line_strings
 keeps_after p texts = by (needs_empty p && nat_eq (first_form (sources p.files)) 0x1f)
@@ -73,7 +71,7 @@ keeps_after p texts = by (needs_empty p && nat_eq (first_form (sources p.files))
     by false = kept_self texts.line_strings
 
 element : {A : Type 0} (P : A → Type 0) (xs : List A) (i : ℕ) (x : A) → All P xs → slice_get xs i ≡ Some x → P x
-element P xs i x all is = subst P (get_or_from_slice_get xs i x x is) (all i x (slice_get_within xs i x is))
+element P xs i x all is = subst P (get_or_from_slice_get _ i x x is) (all i x (slice_get_within xs i x is))
 
 -- ---- the laws
 
@@ -92,7 +90,7 @@ module _ (convert_address : ℕ → Option Address) (s : Source) (line_strings :
   module _ (can : CanBeFaithful convert_address s) where
     mapped_rows : AreRowsMapped s.notation s.header s.header.program c
     mapped_rows =
-        let w = was_converted convert_address s line_strings c so in
+        let w = was_converted _ s _ c so in
         rows_mapped s.notation s.sections s.header s.given line_strings w.first s.header.program w.reading convert_address c w.ready w.reads can.itself can.wide
         can.no_end_under_tombstone w.is
 
@@ -104,7 +102,7 @@ module _ (convert_address : ℕ → Option Address) (s : Source) (line_strings :
 
     conversion_constant : HasConstantAddresses c.program
     conversion_constant =
-        let w = was_converted convert_address s line_strings c so in
+        let w = was_converted _ s _ c so in
         constants_set s.notation s.sections s.header s.given line_strings w.first s.header.program w.reading convert_address c w.ready w.reads can.itself
         can.wide can.no_end_under_tombstone w.is
 

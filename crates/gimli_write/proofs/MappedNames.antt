@@ -30,14 +30,14 @@ same_read a b is = cc
 
 -- a value stands for one text
 one_text : (sections : Sections) (v : Value) (a b : List ℕ) → IsText sections v a → IsText sections v b → a ≡ b
-one_text sections v a b x y = same_read a b (sym (text_there sections v a x) ∙ text_there sections v b y)
+one_text sections v a b x y = same_read a b (sym (text_there _ v a x) ∙ text_there _ v b y)
 
 one_directory : (sections : Sections) (o : Option Value) (a b : List ℕ) → IsDirectoryPath sections o a → IsDirectoryPath sections o b → a ≡ b
-one_directory sections (Some v) a b x y = one_text sections v a b x y
+one_directory sections (Some v) a b x y = one_text _ v a b x y
 one_directory sections None a b x y = x ∙ sym y
 
 there_ok : (o : Option ℕ) (id : ℕ) → ok_or o InvalidDirectoryIndex ≡ Ok id → o ≡ Some id
-there_ok (Some n) id is = ap Some (same_ok n id is)
+there_ok (Some n) id is = ap Some (same_ok n _ is)
 there_ok None id is = absurd cc
 
 -- ---- the parts of a file
@@ -54,10 +54,10 @@ are_read sections version directory_ids parts f is =
     let a = took (source_path version sections f.path_name) _ parts is in
     let b = took (ok_or (slice_get directory_ids f.directory_index) InvalidDirectoryIndex) _ parts a.2 in
     let c = took (if_there (source_text sections) f.source) _ parts b.2 in
-    let same = same_ok (let p : FileParts = record { path = a.0; directory = b.0; source = c.0 } in p) parts c.2 in
-    subst (λ (p : FileParts). AreRead sections directory_ids p f) same (record {
-      path = text_read sections f.path_name a.0 (source_path_of version sections f.path_name a.0 a.1);
-      directory = there_ok (slice_get directory_ids f.directory_index) b.0 b.1;
+    let same = same_ok _ _ c.2 in
+    subst (λ p. AreRead sections directory_ids p f) same (record {
+      path = text_read _ _ _ (source_path_of version sections f.path_name _ a.1);
+      directory = there_ok _ _ b.1;
       source = c.1;
     })
 
@@ -66,9 +66,9 @@ source_is_text : (sections : Sections) (version : ℕ) (texts : StringTables) (o
     → if_there (source_text sections) o ≡ Ok source → IfSome source (IsMade version texts.line_strings)
     → IsOptionalText sections o (option_map (bytes_in texts) (option_map (made_text version texts.line_strings) source))
 source_is_text sections version texts (Some v) (Some text) is made =
-    let t = took (source_text sections v) _ (Some text) is in
+    let t = took _ _ _ is in
     let same : t.0 ≡ text = cc in
-    subst (IsText sections v) (same ∙ sym (made_bytes version texts text made)) (text_read sections v t.0 (source_text_of sections v t.0 t.1))
+    subst (IsText sections v) (same ∙ sym (made_bytes _ _ _ made)) (text_read _ v _ (source_text_of _ v _ t.1))
 source_is_text sections version texts (Some v) None is made = let t = took (source_text sections v) _ None is in absurd cc
 source_is_text sections version texts None (Some text) is made = absurd cc
 source_is_text sections version texts None None is made = tt
@@ -80,9 +80,9 @@ module _ (sections : Sections) (h : Header) (strings : List (List ℕ)) (tables 
   paths_of : (parts : FileParts) (f : File) (directory : List ℕ) → HasParts sections (version_of tables) tables.directory_ids parts f
       → IsDirectoryId (version_of tables) tables.line_strings tables.program.directories directory parts.directory → HasPaths sections h parts.path directory f
   paths_of parts f directory is at =
-      let read = are_read sections (version_of tables) tables.directory_ids parts f is in
+      let read = are_read _ _ _ _ f is in
       let own = directories.each f.directory_index parts.directory read.directory in
-      let same : own.0 ≡ directory = one_path (version_of tables) tables.line_strings tables.program.directories own.0 directory parts.directory own.2 at in
+      let same : own.0 ≡ directory = one_path _ _ _ _ _ _ own.2 at in
       record { own = read.path; of_directory = subst (IsDirectoryPath sections (directory_of h f.directory_index)) same own.1 }
 
   -- so a file with these paths has these parts
@@ -90,12 +90,12 @@ module _ (sections : Sections) (h : Header) (strings : List (List ℕ)) (tables 
       → IsDirectoryId (version_of tables) tables.line_strings tables.program.directories directory parts.directory → HasPaths sections h parts.path directory g
       → (own.path ≡ parts.path) × (own.directory ≡ parts.directory)
   parts_of parts own g directory is at has =
-      let read = are_read sections (version_of tables) tables.directory_ids own g is in
+      let read = are_read _ _ _ _ g is in
       let there = directories.each g.directory_index own.directory read.directory in
-      let same : there.0 ≡ directory = one_directory sections (directory_of h g.directory_index) there.0 directory there.1 has.of_directory in
+      let same : there.0 ≡ directory = one_directory _ _ _ _ there.1 has.of_directory in
       let moved : IsDirectoryId (version_of tables) tables.line_strings tables.program.directories directory own.directory =
-      subst (λ (path : List ℕ). IsDirectoryId (version_of tables) tables.line_strings tables.program.directories path own.directory) same there.2 in
-      (one_text sections g.path_name own.path parts.path read.path has.own, moved.index ∙ sym at.index)
+      subst (λ path. IsDirectoryId (version_of tables) tables.line_strings tables.program.directories path own.directory) same there.2 in
+      (one_text _ _ _ _ read.path has.own, moved.index ∙ sym at.index)
 
   others_after : (parts : FileParts) (directory : List ℕ)
       → IsDirectoryId (version_of tables) tables.line_strings tables.program.directories directory parts.directory
@@ -165,12 +165,12 @@ module _ (version : ℕ) (R : File → ℕ → Type 0) (files : List File) (ids 
       → (n : ℕ) (f : File) → (if old then from_one None files n else slice_get files n) ≡ Some f → (id : ℕ) × IsFileId version file_ids n id × R f id
   each_number true is ids_are zero f at = absurd cc
   each_number true is ids_are (suc i) f at =
-      let found = one_by_one_at R files ids i f all at in
-      (found.0, record { from_one = λ old zero. absurd (omega arith); there = ap (λ (l : List ℕ). slice_get l (suc i)) ids_are ∙ found.1 }, found.2)
+      let found = one_by_one_at R _ _ i f all at in
+      (found.0, record { from_one = λ old zero. absurd (omega arith); there = ap (λ l. slice_get l (suc i)) ids_are ∙ found.1 }, found.2)
   each_number false is ids_are n f at =
-      let found = one_by_one_at R files ids n f all at in (
+      let found = one_by_one_at R _ _ n f all at in (
         found.0,
-        record { from_one = λ old. absurd (true≢false (sym (le-leb version 4 old) ∙ is)); there = ap (λ (l : List ℕ). slice_get l n) ids_are ∙ found.1 },
+        record { from_one = λ old. absurd (true≢false (sym (le-leb version 4 old) ∙ is)); there = ap (λ l. slice_get l n) ids_are ∙ found.1 },
         found.2,
       )
 
@@ -178,8 +178,8 @@ module _ (version : ℕ) (R : File → ℕ → Type 0) (files : List File) (ids 
   only_number : (old : Bool) → nat_le version 4 ≡ old → file_ids ≡ (if old then 0 ∷ [] else []) ++ ids
       → (n id : ℕ) → IsFileId version file_ids n id → (f : File) × ((if old then from_one None files n else slice_get files n) ≡ Some f)
   only_number true is ids_are zero id so = absurd (so.from_one (leb-true version 4 is) refl)
-  only_number true is ids_are (suc i) id so = one_by_one_back R files ids i id all (sym (ap (λ (l : List ℕ). slice_get l (suc i)) ids_are) ∙ so.there)
-  only_number false is ids_are n id so = one_by_one_back R files ids n id all (sym (ap (λ (l : List ℕ). slice_get l n) ids_are) ∙ so.there)
+  only_number true is ids_are (suc i) id so = one_by_one_back R _ _ i _ all (sym (ap (λ l. slice_get l (suc i)) ids_are) ∙ so.there)
+  only_number false is ids_are n id so = one_by_one_back R _ _ n _ all (sym (ap (λ l. slice_get l n) ids_are) ∙ so.there)
 
 -- ---- all files
 
@@ -191,10 +191,10 @@ pub files_mapped : (sections : Sections) (h : Header) (strings : List (List ℕ)
 files_mapped sections h strings tables source c directories so directories_same files_same ids_same texts_same =
     let version = h.parameters.encoding.version in
     let all =
-    one_by_one_map (IsFileOf sections (version_of tables) tables.line_strings tables.directory_ids tables.program.files source)
-    (IsMappedFile sections h source strings c)
-    (λ f id is. file_mapped sections h strings tables directories source c f id directories_same files_same texts_same is) source so.ids so.each in
+    one_by_one_map _
+    _
+    (λ f id is. file_mapped sections h strings tables directories _ c f _ directories_same files_same texts_same is) _ _ so.each in
     record {
-      each = each_number version (IsMappedFile sections h source strings c) source so.ids c.file_ids all (nat_le version 4) refl (ids_same ∙ so.ids_are);
-      only = only_number version (IsMappedFile sections h source strings c) source so.ids c.file_ids all (nat_le version 4) refl (ids_same ∙ so.ids_are);
+      each = each_number version (IsMappedFile sections h source strings c) source so.ids c.file_ids all _ refl (ids_same ∙ so.ids_are);
+      only = only_number version (IsMappedFile sections h source strings c) source so.ids c.file_ids all _ refl (ids_same ∙ so.ids_are);
     }

@@ -42,8 +42,8 @@ same_others : (source_version version base : ℕ) (built : LineRow) (source back
 same_others source_version version base built source back mapped matches =
     let number = file_number version built.file in
     matches
-    ∙ ap (λ (r : ReadRow). let s : ReadRow = record r { file = number } in s) (sym mapped)
-    ∙ ap (λ (n : ℕ). let s : ReadRow = record source { file = n } in s) (sym (ap (λ (r : ReadRow). r.file) matches))
+    ∙ ap (λ r. let s : ReadRow = record r { file = number } in s) (sym mapped)
+    ∙ ap (λ n. let s : ReadRow = record source { file = n } in s) (sym (ap (λ r. r.file) matches))
 
 -- ---- the whole
 
@@ -59,17 +59,17 @@ module _ (notation : Notation) (sections : Sections) (h : Header) (given : Hande
 
   decodes_once : (list : List Ins) (end : Option Error) → Decodes notation h bytes list end → list ≡ reads.list
   decodes_once list end decoding =
-      ap (λ (p : List Ins × Option Error). p.0)
-      (one_decoding notation h bytes list end decoding ∙ sym (one_decoding notation h bytes reads.list reads.end reads.decoding))
+      ap (λ p. p.0)
+      (one_decoding notation h _ _ _ decoding ∙ sym (one_decoding notation h _ _ _ reads.decoding))
 
   whole : Rest sections h.parameters first (encoding_of h given).address_size c [] reads.list reads.end 0 (0, 0) first.program
   whole =
-      rest_mapped sections h.parameters first convert_address itself (encoding_of h given).address_size (pow_mono (omega (arith, wide))) c [] reads.list
-      reads.end 0 (0, 0) first.program
-      (follows_start h.parameters)
-      (subst (NoneEndsUnderTombstone h.parameters []) (decodes_once no_end_under_tombstone.list no_end_under_tombstone.end no_end_under_tombstone.decoding)
+      rest_mapped sections h.parameters first convert_address itself (encoding_of h given).address_size (pow_mono (omega (arith, wide))) c _ _
+      _ 0 _ _
+      (follows_start _)
+      (subst (NoneEndsUnderTombstone h.parameters []) (decodes_once _ _ no_end_under_tombstone.decoding)
       no_end_under_tombstone.seen)
-      (ap (λ (r : Reading). outcome_of convert_address r first.program) (sym reads.given) ∙ is)
+      (ap (λ r. outcome_of convert_address r first.program) (sym reads.given) ∙ is)
 
   -- what was built is what was built after the start
   all_items : c.program.items ≡ whole.items
@@ -79,7 +79,7 @@ module _ (notation : Notation) (sections : Sections) (h : Header) (given : Hande
   rows_mapped = record {
     rows = whole.rows;
     events = record { list = reads.list; end = reads.end; decoding = reads.decoding; given = sym whole.events };
-    mapped = subst (λ (items : List BuiltItem). RowsMapped h.parameters.encoding.version c.file_ids 0 items whole.rows) (sym all_items) whole.mapped;
+    mapped = subst (λ items. RowsMapped h.parameters.encoding.version c.file_ids 0 items whole.rows) (sym all_items) whole.mapped;
   }
 
   pub addresses_fit : AddressesFit c.program.encoding.address_size 0 (0, 0) c.program.items
@@ -90,7 +90,7 @@ module _ (notation : Notation) (sections : Sections) (h : Header) (given : Hande
 
   pub constants_set : HasConstantAddresses c.program
   constants_set =
-      All-from_recursion _ c.program.items (subst (λ (items : List BuiltItem). AllByRecursion SetsConstant items) (sym all_items) whole.constants)
+      All-from_recursion _ _ (subst (λ items. AllByRecursion SetsConstant items) (sym all_items) whole.constants)
 
 -- ---- what is read back of it
 

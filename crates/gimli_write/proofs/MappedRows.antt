@@ -53,10 +53,10 @@ ids_stay sections tables next (DefineFile f) is n id there = by (file_parts (ver
     by (Err e) so = absurd cc
     by (Ok parts) so =
         let same : with_parts tables f parts ≡ next = cc in
-        subst (λ (l : TablesAndTexts). slice_get l.file_ids n ≡ Some id) same (slice_stays tables.file_ids _ n id there)
+        subst (λ l. slice_get l.file_ids n ≡ Some id) same (slice_stays _ _ n _ there)
 ids_stay sections tables next i is n id there =
     let same : tables ≡ next = cc in
-    subst (λ (l : TablesAndTexts). slice_get l.file_ids n ≡ Some id) same there
+    subst (λ l. slice_get l.file_ids n ≡ Some id) same there
 
 -- ---- one point
 
@@ -71,16 +71,16 @@ file_id-is version tables n id is = by (nat_le version 4 && nat_eq n 0) refl is
         → IsFileId version tables.file_ids n id
     by true at so = absurd cc
     by false at so = record {
-      from_one = λ old zero. absurd (true≢false (sym (and_from (nat_le version 4) (nat_eq n 0) (le-leb version 4 old) (eq-eqb n 0 zero)) ∙ at));
-      there = there (slice_get tables.file_ids n) so;
+      from_one = λ old zero. absurd (true≢false (sym (and_from _ _ (le-leb version 4 old) (eq-eqb n 0 zero)) ∙ at));
+      there = there _ so;
     }
 
 row_parts : (r : ReadRow) (address : ℕ) → r.tombstone ≡ false → r.address ≡ address → r.end_sequence ≡ false
     → r ≡ record r { tombstone = false; address = address; end_sequence = false }
 row_parts r address seen at inner =
-    ap (λ (x : Bool). let s : ReadRow = record r { tombstone = x } in s) seen
-    ∙ ap (λ (x : ℕ). let s : ReadRow = record r { tombstone = false; address = x } in s) at
-    ∙ ap (λ (x : Bool). let s : ReadRow = record r { tombstone = false; address = address; end_sequence = x } in s) inner
+    ap (λ x. let s : ReadRow = record r { tombstone = x } in s) seen
+    ∙ ap (λ x. let s : ReadRow = record r { tombstone = false; address = x } in s) at
+    ∙ ap (λ x. let s : ReadRow = record r { tombstone = false; address = address; end_sequence = x } in s) inner
 
 -- ---- what comes of the rest of a program
 
@@ -115,7 +115,7 @@ module _ (sections : Sections) (parameters : Parameters) (first : TablesAndTexts
       closed tables there false so =
           let done : Outcome = record { program = with_tables tables p; file_ids = tables.file_ids; line_strings = tables.line_strings } in
           let same : done ≡ c = cc in
-          subst (λ (c : Outcome). Rest sections parameters first size c past [] None base position p) same (record {
+          subst (λ c. Rest sections parameters first size c past [] None base position p) same (record {
             rows = [];
             events = refl;
             items = [];
@@ -132,13 +132,13 @@ module _ (sections : Sections) (parameters : Parameters) (first : TablesAndTexts
           → outcome_of convert_address (reading_with there (end_reading end)) p ≡ Ok c → Rest sections parameters first size c past [] end base position p
       by (Err e) there end so = absurd cc
       by (Ok tables) there (Some e) so = absurd cc
-      by (Ok tables) there None so = closed tables there p.in_sequence so
+      by (Ok tables) there None so = closed _ there _ so
 
   module _ (past : List Ins) (i : Ins) (list : List Ins) (end : Option Error) (tables : TablesAndTexts) (at : tables_at sections first past ≡ Ok tables) where
     stays : (next : TablesAndTexts) → tables_at sections first (i ∷ past) ≡ Ok next → (n id : ℕ) → slice_get tables.file_ids n ≡ Some id
         → slice_get next.file_ids n ≡ Some id
     stays next there =
-        ids_stay sections tables next i (sym (ap (λ (r : Result TablesAndTexts ConvertError). r >>= λ l. tables_after_definition sections l i) at) ∙ there)
+        ids_stay _ _ _ i (sym (ap (λ r. r >>= λ l. tables_after_definition sections l i) at) ∙ there)
 
     -- a point gives nothing
     passed : (base : ℕ) (position : ℕ × ℕ) (p : Built) → events_at parameters past i ≡ []
@@ -155,7 +155,7 @@ module _ (sections : Sections) (parameters : Parameters) (first : TablesAndTexts
       constants = r.constants;
       tables = tables;
       there = at;
-      stay = λ n id is. r.stay n id (stays r.tables r.there n id is);
+      stay = λ n id is. r.stay n id (stays _ r.there n _ is);
     }
 
     -- a point gives a row, and an item is built of it
@@ -172,13 +172,13 @@ module _ (sections : Sections) (parameters : Parameters) (first : TablesAndTexts
           after_here parameters past i list end ∙ ap (λ (here : List Event). here ++ events_after parameters (i ∷ past) list end) one
           ∙ ap (λ (events : List Event). row read ∷ events) r.events;
       items = built ∷ r.items;
-      built = r.built ∙ ap (λ (l : List BuiltItem). l ++ r.items) pushed ∙ append_assoc p.items (built ∷ []) r.items;
+      built = r.built ∙ ap (λ l. l ++ r.items) pushed ∙ append_assoc p.items (built ∷ []) r.items;
       mapped = mapped r.items r.rows r.mapped;
       fit = fit r.items r.fit;
       constants = (constant, r.constants);
       tables = tables;
       there = at;
-      stay = λ n id is. r.stay n id (stays r.tables r.there n id is);
+      stay = λ n id is. r.stay n id (stays _ r.there n _ is);
     }
 
     -- an address is set before what a point gives
@@ -283,7 +283,7 @@ module _ (sections : Sections) (parameters : Parameters) (first : TablesAndTexts
             → outcome_of convert_address (row_offered (r >>= λ file. Ok (row_in (source_row parameters past i) file)) tables rest) p ≡ Ok c
             → Rest sections parameters first size c past (i ∷ list) end base position p
         known (Err e) at inner so = absurd cc
-        known (Ok file) at inner so = row_point_gives base position p file one loud inner seen same at so follow
+        known (Ok file) at inner so = row_point_gives _ _ p _ one loud inner seen same at so follow
 
         by : (b : Bool) → is_end i ≡ b
             → outcome_of convert_address
@@ -292,8 +292,8 @@ module _ (sections : Sections) (parameters : Parameters) (first : TablesAndTexts
             p
             ≡ Ok c
             → Rest sections parameters first size c past (i ∷ list) end base position p
-        by true closes so = end_point_gives base position p one closes seen same so follow
-        by false inner so = known (file_id parameters.encoding.version tables (row_at parameters past i).file) refl inner so
+        by true closes so = end_point_gives _ _ p one closes seen same so follow
+        by false inner so = known _ refl inner so
 
     -- the same after an address that may be pending
     point_gives : (base : ℕ) (position : ℕ × ℕ) (p : Built) → events_at parameters past i ≡ row (row_at parameters past i) ∷ [] → makes_row i ≡ true
@@ -350,13 +350,13 @@ module _ (sections : Sections) (parameters : Parameters) (first : TablesAndTexts
             ≡ Ok c
             → Rest sections parameters first size c past (i ∷ list) end base position p
         by true m tombstone at made seen so = absurd cc
-        by false true false at made seen so = point_gives base position p (gives false true false at made seen) made seen f so follow
+        by false true false at made seen so = point_gives _ _ p (gives _ _ _ at made seen) made seen f so follow
         by false true true at made seen so =
-            passed base position p (gives false true true at made seen)
-            (follow base position p (follows_quiet parameters past i base position.0 (quiet true true made seen refl) no_end_under_tombstone f) so)
+            passed _ _ p (gives _ _ _ at made seen)
+            (follow base position p (follows_quiet _ _ i _ _ (quiet _ _ made seen refl) no_end_under_tombstone f) so)
         by false false tombstone at made seen so =
-            passed base position p (gives false false tombstone at made seen)
-            (follow base position p (follows_quiet parameters past i base position.0 (quiet false tombstone made seen refl) no_end_under_tombstone f) so)
+            passed _ _ p (gives _ _ _ at made seen)
+            (follow base position p (follows_quiet _ _ i _ _ (quiet _ _ made seen refl) no_end_under_tombstone f) so)
 
   -- what comes of the rest of a program
   pub rest_mapped : (past list : List Ins) (end : Option Error) (base : ℕ) (position : ℕ × ℕ) (p : Built) → Follows parameters past base position.0

@@ -61,13 +61,13 @@ is_prepared sections h given line_strings tables is =
     let begin =
     λ (directory : List ℕ) (file : SourceFile) (line_encoding : LineEncoding).
     start_of_tables encoding line_encoding h (first_texts encoding.version line_strings directory file) in
-    let start = took (tables_at_start sections h encoding given.line_encoding given.name line_strings) (λ t. lists_added sections h t) tables is in
-    let a = took (working_directory encoding.version sections h) _ start.0 start.1 in
-    let b = took (source_file encoding.version sections h given.name) _ start.0 a.2 in
+    let start = took _ _ _ is in
+    let a = took _ _ _ start.1 in
+    let b = took _ _ _ a.2 in
     let l = took (line_encoding_of h.parameters.line_encoding given.line_encoding) _ start.0 b.2 in
     let listed : lists_added sections h (begin a.0 b.0 l.0) ≡ Ok tables =
-    subst (λ (t : TablesAndTexts). lists_added sections h t ≡ Ok tables) (sym (same_ok (begin a.0 b.0 l.0) start.0 l.2)) start.2 in
-    let d = took (all_added (directory_added sections) h.directories (begin a.0 b.0 l.0)) (λ t. all_added (file_added sections) h.files t) tables listed in
+    subst (λ t. lists_added sections h t ≡ Ok tables) (sym (same_ok _ _ l.2)) start.2 in
+    let d = took _ _ _ listed in
     record { directory = a.0; directory_is = a.1; file = b.0; file_is = b.1; line_encoding = l.0; with_directories = d.0; directories = d.1; files = d.2 }
 
 -- ---- what each step keeps
@@ -76,22 +76,22 @@ module _ (P : TablesAndTexts → Type 0) where
   pub all_added_keeps : {A : Type 0} (add : TablesAndTexts → A → Result TablesAndTexts ConvertError)
       → ((tables next : TablesAndTexts) (x : A) → add tables x ≡ Ok next → P tables → P next)
       → (xs : List A) (tables last : TablesAndTexts) → all_added add xs tables ≡ Ok last → P tables → P last
-  all_added_keeps add step [] tables last is p = subst P (same_ok tables last is) p
+  all_added_keeps add step [] tables last is p = subst P (same_ok _ _ is) p
   all_added_keeps add step (x ∷ xs) tables last is p =
-      let t = took (add tables x) (all_added add xs) last is in
+      let t = took _ _ _ is in
       all_added_keeps add step xs t.0 last t.2 (step tables t.0 x t.1 p)
 
   pub lists_at_keeps : (sections : Sections) (first : TablesAndTexts)
       → ((tables next : TablesAndTexts) (f : File) → file_added sections tables f ≡ Ok next → P tables → P next)
       → (past : List Ins) (tables : TablesAndTexts) → tables_at sections first past ≡ Ok tables → P first → P tables
-  lists_at_keeps sections first step [] tables is p = subst P (same_ok first tables is) p
+  lists_at_keeps sections first step [] tables is p = subst P (same_ok _ _ is) p
   lists_at_keeps sections first step (i ∷ past) tables is p =
-      let t = took (tables_at sections first past) (λ l. tables_after_definition sections l i) tables is in
+      let t = took _ _ _ is in
       one i t.0 t.2 (lists_at_keeps sections first step past t.0 t.1 p)
     where
       one : (i : Ins) (before : TablesAndTexts) → tables_after_definition sections before i ≡ Ok tables → P before → P tables
       one (DefineFile f) before so q = step before tables f so q
-      one i before so q = subst P (same_ok before tables so) q
+      one i before so q = subst P (same_ok _ _ so) q
 
 -- ---- texts are there
 
@@ -127,7 +127,7 @@ made_within strings version line_strings text = by (nat_le version 4)
         → IsWithin (texts_in strings (if old then line_strings else with_text line_strings text))
         (if old then Inline text else InLineStrings (index_of_text line_strings text))
     by true = tt
-    by false = slice_get_within (with_text line_strings text) (index_of_text line_strings text) text (with_text-found line_strings text)
+    by false = slice_get_within (with_text line_strings text) (index_of_text line_strings text) text (with_text-found _ _)
 
 -- from version 5 on no text lies in the program, so none can have a zero byte there
 made_ends : (version : ℕ) (line_strings : List (List ℕ)) (text : List ℕ) → 5 ≤ version → HasNoZero (made_text version line_strings text)
@@ -157,14 +157,14 @@ with_kept_files p texts program directories files =
     record {
       program = program;
       directories = directories;
-      paths = All-weaker Q (λ f. IsWithin texts f.0.0) (λ f so. so.path) p.files files;
-      sources = All-weaker Q (λ f. IfSome f.1.source (IsWithin texts)) (λ f so. so.source) p.files files;
-      sources_end = λ new has. All-weaker Q (λ f. IfSome f.1.source HasNoZero) (λ f so. so.source_ends new) p.files files;
+      paths = All-weaker Q _ (λ f so. so.path) _ files;
+      sources = All-weaker Q _ (λ f so. so.source) _ files;
+      sources_end = λ new has. All-weaker Q _ (λ f so. so.source_ends new) _ files;
     }
 
 pub ready_written : (strings : List (List ℕ)) (encoding : Encoding) (tables : TablesAndTexts) → IsReady strings encoding tables
     → CanWrite tables.program (texts_in strings tables.line_strings)
-ready_written strings encoding tables so = with_kept_files tables.program (texts_in strings tables.line_strings) so.program so.directories so.files
+ready_written strings encoding tables so = with_kept_files _ _ so.program so.directories so.files
 
 if_some_longer : (strings old new : List (List ℕ)) (t : Option LineText) → length old ≤ length new → IfSome t (IsWithin (texts_in strings old))
     → IfSome t (IsWithin (texts_in strings new))
@@ -173,8 +173,8 @@ if_some_longer strings old new t le so = if_some_where strings old new (λ i lt.
 kept_longer : (strings old new : List (List ℕ)) (version : ℕ) (f : BuiltFile) → length old ≤ length new → CanKeep (texts_in strings old) version f
     → CanKeep (texts_in strings new) version f
 kept_longer strings old new version f le so = record {
-  path = within_longer strings old new f.0.0 le so.path;
-  source = if_some_longer strings old new f.1.source le so.source;
+  path = within_longer _ _ _ _ le so.path;
+  source = if_some_longer _ _ _ _ le so.source;
   source_ends = so.source_ends;
 }
 
@@ -184,20 +184,20 @@ directories_with texts ds t all one = by (list_any _ ds)
   where
     by : (b : Bool) → All (IsWithin texts) (if b then ds else ds ++ t ∷ [])
     by true = all
-    by false = All-push (IsWithin texts) ds t all one
+    by false = All-push (IsWithin texts) _ t all one
 
 module _ (Q : BuiltFile → Type 0) (d : Details) (other : (k : FileKey) (e : Details) → Q (k, e) → Q (k, d)) where
   details_with : (files : List BuiltFile) (i : ℕ) → All Q files → All Q (with_details files i d)
   details_with [] i all = all
-  details_with (f ∷ files) zero all = All-cons Q (f.0, d) files (other f.0 f.1 (All-head Q f files all)) (All-tail Q f files all)
-  details_with (f ∷ files) (suc i) all = All-cons Q f (with_details files i d) (All-head Q f files all) (details_with files i (All-tail Q f files all))
+  details_with (f ∷ files) zero all = All-cons Q _ _ (other f.0 f.1 (All-head Q f _ all)) (All-tail Q f _ all)
+  details_with (f ∷ files) (suc i) all = All-cons Q f _ (All-head Q f _ all) (details_with files i (All-tail Q f _ all))
 
   pub files_with : (files : List BuiltFile) (k : FileKey) → All Q files → Q (k, d) → All Q (with_file files k (Some d))
   files_with files k all one = by (has_file files k)
     where
       by : (b : Bool) → All Q (if b then with_details files (index_of_file files k) d else files ++ (k, d) ∷ [])
-      by true = details_with files (index_of_file files k) all
-      by false = All-push Q files (k, d) all one
+      by true = details_with _ _ all
+      by false = All-push Q _ _ all one
 
 -- ---- a directory, and a file
 
@@ -205,21 +205,21 @@ pub directory_ready : (strings : List (List ℕ)) (encoding : Encoding) (section
     → directory_added sections tables v ≡ Ok next
     → IsReady strings encoding tables → IsReady strings encoding next
 directory_ready strings encoding sections tables next v is so =
-    let t = took (source_path (version_of tables) sections v) (λ path. Ok (with_path tables path)) next is in
+    let t = took (source_path (version_of tables) sections v) (λ path. Ok (with_path tables path)) _ is in
     let path = t.0 in
     let after = made_table (version_of tables) tables.line_strings path in
-    let le : length tables.line_strings ≤ length after = table_longer (version_of tables) tables.line_strings path in
+    let le : length tables.line_strings ≤ length after = table_longer _ _ _ in
     subst (IsReady strings encoding) (same_ok (with_path tables path) next t.2) (record {
       items = so.items;
       program = so.program;
       encoding_is = so.encoding_is;
-      directories = directories_with (texts_in strings after) tables.program.directories (made_text (version_of tables) tables.line_strings path)
-          (All-weaker (IsWithin (texts_in strings tables.line_strings)) (IsWithin (texts_in strings after))
-          (λ d w. within_longer strings tables.line_strings after d le w) tables.program.directories so.directories)
+      directories = directories_with _ _ (made_text (version_of tables) tables.line_strings path)
+          (All-weaker (IsWithin (texts_in strings tables.line_strings)) _
+          (λ d w. within_longer _ _ _ d le w) _ so.directories)
           (made_within strings (version_of tables) tables.line_strings path);
       files =
-          All-weaker (CanKeep (texts_in strings tables.line_strings) (version_of tables)) (CanKeep (texts_in strings after) (version_of tables))
-          (λ f w. kept_longer strings tables.line_strings after (version_of tables) f le w) tables.program.files so.files;
+          All-weaker (CanKeep (texts_in strings tables.line_strings) (version_of tables)) _
+          (λ f w. kept_longer _ _ _ _ f le w) _ so.files;
     })
 
 -- the line strings after the source of a file
@@ -227,16 +227,16 @@ abbrev pub sources_table : ℕ → List (List ℕ) → Option (List ℕ) → Lis
 sources_table version paths source = option_map_or (made_table version paths) source paths
 
 source_longer : (version : ℕ) (paths : List (List ℕ)) (source : Option (List ℕ)) → length paths ≤ length (sources_table version paths source)
-source_longer version paths (Some text) = table_longer version paths text
+source_longer version paths (Some text) = table_longer _ _ _
 source_longer version paths None = omega arith
 
 source_within : (strings : List (List ℕ)) (version : ℕ) (paths : List (List ℕ)) (source : Option (List ℕ))
     → IfSome (option_map (made_text version paths) source) (IsWithin (texts_in strings (sources_table version paths source)))
-source_within strings version paths (Some text) = made_within strings version paths text
+source_within strings version paths (Some text) = made_within _ _ _ _
 source_within strings version paths None = tt
 
 source_ends : (version : ℕ) (paths : List (List ℕ)) (source : Option (List ℕ)) → 5 ≤ version → IfSome (option_map (made_text version paths) source) HasNoZero
-source_ends version paths (Some text) new = made_ends version paths text new
+source_ends version paths (Some text) new = made_ends _ _ _ new
 source_ends version paths None new = tt
 
 parts_ready : (strings : List (List ℕ)) (encoding : Encoding) (tables : TablesAndTexts) (f : File) (parts : FileParts) → IsReady strings encoding tables
@@ -249,24 +249,24 @@ parts_ready strings encoding tables f parts so =
     let details : Details = record { timestamp = f.timestamp; size = f.size; md5 = f.md5; source = option_map (made_text version paths) parts.source } in
     let le : length tables.line_strings
     ≤ length after = omega (arith, table_longer version tables.line_strings parts.path, source_longer version paths parts.source) in
-    let first_le : length paths ≤ length after = source_longer version paths parts.source in
+    let first_le : length paths ≤ length after = source_longer version _ parts.source in
     let Q : BuiltFile → Type 0 = CanKeep (texts_in strings after) version in
     record {
       items = so.items;
       program = so.program;
       encoding_is = so.encoding_is;
       directories =
-          All-weaker (IsWithin (texts_in strings tables.line_strings)) (IsWithin (texts_in strings after))
-          (λ d w. within_longer strings tables.line_strings after d le w) tables.program.directories so.directories;
+          All-weaker (IsWithin (texts_in strings tables.line_strings)) _
+          (λ d w. within_longer _ _ _ d le w) _ so.directories;
       files = files_with Q details
-          (λ k e w. record { path = w.path; source = source_within strings version paths parts.source; source_ends = source_ends version paths parts.source })
-          tables.program.files (text, parts.directory)
-          (All-weaker (CanKeep (texts_in strings tables.line_strings) version) Q (λ f w. kept_longer strings tables.line_strings after version f le w)
-          tables.program.files so.files)
+          (λ k e w. record { path = w.path; source = source_within strings version paths parts.source; source_ends = source_ends _ _ _ })
+          _ _
+          (All-weaker (CanKeep (texts_in strings tables.line_strings) version) Q (λ f w. kept_longer _ _ _ _ f le w)
+          _ so.files)
           (record {
-            path = within_longer strings paths after text first_le (made_within strings version tables.line_strings parts.path);
+            path = within_longer _ _ _ _ first_le (made_within _ _ _ _);
             source = source_within strings version paths parts.source;
-            source_ends = source_ends version paths parts.source;
+            source_ends = source_ends _ _ _;
           });
     }
 

@@ -34,28 +34,28 @@ module _ {A : Type 0} (p : A → Bool) where
       rw parts.0 (ap (λ n. 1 + n) (index_new xs x passes parts.1))
 
   pub any_stays : (xs ys : List A) → list_any p xs ≡ true → list_any p (xs ++ ys) ≡ true
-  any_stays xs ys any = list_any-append p xs ys ∙ or_left (list_any p xs) (list_any p ys) any
+  any_stays xs ys any = list_any-append p _ _ ∙ or_left _ _ any
 
   pub any_new : (xs : List A) (x : A) → p x ≡ true → list_any p (xs ++ x ∷ []) ≡ true
-  any_new xs x passes = list_any-append p xs (x ∷ []) ∙ or_right (list_any p xs) (list_any p (x ∷ [])) (or_left (p x) false passes)
+  any_new xs x passes = list_any-append p xs (x ∷ []) ∙ or_right (list_any p xs) _ (or_left _ false passes)
 
   -- another element was there before this one came
   pub grown_index : (there : Bool) (xs : List A) (x : A) → list_any p xs ≡ true → position_or_len p (grown there xs x) ≡ position_or_len p xs
   grown_index true xs x any = refl
-  grown_index false xs x any = index_stays xs (x ∷ []) any
+  grown_index false xs x any = index_stays _ _ any
 
   pub grown_any : (there : Bool) (xs : List A) (x : A) → list_any p xs ≡ true → list_any p (grown there xs x) ≡ true
   grown_any true xs x any = any
-  grown_any false xs x any = any_stays xs (x ∷ []) any
+  grown_any false xs x any = any_stays _ _ any
 
   -- this one came, or was there
   pub own_index : (there : Bool) (xs : List A) (x : A) → list_any p xs ≡ there → p x ≡ true → position_or_len p (grown there xs x) ≡ position_or_len p xs
   own_index true xs x is passes = refl
-  own_index false xs x is passes = index_new xs x passes is
+  own_index false xs x is passes = index_new _ x passes is
 
   pub own_any : (there : Bool) (xs : List A) (x : A) → list_any p xs ≡ there → p x ≡ true → list_any p (grown there xs x) ≡ true
   own_any true xs x is passes = is
-  own_any false xs x is passes = any_new xs x passes
+  own_any false xs x is passes = any_new _ x passes
 
   -- where none passes, the index is the end
   pub index_none : (xs : List A) → list_any p xs ≡ false → position_or_len p xs ≡ length xs
@@ -74,7 +74,7 @@ last_element (y ∷ xs) x (suc i) is = last_element xs x i (omega arith)
 -- ---- tests of equality
 
 same_bytes : (text : List ℕ) → bytes_eq text text ≡ true
-same_bytes text = (bytes_eq-Decides text text).1 refl
+same_bytes text = (bytes_eq-Decides text _).1 refl
 
 pub same_text : (t : LineText) → line_text_eq t t ≡ true
 same_text (Inline bytes) = same_bytes bytes
@@ -111,7 +111,7 @@ module _ (version : ℕ) (line_strings : List (List ℕ)) (text : List ℕ) wher
   made_any false is = own_any (bytes_eq text) (list_any (bytes_eq text) line_strings) line_strings text refl (same_bytes text)
 
   pub is_made : IsMade version (made_table version line_strings text) text
-  is_made = record { any = λ new. made_any (nat_le version 4) new }
+  is_made = record { any = λ new. made_any _ new }
 
   made_same : (old : Bool) → (if old then Inline text else InLineStrings (index_of_text (if old then line_strings else with_text line_strings text) text))
       ≡ (if old then Inline text else InLineStrings (index_of_text line_strings text))
@@ -120,24 +120,24 @@ module _ (version : ℕ) (line_strings : List (List ℕ)) (text : List ℕ) wher
 
   -- at the index at which it was made
   pub is_same : made_text version (made_table version line_strings text) text ≡ made_text version line_strings text
-  is_same = made_same (nat_le version 4)
+  is_same = made_same _
 
   -- and those that were there
   others_any : (other : List ℕ) (old : Bool) → list_any (bytes_eq other) line_strings ≡ true
       → list_any (bytes_eq other) (if old then line_strings else with_text line_strings text) ≡ true
   others_any other true any = any
-  others_any other false any = grown_any (bytes_eq other) (list_any (bytes_eq text) line_strings) line_strings text any
+  others_any other false any = grown_any (bytes_eq other) _ _ _ any
 
   others_same : (other : List ℕ) (old : Bool) → (old ≡ false → list_any (bytes_eq other) line_strings ≡ true)
       → (if old then Inline other else InLineStrings (index_of_text (if old then line_strings else with_text line_strings text) other))
       ≡ (if old then Inline other else InLineStrings (index_of_text line_strings other))
   others_same other true any = refl
-  others_same other false any = ap InLineStrings (grown_index (bytes_eq other) (list_any (bytes_eq text) line_strings) line_strings text (any refl))
+  others_same other false any = ap InLineStrings (grown_index (bytes_eq other) _ _ _ (any refl))
 
   pub table_has : HasMade version line_strings (made_table version line_strings text)
   table_has = record {
-    there = λ other so. record { any = λ new. others_any other (nat_le version 4) (so.any new) };
-    same = λ other so. others_same other (nat_le version 4) so.any;
+    there = λ other so. record { any = λ new. others_any _ _ (so.any new) };
+    same = λ other so. others_same _ _ so.any;
   }
 
 -- the bytes of a text that is there
@@ -150,12 +150,12 @@ made_bytes version texts text so = by (nat_le version 4) so.any
     by true any = refl
     by false any =
         let found =
-        subst (λ (ts : List (List ℕ)). slice_get ts (index_of_text texts.line_strings text) ≡ Some text)
-        (with_text-there texts.line_strings text (any refl)) (with_text-found texts.line_strings text) in
-        ap (λ (o : Option (List ℕ)). unwrap_or o []) found
+        subst (λ ts. slice_get ts (index_of_text texts.line_strings text) ≡ Some text)
+        (with_text-there _ _ (any refl)) (with_text-found _ _) in
+        ap (λ o. unwrap_or o []) found
 
 -- so texts that are made the same are the same
 pub made_differ : (version : ℕ) (line_strings : List (List ℕ)) (a b : List ℕ) → IsMade version line_strings a → IsMade version line_strings b
     → made_text version line_strings a ≡ made_text version line_strings b → a ≡ b
 made_differ version line_strings a b x y is =
-    sym (made_bytes version (texts_in [] line_strings) a x) ∙ ap (bytes_in (texts_in [] line_strings)) is ∙ made_bytes version (texts_in [] line_strings) b y
+    sym (made_bytes _ (texts_in [] line_strings) a x) ∙ ap (bytes_in (texts_in [] line_strings)) is ∙ made_bytes _ (texts_in [] line_strings) b y

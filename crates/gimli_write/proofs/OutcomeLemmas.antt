@@ -42,27 +42,27 @@ can_follow-tells e position o i =
           record {
             position = record { divides = eqb-true (o % e.minimum_instruction_length) 0 a.0; within = ltb-true i e.maximum_operations_per_instruction a.1 };
             after = leb-true position.0 o b.1;
-            later = later_test o position.0 position.1 i c.1;
+            later = later_test o _ _ i c.1;
             fits = ltb-true ((o - position.0) / e.minimum_instruction_length * e.maximum_operations_per_instruction + i) (2 ^ 64) d.1;
           },
       λ can.
-          and_from (divides && within && after && later) fits
-          (and_from (divides && within && after) later
-          (and_from (divides && within) after
-          (and_from divides within (eq-eqb (o % e.minimum_instruction_length) 0 can.position.divides)
+          and_from _ _
+          (and_from _ _
+          (and_from _ _
+          (and_from _ _ (eq-eqb (o % e.minimum_instruction_length) 0 can.position.divides)
           (lt-ltb i e.maximum_operations_per_instruction can.position.within))
           (le-leb position.0 o can.after))
-          (later_tested o position.0 position.1 i can.later))
+          (later_tested o _ _ i can.later))
           (lt-ltb ((o - position.0) / e.minimum_instruction_length * e.maximum_operations_per_instruction + i) (2 ^ 64) can.fits),
     )
 
 pub can_build-tells : (e : LineEncoding) (position : ℕ × ℕ) (item : BuiltItem) → Decides (can_build e position item) (CanBuild e position item)
 can_build-tells e position (SetAddress a) = (λ is. tt, λ can. refl)
 can_build-tells e position (Row r) =
-    let follow = can_follow-tells e position r.address_offset r.op_index in (
+    let follow = can_follow-tells e _ _ _ in (
       λ is.
           let a = and_parts (can_follow e position r.address_offset r.op_index) (nat_lt r.line (2 ^ 63)) is in
           (follow.0 a.0, ltb-true r.line (2 ^ 63) a.1),
-      λ can. and_from (can_follow e position r.address_offset r.op_index) (nat_lt r.line (2 ^ 63)) (follow.1 can.0) (lt-ltb r.line (2 ^ 63) can.1),
+      λ can. and_from _ _ (follow.1 can.0) (lt-ltb r.line (2 ^ 63) can.1),
     )
-can_build-tells e position (End offset op_index) = can_follow-tells e position offset op_index
+can_build-tells e position (End offset op_index) = can_follow-tells e _ _ _

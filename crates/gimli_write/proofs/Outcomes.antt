@@ -78,14 +78,14 @@ pub same_left : (c d : Conversion) (line_strings : List (List ℕ)) → d ≡ wi
     → without_items d.tables.program ≡ without_items c.tables.program
     → still_to_read d line_strings ≡ still_to_read c line_strings
 same_left c d line_strings is items =
-    ap (λ (x : Conversion). still_to_read x line_strings) is ∙ ap (still_with c line_strings) items
+    ap (λ x. still_to_read x line_strings) is ∙ ap (still_with c line_strings) items
 
 -- ---- the tables that a reading finds
 
 -- they are those of the program after the read
 tables_are : (old new : Built) → AddsFiles old new → record old { directories = new.directories; files = new.files } ≡ new
 tables_are old new adds =
-    ap (λ (texts : List LineText). let p : Built = record old { directories = texts; files = new.files } in p) (ap (λ (p : Built). p.directories) adds)
+    ap (λ texts. let p : Built = record old { directories = texts; files = new.files } in p) (ap (λ p. p.directories) adds)
     ∙ sym adds
 
 module _ (map : ℕ → Option Address → Type 0) where
@@ -99,7 +99,7 @@ module _ (map : ℕ → Option Address → Type 0) where
 
   module _ (g : ℕ → Option Address) (says : AnswersAs map g) where
     item_as : (item : ConvertLineRow) (p : Built) (step : Result Built ConvertError) → ItemComesTo map item p step → step ≡ after_item g item p
-    item_as (SetAddress a) p step is = is.2 ∙ ap (λ (r : Option Address). after_item (λ _. r) (SetAddress a) p) (says a is.0 is.1)
+    item_as (SetAddress a) p step is = is.2 ∙ ap (λ r. after_item (λ _. r) (SetAddress a) p) (says a is.0 is.1)
     item_as (Row r) p step is = is
     item_as (EndSequence offset) p step is = is
 
@@ -114,12 +114,12 @@ module _ (map : ℕ → Option Address → Type 0) where
     comes_as (stops e) p outcome is = sym is
     comes_as (defines rest) p outcome is = comes_as rest p outcome is
     comes_as (offers item tables rest) p outcome is =
-        ap (λ (step : Result Built ConvertError). step >>= λ next. outcome_of g rest next) (sym (item_as item (with_tables tables p) is.0 is.1))
-        ∙ then_as rest outcome (λ next so. comes_as rest next outcome so) is.0 is.2
+        ap (λ step. step >>= λ next. outcome_of g rest next) (sym (item_as _ _ _ is.1))
+        ∙ then_as rest _ (λ next so. comes_as rest next outcome so) is.0 is.2
 
     comes_refused : (r : Reading) (p : Built) (e : ConvertError) → (e ≡ OutOfMemory) ⊎ ComesTo map r p (Err e) → IsRefusedBy (outcome_of g r p) e
     comes_refused r p e (inl memory) = inl memory
-    comes_refused r p e (inr is) = inr (comes_as r p (Err e) is)
+    comes_refused r p e (inr is) = inr (comes_as r p _ is)
 
   pub rest_converts : (old : Progress) (answer : Built × Vec ℕ Global) (new : List (List ℕ)) → RestComesTo map old (Ok (outcome_with answer new))
       → RestConvertsTo map old answer new
@@ -141,8 +141,8 @@ module _ (map : ℕ → Option Address → Type 0) where
           → ComesTo map (still_to_read old before) old.tables.program outcome
       handed_first outcome step item rest =
           comes_after (still_to_read old before) old.tables.program outcome
-          (subst (λ (r : Reading). ComesTo map r old.tables.program outcome) (sym hands)
-          (step, subst (λ (p : Built). ItemComesTo map row p step) (sym (tables_are old.tables.program mid.tables.program adds)) item, rest))
+          (subst (λ r. ComesTo map r old.tables.program outcome) (sym hands)
+          (step, subst (λ p. ItemComesTo map row p step) (sym (tables_are old.tables.program _ adds)) item, rest))
 
       pub fed_next : (new : Conversion) (outcome : Result Outcome ConvertError) → ItemComesTo map row mid.tables.program (Ok new.tables.program)
           → new ≡ with_program new.tables.program mid → without_items new.tables.program ≡ without_items mid.tables.program
@@ -160,13 +160,13 @@ module _ (map : ℕ → Option Address → Type 0) where
       pub feed_refused : (e : ConvertError) → (e ≡ OutOfMemory) ⊎ ItemComesTo map row mid.tables.program (Err e)
           → (e ≡ OutOfMemory) ⊎ ComesTo map (still_to_read old before) old.tables.program (Err e)
       feed_refused e (inl memory) = inl memory
-      feed_refused e (inr item) = inr (handed_first (Err e) (Err e) item refl)
+      feed_refused e (inr item) = inr (handed_first _ _ item refl)
 
     pub read_refused : (e : ConvertError) → IsReadRefusal (still_to_read old before) e
         → (e ≡ OutOfMemory) ⊎ ComesTo map (still_to_read old before) old.tables.program (Err e)
     read_refused e (inl is) =
         inr (comes_after (still_to_read old before) old.tables.program (Err e)
-        (subst (λ (r : Reading). ComesTo map r old.tables.program (Err e)) (sym is) refl))
+        (subst (λ r. ComesTo map r old.tables.program (Err e)) (sym is) refl))
     read_refused e (inr memory) = inl memory.0
 
     module _ (end : after_definitions (still_to_read old before) ≡ ends (tables_of mid after)) (adds : AddsFiles old.tables.program mid.tables.program) where
@@ -175,30 +175,30 @@ module _ (map : ℕ → Option Address → Type 0) where
           ≡ (if unended then Err MissingLineEndSequence
           else Ok (record { program = mid.tables.program; file_ids = mid.tables.file_ids; line_strings = after }))
       last unended is =
-          ap (λ (b : Bool).
+          ap (λ b.
           let r : Result Outcome ConvertError = if b then Err MissingLineEndSequence
           else Ok (record { program = with_tables (tables_of mid after) old.tables.program; file_ids = mid.tables.file_ids; line_strings = after }) in
           r)
-          (sym (ap (λ (p : Built). p.in_sequence) adds) ∙ is)
-          ∙ ap (λ (p : Built).
+          (sym (ap (λ p. p.in_sequence) adds) ∙ is)
+          ∙ ap (λ p.
           let r : Result Outcome ConvertError = if unended then Err MissingLineEndSequence
           else Ok (record { program = p; file_ids = mid.tables.file_ids; line_strings = after }) in
           r)
-          (tables_are old.tables.program mid.tables.program adds)
+          (tables_are old.tables.program _ adds)
 
       comes_last : (outcome : Result Outcome ConvertError) → outcome ≡ outcome_at_end (tables_of mid after) old.tables.program
           → ComesTo map (still_to_read old before) old.tables.program outcome
       comes_last outcome is =
           comes_after (still_to_read old before) old.tables.program outcome
-          (subst (λ (r : Reading). ComesTo map r old.tables.program outcome) (sym end) is)
+          (subst (λ r. ComesTo map r old.tables.program outcome) (sym end) is)
 
       pub left_open : mid.tables.program.in_sequence ≡ true → ComesTo map (still_to_read old before) old.tables.program (Err MissingLineEndSequence)
-      left_open is = comes_last (Err MissingLineEndSequence) (sym (last true is))
+      left_open is = comes_last _ (sym (last _ is))
 
       pub converted_all : mid.tables.program.in_sequence ≡ false
           → ComesTo map (still_to_read old before) old.tables.program
           (Ok (record { program = mid.tables.program; file_ids = mid.tables.file_ids; line_strings = after }))
-      converted_all is = comes_last (Ok (record { program = mid.tables.program; file_ids = mid.tables.file_ids; line_strings = after })) (sym (last false is))
+      converted_all is = comes_last _ (sym (last _ is))
 
   -- ---- a whole conversion
 
@@ -219,12 +219,12 @@ module _ (map : ℕ → Option Address → Type 0) where
       refused_as : (g : ℕ → Option Address) (e : ConvertError) → IsRefusedBy (outcome_of g reading first.program) e
           → (e ≡ OutOfMemory) ⊎ IsConverted g s line_strings (Err e)
       refused_as g e (inl memory) = inl memory
-      refused_as g e (inr refused) = inr (all_converted g (Err e) refused)
+      refused_as g e (inr refused) = inr (all_converted g _ refused)
 
       refused_by : (e : ConvertError) → (e ≡ OutOfMemory) ⊎ ComesTo map reading first.program (Err e)
           → (e ≡ OutOfMemory) ⊎ SourceComesTo map s line_strings (Err e)
       refused_by e (inl memory) = inl memory
-      refused_by e (inr comes) = inr (all_comes (Err e) comes)
+      refused_by e (inr comes) = inr (all_comes _ comes)
 
       pub rows_refused : (e : ConvertError) → (e ≡ OutOfMemory) ⊎ ComesTo map reading first.program (Err e)
           → ((g : ℕ → Option Address) → AnswersAs map g → IsRefusedBy (outcome_of g reading first.program) e) → IsConvertRefusal map s line_strings e

@@ -11,16 +11,16 @@ use Rattle.gimli_write.proofs.Writable.{writable_then}
 pub reads_none : (a b : Progress) → b.conversion.tables ≡ a.conversion.tables → b.line_strings ≡ a.line_strings → ReadsOn a b
 reads_none a b tables texts = record {
   adds = rw tables refl;
-  keeps = rw tables (files_self a.conversion.tables);
-  texts = rw texts (kept_self a.line_strings);
+  keeps = rw tables (files_self _);
+  texts = rw texts (kept_self _);
   writable = rw (tables, texts) (record { still = λ strings can. can });
 }
 
 pub reads_then : {a b c : Progress} → ReadsOn a b → ReadsOn b c → ReadsOn a c
 reads_then {a = a} {b = b} {c = c} first second = record {
-  adds = added_then (built_so_far a) (built_so_far b) (built_so_far c) first.adds second.adds;
-  keeps = files_then a.conversion.tables b.conversion.tables c.conversion.tables first.keeps second.keeps;
-  texts = kept_then a.line_strings b.line_strings c.line_strings first.texts second.texts;
+  adds = added_then (built_so_far a) _ _ first.adds second.adds;
+  keeps = files_then _ _ _ first.keeps second.keeps;
+  texts = kept_then _ _ _ first.texts second.texts;
   writable = writable_then first.writable second.writable;
 }
 

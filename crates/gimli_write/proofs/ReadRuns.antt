@@ -59,5 +59,5 @@ pub run_refused : (notation : Notation) (h : Header) (events : List EventWithFil
 run_refused notation h events old new rows e r tells so_far (inl memory) named other = rw (named memory.0) tt
 run_refused notation h events old new rows e r tells so_far (inr next) named other = elim (is_memory e) [
   | inl memory ↦ rw (named memory) tt
-  | inr not_memory ↦ rw (other not_memory) (first_fault notation h events (events_left old) (events_left new) rows new.files e tells so_far next.0)
+  | inr not_memory ↦ rw (other not_memory) (first_fault _ h _ _ _ _ _ e tells so_far next.0)
 ]

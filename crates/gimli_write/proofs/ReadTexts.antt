@@ -24,8 +24,8 @@ front_read bytes text (Ok x, rest) read is =
     let found = reads_text.found bytes x rest read in
     let same : x ≡ text = cc in (
       rest,
-      found.1 ∙ ap (λ (xs : List ℕ). xs ++ rest) found.2.1 ∙ append_assoc x (0 ∷ []) rest ∙ ap (λ (xs : List ℕ). xs ++ 0 ∷ rest) same,
-      subst (λ (xs : List ℕ). All (λ b. b ≢ 0) xs) same (All-from_recursion (λ b. b ≢ 0) x found.2.0),
+      found.1 ∙ ap (λ xs. xs ++ rest) found.2.1 ∙ append_assoc x (0 ∷ []) rest ∙ ap (λ xs. xs ++ 0 ∷ rest) same,
+      subst (λ xs. All (λ b. b ≢ 0) xs) same (All-from_recursion (λ b. b ≢ 0) x found.2.0),
     )
 front_read bytes text (Err e, rest) read is = absurd cc
 
@@ -35,7 +35,7 @@ text_from_read section offset text is = elim (cases_lt (length section) offset) 
   | inl lt ↦ let refused = rw (lt-ltb (length section) offset lt, text_from, skip_at) at is in absurd cc
   | inr le ↦
       let read = rw (le-ltb (length section) offset le, text_from, skip_at) at is in
-      let found = front_read (drop offset section) text (text_at (drop offset section)) refl read in
+      let found = front_read _ _ _ refl read in
       record { rest = found.0; there = found.1; no_zero = found.2 }
 ]
 
@@ -43,25 +43,25 @@ text_from_read section offset text is = elim (cases_lt (length section) offset) 
 text_from_there : (section : List ℕ) (offset : ℕ) (text : List ℕ) → IsTextAt section offset text → text_from section offset ≡ Ok text
 text_from_there section offset text at =
     let le : offset ≤ length section = omega (arith, length-drop offset section, ap length at.there, length-append text (0 ∷ at.rest)) in
-    let only = reads_text.only (text ++ 0 ∷ []) text at.rest (recursion_from_All (λ b. b ≢ 0) text at.no_zero, refl) in
+    let only = reads_text.only (text ++ 0 ∷ []) text at.rest (recursion_from_All (λ b. b ≢ 0) _ at.no_zero, refl) in
     rw (le-ltb (length section) offset le, text_from, skip_at)
-    (ap (λ (bytes : List ℕ). (text_at bytes).0) (at.there ∙ sym (append_assoc text (0 ∷ []) at.rest)) ∙ ap (λ (r : Read (List ℕ)). r.0) only)
+    (ap (λ bytes. (text_at bytes).0) (at.there ∙ sym (append_assoc text (0 ∷ []) at.rest)) ∙ ap (λ r. r.0) only)
 
 pub text_read : (s : Sections) (v : Value) (text : List ℕ) → text_of s v ≡ Ok text → IsText s v text
 text_read s (String bytes) text is = cc
-text_read s (DebugStrRef offset) text is = text_from_read s.strings offset.0 text is
-text_read s (DebugLineStrRef offset) text is = text_from_read s.line_strings offset.0 text is
+text_read s (DebugStrRef offset) text is = text_from_read _ _ _ is
+text_read s (DebugLineStrRef offset) text is = text_from_read _ _ _ is
 text_read s v text is = absurd cc
 
 pub text_there : (s : Sections) (v : Value) (text : List ℕ) → IsText s v text → text_of s v ≡ Ok text
 text_there s (String bytes) text is = rw is refl
-text_there s (DebugStrRef offset) text is = text_from_there s.strings offset.0 text is
-text_there s (DebugLineStrRef offset) text is = text_from_there s.line_strings offset.0 text is
+text_there s (DebugStrRef offset) text is = text_from_there _ _ _ is
+text_there s (DebugLineStrRef offset) text is = text_from_there _ _ _ is
 text_there s v text is = absurd is
 
 -- so a value that stands for a text isn't refused
 pub text_not_refused : (s : Sections) (v : Value) (e : Error) → HasText s v → text_of s v ≡ Err e → ⊥
-text_not_refused s v e has refused = let both = sym (text_there s v has.0 has.1) ∙ refused in cc
+text_not_refused s v e has refused = let both = sym (text_there s v _ has.1) ∙ refused in cc
 
 -- ---- one after the other
 
@@ -74,14 +74,14 @@ one_by_one_push Related (a ∷ xs) [] x y all one = absurd all
 
 -- the elements so far, and one more
 pub taken_more : {A : Type 0} (xs : List A) (i : ℕ) (x : A) → i < length xs → x ≡ get_or xs i x → take (i + 1) xs ≡ take i xs ++ x ∷ []
-taken_more xs i x lt is = ap (λ (n : ℕ). take n xs) (add-one i) ∙ take-suc xs i x lt ∙ ap (λ a. take i xs ++ a ∷ []) (sym is)
+taken_more xs i x lt is = ap (λ n. take n xs) (add-one i) ∙ take-suc xs i x lt ∙ ap (λ a. take i xs ++ a ∷ []) (sym is)
 
 pub one_by_one_more : {A B C D : Type 0} (Related : A → B → Type 0) (f : C → A) (g : D → B) (xs : List C) (ys : List D) (i : ℕ) (x : C) (y : D)
     → i < length xs → x ≡ get_or xs i x → OneByOne Related (map f (take i xs)) (map g ys) → Related (f x) (g y)
     → OneByOne Related (map f (take (i + 1) xs)) (map g (ys ++ y ∷ []))
 one_by_one_more Related f g xs ys i x y lt is all one =
     rw (taken_more xs i x lt is, map-append f (take i xs) (x ∷ []), map-append g ys (y ∷ []))
-    (one_by_one_push Related (map f (take i xs)) (map g ys) (f x) (g y) all one)
+    (one_by_one_push _ _ _ _ _ all one)
 
 -- what is true of all is true of one
 pub mapped_at : {A C : Type 0} (P : A → Type 0) (f : C → A) (xs : List C) (i : ℕ) (x : C) → i < length xs → x ≡ get_or xs i x → All P (map f xs) → P (f x)

@@ -37,9 +37,9 @@ pub same_unit : (limit size n : ℕ) (big other : Bool) (directory other_directo
     → SpellsUnit (record { big = other; limit = limit }) (unit_entry_with size other_directory) (drop n other_section) h
     → BeginsUnit (record { big = big; limit = limit }) (unit_entry_with size directory) (drop n section) h
 same_unit limit size n big other directory other_directory section other_section h b d s spelled =
-    subst (λ (x : Bool). BeginsUnit (record { big = x; limit = limit }) (unit_entry_with size directory) (drop n section) h) b
-    (subst (λ (x : List ℕ). BeginsUnit (record { big = other; limit = limit }) (unit_entry_with size x) (drop n section) h) d
-    (subst (λ (x : List ℕ). BeginsUnit (record { big = other; limit = limit }) (unit_entry_with size other_directory) (drop n x) h) s
+    subst (λ x. BeginsUnit (record { big = x; limit = limit }) (unit_entry_with size directory) (drop n section) h) b
+    (subst (λ x. BeginsUnit (record { big = other; limit = limit }) (unit_entry_with size x) (drop n section) h) d
+    (subst (λ x. BeginsUnit (record { big = other; limit = limit }) (unit_entry_with size other_directory) (drop n x) h) s
     (record { spelled = spelled })))
 
 -- a fault where a unit begins
@@ -51,32 +51,32 @@ pub same_fault : (limit size n : ℕ) (big other : Bool) (directory other_direct
     → HasHeaderFault (record { big = other; limit = limit }) (unit_entry_with size other_directory) (drop n other_section) e
     → BeginsFault (record { big = big; limit = limit }) (unit_entry_with size directory) (drop n section) e
 same_fault limit size n big other directory other_directory section other_section e b d s fault =
-    subst (λ (x : Bool). BeginsFault (record { big = x; limit = limit }) (unit_entry_with size directory) (drop n section) e) b
-    (subst (λ (x : List ℕ). BeginsFault (record { big = other; limit = limit }) (unit_entry_with size x) (drop n section) e) d
-    (subst (λ (x : List ℕ). BeginsFault (record { big = other; limit = limit }) (unit_entry_with size other_directory) (drop n x) e) s
+    subst (λ x. BeginsFault (record { big = x; limit = limit }) (unit_entry_with size directory) (drop n section) e) b
+    (subst (λ x. BeginsFault (record { big = other; limit = limit }) (unit_entry_with size x) (drop n section) e) d
+    (subst (λ x. BeginsFault (record { big = other; limit = limit }) (unit_entry_with size other_directory) (drop n x) e) s
     (record { fault = fault })))
 
 pub same_sections : (strings other_strings line_strings other_line_strings : List ℕ) (s : Sections) → other_strings ≡ strings
     → other_line_strings ≡ line_strings
     → record { strings = strings; line_strings = line_strings } ≡ s → record { strings = other_strings; line_strings = other_line_strings } ≡ s
 same_sections strings other_strings line_strings other_line_strings s a b is =
-    ap (λ (x : List ℕ). let t : Sections = record { strings = x; line_strings = other_line_strings } in t) a
-    ∙ ap (λ (x : List ℕ). let t : Sections = record { strings = strings; line_strings = x } in t) b ∙ is
+    ap (λ x. let t : Sections = record { strings = x; line_strings = other_line_strings } in t) a
+    ∙ ap (λ x. let t : Sections = record { strings = strings; line_strings = x } in t) b ∙ is
 
 pub same_notation : (limit : ℕ) (big other : Bool) (n : Notation) → n ≡ record { big = other; limit = limit } → other ≡ big
     → n ≡ record { big = big; limit = limit }
-same_notation limit big other n is b = is ∙ ap (λ (x : Bool). let m : Notation = record { big = x; limit = limit } in m) b
+same_notation limit big other n is b = is ∙ ap (λ x. let m : Notation = record { big = x; limit = limit } in m) b
 
 -- ---- one header
 
 module _ (notation : Notation) (unit_entry : UnitEntry) (bytes : List ℕ) where
   pub same_header : (h k : Header) → BeginsUnit notation unit_entry bytes h → BeginsUnit notation unit_entry bytes k → h ≡ k
-  same_header h k s t = one_header notation unit_entry bytes h k s.spelled t.spelled
+  same_header h k s t = one_header notation unit_entry _ h k s.spelled t.spelled
 
   -- the texts of the header that is read are there
   pub texts_there : (sections : Sections) (k : Header) → CanRead notation unit_entry sections bytes → BeginsUnit notation unit_entry bytes k
       → HasTexts sections k
-  texts_there sections k can unit = subst (λ (h : Header). HasTexts sections h) (same_header can.header k can.unit unit) can.texts
+  texts_there sections k can unit = subst (λ h. HasTexts sections h) (same_header _ k can.unit unit) can.texts
 
   -- a header that is there isn't refused
   pub header_refused : (h : Header) (e : Error) (r : ConvertError) → BeginsUnit notation unit_entry bytes h
@@ -84,7 +84,7 @@ module _ (notation : Notation) (unit_entry : UnitEntry) (bytes : List ℕ) where
       → (e ≡ OutOfMemory → r ≡ NoMemory) → IsRunRefusal notation h r
   header_refused h e r unit fault named = elim (is_memory e) [
     | inl memory ↦ rw (named memory) tt
-    | inr other ↦ absurd (no_fault notation unit_entry bytes h e unit.spelled (fault other).fault)
+    | inr other ↦ absurd (no_fault notation unit_entry _ h e unit.spelled (fault other).fault)
   ]
 
 -- ---- answers of the same by another name
@@ -92,20 +92,20 @@ module _ (notation : Notation) (unit_entry : UnitEntry) (bytes : List ℕ) where
 pub same_answers : (r : Result RoundTrip ConvertError) (n m : Notation) (s t : Sections) (h k : Header) → n ≡ m → s ≡ t → h ≡ k
     → IfOk r (λ answer. AreAnswers n s h (answers answer)) → IfOk r (λ answer. AreAnswers m t k (answers answer))
 same_answers r n m s t h k a b d is =
-    subst (λ (x : Notation). IfOk r (λ answer. AreAnswers x t k (answers answer))) a
-    (subst (λ (x : Sections). IfOk r (λ answer. AreAnswers n x k (answers answer))) b
-    (subst (λ (x : Header). IfOk r (λ answer. AreAnswers n s x (answers answer))) d is))
+    subst (λ x. IfOk r (λ answer. AreAnswers x t k (answers answer))) a
+    (subst (λ x. IfOk r (λ answer. AreAnswers n x k (answers answer))) b
+    (subst (λ x. IfOk r (λ answer. AreAnswers n s x (answers answer))) d is))
 
 pub same_refusal : (r : Result RoundTrip ConvertError) (n m : Notation) (h k : Header) → n ≡ m → h ≡ k → IfErr r (IsRunRefusal n h) → IfErr r (IsRunRefusal m k)
 same_refusal r n m h k a d is =
-    subst (λ (x : Notation). IfErr r (IsRunRefusal x k)) a (subst (λ (x : Header). IfErr r (IsRunRefusal n x)) d is)
+    subst (λ x. IfErr r (IsRunRefusal x k)) a (subst (λ x. IfErr r (IsRunRefusal n x)) d is)
 
 -- ---- a program's unit
 
 one_by_one_all : {A B : Type 0} (Related : A → B → Type 0) (P : A → Type 0) → ((x : A) (y : B) → Related x y → P x) → (xs : List A) (ys : List B)
     → OneByOne Related xs ys → All P xs
 one_by_one_all Related P gives [] [] all = All-nil P
-one_by_one_all Related P gives (x ∷ xs) (y ∷ ys) all = All-cons P x xs (gives x y all.0) (one_by_one_all Related P gives xs ys all.1)
+one_by_one_all Related P gives (x ∷ xs) (y ∷ ys) all = All-cons P x _ (gives x y all.0) (one_by_one_all Related P gives xs ys all.1)
 one_by_one_all Related P gives [] (y ∷ ys) all = absurd all
 one_by_one_all Related P gives (x ∷ xs) [] all = absurd all
 
@@ -118,7 +118,7 @@ optional_there s None (Some text) is = absurd is
 file_texts_there : (s : Sections) (p : Built) (texts : StringTables) (read : ReadFile) (built : File) → IsFile s p texts read built → HasFileTexts s read
 file_texts_there s p texts read built is = record {
   path = (_, is.path);
-  source = optional_there s read.source (stored_details p texts built.1).source is.source;
+  source = optional_there s _ _ is.source;
 }
 
 -- the sections of the tables have lengths that 64 bits hold
@@ -136,7 +136,7 @@ module _ (big : Bool) (p : Built) (texts : StringTables) (section : List ℕ) (n
     line_strings_are = refl;
     instructions_held = omega arith;
     length_held = λ wide. (let rest = length-drop n section in omega (arith, rest));
-    texts_held = λ new wide. all_held (emitted_texts p texts);
+    texts_held = λ new wide. all_held _;
   }
     where
       offset_held : (texts : List (List ℕ)) (i : ℕ) → byte_count texts < 2 ^ 64 → offset_of texts i < 2 ^ 64
@@ -144,11 +144,11 @@ module _ (big : Bool) (p : Built) (texts : StringTables) (section : List ℕ) (n
 
       text_held : (t : LineText) → IsOffsetHeld (2 ^ 64) texts t
       text_held (Inline text) = tt
-      text_held (InStrings i) = offset_held texts.strings i held.0
-      text_held (InLineStrings i) = offset_held texts.line_strings i held.1
+      text_held (InStrings i) = offset_held _ i held.0
+      text_held (InLineStrings i) = offset_held _ i held.1
 
       all_held : (ts : List (ℕ × LineText)) → All (λ t. IsOffsetHeld (2 ^ 64) texts t.1) ts
-      all_held ts = λ i d lt. text_held (get_or ts i d).1
+      all_held ts = λ i d lt. text_held _
 
   pub read_back : ReadsBack (slice_notation big) (unit_entry_of p texts) (sections_of texts) p texts (drop n section)
   read_back = whole _ _ _ read_well
@@ -167,20 +167,20 @@ module _ (big other : Bool) (p : Built) (texts : StringTables) (section other_se
 
   is_unit_entry : unit_entry_with size directory ≡ unit_entry_of p texts
   is_unit_entry =
-      ap (λ (x : ℕ). unit_entry_with x directory) sized
-      ∙ ap (λ (x : Option (List ℕ)). let g : UnitEntry = record { address_size = p.encoding.address_size; directory = x; name = None } in g) directed
+      ap (λ x. unit_entry_with x directory) sized
+      ∙ ap (λ x. let g : UnitEntry = record { address_size = p.encoding.address_size; directory = x; name = None } in g) directed
 
   -- the unit by other names
   moved : (P : Bool → UnitEntry → List ℕ → Sections → Type 0) → P big (unit_entry_of p texts) section (sections_of texts)
       → P other (unit_entry_with size directory) other_section s
   moved P is =
-      subst (λ (x : Bool). P x (unit_entry_with size directory) other_section s) (sym order)
-      (subst (λ (x : UnitEntry). P big x other_section s) (sym is_unit_entry)
-      (subst (λ (x : List ℕ). P big (unit_entry_of p texts) x s) (sym there)
-      (subst (λ (x : Sections). P big (unit_entry_of p texts) section x) (sym written) is)))
+      subst (λ x. P x (unit_entry_with size directory) other_section s) (sym order)
+      (subst (λ x. P big x other_section s) (sym is_unit_entry)
+      (subst (λ x. P big (unit_entry_of p texts) x s) (sym there)
+      (subst (λ x. P big (unit_entry_of p texts) section x) (sym written) is)))
 
   moved_back : (P : Bool → Sections → Type 0) → P other s → P big (sections_of texts)
-  moved_back P is = subst (λ (x : Bool). P x (sections_of texts)) order (subst (λ (x : Sections). P other x) written is)
+  moved_back P is = subst (λ x. P x (sections_of texts)) order (subst (λ x. P other x) written is)
 
   begins : BeginsUnit (slice_notation big) (unit_entry_of p texts) (drop n section) back.header
   begins = record { spelled = (drop n section, [], sym (append-nil (drop n section)), back.is_unit.spelled) }

@@ -42,7 +42,7 @@ memory_refused cause r is = MatchResult-weaker r is (λ _ u. u) (λ e memory. rw
 
 -- what was appended is the unit that was wanted
 unit_written : (wanted : ToWrite) (old new : List ℕ) → wanted.cause ≡ None → Appends wanted.bytes old new → (unit : List ℕ) × WasWritten wanted old new unit
-unit_written wanted old new none there = by wanted.bytes refl there
+unit_written wanted old new none there = by _ refl there
   where
     by : (r : Result (List ℕ) Error) → wanted.bytes ≡ r → Appends r old new → (unit : List ℕ) × WasWritten wanted old new unit
     by (Ok unit) is appended = (unit, record { no_cause = none; bytes = is; appended = appended })
@@ -60,9 +60,9 @@ pub unit_not_answered : (big other : Bool) (wanted : ToWrite) (unit_entry : Unit
     → other ≡ big → wanted.cause ≡ None → Appends wanted.bytes old new → n ≡ length old → IfErr r (RefusesUnit (slice_notation other) unit_entry (drop n new))
     → IfErr r (IsRefusal big wanted unit_entry old new)
 unit_not_answered big other wanted unit_entry old new n r order none there offset is =
-    let written = unit_written wanted old new none there in
-    let later = ap (λ (xs : List ℕ). drop n xs) written.1.appended ∙ ap (λ (i : ℕ). drop i (old ++ written.0)) offset ∙ drop-append_seam old written.0 in
+    let written = unit_written _ _ _ none there in
+    let later = ap (λ xs. drop n xs) written.1.appended ∙ ap (λ i. drop i (old ++ written.0)) offset ∙ drop-append_seam old written.0 in
     let refused =
-    subst (λ (x : Bool). IfErr r (RefusesUnit (slice_notation x) unit_entry written.0)) order
-    (subst (λ (xs : List ℕ). IfErr r (RefusesUnit (slice_notation other) unit_entry xs)) later is) in
-    MatchResult-weaker r refused (λ _ u. u) (λ e f. unit_refused big wanted unit_entry old new written.0 e written.1 f)
+    subst (λ x. IfErr r (RefusesUnit (slice_notation x) unit_entry written.0)) order
+    (subst (λ xs. IfErr r (RefusesUnit (slice_notation other) unit_entry xs)) later is) in
+    MatchResult-weaker r refused (λ _ u. u) (λ e f. unit_refused _ _ _ _ _ _ e written.1 f)

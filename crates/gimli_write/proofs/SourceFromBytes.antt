@@ -46,16 +46,16 @@ module _ {R Offset Endian : Type 0} (bytes : R → List ℕ) (number : Offset �
       → StepsSource bytes number s new answer
   steps_source file fits step made over =
       let shorter : length new.unread.bytes < length s.unread.bytes =
-      subst (λ (v : Unread). length v.bytes < length s.unread.bytes) (sym unread)
-      (is_shorter s.unread.notation s.header s.unread.bytes i taken.0 u.bytes taken.1 taken.2) in
+      subst (λ v. length v.bytes < length s.unread.bytes) (sym unread)
+      (is_shorter s.unread.notation s.header s.unread.bytes i _ _ taken.1 taken.2) in
       record {
-        reading = executed_reading Endian bytes number s u notation i taken.0 taken.1 taken.2 new answer file fits step made;
-        refusal = executed_refusal Endian bytes number s u notation i taken.0 taken.1 taken.2 answer over;
-        tables = executed_last Endian bytes number s u notation i taken.0 taken.1 taken.2 new answer file fits step made;
-        stopped = executed_stop Endian bytes number s u notation i taken.0 taken.1 taken.2 answer over;
-        shorter = executed_shortens (with_unread s u) s new i answer made shorter;
+        reading = executed_reading Endian bytes number s u notation i taken.0 taken.1 taken.2 _ _ file fits step made;
+        refusal = executed_refusal Endian bytes number s u notation i taken.0 taken.1 taken.2 _ over;
+        tables = executed_last Endian bytes number s u notation i taken.0 taken.1 taken.2 _ _ file fits step made;
+        stopped = executed_stop Endian bytes number s u notation i taken.0 taken.1 taken.2 _ over;
+        shorter = executed_shortens (with_unread s u) s new i _ made shorter;
         header = header;
-        notation = ap (λ (v : Unread). v.notation) unread ∙ notation;
+        notation = ap (λ v. v.notation) unread ∙ notation;
       }
 
 -- k is the header that was lent, r2 the registers after the instruction
@@ -64,22 +64,22 @@ module _ (s : SourceRun) (k : Header) (lent : k ≡ s.header) (r2 : LineRow) (u 
     taken : TakesNext s.header s.unread u (Some x.instruction)
     taken =
         let f = (reads_instruction s.unread.notation k).found s.unread.bytes x.instruction u.bytes x.reading in
-        (f.0, f.1, spelled_as s.unread.notation s.header k f.0 x.instruction x.instruction lent refl f.2)
+        (f.0, f.1, spelled_as _ _ k _ _ _ lent refl f.2)
 
     fits : is_refused s.header.parameters x.instruction s.row ≡ refused
-    fits = subst (λ (j : Header). is_refused j.parameters x.instruction s.row ≡ refused) lent x.refusal
+    fits = subst (λ j. is_refused j.parameters x.instruction s.row ≡ refused) lent x.refusal
 
     steps : r2 ≡ step_of s.header.parameters x.instruction s.row
-    steps = subst (λ (j : Header). r2 ≡ step_of j.parameters x.instruction s.row) lent x.registers
+    steps = subst (λ j. r2 ≡ step_of j.parameters x.instruction s.row) lent x.registers
 
   module _ (x : IsExecuted k.parameters (ins_at s.unread.notation k s.unread.bytes) u.bytes s.row r2 false) where
     address_step : (a : ℕ) → Address a ≡ told_of x.instruction → r2 ≡ step_of s.header.parameters (SetAddress a) s.row
-    address_step a told = subst (λ (i : Ins). r2 ≡ step_of s.header.parameters i s.row) (told_address x.instruction a told) (steps false x)
+    address_step a told = subst (λ i. r2 ≡ step_of s.header.parameters i s.row) (told_address x.instruction a told) (steps false x)
 
   pub refused_ready : (e : Error) → RefusesNext k s.unread u s.row r2 e → IsReady s.row → IsReady r2
   refused_ready e refused ready =
       let x = refused.1 in
-      ready_at_refusal x.instruction s.row r2 ready s.header.parameters AddressOverflow x.defines (λ n. absurd (n refl)) (λ _. (fits true x, steps true x))
+      ready_at_refusal x.instruction s.row r2 ready s.header.parameters _ x.defines (λ n. absurd (n refl)) (λ _. (fits true x, steps true x))
 
 module _ {R Offset Endian : Type 0} (bytes : R → List ℕ) (number : Offset → ℕ) (s : SourceRun) (k : Header) (lent : k ≡ s.header) (r2 : LineRow) (u : Unread)
     (notation : u.notation ≡ s.unread.notation) where
@@ -87,10 +87,10 @@ module _ {R Offset Endian : Type 0} (bytes : R → List ℕ) (number : Offset �
     pub quiet_steps : Quiet ≡ told_of x.instruction → StepsSource {Endian = Endian} bytes number s (state s.header r2 s.base s.pending u) (Ok More)
     quiet_steps told =
         let i = x.instruction in
-        let address = no_address i Quiet told (λ a is. absurd cc) in
+        let address = no_address i _ told (λ a is. absurd cc) in
         steps_source bytes number s (state s.header r2 s.base s.pending u) u notation i (taken s k lent r2 u false x) (Ok More) refl refl x.defines
         (fits s k lent r2 u false x)
-        (quiet_state i s.header s.header s.row r2 s.base s.pending u address x.defines (fits s k lent r2 u false x) (files_kept s.header i x.defines)
+        (quiet_state i s.header s.header s.row r2 s.base s.pending u address x.defines (fits s k lent r2 u false x) (files_kept _ i x.defines)
         (steps s k lent r2 u false x) (told_quiet i told))
         (rw (told_quiet i told) refl) tt
 
@@ -108,17 +108,17 @@ module _ {R Offset Endian : Type 0} (bytes : R → List ℕ) (number : Offset �
     row_steps ready told j same r3 reset t given is t_is =
         let i = x.instruction in
         let loud = told_row i told in
-        let address = no_address i Row told (λ a is. absurd cc) in
-        let kept = files_kept s.header i x.defines in
-        steps_source bytes number s t u notation i (taken s k lent r2 u false x) (Ok given) (ap (λ (q : SourceRun). q.header) t_is)
-        (ap (λ (q : SourceRun). q.unread) t_is)
+        let address = no_address i _ told (λ a is. absurd cc) in
+        let kept = files_kept _ i x.defines in
+        steps_source bytes number s t u notation i (taken s k lent r2 u false x) (Ok given) (ap (λ q. q.header) t_is)
+        (ap (λ q. q.unread) t_is)
         x.defines (fits s k lent r2 u false x)
         (t_is
         ∙ row_state i s.header s.header s.row r2 s.base s.pending u address x.defines (fits s k lent r2 u false x) kept (steps s k lent r2 u false x) loud
-        ready j same r3 reset
-        r2.end_sequence refl (if r2.end_sequence then 0 else s.base) refl)
-        (made_is i s.header s.header s.row r2 s.base s.pending u address x.defines (fits s k lent r2 u false x) kept (steps s k lent r2 u false x) given
-        (r2.address - s.base) is loud refl)
+        ready j same _ reset
+        _ refl _ refl)
+        (made_is i s.header s.header s.row r2 s.base s.pending u address x.defines (fits s k lent r2 u false x) kept (steps s k lent r2 u false x) _
+        _ is loud refl)
         tt
 
   pub refused_steps : (e : Error) → RefusesNext k s.unread u s.row r2 e

@@ -44,12 +44,12 @@ pending_is i past = refl
 state_is : (h : Header) (u : Unread) (past : List Ins) (i : Ins) → state_after i (state_at h past u) ≡ state_at h (i ∷ past) u
 state_is h u past i =
     ap
-    (λ (b : ℕ). let s : SourceRun =
+    (λ b. let s : SourceRun =
     record { header = h; row = registers_after h.parameters (i ∷ past); base = b; pending = pending_after i (pending_address past); unread = u } in
     s)
-    (base_is i past)
+    (base_is i _)
     ∙ ap
-    (λ (p : Option ℕ). let s : SourceRun =
+    (λ p. let s : SourceRun =
     record { header = h; row = registers_after h.parameters (i ∷ past); base = base_at (i ∷ past); pending = p; unread = u } in
     s)
     (pending_is i past)
@@ -74,7 +74,7 @@ module _ (give : SourceRow → Reading) (stop rest : Reading) where
       → (made ≡ true → tombstone ≡ false → r ≡ d)
       → (if refused then stop else (if made && not is_tombstone then give r else rest))
       ≡ (if over then stop else (if made && not tombstone then give d else rest))
-  same_point made refused over is_tombstone tombstone r d e f same = rw (e, f) (same_parts made over tombstone r d same)
+  same_point made refused over is_tombstone tombstone r d e f same = rw (e, f) (same_parts _ _ _ r d same)
 
 point_is : (h : Header) (u : Unread) (past : List Ins) (tables : TablesAndTexts) (i : Ins) (rest : Reading)
     → instruction_reading (state_at h past u) tables i rest ≡ reading_at h.parameters tables past i rest

@@ -37,20 +37,20 @@ use Rattle.gimli_write.specs.inside.convert.SourceRun.{step_reading, step_made, 
 
 module _ (notation : Notation) (h : Header) (bytes : List ℕ) where
   pub decoded_none : bytes ≡ [] → decoded_at notation h bytes ≡ ([], None)
-  decoded_none e = sym (one_decoding notation h bytes [] None (record { front = []; rest = bytes; parts = refl; spelled = refl; ended = e }))
+  decoded_none e = sym (one_decoding notation h _ _ _ (record { front = []; rest = bytes; parts = refl; spelled = refl; ended = e }))
 
   pub decoded_fault : (e : Error) → bytes ≢ [] → (instruction_production notation h).Fault bytes e → decoded_at notation h bytes ≡ ([], Some e)
   decoded_fault e some f =
-      sym (one_decoding notation h bytes [] (Some e) (record { front = []; rest = bytes; parts = refl; spelled = refl; ended = (some, f) }))
+      sym (one_decoding notation h _ _ _ (record { front = []; rest = bytes; parts = refl; spelled = refl; ended = (some, f) }))
 
   pub decoded_some : (i : Ins) (front rest : List ℕ) → bytes ≡ front ++ rest → SpellsInstruction notation h front i
       → decoded_at notation h bytes ≡ (i ∷ (decoded_at notation h rest).0, (decoded_at notation h rest).1)
   decoded_some i front rest parts s =
-      let c = is_decoded notation h rest in
-      sym (one_decoding notation h bytes (i ∷ (decoded_at notation h rest).0) (decoded_at notation h rest).1 (record {
+      let c = is_decoded notation h _ in
+      sym (one_decoding notation h _ _ _ (record {
         front = front ++ c.front;
         rest = c.rest;
-        parts = parts ∙ ap (λ (xs : List ℕ). front ++ xs) c.parts ∙ sym (append_assoc front c.front c.rest);
+        parts = parts ∙ ap (λ xs. front ++ xs) c.parts ∙ sym (append_assoc front c.front c.rest);
         spelled = (front, c.front, refl, s, c.spelled);
         ended = c.ended;
       }))
@@ -66,10 +66,10 @@ module _ (notation : Notation) (h : Header) (bytes : List ℕ) where
 -- ---- readings
 
 if_true : {A : Type 0} (b : Bool) (x y : A) → b ≡ true → (if b then x else y) ≡ x
-if_true b x y e = ap (λ (c : Bool). if c then x else y) e
+if_true b x y e = ap (λ c. if c then x else y) e
 
 if_false : {A : Type 0} (b : Bool) (x y : A) → b ≡ false → (if b then x else y) ≡ y
-if_false b x y e = ap (λ (c : Bool). if c then x else y) e
+if_false b x y e = ap (λ c. if c then x else y) e
 
 pub no_file : (sections : Sections) (tables : TablesAndTexts) (i : Ins) → defines_file i ≡ false → tables_after_definition sections tables i ≡ Ok tables
 no_file sections tables (DefineFile f) e = absurd cc
@@ -85,17 +85,17 @@ same_reading : (sections : Sections) (u v : Unread) (s : SourceRun) (there : Res
 same_reading sections u v s there [] end = refl
 same_reading sections u v s (Err e) (i ∷ list) end = refl
 same_reading sections u v s (Ok tables) (i ∷ list) end =
-    ap (λ (r : Reading). instruction_reading s tables i (with_definition i r))
+    ap (λ r. instruction_reading s tables i (with_definition i r))
     (same_reading sections u v (state_after i s) (tables_after_definition sections tables i) list end)
 
 module _ (sections : Sections) (tables : TablesAndTexts) (s : SourceRun) where
   pub none_left : s.unread.bytes ≡ [] → reading_left sections s tables ≡ ends tables
-  none_left e = ap (λ (c : List Ins × Option Error). reading_from sections s (Ok tables) c.0 c.1) (decoded_none s.unread.notation s.header s.unread.bytes e)
+  none_left e = ap (λ c. reading_from sections s (Ok tables) c.0 c.1) (decoded_none s.unread.notation s.header s.unread.bytes e)
 
   pub at_fault : (e : Error) → s.unread.bytes ≢ [] → (instruction_production s.unread.notation s.header).Fault s.unread.bytes e
       → reading_left sections s tables ≡ stops (Read e)
   at_fault e some f =
-      ap (λ (c : List Ins × Option Error). reading_from sections s (Ok tables) c.0 c.1) (decoded_fault s.unread.notation s.header s.unread.bytes e some f)
+      ap (λ c. reading_from sections s (Ok tables) c.0 c.1) (decoded_fault s.unread.notation s.header s.unread.bytes e some f)
 
   module _ (u : Unread) (notation : u.notation ≡ s.unread.notation) (i : Ins) (front : List ℕ) (parts : s.unread.bytes ≡ front ++ u.bytes)
       (spelled : SpellsInstruction s.unread.notation s.header front i) where
@@ -109,12 +109,12 @@ module _ (sections : Sections) (tables : TablesAndTexts) (s : SourceRun) where
         let rest : reading_from sections (state_after i s) there c.0 c.1 ≡ reading_upon sections (record (state_after i s) { unread = u }) there =
         same_reading sections s.unread u (state_after i s) there c.0 c.1
         ∙ ap
-        (λ (n : Notation). reading_from sections (record (state_after i s) { unread = u }) there (decoded_at n s.header u.bytes).0
+        (λ n. reading_from sections (record (state_after i s) { unread = u }) there (decoded_at n s.header u.bytes).0
         (decoded_at n s.header u.bytes).1)
         (sym notation) in
-        ap (λ (d : List Ins × Option Error). reading_from sections s (Ok tables) d.0 d.1)
-        (decoded_some s.unread.notation s.header s.unread.bytes i front u.bytes parts spelled)
-        ∙ ap (λ (r : Reading). instruction_reading s tables i (with_definition i r)) rest
+        ap (λ d. reading_from sections s (Ok tables) d.0 d.1)
+        (decoded_some s.unread.notation s.header s.unread.bytes i _ _ parts spelled)
+        ∙ ap (λ r. instruction_reading s tables i (with_definition i r)) rest
 
     abbrev next : SourceRun
     next = record (state_after i s) { unread = u }
@@ -126,26 +126,26 @@ module _ (sections : Sections) (tables : TablesAndTexts) (s : SourceRun) where
     quiet_or_row = if makes_row i && not s.row.tombstone then source_row_offered s.header.parameters.encoding.version tables (row_made s i) rest else rest
 
     pub after_refusal : is_refused s.header.parameters i s.row ≡ true → reading_left sections s tables ≡ stops (Read AddressOverflow)
-    after_refusal large = first_is ∙ if_true (is_refused s.header.parameters i s.row) (stops (Read AddressOverflow)) quiet_or_row large
+    after_refusal large = first_is ∙ if_true _ _ _ large
 
     module _ (fits : is_refused s.header.parameters i s.row ≡ false) (file : defines_file i ≡ false) where
       done : reading_left sections s tables ≡ quiet_or_row
-      done = first_is ∙ if_false (is_refused s.header.parameters i s.row) (stops (Read AddressOverflow)) quiet_or_row fits
+      done = first_is ∙ if_false _ _ _ fits
 
       later : rest ≡ reading_left sections next tables
       later =
-          no_definition i (reading_upon sections next (tables_after_definition sections tables i)) file
-          ∙ ap (reading_upon sections next) (no_file sections tables i file)
+          no_definition i _ file
+          ∙ ap (reading_upon sections next) (no_file _ _ i file)
 
       pub after_quiet : (makes_row i && not s.row.tombstone) ≡ false → reading_left sections s tables ≡ reading_left sections next tables
       after_quiet quiet =
-          done ∙ if_false (makes_row i && not s.row.tombstone) (source_row_offered s.header.parameters.encoding.version tables (row_made s i) rest) rest quiet
+          done ∙ if_false _ _ _ quiet
           ∙ later
 
       pub after_row : (makes_row i && not s.row.tombstone) ≡ true
           → reading_left sections s tables ≡ source_row_offered s.header.parameters.encoding.version tables (row_made s i) (reading_left sections next tables)
       after_row loud =
-          done ∙ if_true (makes_row i && not s.row.tombstone) (source_row_offered s.header.parameters.encoding.version tables (row_made s i) rest) rest loud
+          done ∙ if_true _ _ _ loud
           ∙ ap (source_row_offered s.header.parameters.encoding.version tables (row_made s i)) later
 
   -- a file is defined
@@ -187,7 +187,7 @@ files_same (DefineFile f) files e = absurd cc
 files_same i files e = refl
 
 header_same : (i : Ins) (h h2 : Header) → defines_file i ≡ false → h2 ≡ record h { files = files_after true i h.files } → h2 ≡ h
-header_same i h h2 file is = is ∙ ap (λ (files : List File). let k : Header = record h { files = files } in k) (files_same i h.files file)
+header_same i h h2 file is = is ∙ ap (λ files. let k : Header = record h { files = files } in k) (files_same i _ file)
 
 -- a refusal of an instruction that defines no file
 pub is_overflow : (i : Ins) (e : Error) → (e ≢ AddressOverflow → defines_file i ≡ true) → defines_file i ≡ false → e ≡ AddressOverflow
@@ -203,10 +203,10 @@ module _ (i : Ins) (old new : LineRow) (ready : IsReady old) where
       → (e ≡ AddressOverflow → (is_refused p i old ≡ true) × (new ≡ step_of p i old)) → IsReady new
   ready_at_refusal p e file memory over =
       let o = over (is_overflow i e memory file) in
-      ap (λ (r : LineRow). r.end_sequence) o.1 ∙ refusal_keeps_end p i old o.0 ∙ ready
+      ap (λ r. r.end_sequence) o.1 ∙ refusal_keeps_end p i _ o.0 ∙ ready
 
   pub ready_when_quiet : (p : Parameters) → makes_row i ≡ false → new ≡ step_of p i old → IsReady new
-  ready_when_quiet p quiet step = ap (λ (r : LineRow). r.end_sequence) step ∙ keeps_end p i old quiet ∙ ready
+  ready_when_quiet p quiet step = ap (λ r. r.end_sequence) step ∙ keeps_end p i _ quiet ∙ ready
 
 reset_ready : (q : Parameters) (r : LineRow) (last : Bool) → r.end_sequence ≡ last → IsReady (reset_row q r)
 reset_ready q r true e = rw e refl
@@ -226,57 +226,57 @@ module _ {R Endian Offset : Type 0} where
 
   same_or_other : (made tombstone other : Bool) (r d : SourceRow) → made ≡ true → tombstone ≡ other → r ≡ d
       → ◌≡◌ {A = SourceStep R Endian Offset} (if tombstone then More else Made r) (if made && not other then Made d else More)
-  same_or_other made tombstone other r d loud same row_is = rw (loud, same, row_is) (shown other d)
+  same_or_other made tombstone other r d loud same row_is = rw (loud, same, row_is) (shown _ d)
 
 module _ (i : Ins) (h h2 : Header) (r r2 : LineRow) (b : ℕ) (p : Option ℕ) (u : Unread) (address : address_operand i ≡ None) (file : defines_file i ≡ false)
     (fits : is_refused h.parameters i r ≡ false) (files : h2 ≡ record h { files = files_after true i h.files }) (step : r2 ≡ step_of h.parameters i r) where
   pub header_kept : h2 ≡ h
-  header_kept = header_same i h h2 file files
+  header_kept = header_same i h _ file files
 
   next_is : (made : Bool) → makes_row i ≡ made
       → next_registers h.parameters i r ≡ (if made then reset_row h.parameters (step_of h.parameters i r) else step_of h.parameters i r)
   next_is made is =
-      let goes : (is_refused h.parameters i r || makes_row i) ≡ made = ap (λ (c : Bool). c || makes_row i) fits ∙ is in
-      ap (λ (c : Bool). if c then reset_row h.parameters (step_of h.parameters i r) else step_of h.parameters i r) goes
+      let goes : (is_refused h.parameters i r || makes_row i) ≡ made = ap (λ c. c || makes_row i) fits ∙ is in
+      ap (λ c. if c then reset_row h.parameters (step_of h.parameters i r) else step_of h.parameters i r) goes
 
   -- where it makes no row
   pub quiet_state : makes_row i ≡ false → state h2 r2 b p u ≡ state_after i (state h r b p u)
   quiet_state quiet =
-      let registers : r2 ≡ next_registers h.parameters i r = step ∙ sym (next_is false quiet) in
+      let registers : r2 ≡ next_registers h.parameters i r = step ∙ sym (next_is _ quiet) in
       let base : base_after i b ≡ b = rw (no_end i quiet, address) refl in
       let pends : pending_after i p ≡ p = rw (quiet, address) refl in
-      ap (λ (k : Header). state k r2 b p u) header_kept
-      ∙ ap (λ (x : LineRow). state h x b p u) registers
-      ∙ ap (λ (n : ℕ). state h (next_registers h.parameters i r) n p u) (sym base)
-      ∙ ap (λ (o : Option ℕ). state h (next_registers h.parameters i r) (base_after i b) o u) (sym pends)
+      ap (λ k. state k r2 b p u) header_kept
+      ∙ ap (λ x. state h x b p u) registers
+      ∙ ap (λ n. state h (next_registers h.parameters i r) n p u) (sym base)
+      ∙ ap (λ o. state h (next_registers h.parameters i r) (base_after i b) o u) (sym pends)
 
   -- where it makes one
   pub row_state : makes_row i ≡ true → r.end_sequence ≡ false → (k : Header) → k ≡ h2 → (r3 : LineRow) → r3 ≡ reset_row k.parameters r2
       → (last : Bool) → last ≡ r2.end_sequence → (n : ℕ) → n ≡ (if last then 0 else b) → state h2 r3 n None u ≡ state_after i (state h r b p u)
   row_state loud ready k lent r3 reset last ended n counts =
       let registers : r3 ≡ next_registers h.parameters i r =
-      reset ∙ ap (λ (x : Header). reset_row x.parameters r2) (lent ∙ header_kept) ∙ ap (reset_row h.parameters) step ∙ sym (next_is true loud) in
-      let last_is : last ≡ is_end i = ended ∙ ap (λ (x : LineRow). x.end_sequence) step ∙ ends_row h.parameters i r ready loud in
-      let of_row : base_after i b ≡ (if is_end i then 0 else b) = ap (λ (o : Option ℕ). if is_end i then 0 else unwrap_or o b) address in
-      let base : n ≡ base_after i b = counts ∙ ap (λ (x : Bool). if x then 0 else b) last_is ∙ sym of_row in
+      reset ∙ ap (λ x. reset_row x.parameters r2) (lent ∙ header_kept) ∙ ap (reset_row h.parameters) step ∙ sym (next_is _ loud) in
+      let last_is : last ≡ is_end i = ended ∙ ap (λ x. x.end_sequence) step ∙ ends_row h.parameters i r ready loud in
+      let of_row : base_after i b ≡ (if is_end i then 0 else b) = ap (λ o. if is_end i then 0 else unwrap_or o b) address in
+      let base : n ≡ base_after i b = counts ∙ ap (λ x. if x then 0 else b) last_is ∙ sym of_row in
       let pends : pending_after i p ≡ None = rw loud refl in
-      ap (λ (x : Header). state x r3 n None u) header_kept
-      ∙ ap (λ (x : LineRow). state h x n None u) registers
-      ∙ ap (λ (m : ℕ). state h (next_registers h.parameters i r) m None u) base
-      ∙ ap (λ (o : Option ℕ). state h (next_registers h.parameters i r) (base_after i b) o u) (sym pends)
+      ap (λ x. state x r3 n None u) header_kept
+      ∙ ap (λ x. state h x n None u) registers
+      ∙ ap (λ m. state h (next_registers h.parameters i r) m None u) base
+      ∙ ap (λ o. state h (next_registers h.parameters i r) (base_after i b) o u) (sym pends)
 
   pub made_is : {R Endian Offset : Type 0} (given : SourceStep R Endian Offset) (offset : ℕ)
       → given ≡ (if r2.tombstone then More else Made (record { set_address = p; address_offset = offset; row = r2 })) → makes_row i ≡ true
       → offset ≡ r2.address - b
       → given ≡ step_made (state h r b p u) i
   made_is given offset is loud counts =
-      let same : r2.tombstone ≡ r.tombstone = ap (λ (w : LineRow). w.tombstone) step ∙ keeps_tombstone h.parameters i r address in
+      let same : r2.tombstone ≡ r.tombstone = ap (λ w. w.tombstone) step ∙ keeps_tombstone h.parameters i r address in
       let x : SourceRow = record { set_address = p; address_offset = offset; row = r2 } in
       let offset_is : x ≡ record { set_address = p; address_offset = r2.address - b; row = r2 } =
-      ap (λ (o : ℕ). let y : SourceRow = record { set_address = p; address_offset = o; row = r2 } in y) counts in
+      ap (λ o. let y : SourceRow = record { set_address = p; address_offset = o; row = r2 } in y) counts in
       let row_is : record { set_address = p; address_offset = r2.address - b; row = r2 } ≡ row_made (state h r b p u) i =
-      ap (λ (w : LineRow). let y : SourceRow = record { set_address = p; address_offset = w.address - b; row = w } in y) step in
-      is ∙ same_or_other (makes_row i) r2.tombstone r.tombstone x (row_made (state h r b p u) i) loud same (offset_is ∙ row_is)
+      ap (λ w. let y : SourceRow = record { set_address = p; address_offset = w.address - b; row = w } in y) step in
+      is ∙ same_or_other _ _ _ x _ loud same (offset_is ∙ row_is)
 
 -- ---- what is done of a set address
 
@@ -289,7 +289,7 @@ module _ (p : Parameters) (a : ℕ) (old new : LineRow) where
   address_done (Err e) step over memory = (over (is_overflow (SetAddress a) e (λ n. (memory n).2) refl)).1
 
   pub address_ready : IsReady old → new ≡ step_of p (SetAddress a) old → IsReady new
-  address_ready ready step = ap (λ (r : LineRow). r.end_sequence) step ∙ ready
+  address_ready ready step = ap (λ r. r.end_sequence) step ∙ ready
 
 pub address_header : (a : ℕ) (h h2 : Header) (r : Result Bool Error) → OnOk r (h2 ≡ record h { files = files_after true (SetAddress a) h.files })
     → OnErr r (h2 ≡ h) → h2 ≡ h
@@ -299,7 +299,7 @@ address_header a h h2 (Err e) files kept = kept
 pub address_state : (a : ℕ) (h h2 : Header) (r r2 : LineRow) (b : ℕ) (p : Option ℕ) (u : Unread) → h2 ≡ h → r2 ≡ step_of h.parameters (SetAddress a) r
     → state h2 r2 a (Some a) u ≡ state_after (SetAddress a) (state h r b p u)
 address_state a h h2 r r2 b p u header step =
-    ap (λ (k : Header). state k r2 a (Some a) u) header ∙ ap (λ (x : LineRow). state h x a (Some a) u) step
+    ap (λ k. state k r2 a (Some a) u) header ∙ ap (λ x. state h x a (Some a) u) step
 
 -- ---- what is read from a step on
 
@@ -310,7 +310,7 @@ with_unread s u = record s { unread = u }
 pub spelled_as : (notation : Notation) (h k : Header) (front : List ℕ) (i j : Ins) → k ≡ h → i ≡ j → SpellsInstruction notation k front i
     → SpellsInstruction notation h front j
 spelled_as notation h k front i j same is s =
-    subst (λ (x : Header). SpellsInstruction notation x front j) same (subst (λ (y : Ins). SpellsInstruction notation k front y) is s)
+    subst (λ x. SpellsInstruction notation x front j) same (subst (λ y. SpellsInstruction notation k front y) is s)
 
 module _ (R Endian Offset : Type 0) (s old new : SourceRun) (i : Ins) where
   shortens : length new.unread.bytes < length old.unread.bytes → (b : Bool)
@@ -321,7 +321,7 @@ module _ (R Endian Offset : Type 0) (s old new : SourceRun) (i : Ins) where
 module _ {R Endian Offset : Type 0} (s old new : SourceRun) (i : Ins) where
   pub executed_shortens : (r : Result (SourceStep R Endian Offset) ConvertError) → IfOk r (λ step. step ≡ step_made s i)
       → length new.unread.bytes < length old.unread.bytes → IfOk r (λ step. Shortens step old new)
-  executed_shortens (Ok step) made lt = rw made (shortens R Endian Offset s old new i lt (makes_row i && not s.row.tombstone))
+  executed_shortens (Ok step) made lt = rw made (shortens R Endian Offset s old new i lt _)
   executed_shortens (Err e) made lt = tt
 
 module _ {R Offset : Type 0} (Endian : Type 0) (bytes : R → List ℕ) (number : Offset → ℕ) (s : SourceRun) (u : Unread)
@@ -330,7 +330,7 @@ module _ {R Offset : Type 0} (Endian : Type 0) (bytes : R → List ℕ) (number 
   made_reading : is_refused s.header.parameters i s.row ≡ false → defines_file i ≡ false → (sections : Sections) (tables : TablesAndTexts)
       → reading_left sections s tables
       ≡ step_reading {Endian = Endian} bytes number sections tables (step_made (with_unread s u) i) (state_after i (with_unread s u))
-  made_reading fits file sections tables = by (makes_row i && not s.row.tombstone) refl
+  made_reading fits file sections tables = by _ refl
     where
       by : (b : Bool) → (makes_row i && not s.row.tombstone) ≡ b
           → reading_left sections s tables
@@ -338,13 +338,13 @@ module _ {R Offset : Type 0} (Endian : Type 0) (bytes : R → List ℕ) (number 
       by true e =
           after_row sections tables s u notation i front parts spelled fits file e
           ∙ ap
-          (λ (c : Bool). step_reading {Endian = Endian} bytes number sections tables (if c then Made (row_made (with_unread s u) i) else More)
+          (λ c. step_reading {Endian = Endian} bytes number sections tables (if c then Made (row_made (with_unread s u) i) else More)
           (state_after i (with_unread s u)))
           (sym e)
       by false e =
           after_quiet sections tables s u notation i front parts spelled fits file e
           ∙ ap
-          (λ (c : Bool). step_reading {Endian = Endian} bytes number sections tables (if c then Made (row_made (with_unread s u) i) else More)
+          (λ c. step_reading {Endian = Endian} bytes number sections tables (if c then Made (row_made (with_unread s u) i) else More)
           (state_after i (with_unread s u)))
           (sym e)
 
@@ -352,7 +352,7 @@ module _ {R Offset : Type 0} (Endian : Type 0) (bytes : R → List ℕ) (number 
       → OnOk r (is_refused s.header.parameters i s.row ≡ false)
       → OnOk r (t ≡ state_after i (with_unread s u)) → IfOk r (λ step. step ≡ step_made (with_unread s u) i)
       → IfOk r (λ step. (sections : Sections) (tables : TablesAndTexts) → reading_left sections s tables ≡ step_reading bytes number sections tables step t)
-  executed_reading t (Ok step) file fits next made = λ sections tables. rw (made, next) (made_reading fits file sections tables)
+  executed_reading t (Ok step) file fits next made = λ sections tables. rw (made, next) (made_reading fits file _ _)
   executed_reading t (Err e) file fits next made = tt
 
   pub executed_refusal : (r : Result (SourceStep R Endian Offset) ConvertError)

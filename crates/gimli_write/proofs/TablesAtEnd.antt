@@ -30,7 +30,7 @@ same_lists : (sections : Sections) (u v : Unread) (s : SourceRun) (tables : Tabl
     → tables_after sections (record s { unread = u }) tables list ≡ tables_after sections (record s { unread = v }) tables list
 same_lists sections u v s tables [] = refl
 same_lists sections u v s tables (i ∷ list) =
-    ap (λ (rest : TablesAndTexts). if refuses s tables i then tables else rest)
+    ap (λ rest. if refuses s tables i then tables else rest)
     (by (λ next. same_lists sections u v (state_after i s) next list) (tables_after_definition sections tables i))
   where
     by : ((next : TablesAndTexts)
@@ -43,12 +43,12 @@ same_lists sections u v s tables (i ∷ list) =
 
 module _ (sections : Sections) (tables : TablesAndTexts) (s : SourceRun) where
   pub none_last : s.unread.bytes ≡ [] → tables_at_end sections s tables ≡ tables
-  none_last e = ap (λ (c : List Ins × Option Error). tables_after sections s tables c.0) (decoded_none s.unread.notation s.header s.unread.bytes e)
+  none_last e = ap (λ c. tables_after sections s tables c.0) (decoded_none s.unread.notation s.header s.unread.bytes e)
 
   pub fault_last : (e : Error) → s.unread.bytes ≢ [] → (instruction_production s.unread.notation s.header).Fault s.unread.bytes e
       → tables_at_end sections s tables ≡ tables
   fault_last e some f =
-      ap (λ (c : List Ins × Option Error). tables_after sections s tables c.0) (decoded_fault s.unread.notation s.header s.unread.bytes e some f)
+      ap (λ c. tables_after sections s tables c.0) (decoded_fault s.unread.notation s.header s.unread.bytes e some f)
 
   module _ (u : Unread) (notation : u.notation ≡ s.unread.notation) (i : Ins) (front : List ℕ) (parts : s.unread.bytes ≡ front ++ u.bytes)
       (spelled : SpellsInstruction s.unread.notation s.header front i) where
@@ -74,7 +74,7 @@ module _ (sections : Sections) (tables : TablesAndTexts) (s : SourceRun) where
     pub refusal_last : is_refused s.header.parameters i s.row ≡ true → tables_at_end sections s tables ≡ tables
     refusal_last large =
         first_last
-        ∙ ap (λ (b : Bool). if b || (makes_row i && not s.row.tombstone && lacks_file s.header.parameters.encoding.version tables (row_made s i)) then tables
+        ∙ ap (λ b. if b || (makes_row i && not s.row.tombstone && lacks_file s.header.parameters.encoding.version tables (row_made s i)) then tables
         else unless_refused tables (tables_after_definition sections tables i) (λ more. tables_at_end sections next more)) large
 
     module _ (fits : is_refused s.header.parameters i s.row ≡ false) (file : defines_file i ≡ false) where
@@ -86,11 +86,11 @@ module _ (sections : Sections) (tables : TablesAndTexts) (s : SourceRun) where
       done_last shown is =
           first_last
           ∙ ap
-          (λ (there : Result TablesAndTexts ConvertError). if refuses s tables i then tables
+          (λ there. if refuses s tables i then tables
           else unless_refused tables there (λ more. tables_at_end sections next more))
-          (no_file sections tables i file)
+          (no_file _ _ i file)
           ∙ ap
-          (λ (b : Bool). if b || (makes_row i && not s.row.tombstone && lacks_file s.header.parameters.encoding.version tables (row_made s i)) then tables
+          (λ b. if b || (makes_row i && not s.row.tombstone && lacks_file s.header.parameters.encoding.version tables (row_made s i)) then tables
           else tables_at_end sections next tables)
           fits
           ∙ by (makes_row i) (not s.row.tombstone) shown is
@@ -105,12 +105,12 @@ module _ (sections : Sections) (tables : TablesAndTexts) (s : SourceRun) where
           by false not_under_tombstone given e = rw (← e) refl
 
       pub quiet_last : (makes_row i && not s.row.tombstone) ≡ false → tables_at_end sections s tables ≡ tables_at_end sections next tables
-      quiet_last quiet = done_last false quiet
+      quiet_last quiet = done_last _ quiet
 
       pub row_last : (makes_row i && not s.row.tombstone) ≡ true
           → tables_at_end sections s tables
           ≡ tables_after_row s.header.parameters.encoding.version tables (Some (row_made s i)) (tables_at_end sections next tables)
-      row_last loud = done_last true loud
+      row_last loud = done_last _ loud
 
   -- a file is defined
   pub file_last : (u : Unread) → u.notation ≡ s.unread.notation → (f : File) (front : List ℕ) → s.unread.bytes ≡ front ++ u.bytes
@@ -134,13 +134,13 @@ module _ {R Offset : Type 0} (Endian : Type 0) (bytes : R → List ℕ) (number 
       by true e =
           row_last sections tables s u notation i front parts spelled fits file e
           ∙ ap
-          (λ (c : Bool). step_tables {Endian = Endian} bytes number sections tables (if c then Made (row_made (with_unread s u) i) else More)
+          (λ c. step_tables {Endian = Endian} bytes number sections tables (if c then Made (row_made (with_unread s u) i) else More)
           (state_after i (with_unread s u)))
           (sym e)
       by false e =
           quiet_last sections tables s u notation i front parts spelled fits file e
           ∙ ap
-          (λ (c : Bool). step_tables {Endian = Endian} bytes number sections tables (if c then Made (row_made (with_unread s u) i) else More)
+          (λ c. step_tables {Endian = Endian} bytes number sections tables (if c then Made (row_made (with_unread s u) i) else More)
           (state_after i (with_unread s u)))
           (sym e)
 
@@ -148,7 +148,7 @@ module _ {R Offset : Type 0} (Endian : Type 0) (bytes : R → List ℕ) (number 
       → OnOk r (is_refused s.header.parameters i s.row ≡ false)
       → OnOk r (t ≡ state_after i (with_unread s u)) → IfOk r (λ step. step ≡ step_made (with_unread s u) i)
       → IfOk r (λ step. (sections : Sections) (tables : TablesAndTexts) → tables_at_end sections s tables ≡ step_tables bytes number sections tables step t)
-  executed_last t (Ok step) file fits next made = λ sections tables. rw (made, next) (made_last fits file sections tables)
+  executed_last t (Ok step) file fits next made = λ sections tables. rw (made, next) (made_last fits file _ _)
   executed_last t (Err e) file fits next made = tt
 
   pub executed_stop : (r : Result (SourceStep R Endian Offset) ConvertError)
@@ -164,4 +164,4 @@ pub file_stopped : (before new last : TablesAndTexts) (there : Result TablesAndT
     → unless_refused before there more ≡ last → new ≡ last
 file_stopped before new last there more e (inl memory) other same is = absurd (other memory)
 file_stopped before new last there more e (inr refused) other same is =
-    same ∙ ap (λ (r : Result TablesAndTexts ConvertError). unless_refused before r more) (sym refused) ∙ is
+    same ∙ ap (λ r. unless_refused before r more) (sym refused) ∙ is

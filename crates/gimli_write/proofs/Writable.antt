@@ -18,19 +18,18 @@ use Rattle.gimli_write.proofs.MappedTables.{within_where, if_some_where, files_w
 -- with more texts after the others
 module _ (strings old new : List (List ℕ)) (kept : KeepsTexts old new) where
   within_kept : (t : LineText) → IsWithin (texts_in strings old) t → IsWithin (texts_in strings new) t
-  within_kept = within_where strings old new (λ i lt. still_there old new i kept lt)
+  within_kept = within_where strings old new (λ i lt. still_there _ _ i kept lt)
 
   pub written_later : (p : Built) → CanWrite p (texts_in strings old) → CanWrite p (texts_in strings new)
   written_later p can = record {
     program = can.program;
-    directories = All-weaker (IsWithin (texts_in strings old)) (IsWithin (texts_in strings new)) within_kept p.directories can.directories;
+    directories = All-weaker (IsWithin (texts_in strings old)) _ within_kept _ can.directories;
     paths =
-        All-weaker (λ (f : BuiltFile). IsWithin (texts_in strings old) f.0.0) (λ (f : BuiltFile). IsWithin (texts_in strings new) f.0.0)
-        (λ f so. within_kept f.0.0 so) p.files can.paths;
+        All-weaker (λ f. IsWithin (texts_in strings old) f.0.0) _
+        (λ f so. within_kept _ so) _ can.paths;
     sources =
-        All-weaker (λ (f : BuiltFile). IfSome f.1.source (IsWithin (texts_in strings old))) (λ (f : BuiltFile).
-        IfSome f.1.source (IsWithin (texts_in strings new)))
-        (λ f so. if_some_where strings old new (λ i lt. still_there old new i kept lt) f.1.source so) p.files can.sources;
+        All-weaker (λ f. IfSome f.1.source (IsWithin (texts_in strings old))) _
+        (λ f so. if_some_where strings old new (λ i lt. still_there _ _ i kept lt) _ so) _ can.sources;
     sources_end = can.sources_end;
   }
 
@@ -40,10 +39,10 @@ written_with_file : (p : Built) (texts : StringTables) (path : LineText) (direct
 written_with_file p texts path directory d within source ends can = record {
   program = can.program;
   directories = can.directories;
-  paths = files_with (λ (f : BuiltFile). IsWithin texts f.0.0) d (λ k e so. so) p.files (path, directory) can.paths within;
-  sources = files_with (λ (f : BuiltFile). IfSome f.1.source (IsWithin texts)) d (λ k e so. source) p.files (path, directory) can.sources source;
+  paths = files_with (λ f. IsWithin texts f.0.0) d (λ k e so. so) _ _ can.paths within;
+  sources = files_with (λ f. IfSome f.1.source (IsWithin texts)) d (λ k e so. source) _ _ can.sources source;
   sources_end =
-      λ new has. files_with (λ (f : BuiltFile). IfSome f.1.source HasNoZero) d (λ k e so. ends) p.files (path, directory) (can.sources_end new has) ends;
+      λ new has. files_with (λ f. IfSome f.1.source HasNoZero) d (λ k e so. ends) _ _ (can.sources_end new has) ends;
 }
 
 -- what is so of a source that was made is so of its text
@@ -68,11 +67,11 @@ module _ {A : Type 0} (text : A → LineText) where
       → CanWrite (after_file (text path, directory) (Some (record { timestamp = timestamp; size = size; md5 = md5; source = option_map text source })) p)
       (texts_in strings new)
   written_with_parts p strings old between new path source directory timestamp size md5 first second within source_there ends can =
-      written_with_file p (texts_in strings new) (text path) directory _
-      (within_kept strings between new second (text path) (within strings))
-      (source_within strings new source source_there)
+      written_with_file p _ _ _ _
+      (within_kept strings between new second _ (within strings))
+      (source_within _ _ _ source_there)
       (source_so HasNoZero source ends)
-      (written_later strings old new (kept_then old between new first second) p can)
+      (written_later strings old new (kept_then _ _ _ first second) p can)
 
 pub writable_then : {a b c : SourceTables} {first second third : List (List ℕ)} → StaysWritable a first b second → StaysWritable b second c third
     → StaysWritable a first c third
@@ -111,12 +110,12 @@ pub writable_with_items : (old new : SourceTables) (line_strings : List (List �
 writable_with_items old new line_strings same = record {
   still = λ strings can.
       let texts = texts_in strings line_strings in
-      written_tables new.program texts (subst (λ (p : Built). WrittenTables p texts) (sym same) (tables_written old.program texts can));
+      written_tables _ _ (subst (λ p. WrittenTables p texts) (sym same) (tables_written _ _ can));
 }
 
 -- after a builder call, of which a refused one changes nothing
 pub writable_built : {A E : Type 0} (result : Result A E) (old new : SourceTables) (line_strings : List (List ℕ)) (built : Built)
     → without_items built ≡ without_items old.program
     → OnOk result (new ≡ record old { program = built }) → OnErr result (new ≡ old) → StaysWritable old line_strings new line_strings
-writable_built (Ok _) old new line_strings built same is kept = rw is (writable_with_items old (record old { program = built }) line_strings same)
+writable_built (Ok _) old new line_strings built same is kept = rw is (writable_with_items _ _ _ same)
 writable_built (Err _) old new line_strings built same is kept = rw kept (record { still = λ strings can. can })

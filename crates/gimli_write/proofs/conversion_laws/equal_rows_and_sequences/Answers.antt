@@ -22,11 +22,11 @@ starts None None = (λ _. refl, λ _. refl)
 
 the_end : (x y : ConvertLineSequenceEnd) → Decides (the_ends.eq x y) (x ≡ y)
 the_end x y =
-    let parts = or (one unsigned_Decides) (or (one unsigned_Decides) (end _)) (as_values x) (as_values y) in
+    let parts = or (one unsigned_Decides) (or (one unsigned_Decides) (end _)) _ _ in
     (λ e. values_one enum x y (parts.0 e), λ e. parts.1 (ap as_values e))
 
 pub returns-clause-sequence : goal.returns-clause-sequence
 returns-clause-sequence c a b =
-    whole (both (starts a.start b.start) (both (the_end a.end b.end) (slice_eq-Decides row-Decides a.rows.items b.rows.items _ refl)))
+    whole (both (starts _ _) (both (the_end _ _) (slice_eq-Decides row-Decides _ _ _ refl)))
     (λ p. let same : sequence_with a.start a.rows.items a.end ≡ sequence_with b.start b.rows.items b.end = rw (p.0, p.1.0, p.1.1) refl in same)
-    (λ e. (ap (λ (s : SequenceRead). s.start) e, (ap (λ (s : SequenceRead). s.end) e, ap (λ (s : SequenceRead). s.rows) e)))
+    (λ e. (ap (λ s. s.start) e, (ap (λ s. s.end) e, ap (λ s. s.rows) e)))

@@ -9,7 +9,7 @@ use Rattle.gimli_write.proofs.read_back.read_program.Goals as goal
 pub texts-requires : goal.texts-requires
 texts-requires g c =
     let seen = value_seen g.R.Reader.bytes g.R.Offset.ReaderOffset.number in
-    All-same (HasText c.args.sections.now) (map seen c.as_slice.result.now) (directories_from_zero c.args.program.meaning)
+    All-same (HasText c.args.sections.now) _ _
     (ap (map seen) c.as_slice.ensures.value ∙ c.in_ok-directory_values.ensures.ok ∙ ap (λ h. directories_from_zero h.meaning) c.header.ensures)
     c.requires.directories
 

@@ -5,7 +5,7 @@ use Rattle.gimli_write.proofs.read_back.read_rows.Goals as goal
 pub returns-in-Ok-None-clause-ok : goal.returns-in-Ok-None-clause-ok
 returns-in-Ok-None-clause-ok g c =
     let next = rw c.in-Ok-None.field-0-is at (rw c.in-Ok-None.is at c.next_row.follows.holds-at-none.1) in
-    run_ended c.args.program.notation c.args.program.meaning (events_left c.rows-rows.result) (events_left c.rows.rows) c.rows.answers.items
+    run_ended _ _ _ _ _
     c.rows-rows.ensures.events c.rows.invariant next.0
 
 pub returns-in-Err-clause-err : goal.returns-in-Err-clause-err

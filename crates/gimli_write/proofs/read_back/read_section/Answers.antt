@@ -12,12 +12,12 @@ read_program-requires g c =
     let bytes = drop c.args.offset.0 c.args.section.now in
     let h = c.in-Ok.program.meaning in
     let unit =
-    same_unit (2 ^ 64) c.args.address_size c.args.offset.0 big _ c.args.directory.now _ c.args.section.now _ h c.new-section.ensures.order
+    same_unit _ _ _ _ _ _ _ _ _ h c.new-section.ensures.order
     c.new-directory.ensures.bytes c.new-section.ensures.bytes c.in-Ok.ensures.unit in
     let is =
-    same_sections _ _ _ _ c.args.sections.now (c.new.ensures.bytes ∙ c.as_slice.ensures.value) (c.new-2.ensures.bytes ∙ c.as_slice-2.ensures.value)
+    same_sections _ _ _ _ _ (c.new.ensures.bytes ∙ c.as_slice.ensures.value) (c.new-2.ensures.bytes ∙ c.as_slice-2.ensures.value)
     c.sections.view_is in
-    rw is (texts_there (slice_notation big) unit_entry bytes c.args.sections.now h c.requires.unit unit)
+    rw is (texts_there (slice_notation big) unit_entry bytes _ h c.requires.unit unit)
 
 pub returns-in-Ok-clause-ok : goal.returns-in-Ok-clause-ok
 returns-in-Ok-clause-ok g c h begins =
@@ -26,13 +26,13 @@ returns-in-Ok-clause-ok g c h begins =
     let bytes = drop c.args.offset.0 c.args.section.now in
     let k = c.in-Ok.program.meaning in
     let unit =
-    same_unit (2 ^ 64) c.args.address_size c.args.offset.0 big _ c.args.directory.now _ c.args.section.now _ k c.new-section.ensures.order
+    same_unit _ _ _ _ _ _ _ _ _ k c.new-section.ensures.order
     c.new-directory.ensures.bytes c.new-section.ensures.bytes c.in-Ok.ensures.unit in
     let is =
-    same_sections _ _ _ _ c.args.sections.now (c.new.ensures.bytes ∙ c.as_slice.ensures.value) (c.new-2.ensures.bytes ∙ c.as_slice-2.ensures.value)
+    same_sections _ _ _ _ _ (c.new.ensures.bytes ∙ c.as_slice.ensures.value) (c.new-2.ensures.bytes ∙ c.as_slice-2.ensures.value)
     c.sections.view_is in
-    let n = same_notation (2 ^ 64) big _ c.in-Ok.program.notation c.in-Ok.ensures.notation c.new-section.ensures.order in
-    same_answers c.read_program.result c.in-Ok.program.notation (slice_notation big) _ c.args.sections.now k h n is
+    let n = same_notation _ _ _ _ c.in-Ok.ensures.notation c.new-section.ensures.order in
+    same_answers _ _ _ _ _ k h n is
     (same_header (slice_notation big) unit_entry bytes k h unit begins) c.read_program.ensures.ok
 
 pub returns-in-Ok-clause-err : goal.returns-in-Ok-clause-err
@@ -42,10 +42,10 @@ returns-in-Ok-clause-err g c h begins =
     let bytes = drop c.args.offset.0 c.args.section.now in
     let k = c.in-Ok.program.meaning in
     let unit =
-    same_unit (2 ^ 64) c.args.address_size c.args.offset.0 big _ c.args.directory.now _ c.args.section.now _ k c.new-section.ensures.order
+    same_unit _ _ _ _ _ _ _ _ _ k c.new-section.ensures.order
     c.new-directory.ensures.bytes c.new-section.ensures.bytes c.in-Ok.ensures.unit in
-    let n = same_notation (2 ^ 64) big _ c.in-Ok.program.notation c.in-Ok.ensures.notation c.new-section.ensures.order in
-    same_refusal c.read_program.result c.in-Ok.program.notation (slice_notation big) k h n
+    let n = same_notation _ _ _ _ c.in-Ok.ensures.notation c.new-section.ensures.order in
+    same_refusal _ _ _ k h n
     (same_header (slice_notation big) unit_entry bytes k h unit begins) c.read_program.ensures.err
 
 pub returns-in-Err-clause-err : goal.returns-in-Err-clause-err
@@ -53,7 +53,7 @@ returns-in-Err-clause-err g c h begins =
     let big = g.E.Endianity.big c.args.endian in
     let unit_entry = unit_entry_with c.args.address_size c.args.directory.now in
     let bytes = drop c.args.offset.0 c.args.section.now in
-    header_refused (slice_notation big) unit_entry bytes h c.in-Err.e c.from_read.result begins
-    (λ other. same_fault (2 ^ 64) c.args.address_size c.args.offset.0 big _ c.args.directory.now _ c.args.section.now _ c.in-Err.e c.new-section.ensures.order
+    header_refused (slice_notation big) unit_entry bytes h _ _ begins
+    (λ other. same_fault _ _ _ _ _ _ _ _ _ _ c.new-section.ensures.order
     c.new-directory.ensures.bytes c.new-section.ensures.bytes (c.in-Err.ensures.refusal other))
     c.from_read.ensures.memory

@@ -20,16 +20,16 @@ returns-in-Ok-clause-refusal g c =
     let later = drop c.in-Ok.offset.0 c.write.new.w.0.bytes in
     let read =
     subst
-    (λ (strings : List (List ℕ)). IfErr c.read_unit.result
+    (λ strings. IfErr c.read_unit.result
     (RefusesUnit (slice_notation other) (unit_entry_of program (texts_in strings texts.line_strings)) later))
     c.in-Ok.ensures.tables.strings
     (subst
-    (λ (line_strings : List (List ℕ)). IfErr c.read_unit.result
+    (λ line_strings. IfErr c.read_unit.result
     (RefusesUnit (slice_notation other) (unit_entry_of program (texts_in c.write.new.strings line_strings)) later))
     c.in-Ok.ensures.tables.line_strings c.read_unit.ensures.err) in
-    unit_not_answered big other (to_write big c.args.encoding program (texts_in c.args.strings.now c.args.line_strings.now)) (unit_entry_of program texts)
-    c.args.w.now.0.bytes c.write.new.w.0.bytes c.in-Ok.offset.0 c.read_unit.result c.in-Ok.ensures.writes.ordered
-    (no-cause _ (unit_bytes plain big c.args.encoding program (texts_in c.args.strings.now c.args.line_strings.now)) _ _ c.in-Ok.ensures.cause
+    unit_not_answered _ _ _ _
+    _ _ _ _ c.in-Ok.ensures.writes.ordered
+    (no-cause _ _ _ _ c.in-Ok.ensures.cause
     (c.in-Ok.ensures.writes.ok refl))
     (c.in-Ok.ensures.writes.ok refl) c.in-Ok.ensures.offset read
 
@@ -41,35 +41,35 @@ pub returns-in-Ok-clause-no_cause : goal.returns-in-Ok-clause-no_cause
 returns-in-Ok-clause-no_cause g c =
     let unit = unit_bytes plain (g.E.Endianity.big c.args.w.now.0.endian) c.args.encoding c.args.program.now
     (texts_in c.args.strings.now c.args.line_strings.now) in
-    always c.read_unit.result (no-cause _ unit _ _ c.in-Ok.ensures.cause (c.in-Ok.ensures.writes.ok refl))
+    always _ (no-cause _ _ _ _ c.in-Ok.ensures.cause (c.in-Ok.ensures.writes.ok refl))
 
 pub returns-in-Err-clause-refusal : goal.returns-in-Err-clause-refusal
 returns-in-Err-clause-refusal g c =
     let big = g.E.Endianity.big c.args.w.now.0.endian in
     let program = c.args.program.now in
     let unit = unit_bytes plain big c.args.encoding program (texts_in c.args.strings.now c.args.line_strings.now) in
-    let why = refused-for _ unit c.in-Err.e c.in-Err.ensures.cause (c.in-Err.ensures.writes.err refl refl) in
-    write_refused big (to_write big c.args.encoding program (texts_in c.args.strings.now c.args.line_strings.now))
-    (unit_entry_of program (texts_after program (texts_in c.args.strings.now c.args.line_strings.now)))
-    c.args.w.now.0.bytes c.write.new.w.0.bytes c.in-Err.e c.from_write.result why c.from_write.ensures.memory
+    let why = refused-for _ _ _ c.in-Err.ensures.cause (c.in-Err.ensures.writes.err refl refl) in
+    write_refused _ _
+    _
+    _ _ _ _ why c.from_write.ensures.memory
     c.from_write.ensures.other
 
 pub returns-in-Ok-clause-never_read : goal.returns-in-Ok-clause-never_read
 returns-in-Ok-clause-never_read g c held =
     memory_refused
-    (first_cause (g.E.Endianity.big c.args.w.now.0.endian) c.args.encoding c.args.program.now (texts_in c.args.strings.now c.args.line_strings.now))
-    c.read_unit.result (c.read_unit.ensures.never_read held)
+    _
+    _ (c.read_unit.ensures.never_read held)
 
 pub returns-in-Err-clause-never_read : goal.returns-in-Err-clause-never_read
 returns-in-Err-clause-never_read g c held =
     let unit = unit_bytes plain (g.E.Endianity.big c.args.w.now.0.endian) c.args.encoding c.args.program.now
     (texts_in c.args.strings.now c.args.line_strings.now) in
     unwritten_refused
-    (first_cause (g.E.Endianity.big c.args.w.now.0.endian) c.args.encoding c.args.program.now (texts_in c.args.strings.now c.args.line_strings.now)) c.in-Err.e
-    c.from_write.result
-    (refused-for _ unit c.in-Err.e c.in-Err.ensures.cause (c.in-Err.ensures.writes.err refl refl)) c.from_write.ensures.memory c.from_write.ensures.other
+    _ _
+    _
+    (refused-for _ _ _ c.in-Err.ensures.cause (c.in-Err.ensures.writes.err refl refl)) c.from_write.ensures.memory c.from_write.ensures.other
 
 pub read_unit-requires-clause-within : goal.read_unit-requires-clause-within
 read_unit-requires-clause-within g c =
-    let can = can-write-after c.args.program.now (texts_in c.args.strings.now c.args.line_strings.now) c.requires in
+    let can = can-write-after _ _ c.requires in
     rw (c.in-Ok.ensures.tables.strings, c.in-Ok.ensures.tables.line_strings) can.directories

@@ -12,8 +12,8 @@ returns-in_err-feed_all-clause-err g c =
 
 pub returns-clause-ok : goal.returns-clause-ok
 returns-clause-ok g c =
-    rest_converts (goal.F-post g c.args.convert_address) (beside c.args.line_strings.now c.args.conversion) c.into_program.result
-    c.feed_all.new.line_strings
+    rest_converts (goal.F-post g c.args.convert_address) _ _
+    _
     (rw (c.into_program.ensures.program, c.into_program.ensures.files) c.in_ok-feed_all.ensures.ok)
 
 pub returns-clause-writable : goal.returns-clause-writable

@@ -23,7 +23,7 @@ returns-clause-ok g c =
     let between = tables_with c.add_directories.new.line_strings c.add_directories.new.self in
     let done = rw c.include_directories.ensures.directories at c.in_ok-add_directories.ensures.ok in
     on_ok_weaker c.add_files.result
-    (λ last. done_first first (λ (between : TablesAndTexts). all_added (file_added s) h.files between) between done ∙ last)
+    (λ last. done_first _ _ _ done ∙ last)
     (rw c.file_names.ensures.files at c.add_files.ensures.ok)
 
 pub returns-clause-err : goal.returns-clause-err
@@ -40,5 +40,5 @@ returns-clause-err g c =
 
 pub returns-clause-stays : goal.returns-clause-stays
 returns-clause-stays g c =
-    kept_then c.args.line_strings.now c.add_directories.new.line_strings c.add_files.new.line_strings
+    kept_then _ _ _
     c.in_ok-add_directories.ensures.stays c.add_files.ensures.stays

@@ -31,7 +31,7 @@ returns-in_err-add_directories_and_files-clause-err g c =
 
 pub returns-in_err-add_directories_and_files-clause-stays : goal.returns-in_err-add_directories_and_files-clause-stays
 returns-in_err-add_directories_and_files-clause-stays g c =
-    kept_then c.args.line_strings.now c.tables_at_start.new.line_strings c.add_directories_and_files.new.line_strings
+    kept_then _ _ _
     c.in_ok-tables.ensures.stays c.in_err-add_directories_and_files.ensures.stays
 
 pub returns-clause-ok : goal.returns-clause-ok
@@ -41,10 +41,10 @@ returns-clause-ok g c =
     let given = handed_of c.args.encoding c.args.line_encoding (option_map g.R.Reader.bytes c.args.from_comp_name) in
     let target = c.unwrap_or-encoding.ensures ∙ ap (λ own. unwrap_or c.args.encoding own) c.encoding.ensures.encoding in
     sym (at_listed s h given c.args.line_strings.now c.unwrap_or-encoding.result target
-    (tables_with c.tables_at_start.new.line_strings c.in_ok-tables.tables) c.in_ok-tables.ensures.ok)
+    _ c.in_ok-tables.ensures.ok)
     ∙ c.in_ok-add_directories_and_files.ensures.ok
 
 pub returns-clause-stays : goal.returns-clause-stays
 returns-clause-stays g c =
-    kept_then c.args.line_strings.now c.tables_at_start.new.line_strings c.add_directories_and_files.new.line_strings
+    kept_then _ _ _
     c.in_ok-tables.ensures.stays c.in_ok-add_directories_and_files.ensures.stays

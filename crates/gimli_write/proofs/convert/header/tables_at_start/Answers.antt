@@ -36,8 +36,8 @@ returns-clause-err g c =
     let lines = line_encoding_of h.parameters.line_encoding c.args.line_encoding in
     let next : List ℕ → SourceFile → Result TablesAndTexts ConvertError =
     λ directory file. lines >>= λ (e : LineEncoding). Ok (start_of_tables encoding e h (first_texts encoding.version c.args.line_strings.now directory file)) in
-    IfErr-weaker c.tables_with_texts.result _ _
+    IfErr-weaker _ _ _
     (λ e refused. refused_at_third first second next directory file c.in_ok-directory.ensures.ok c.in_ok-file.ensures.ok e
-    (refused_first lines (λ (e : LineEncoding). Ok (start_of_tables encoding e h (first_texts encoding.version c.args.line_strings.now directory file))) e
+    (refused_first _ _ e
     refused))
     c.tables_with_texts.ensures.err

@@ -39,7 +39,7 @@ pub returns-clause-refusal : goal.returns-clause-refusal
 returns-clause-refusal g c =
     let source : Source =
     source_of g.R.Reader.bytes c.args.debug_str c.args.debug_line_str c.args.from_program c.args.from_comp_name c.args.encoding c.args.line_encoding in
-    IfErr-weaker c.convert_all.result _ _
+    IfErr-weaker _ _ _
     (λ e refused.
     rows_refused (goal.F-post g c.args.convert_address) source c.args.line_strings.now (tables_with c.new.new.line_strings c.in_ok-header.header.tables)
     (still_to_read c.in_ok-header.header c.new.new.line_strings)
@@ -48,4 +48,4 @@ returns-clause-refusal g c =
 
 pub returns-clause-stays : goal.returns-clause-stays
 returns-clause-stays g c =
-    kept_then c.args.line_strings.now c.new.new.line_strings c.convert_all.new.line_strings c.in_ok-header.ensures.stays c.convert_all.ensures.stays
+    kept_then _ _ _ c.in_ok-header.ensures.stays c.convert_all.ensures.stays

@@ -17,13 +17,13 @@ returns-in_err-row-clause-err g c =
 
 pub returns-in_err-row-clause-stays : goal.returns-in_err-row-clause-stays
 returns-in_err-row-clause-stays g c =
-    kept_then c.args.line_strings.now c.rows.line_strings c.read_row.new.line_strings c.rows.invariant.stays c.in_err-row.ensures.reads_on.texts
+    kept_then _ _ _ c.rows.invariant.stays c.in_err-row.ensures.reads_on.texts
 
 pub rows-smaller : goal.rows-smaller
 rows-smaller g c =
     let hands = rw c.in-Some.is at c.in_ok-row.ensures.ok in
     fed_fewer (goal.F-post g c.args.convert_address.now) c.rows.self c.read_row.new.self c.rows.line_strings c.read_row.new.line_strings c.in-Some.row hands
-    c.in_ok-row.ensures.reads_on.adds c.feed.new.self c.in_ok-feed-in-Some.ensures.kept c.in_ok-feed-in-Some.ensures.items
+    c.in_ok-row.ensures.reads_on.adds _ c.in_ok-feed-in-Some.ensures.kept c.in_ok-feed-in-Some.ensures.items
 
 pub rows-preserved : goal.rows-preserved
 rows-preserved g c =
@@ -33,13 +33,13 @@ rows-preserved g c =
           c.rows.invariant.same outcome
           (fed_next (goal.F-post g c.args.convert_address.now) c.rows.self c.read_row.new.self c.rows.line_strings c.read_row.new.line_strings c.in-Some.row
           hands
-          c.in_ok-row.ensures.reads_on.adds c.feed.new.self outcome
+          c.in_ok-row.ensures.reads_on.adds _ _
           c.in_ok-feed-in-Some.ensures.ok c.in_ok-feed-in-Some.ensures.kept c.in_ok-feed-in-Some.ensures.items comes);
-      stays = kept_then c.args.line_strings.now c.rows.line_strings c.read_row.new.line_strings c.rows.invariant.stays c.in_ok-row.ensures.reads_on.texts;
+      stays = kept_then _ _ _ c.rows.invariant.stays c.in_ok-row.ensures.reads_on.texts;
       writable =
           writable_then
           (writable_then c.rows.invariant.writable c.in_ok-row.ensures.reads_on.writable)
-          (writable_with_items c.read_row.new.self.tables c.feed.new.self.tables c.read_row.new.line_strings c.in_ok-feed-in-Some.ensures.items);
+          (writable_with_items _ _ _ c.in_ok-feed-in-Some.ensures.items);
     }
 
 pub returns-in_err-feed-in-Some-clause-err : goal.returns-in_err-feed-in-Some-clause-err
@@ -55,7 +55,7 @@ returns-in_err-feed-in-Some-clause-err g c =
 
 pub returns-in_err-feed-in-Some-clause-stays : goal.returns-in_err-feed-in-Some-clause-stays
 returns-in_err-feed-in-Some-clause-stays g c =
-    kept_then c.args.line_strings.now c.rows.line_strings c.read_row.new.line_strings c.rows.invariant.stays c.in_ok-row.ensures.reads_on.texts
+    kept_then _ _ _ c.rows.invariant.stays c.in_ok-row.ensures.reads_on.texts
 
 pub returns-in-None-clause-err : goal.returns-in-None-clause-err
 returns-in-None-clause-err g c =
@@ -67,7 +67,7 @@ returns-in-None-clause-err g c =
 
 pub returns-in-None-clause-stays : goal.returns-in-None-clause-stays
 returns-in-None-clause-stays g c =
-    kept_then c.args.line_strings.now c.rows.line_strings c.read_row.new.line_strings c.rows.invariant.stays c.in_ok-row.ensures.reads_on.texts
+    kept_then _ _ _ c.rows.invariant.stays c.in_ok-row.ensures.reads_on.texts
 
 pub returns-in-None-2-clause-ok : goal.returns-in-None-2-clause-ok
 returns-in-None-2-clause-ok g c =
@@ -79,7 +79,7 @@ returns-in-None-2-clause-ok g c =
 
 pub returns-in-None-2-clause-stays : goal.returns-in-None-2-clause-stays
 returns-in-None-2-clause-stays g c =
-    kept_then c.args.line_strings.now c.rows.line_strings c.read_row.new.line_strings c.rows.invariant.stays c.in_ok-row.ensures.reads_on.texts
+    kept_then _ _ _ c.rows.invariant.stays c.in_ok-row.ensures.reads_on.texts
 
 pub returns-in-None-2-clause-writable : goal.returns-in-None-2-clause-writable
 returns-in-None-2-clause-writable g c = writable_then c.rows.invariant.writable c.in_ok-row.ensures.reads_on.writable

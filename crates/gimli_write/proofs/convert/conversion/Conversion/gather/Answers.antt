@@ -120,7 +120,7 @@ returns-in_err-push-in-Some-Row-clause-reads_on g c = reads_then c.rows.invarian
 pub returns-in-Some-SetAddress-2-clause-reads_on : goal.returns-in-Some-SetAddress-2-clause-reads_on
 returns-in-Some-SetAddress-2-clause-reads_on g c =
     rw c.give_back.ensures
-    (reads_kept (beside c.args.line_strings.now c.args.self.now) (beside c.read_row.new.line_strings c.read_row.new.self) _ refl refl
+    (reads_kept _ _ _ refl refl
     (reads_then c.rows.invariant.reads_on c.in_ok-row.ensures.reads_on))
 
 pub returns-in-Some-EndSequence-clause-reads_on : goal.returns-in-Some-EndSequence-clause-reads_on

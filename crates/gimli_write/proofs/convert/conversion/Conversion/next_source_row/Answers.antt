@@ -34,10 +34,10 @@ steps-preserved g c =
     record {
       left =
           sym (ap after_definitions
-          (read a.sections (without_built before) ∙ ap defines (file_taken a.sections c.step.new.self before f after c.in_ok-add_file-in-Defines.ensures.ok)))
+          (read a.sections (without_built before) ∙ ap defines (file_taken a.sections c.step.new.self before f _ c.in_ok-add_file-in-Defines.ensures.ok)))
           ∙ c.steps.invariant.left;
       first = λ more. c.steps.invariant.first (ap defines_first (read a.sections (without_built before)));
-      version = ap (λ (h : Header). h.parameters.encoding.version) c.in_ok-step.ensures.header ∙ c.steps.invariant.version;
+      version = ap (λ h. h.parameters.encoding.version) c.in_ok-step.ensures.header ∙ c.steps.invariant.version;
       sections = c.steps.invariant.sections;
       address = c.steps.invariant.address;
       held = c.steps.invariant.held;
@@ -50,7 +50,7 @@ steps-preserved g c =
       });
       last =
           sym (leaves a.sections before
-          ∙ ap (λ (there : Result TablesAndTexts ConvertError). unless_refused before there (λ next. tables_at_end a.sections c.step.new.self next))
+          ∙ ap (λ there. unless_refused before there (λ next. tables_at_end a.sections c.step.new.self next))
           c.in_ok-add_file-in-Defines.ensures.ok)
           ∙ c.steps.invariant.last;
     }

@@ -21,8 +21,8 @@ returns-clause-ok g c =
     let version = c.self.inside.source.header.parameters.encoding.version in
     rw (← c.self.view_is) (rw c.built_row.ensures (λ line_strings rest.
     let tables = tables_with line_strings c.self.inside.tables in
-    row_taken version (without_built tables) c.args.row.now rest (sym c.end_sequence.ensures ∙ c.if-end_sequence.false) c.in_ok-file.file
-    (c.in_ok-file.ensures line_strings ∙ ap (λ (v : ℕ). file_id v tables c.file_index.result) c.version.ensures
+    row_taken version (without_built tables) c.args.row.now rest (sym c.end_sequence.ensures ∙ c.if-end_sequence.false) _
+    (c.in_ok-file.ensures line_strings ∙ ap (λ v. file_id v tables c.file_index.result) c.version.ensures
     ∙ ap (file_id version tables) c.file_index.ensures)))
 
 pub returns-in_err-file-clause-lacks : goal.returns-in_err-file-clause-lacks
@@ -40,6 +40,6 @@ returns-clause-found g c =
     let version = c.self.inside.source.header.parameters.encoding.version in
     rw (← c.self.view_is) (λ line_strings.
     let tables = tables_with line_strings c.self.inside.tables in
-    file_found version tables c.args.row.now (ends tables) (sym c.end_sequence.ensures ∙ c.if-end_sequence.false) c.in_ok-file.file
-    (c.in_ok-file.ensures line_strings ∙ ap (λ (v : ℕ). file_id v tables c.file_index.result) c.version.ensures
+    file_found version tables c.args.row.now (ends tables) (sym c.end_sequence.ensures ∙ c.if-end_sequence.false) _
+    (c.in_ok-file.ensures line_strings ∙ ap (λ v. file_id v tables c.file_index.result) c.version.ensures
     ∙ ap (file_id version tables) c.file_index.ensures))

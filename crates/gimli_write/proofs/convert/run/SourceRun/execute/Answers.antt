@@ -11,16 +11,16 @@ use Rattle.gimli_write.proofs.convert.run.SourceRun.execute.Goals as goal
 pub invariant_of-self : goal.invariant_of-self
 invariant_of-self g c =
     ready_at_refusal (ins_seen g.R.Reader.bytes g.R.Offset.ReaderOffset.number c.args.instruction) c.self.inside.row c.execute.new.self c.self.invariant
-    c.self.inside.program.meaning.parameters c.in-Err.e
+    c.self.inside.program.meaning.parameters _
     c.requires.file (λ n. (c.in-Err.ensures.memory n).2) c.in-Err.ensures.overflow
 
 pub returns-in-Err-clause-overflow : goal.returns-in-Err-clause-overflow
 returns-in-Err-clause-overflow g c =
     let is =
-    is_overflow (ins_seen g.R.Reader.bytes g.R.Offset.ReaderOffset.number c.args.instruction) c.in-Err.e (λ n. (c.in-Err.ensures.memory n).2)
+    is_overflow _ _ (λ n. (c.in-Err.ensures.memory n).2)
     c.requires.file in (
       ap Read is,
-      subst (λ (s : SourceRun). is_refused s.header.parameters (ins_seen g.R.Reader.bytes g.R.Offset.ReaderOffset.number c.args.instruction) s.row ≡ true)
+      subst (λ s. is_refused s.header.parameters (ins_seen g.R.Reader.bytes g.R.Offset.ReaderOffset.number c.args.instruction) s.row ≡ true)
           c.self.view_is (c.in-Err.ensures.overflow is).0,
     )
 
@@ -32,13 +32,13 @@ invariant_of-self-then-not-made g c =
 
 pub returns-then-not-made-clause-fits : goal.returns-then-not-made-clause-fits
 returns-then-not-made-clause-fits g c =
-    subst (λ (s : SourceRun). is_refused s.header.parameters (ins_seen g.R.Reader.bytes g.R.Offset.ReaderOffset.number c.args.instruction) s.row ≡ false)
+    subst (λ s. is_refused s.header.parameters (ins_seen g.R.Reader.bytes g.R.Offset.ReaderOffset.number c.args.instruction) s.row ≡ false)
     c.self.view_is c.in-Ok.ensures.fits
 
 pub returns-then-not-made-clause-step : goal.returns-then-not-made-clause-step
 returns-then-not-made-clause-step g c =
     subst
-    (λ (s : SourceRun). state c.execute.new.program.meaning c.execute.new.self c.self.inside.base c.self.inside.pending c.self.inside.instructions
+    (λ s. state c.execute.new.program.meaning c.execute.new.self c.self.inside.base c.self.inside.pending c.self.inside.instructions
     ≡ state_after (ins_seen g.R.Reader.bytes g.R.Offset.ReaderOffset.number c.args.instruction) s)
     c.self.view_is
     (quiet_state (ins_seen g.R.Reader.bytes g.R.Offset.ReaderOffset.number c.args.instruction) c.self.inside.program.meaning c.execute.new.program.meaning
@@ -52,36 +52,36 @@ invariant_of-self-2 g c =
 
 pub returns-clause-fits : goal.returns-clause-fits
 returns-clause-fits g c =
-    subst (λ (s : SourceRun). is_refused s.header.parameters (ins_seen g.R.Reader.bytes g.R.Offset.ReaderOffset.number c.args.instruction) s.row ≡ false)
+    subst (λ s. is_refused s.header.parameters (ins_seen g.R.Reader.bytes g.R.Offset.ReaderOffset.number c.args.instruction) s.row ≡ false)
     c.self.view_is c.in-Ok.ensures.fits
 
 pub returns-clause-step : goal.returns-clause-step
 returns-clause-step g c =
     let reset : c.reset.new.self ≡ reset_row c.header.result.now.meaning.parameters c.execute.new.self = c.reset.ensures in
     let lent : c.header.result.now.meaning ≡ c.execute.new.program.meaning = rw c.header.ensures refl in
-    subst (λ (s : SourceRun). c.made.new.self ≡ state_after (ins_seen g.R.Reader.bytes g.R.Offset.ReaderOffset.number c.args.instruction) s) c.self.view_is
+    subst (λ s. c.made.new.self ≡ state_after (ins_seen g.R.Reader.bytes g.R.Offset.ReaderOffset.number c.args.instruction) s) c.self.view_is
     (c.made.ensures.new
     ∙ row_state (ins_seen g.R.Reader.bytes g.R.Offset.ReaderOffset.number c.args.instruction) c.self.inside.program.meaning c.execute.new.program.meaning
     c.self.inside.row c.execute.new.self c.self.inside.base c.self.inside.pending c.self.inside.instructions
     c.requires.address c.requires.file c.in-Ok.ensures.fits c.in-Ok.ensures.files c.in-Ok.ensures.step
-    (sym c.in-Ok.ensures.made ∙ c.if-not-made.false) c.self.invariant c.header.result.now.meaning lent c.reset.new.self reset
-    c.execute.new.self.end_sequence refl _ refl)
+    (sym c.in-Ok.ensures.made ∙ c.if-not-made.false) c.self.invariant _ lent _ reset
+    _ refl _ refl)
 
 pub returns-clause-made : goal.returns-clause-made
 returns-clause-made g c =
-    subst (λ (s : SourceRun). c.made.result ≡ step_made s (ins_seen g.R.Reader.bytes g.R.Offset.ReaderOffset.number c.args.instruction)) c.self.view_is
+    subst (λ s. c.made.result ≡ step_made s (ins_seen g.R.Reader.bytes g.R.Offset.ReaderOffset.number c.args.instruction)) c.self.view_is
     (made_is (ins_seen g.R.Reader.bytes g.R.Offset.ReaderOffset.number c.args.instruction) c.self.inside.program.meaning c.execute.new.program.meaning
     c.self.inside.row c.execute.new.self c.self.inside.base c.self.inside.pending c.self.inside.instructions
     c.requires.address c.requires.file c.in-Ok.ensures.fits c.in-Ok.ensures.files c.in-Ok.ensures.step
-    c.made.result (c.execute.new.self.address - c.self.inside.base) c.made.ensures.step (sym c.in-Ok.ensures.made ∙ c.if-not-made.false) refl)
+    _ _ c.made.ensures.step (sym c.in-Ok.ensures.made ∙ c.if-not-made.false) refl)
 
 pub returns-clause-header : goal.returns-clause-header
 returns-clause-header g c =
-    subst (λ (s : SourceRun). c.made.new.self.header ≡ s.header) c.self.view_is
-    (ap (λ (q : SourceRun). q.header) c.made.ensures.new
+    subst (λ s. c.made.new.self.header ≡ s.header) c.self.view_is
+    (ap (λ q. q.header) c.made.ensures.new
     ∙ header_kept (ins_seen g.R.Reader.bytes g.R.Offset.ReaderOffset.number c.args.instruction) c.self.inside.program.meaning c.execute.new.program.meaning
     c.self.inside.row c.execute.new.self c.self.inside.base c.self.inside.pending c.self.inside.instructions
     c.requires.address c.requires.file c.in-Ok.ensures.fits c.in-Ok.ensures.files c.in-Ok.ensures.step)
 
 pub returns-clause-unread : goal.returns-clause-unread
-returns-clause-unread g c = subst (λ (s : SourceRun). c.made.new.self.unread ≡ s.unread) c.self.view_is (ap (λ (q : SourceRun). q.unread) c.made.ensures.new)
+returns-clause-unread g c = subst (λ s. c.made.new.self.unread ≡ s.unread) c.self.view_is (ap (λ q. q.unread) c.made.ensures.new)

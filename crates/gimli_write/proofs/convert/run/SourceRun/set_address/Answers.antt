@@ -9,7 +9,7 @@ pub invariant_of-self : goal.invariant_of-self
 invariant_of-self g c =
     let h = c.self.inside.program.meaning in
     address_ready h.parameters c.args.address c.self.inside.row c.execute-never_refused.new.self c.self.invariant
-    (address_done h.parameters c.args.address c.self.inside.row c.execute-never_refused.new.self c.execute-never_refused.result
+    (address_done h.parameters c.args.address c.self.inside.row c.execute-never_refused.new.self _
     c.execute-never_refused.ensures.step c.execute-never_refused.ensures.overflow c.execute-never_refused.ensures.memory)
 
 pub returns : goal.returns

@@ -16,9 +16,9 @@ returns-in-Err g c =
     let s = state c.self.inside.program.meaning c.self.inside.row c.self.inside.base c.self.inside.pending c.self.inside.instructions in
     rw (← c.self.view_is) (record {
       reading = tt;
-      refusal = λ sections tables. at_fault sections tables s c.in-Err.e e.0 e.2;
+      refusal = λ sections tables. at_fault sections tables s _ e.0 e.2;
       tables = tt;
-      stopped = λ sections tables. fault_last sections tables s c.in-Err.e e.0 e.2;
+      stopped = λ sections tables. fault_last sections tables s _ e.0 e.2;
       shorter = tt;
       header = refl;
       notation = c.in-Err.ensures.notation;
@@ -47,13 +47,13 @@ returns-in-DefineFile g c =
     let lent : c.header.result.now.meaning ≡ c.self.inside.program.meaning = rw c.header.ensures refl in
     let f = file_seen g.R.Reader.bytes g.R.Offset.ReaderOffset.number c.in-DefineFile.file in
     let is : ins_seen g.R.Reader.bytes g.R.Offset.ReaderOffset.number c.in-Ok-Some.instruction ≡ DefineFile f = rw c.in-DefineFile.is refl in
-    let spelled = spelled_as s.unread.notation s.header c.header.result.now.meaning n.0 _ _ lent is n.2 in
+    let spelled = spelled_as _ _ _ _ _ _ lent is n.2 in
     rw (← c.self.view_is) (record {
-      reading = λ sections tables. after_file sections tables s u notation f n.0 n.1 spelled;
+      reading = λ sections tables. after_file sections tables s u notation f _ n.1 spelled;
       refusal = tt;
-      tables = λ sections tables. file_last sections tables s u notation f n.0 n.1 spelled;
+      tables = λ sections tables. file_last sections tables s u notation f _ n.1 spelled;
       stopped = tt;
-      shorter = is_shorter s.unread.notation s.header s.unread.bytes (DefineFile f) n.0 u.bytes n.1 spelled;
+      shorter = is_shorter s.unread.notation s.header s.unread.bytes _ _ _ n.1 spelled;
       header = refl;
       notation = notation;
     })
@@ -66,9 +66,9 @@ returns-in-SetAddress g c =
     let lent : c.header.result.now.meaning ≡ c.self.inside.program.meaning = rw c.header.ensures refl in
     let is : ins_seen g.R.Reader.bytes g.R.Offset.ReaderOffset.number c.in-Ok-Some.instruction
     ≡ SetAddress c.in-SetAddress.address = rw c.in-SetAddress.is refl in
-    let spelled = spelled_as s.unread.notation s.header c.header.result.now.meaning n.0 _ _ lent is n.2 in
+    let spelled = spelled_as _ _ _ _ _ _ lent is n.2 in
     rw (← c.self.view_is) (steps_source _ _ s c.set_address.new.self u c.in-Ok-Some.ensures.notation (SetAddress c.in-SetAddress.address) (n.0, n.1, spelled) _
-    (ap (λ (q : SourceRun). q.header) c.set_address.ensures) (ap (λ (q : SourceRun). q.unread) c.set_address.ensures) refl refl c.set_address.ensures refl tt)
+    (ap (λ q. q.header) c.set_address.ensures) (ap (λ q. q.unread) c.set_address.ensures) refl refl c.set_address.ensures refl tt)
 
 pub returns-in_default : goal.returns-in_default
 returns-in_default g c =
@@ -77,9 +77,9 @@ returns-in_default g c =
     let s = state c.self.inside.program.meaning c.self.inside.row c.self.inside.base c.self.inside.pending c.self.inside.instructions in
     let u = c.next_instruction.new.self in
     let lent : c.header.result.now.meaning ≡ c.self.inside.program.meaning = rw c.header.ensures refl in
-    let spelled = spelled_as s.unread.notation s.header c.header.result.now.meaning n.0 i i lent refl n.2 in
+    let spelled = spelled_as _ _ _ _ i i lent refl n.2 in
     let file : defines_file i
-    ≡ false = other_kind g.R.Reader.bytes g.R.Offset.ReaderOffset.number c.in-Ok-Some.instruction (λ f is. c.in_default.not-DefineFile f is) in
+    ≡ false = other_kind _ _ _ (λ f is. c.in_default.not-DefineFile f is) in
     rw (← c.self.view_is)
     (steps_source _ _ s c.execute.new.self u c.in-Ok-Some.ensures.notation i (n.0, n.1, spelled) _ c.execute.ensures.header c.execute.ensures.unread file
     c.execute.ensures.fits c.execute.ensures.step c.execute.ensures.made c.execute.ensures.overflow)

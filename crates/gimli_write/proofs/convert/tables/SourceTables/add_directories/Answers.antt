@@ -7,7 +7,7 @@ use Rattle.gimli_write.proofs.ConvertSteps.{done_first, refused_first, refused_s
 use Rattle.gimli_write.proofs.convert.tables.SourceTables.add_directories.Goals as goal
 
 pub loop-directory-init : goal.loop-directory-init
-loop-directory-init g c = record { left = refl; stays = kept_self c.args.line_strings.now }
+loop-directory-init g c = record { left = refl; stays = kept_self _ }
 
 pub loop-directory-preserved : goal.loop-directory-preserved
 loop-directory-preserved g c =
@@ -46,5 +46,5 @@ returns-in_err-add_directory-clause-err g c =
 
 pub returns-in_err-add_directory-clause-stays : goal.returns-in_err-add_directory-clause-stays
 returns-in_err-add_directory-clause-stays g c =
-    kept_then c.args.line_strings.now c.loop-directory.line_strings c.add_directory.new.line_strings
+    kept_then _ _ _
     c.loop-directory.invariant.stays c.in_err-add_directory.ensures.stays

@@ -17,4 +17,4 @@ returns-in-Ok-clause-ok g c =
     let made = rw (c.encoding-encoding.ensures.encoding, c.as_slice.ensures.value) at c.in_ok-text.ensures.ok in
     let after = rw (c.encoding-encoding.ensures.encoding, c.as_slice.ensures.value) at c.in_ok-text.ensures.table in
     rw (← c.self.view_is, c.in-Ok.ensures.ok, c.in_ok-push-in-Ok.ensures.items, c.in-Ok.ensures.id)
-    (directory_is_added c.args.sections.now tables v c.in_ok-path.path.items (line_text c.in_ok-text.text) c.program_text.new.line_strings path made after)
+    (directory_is_added _ _ v _ _ _ path made after)

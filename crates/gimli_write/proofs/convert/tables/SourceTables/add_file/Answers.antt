@@ -22,13 +22,13 @@ returns-clause-ok g c =
     let f = file_seen g.R.Reader.bytes g.R.Offset.ReaderOffset.number c.args.file.now in
     let tables = tables_with c.args.line_strings.now c.args.self.now in
     on_ok_weaker c.add_parts.result
-    (λ is. done_first (file_parts (version_of tables) c.args.sections.now tables.directory_ids f)
-    (λ (parts : FileParts). let r : Result TablesAndTexts ConvertError = Ok (with_parts tables f parts) in r) c.in_ok-parts.parts c.in_ok-parts.ensures.ok
-    ∙ ap (λ (tables : TablesAndTexts). let r : Result TablesAndTexts ConvertError = Ok tables in r) is)
+    (λ is. done_first _
+    _ _ c.in_ok-parts.ensures.ok
+    ∙ ap (λ tables. let r : Result TablesAndTexts ConvertError = Ok tables in r) is)
     c.add_parts.ensures.ok
 
 pub returns-clause-err : goal.returns-clause-err
-returns-clause-err g c = IfErr-weaker c.add_parts.result _ _ (λ e memory. inl memory) c.add_parts.ensures.memory
+returns-clause-err g c = IfErr-weaker _ _ _ (λ e memory. inl memory) c.add_parts.ensures.memory
 
 pub returns-clause-kept : goal.returns-clause-kept
 returns-clause-kept g c = IfErr-weaker c.add_parts.result _ _ (λ e memory other. absurd (other memory)) c.add_parts.ensures.memory

@@ -7,7 +7,7 @@ use Rattle.gimli_write.proofs.ConvertSteps.{done_first, refused_first, refused_s
 use Rattle.gimli_write.proofs.convert.tables.SourceTables.add_files.Goals as goal
 
 pub loop-file-init : goal.loop-file-init
-loop-file-init g c = record { left = refl; stays = kept_self c.args.line_strings.now }
+loop-file-init g c = record { left = refl; stays = kept_self _ }
 
 pub loop-file-preserved : goal.loop-file-preserved
 loop-file-preserved g c =
@@ -46,5 +46,5 @@ returns-in_err-add_file-clause-err g c =
 
 pub returns-in_err-add_file-clause-stays : goal.returns-in_err-add_file-clause-stays
 returns-in_err-add_file-clause-stays g c =
-    kept_then c.args.line_strings.now c.loop-file.line_strings c.add_file.new.line_strings
+    kept_then _ _ _
     c.loop-file.invariant.stays c.in_err-add_file.ensures.stays

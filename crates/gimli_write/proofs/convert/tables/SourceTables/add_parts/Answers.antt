@@ -10,7 +10,7 @@ use Rattle.gimli_write.proofs.convert.tables.SourceTables.add_parts.Goals as goa
 
 pub returns-in_err-push-in-Ok-clause-stays : goal.returns-in_err-push-in-Ok-clause-stays
 returns-in_err-push-in-Ok-clause-stays g c =
-    kept_then c.args.line_strings.now c.program_text.new.line_strings c.optional_program_text.new.line_strings c.in_ok-path.ensures.stays
+    kept_then _ _ _ c.in_ok-path.ensures.stays
     c.in_ok-source.ensures.stays
 
 pub returns-in_ok-push-in-Ok-clause-ok : goal.returns-in_ok-push-in-Ok-clause-ok
@@ -41,46 +41,46 @@ returns-in_ok-push-in-Ok-clause-ok g c =
       c.size.ensures,
       c.md5.ensures,
     )
-    (parts_are_added tables f parts (line_text c.in_ok-path.path) (option_map line_text c.in_ok-source.source)
-    c.program_text.new.line_strings c.optional_program_text.new.line_strings made after source_made source_after)
+    (parts_are_added _ f _ _ _
+    _ _ made after source_made source_after)
 
 pub returns-in_ok-push-in-Ok-clause-keeps : goal.returns-in_ok-push-in-Ok-clause-keeps
 returns-in_ok-push-in-Ok-clause-keeps g c =
     rw (← c.self.view_is) (record {
       files = c.in-Ok.ensures.keeps;
-      numbers = rw c.in_ok-push-in-Ok.ensures.items (keeps_more c.self.inside.files.items c.in-Ok.id);
+      numbers = rw c.in_ok-push-in-Ok.ensures.items (keeps_more _ _);
       directories = refl;
     })
 
 pub returns-in_err-path-clause-writable : goal.returns-in_err-path-clause-writable
 returns-in_err-path-clause-writable g c = record {
   still = λ strings can.
-      written_later strings c.args.line_strings.now c.program_text.new.line_strings c.in_err-path.ensures.stays c.args.self.now.program can;
+      written_later strings c.args.line_strings.now c.program_text.new.line_strings c.in_err-path.ensures.stays _ can;
 }
 
 pub returns-in_err-source-clause-writable : goal.returns-in_err-source-clause-writable
 returns-in_err-source-clause-writable g c =
     let kept =
-    kept_then c.args.line_strings.now c.program_text.new.line_strings c.optional_program_text.new.line_strings c.in_ok-path.ensures.stays
+    kept_then _ _ _ c.in_ok-path.ensures.stays
     c.in_err-source.ensures.stays in
-    record { still = λ strings. written_later strings c.args.line_strings.now c.optional_program_text.new.line_strings kept c.args.self.now.program }
+    record { still = λ strings. written_later strings c.args.line_strings.now c.optional_program_text.new.line_strings kept _ }
 
 pub returns-in-Err-clause-writable : goal.returns-in-Err-clause-writable
 returns-in-Err-clause-writable g c =
     let kept =
-    kept_then c.args.line_strings.now c.program_text.new.line_strings c.optional_program_text.new.line_strings c.in_ok-path.ensures.stays
+    kept_then _ _ _ c.in_ok-path.ensures.stays
     c.in_ok-source.ensures.stays in
     record {
       still = λ strings. rw (c.in-Err.ensures.err, ← c.self.view_is)
-          (written_later strings c.args.line_strings.now c.optional_program_text.new.line_strings kept c.self.inside.program);
+          (written_later strings c.args.line_strings.now c.optional_program_text.new.line_strings kept _);
     }
 
 pub returns-in_err-push-in-Ok-clause-writable : goal.returns-in_err-push-in-Ok-clause-writable
 returns-in_err-push-in-Ok-clause-writable g c =
     record {
       still = λ strings. rw (c.in-Ok.ensures.ok, ← c.self.view_is)
-          (written_with_parts line_text c.self.inside.program strings c.args.line_strings.now c.program_text.new.line_strings
-          c.optional_program_text.new.line_strings c.in_ok-path.path c.in_ok-source.source c.parts.inside.directory _ _ _
+          (written_with_parts line_text _ _ _ _
+          _ _ _ _ _ _ _
           c.in_ok-path.ensures.stays c.in_ok-source.ensures.stays c.in_ok-path.ensures.within c.in_ok-source.ensures.within c.in_ok-source.ensures.no_zero);
     }
 
@@ -88,7 +88,7 @@ pub returns-in_ok-push-in-Ok-clause-writable : goal.returns-in_ok-push-in-Ok-cla
 returns-in_ok-push-in-Ok-clause-writable g c =
     record {
       still = λ strings. rw (c.in-Ok.ensures.ok, ← c.self.view_is)
-          (written_with_parts line_text c.self.inside.program strings c.args.line_strings.now c.program_text.new.line_strings
-          c.optional_program_text.new.line_strings c.in_ok-path.path c.in_ok-source.source c.parts.inside.directory _ _ _
+          (written_with_parts line_text _ _ _ _
+          _ _ _ _ _ _ _
           c.in_ok-path.ensures.stays c.in_ok-source.ensures.stays c.in_ok-path.ensures.within c.in_ok-source.ensures.within c.in_ok-source.ensures.no_zero);
     }
