@@ -12,7 +12,7 @@ use Rattle.gimli_bytes.specs.declared.address.Address.TheVariants.{Constant}
 use Rattle.gimli_line.specs.declared.run.row.LineRow.{LineRow as ReadRow}
 use Rattle.gimli_line.specs.declared.run.instruction.LineInstruction.TheVariants.{DefineFile}
 use Rattle.gimli_line.specs.header.Parameters.{Parameters}
-use Rattle.gimli_line.specs.run.Events.{Event, row, fault, row_at, events_at, events_after, end_events}
+use Rattle.gimli_line.specs.run.Events.{row, fault, row_at, events_at, events_after, end_events}
 use Rattle.gimli_line.specs.run.Instruction.{Ins, is_end, makes_row}
 use Rattle.gimli_line.specs.run.OperationPointer.{address_limit, pointer_at, is_under_tombstone, overflows}
 use Rattle.gimli_build.specs.Calls.{after_address, after_row, after_end}
