@@ -91,9 +91,9 @@ udata_parts big m size word h = by (is_size size) (nat_lt m (256 ^ size)) refl r
         (UnsupportedWordSize size) in r) ≡ Ok word
         → Sized big m size word
     by true true t b e = record {
-      short = size_short size t;
+      short = size_short _ t;
       small = ltb-true m (256 ^ size) b;
-      word_is = sym (same_ok (number_bytes big size m) word e);
+      word_is = sym (same_ok _ _ e);
       other = λ n fits. rw (t, lt-ltb n (256 ^ size) fits) refl;
     }
     by true false t b e = cc
@@ -112,12 +112,12 @@ pub puts_sum : (p : Placement) (v : Relocatable) (target : RelocationTarget) (z 
     (size n q : ℕ) → place_of p target + cast_unsigned w64 z ≡ n + q * 2 ^ 64 → n < 256 ^ size
     → PutsNumber p v target z size n
 puts_sum p v target z size n q sum fits =
-    λ short small. sum_is v.big v.addends z size (place_of p target) n q short small sum fits
+    λ short small. sum_is _ _ z _ _ n q short small sum fits
 
 pub puts_lowest : (p : Placement) (v : Relocatable) (target : RelocationTarget) (z : ℤ) (size : ℕ)
     → PutsNumber p v target z size ((place_of p target + cast_unsigned w64 z) % 256 ^ size)
 puts_lowest p v target z size =
-    λ short small. lowest_is v.big v.addends z size (place_of p target) small
+    λ short small. lowest_is _ _ z _ _ small
 
 -- what a call leaves that writes this number once the relocations are applied
 pub record Puts (p : Placement) (v w : Relocatable) (size n : ℕ) : Type 0 where
@@ -187,7 +187,7 @@ overwrite_parts old new at x h =
     by false true e f h = cc
     by false false e f h = record {
       fits = ltb-false (length old) (at + length x) f;
-      new_is = sym (same_ok (put_over old at x) new h);
+      new_is = sym (same_ok _ _ h);
     }
 
 -- a number of a size over others
@@ -284,8 +284,8 @@ pub record SameCall (p : Placement) (v w : Relocatable) (call : Call) : Type 0 w
 pub more_same : (p : Placement) (v w : Relocatable) (x : List ℕ) → AreInside v
     → (let u : Relocatable = record v { bytes = v.bytes ++ x } in u) ≡ w → SameCall p v w (Bytes x)
 more_same p v w x inside is = subst (λ u. SameCall p v u (Bytes x)) is (record {
-  same = ap Ok (sym (all-more p v.big v.relocations v.bytes x inside));
-  inside = inside_more (length v.bytes) (length (v.bytes ++ x)) v.relocations
+  same = ap Ok (sym (all-more p _ _ _ x inside));
+  inside = inside_more _ _ _
       (omega (arith, length-append v.bytes x)) inside;
   big_is = refl;
 })
@@ -303,7 +303,7 @@ number_same p v w n size inside called = by (udata v.big n size) refl called
         → SameCall p v w (AddressOf (Constant n) size)
     by (Ok word) is e =
         let u : Relocatable = record v { bytes = v.bytes ++ word } in
-        let more = more_same p v w word inside (same_ok u w e) in
+        let more = more_same p v w _ inside (same_ok u w e) in
         record { same = rw is more.same; inside = more.inside; big_is = more.big_is }
     by (Err x) is e = cc
 
@@ -316,23 +316,23 @@ placed_same p v w size n puts = rw puts.wanted (ap Ok (sym puts.bytes_are))
 pub over_same : (p : Placement) (v w : Relocatable) (at : ℕ) (x : List ℕ) → AreInside v
     → after_call v (BytesAt at x) ≡ Ok w → SameCall p v w (BytesAt at x)
 over_same p v w at x inside called =
-    free (list_any (touches at (length x)) v.relocations) refl called
+    free _ refl called
   where
     by : All (IsApart at (length x)) v.relocations → (r : Result (List ℕ) Error) → overwrite_of v.bytes at x ≡ r
         → result_map (λ new. let u : Relocatable = record v { bytes = new } in u) r ≡ Ok w
         → SameCall p v w (BytesAt at x)
     by apart (Ok new) is e =
         let u : Relocatable = record v { bytes = new } in
-        let put = overwrite_parts v.bytes new at x is in
+        let put = overwrite_parts _ _ _ x is in
         let old = all_relocated p v.big v.bytes v.relocations in
-        let same : length old ≡ length v.bytes = length-all p v.big v.relocations v.bytes inside in
+        let same : length old ≡ length v.bytes = length-all p _ _ _ inside in
         let kept : length new ≡ length v.bytes = ap length put.new_is
-        ∙ length-put_over v.bytes at x put.fits in
+        ∙ length-put_over _ _ x put.fits in
         let bytes_are : all_relocated p v.big new v.relocations ≡ put_over old at x =
-        ap (λ (l : List ℕ). all_relocated p v.big l v.relocations) put.new_is
-        ∙ all-over p v.big v.relocations v.bytes at x inside put.fits apart in
+        ap (λ l. all_relocated p v.big l v.relocations) put.new_is
+        ∙ all-over p _ _ _ _ x inside put.fits apart in
         subst (λ u. SameCall p v u (BytesAt at x)) (same_ok u w e) (record {
-          same = patched-inside old at x (all_relocated p v.big new v.relocations)
+          same = patched-inside _ _ x _
               (omega (arith, put.fits)) bytes_are;
           inside = subst (λ k. All (λ r. r.offset + r.size ≤ k) v.relocations) (sym kept) inside;
           big_is = refl;
@@ -345,7 +345,7 @@ over_same p v w at x inside called =
         → SameCall p v w (BytesAt at x)
     free true is e = cc
     free false is e =
-        by (apart-from at (length x) v.relocations is) (overwrite_of v.bytes at x) refl e
+        by (apart-from _ _ _ is) (overwrite_of v.bytes at x) refl e
 
 no_more : (t n : ℕ) → t + n ≡ t + n + 0 * 2 ^ 64
 no_more t n = omega arith

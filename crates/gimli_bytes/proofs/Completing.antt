@@ -61,7 +61,7 @@ begins_more : (old word : List ℕ) → Begins old (old ++ word)
 begins_more old word = take_at old word (length old) refl
 
 lowest_fits : (n size : ℕ) → n % 256 ^ size < 256 ^ size
-lowest_fits n size = mod-lt n (pow_positive size)
+lowest_fits n size = mod-lt n (pow_positive _)
 
 puts : (p : Placement) (v w : Relocatable) (target : RelocationTarget) (z : ℤ) (size : ℕ) → AreInside v → with_place v target z size ≡ Ok w
     → Puts p v w size ((place_of p target + cast_unsigned w64 z) % 256 ^ size)

@@ -1,8 +1,6 @@
 -- Addresses and ids are equal by `==` exactly where all their parts agree.
-use Rattle.std.proofs.Common.{◌≡◌, ℕ, ap, true≢false, sym}
-use Rattle.std.specs.Prelude.{nat_eq}
+use Rattle.std.proofs.Common.{◌≡◌, ap, true≢false, sym}
 use Rattle.std.specs.Bool.{Decides}
-use Rattle.std.specs.Ordering.{int_eq}
 use Rattle.std.proofs.lemmas.Bool.Decides.{Decides-eqb, Decides-int_eq, Decides-like, Decides-and}
 use Rattle.gimli_bytes.specs.declared.address.Address.{Address}
 use Rattle.gimli_bytes.specs.declared.address.Address.TheVariants.{Constant, Symbol}
@@ -13,19 +11,19 @@ use Rattle.gimli_bytes.specs.contracts.str.StringIdPartialEq.TheImpl.{ghosts as 
 use Rattle.gimli_bytes.specs.contracts.str.LineStringIdPartialEq.TheImpl.{ghosts as line_string_ids}
 
 pub address-Decides : (a b : Address) → Decides (addresses.eq a b) (a ≡ b)
-address-Decides (Constant m) (Constant n) = Decides-like (nat_eq m n) (λ same. ap Constant same) (λ same. cc) (Decides-eqb m n)
+address-Decides (Constant m) (Constant n) = Decides-like _ (λ same. ap Constant same) (λ same. cc) (Decides-eqb m n)
 address-Decides (Constant m) (Symbol s d) = (λ h. absurd (true≢false (sym h)), λ same. absurd cc)
 address-Decides (Symbol s d) (Constant m) = (λ h. absurd (true≢false (sym h)), λ same. absurd cc)
 address-Decides (Symbol s d) (Symbol t e) =
-    Decides-like (addresses.eq (Symbol s d) (Symbol t e)) (λ same. (let first = same.0 in let second = same.1 in cc)) (λ same. (cc, cc))
-    (Decides-and (nat_eq s t) (int_eq d e) (Decides-eqb s t) (Decides-int_eq d e))
+    Decides-like _ (λ same. (let first = same.0 in let second = same.1 in cc)) (λ same. (cc, cc))
+    (Decides-and _ _ (Decides-eqb s t) (Decides-int_eq d e))
 
 pub string_id-Decides : (a b : StringId) → Decides (string_ids.eq a b) (a ≡ b)
 string_id-Decides a b =
-    Decides-like (string_ids.eq a b) (λ same. ap (λ (n : ℕ). let id : StringId = record { 0 = n } in id) same) (λ same. ap (λ (id : StringId). id.0) same)
+    Decides-like _ (λ same. ap (λ n. let id : StringId = record { 0 = n } in id) same) (λ same. ap (λ id. id.0) same)
     (Decides-eqb a.0 b.0)
 
 pub line_string_id-Decides : (a b : LineStringId) → Decides (line_string_ids.eq a b) (a ≡ b)
 line_string_id-Decides a b =
-    Decides-like (line_string_ids.eq a b) (λ same. ap (λ (n : ℕ). let id : LineStringId = record { 0 = n } in id) same)
-    (λ same. ap (λ (id : LineStringId). id.0) same) (Decides-eqb a.0 b.0)
+    Decides-like _ (λ same. ap (λ n. let id : LineStringId = record { 0 = n } in id) same)
+    (λ same. ap (λ id. id.0) same) (Decides-eqb a.0 b.0)

@@ -13,7 +13,7 @@ size_4 true n = refl
 size_4 false n = refl
 
 both : (old first second mid new : List ℕ) → mid ≡ old ++ first → new ≡ mid ++ second → new ≡ old ++ (first ++ second)
-both old first second mid new before after = after ∙ ap (λ (l : List ℕ). l ++ second) before ∙ append_assoc old first second
+both old first second mid new before after = after ∙ ap (λ l. l ++ second) before ∙ append_assoc old first second
 
 -- ---- where its word stands
 
@@ -49,18 +49,18 @@ pub opened_64 : {W X Y Z : Type 0} {sink : Ghosts W} {old mid new : W} {x : X} {
     → IsAppend sink mid new (Ok y) (λ hand. Ok (number_bytes (sink.big mid) 8 0))
     → IsAppendInParts sink old new (Ok z) (open_length (sink.big old) format)
 opened_64 {sink = sink} {old = old} {mid = mid} {new = new} format long escape word = rw long (record {
-  keeps = begins_then (sink.contents old) (sink.contents mid) (sink.contents new) escape.keeps word.keeps;
+  keeps = begins_then _ _ _ escape.keeps word.keeps;
   ordered = word.ordered ∙ escape.ordered;
   stays = λ completes. word.stays (escape.stays completes);
   ok =
       λ keeps_bytes.
-      both (sink.contents old) (number_bytes (sink.big old) 4 0xffff_ffff) (number_bytes (sink.big old) 8 0) (sink.contents mid) (sink.contents new)
-      (escape.ok keeps_bytes) (word.ok keeps_bytes ∙ ap (λ (b : Bool). sink.contents mid ++ number_bytes b 8 0) escape.ordered);
+      both _ _ _ _ _
+      (escape.ok keeps_bytes) (word.ok keeps_bytes ∙ ap (λ b. sink.contents mid ++ number_bytes b 8 0) escape.ordered);
   completed =
       λ at completes.
-      both (sink.completed at old) (number_bytes (sink.big old) 4 0xffff_ffff) (number_bytes (sink.big old) 8 0) (sink.completed at mid) (sink.completed at new)
+      both _ _ _ _ _
       (escape.completed at completes)
-      (word.completed at (escape.stays completes) ∙ ap (λ (b : Bool). sink.completed at mid ++ number_bytes b 8 0) escape.ordered);
+      (word.completed at (escape.stays completes) ∙ ap (λ b. sink.completed at mid ++ number_bytes b 8 0) escape.ordered);
   err = λ memory_alone. tt;
   own = tt;
 })

@@ -9,7 +9,7 @@ use Rattle.gimli_bytes.specs.Number.{uleb, uleb_within, sleb, sleb_within, low_b
 
 -- the last group
 pub uleb_last : (k v : ℕ) → v < 128 → uleb_within k v ≡ v ∷ []
-uleb_last zero v h = ap (λ (x : ℕ). x ∷ []) (mod-eq_of_lt h)
+uleb_last zero v h = ap (λ x. x ∷ []) (mod-eq_of_lt h)
 uleb_last (suc k) v h = ap (λ b. if b then v ∷ [] else (v % 128 + 128) ∷ uleb_within k (v / 128)) (lt-ltb v 128 h)
 
 pub uleb_one : (v : ℕ) → v < 128 → uleb v ≡ v ∷ []
@@ -25,17 +25,17 @@ pub uleb_step : (bytes : List ℕ) (i v : ℕ) (all : List ℕ) → i < length b
     → take (i + 1) (set bytes i (v % 128 + 128)) ++ uleb_within (9 - (i + 1)) (v / 128) ≡ all
 uleb_step bytes i v all short low high so =
     let down : 9 - i ≡ suc (9 - (i + 1)) = omega arith in
-    ap (λ t. t ++ uleb_within (9 - (i + 1)) (v / 128)) (take_more_set bytes i (v % 128 + 128) short)
+    ap (λ t. t ++ uleb_within (9 - (i + 1)) (v / 128)) (take_more_set _ i _ short)
     ∙ append_assoc (take i bytes) ((v % 128 + 128) ∷ []) (uleb_within (9 - (i + 1)) (v / 128))
-    ∙ ap (λ t. take i bytes ++ t) (sym (uleb_more (9 - (i + 1)) v high))
-    ∙ ap (λ (k : ℕ). take i bytes ++ uleb_within k v) (sym down)
+    ∙ ap (λ t. take i bytes ++ t) (sym (uleb_more _ v high))
+    ∙ ap (λ k. take i bytes ++ uleb_within k v) (sym down)
     ∙ so
 
 -- the last byte in the buffer
 pub uleb_end : (bytes : List ℕ) (i v : ℕ) (all : List ℕ) → i < length bytes → v < 128 → take i bytes ++ uleb_within (9 - i) v ≡ all
     → take (i + 1) (set bytes i v) ≡ all
 uleb_end bytes i v all short low so =
-    take_more_set bytes i v short ∙ ap (λ t. take i bytes ++ t) (sym (uleb_last (9 - i) v low)) ∙ so
+    take_more_set _ i v short ∙ ap (λ t. take i bytes ++ t) (sym (uleb_last _ v low)) ∙ so
 
 -- the same of signed numbers
 pub high_bits_is : (z : ℤ) → int_div_euclid z (pos 128) ≡ high_bits z
@@ -60,14 +60,14 @@ pub sleb_step : (bytes : List ℕ) (i : ℕ) (z : ℤ) (all : List ℕ) → i < 
     → take (i + 1) (set bytes i (low_bits z + 128)) ++ sleb_within (9 - (i + 1)) (int_div_euclid z (pos 128)) ≡ all
 sleb_step bytes i z all short low high so =
     let down : 9 - i ≡ suc (9 - (i + 1)) = omega arith in
-    ap (λ t. t ++ sleb_within (9 - (i + 1)) (int_div_euclid z (pos 128))) (take_more_set bytes i (low_bits z + 128) short)
+    ap (λ t. t ++ sleb_within (9 - (i + 1)) (int_div_euclid z (pos 128))) (take_more_set _ i _ short)
     ∙ append_assoc (take i bytes) ((low_bits z + 128) ∷ []) (sleb_within (9 - (i + 1)) (int_div_euclid z (pos 128)))
-    ∙ ap (λ (rest : ℤ). take i bytes ++ ((low_bits z + 128) ∷ sleb_within (9 - (i + 1)) rest)) (high_bits_is z)
+    ∙ ap (λ rest. take i bytes ++ ((low_bits z + 128) ∷ sleb_within (9 - (i + 1)) rest)) (high_bits_is z)
     ∙ ap (λ t. take i bytes ++ t) (sym (sleb_more (9 - (i + 1)) z high))
-    ∙ ap (λ (k : ℕ). take i bytes ++ sleb_within k z) (sym down)
+    ∙ ap (λ k. take i bytes ++ sleb_within k z) (sym down)
     ∙ so
 
 pub sleb_end : (bytes : List ℕ) (i : ℕ) (z : ℤ) (all : List ℕ) → i < length bytes → has_seven_bits z ≡ true → take i bytes ++ sleb_within (9 - i) z ≡ all
     → take (i + 1) (set bytes i (low_bits z)) ≡ all
 sleb_end bytes i z all short low so =
-    take_more_set bytes i (low_bits z) short ∙ ap (λ t. take i bytes ++ t) (sym (sleb_last (9 - i) z low)) ∙ so
+    take_more_set _ i _ short ∙ ap (λ t. take i bytes ++ t) (sym (sleb_last (9 - i) z low)) ∙ so

@@ -14,7 +14,7 @@ pub begins_then : (a b c : List ℕ) → Begins a b → Begins b c → Begins a 
 begins_then a b c first second =
     let size : min (length a) (length b) ≡ length a = sym (length-take (length a) b) ∙ ap length first in
     let le : length a ≤ length b = omega (arith, size) in
-    sym (take-take (length a) (length b) c le) ∙ ap (λ (l : List ℕ). take (length a) l) second ∙ first
+    sym (take-take (length a) (length b) c le) ∙ ap (λ l. take (length a) l) second ∙ first
 
 -- where bytes are wanted, the refusal is the writer's own
 own_alone : {A : Type 0} {e : Error} {xs : List ℕ} → A ⊎ ((let r : Result (List ℕ) Error = Ok xs in r) ≡ Err e) → A
@@ -26,7 +26,7 @@ pub refused_after : {W X Y : Type 0} {sink : Ghosts W} {old mid new : W} {e : Er
     → sink.big mid ≡ sink.big old → (IsTrue (sink.completes old) → IsTrue (sink.completes mid)) → IsAppend {X = X} sink mid new (Err e) (λ hand. Ok part)
     → IsAppendInParts {X = Y} sink old new (Err e) whole
 refused_after {sink = sink} {old = old} {mid = mid} {new = new} part whole keeps ordered stays refused = record {
-  keeps = begins_then (sink.contents old) (sink.contents mid) (sink.contents new) keeps refused.keeps;
+  keeps = begins_then _ _ _ keeps refused.keeps;
   ordered = refused.ordered ∙ ordered;
   stays = λ completes. refused.stays (stays completes);
   ok = λ keeps_bytes. tt;
@@ -38,4 +38,4 @@ refused_after {sink = sink} {old = old} {mid = mid} {new = new} part whole keeps
 -- the first one refused
 pub refused_first : {W X Y : Type 0} {sink : Ghosts W} {old new : W} {e : Error} (part whole : List ℕ) → IsAppend {X = X} sink old new (Err e) (λ hand. Ok part)
     → IsAppendInParts {X = Y} sink old new (Err e) whole
-refused_first {sink = sink} {old = old} part whole refused = refused_after part whole (begins_self (sink.contents old)) refl (λ completes. completes) refused
+refused_first {sink = sink} {old = old} part whole refused = refused_after _ _ (begins_self _) refl (λ completes. completes) refused

@@ -41,7 +41,7 @@ pub put_over-after : (p c : List ℕ) (at : ℕ) (bytes : List ℕ) → put_over
 put_over-after p c at bytes =
     let place : length p + at + length bytes ≡ length p + (at + length bytes) = omega arith in
     let back : drop (length p + at + length bytes) (p ++ c) ≡ drop (at + length bytes) c = rw place (drop-append-add p c (at + length bytes)) in
-    rw (take-append-add p c at, back) (simp append_assoc)
+    rw (take-append-add p c _, back) (simp append_assoc)
 
 -- two parts, one after the other
 pub put_over-twice : (old : List ℕ) (at : ℕ) (a b : List ℕ) → at + length a ≤ length old
@@ -90,8 +90,8 @@ put_over-piece n (q ∷ ps) (suc i) start d bytes s inside fits =
 -- a place within the bytes is within a piece
 pub piece-inside : (n at : ℕ) (ps : List (List ℕ)) → 1 ≤ n → Sized n ps → at < length (concat ps) → at / n < length ps
 piece-inside n at ps one s h =
-    let size = length-concat n ps s in
-    div_below at n (length ps) one (omega arith)
+    let size = length-concat n _ s in
+    div_below _ n _ one (omega arith)
 
 -- what is left to put, after the part that goes into one piece
 pub put-step : (n at : ℕ) (ps : List (List ℕ)) (d now later rest new : List ℕ) → Sized n ps → at / n < length ps → now ++ later ≡ rest
@@ -114,7 +114,7 @@ put-step n at ps d now later rest new s inside parts within fits is =
 take_joined : (n : ℕ) (xs ys : List ℕ) → take n (xs ++ ys) ≡ take n xs ++ take (n - length xs) ys
 take_joined zero xs ys = let z : 0 - length xs ≡ 0 = omega arith in rw z refl
 take_joined (suc n) [] ys = let z : suc n - 0 ≡ suc n = omega arith in rw z refl
-take_joined (suc n) (x ∷ xs) ys = let z : suc n - suc (length xs) ≡ n - length xs = omega arith in rw z (ap (λ (l : List ℕ). x ∷ l) (take_joined n xs ys))
+take_joined (suc n) (x ∷ xs) ys = let z : suc n - suc (length xs) ≡ n - length xs = omega arith in rw z (ap (λ l. x ∷ l) (take_joined n _ _))
 
 pub concat-in_use : (len : ℕ) (ps : List (List ℕ)) → concat (in_use len ps) ≡ take len (concat ps)
 concat-in_use len [] = grind (arith, common_steps)
@@ -145,14 +145,14 @@ count_same n len k d a b e f =
 
 pub count_is : (n len k : ℕ) → 1 ≤ n → len ≤ k * n → k * n < len + n → k ≡ div_ceil len n
 count_is n len k one enough needed =
-    let bounds = div_ceil_times len n one in
-    count_same n len k (div_ceil len n) enough needed bounds.0 bounds.1
+    let bounds = div_ceil_times _ n one in
+    count_same n _ k _ enough needed bounds.0 bounds.1
 
 below_more : (n len more k d : ℕ) → k * n < len + n → len + more ≤ d * n → k ≤ d
 below_more n len more k d h e = at_most n k d (omega arith)
 
 pub count-below : (n len more k : ℕ) → 1 ≤ n → k * n < len + n → k ≤ div_ceil (len + more) n
-count-below n len more k one needed = below_more n len more k (div_ceil (len + more) n) needed (div_ceil_times (len + more) n one).0
+count-below n len more k one needed = below_more n _ _ k _ needed (div_ceil_times _ n one).0
 
 -- ---- the memory of a section
 
@@ -178,10 +178,10 @@ HoldPieces-same n len ps qs h s count = record {
 }
 
 pub bytes-within : (n len : ℕ) (ps : List (List ℕ)) → HoldPieces n len ps → len ≤ length (concat ps)
-bytes-within n len ps h = omega (arith, length-concat n ps h.sizes, h.enough)
+bytes-within n len ps h = omega (arith, length-concat n _ h.sizes, h.enough)
 
 pub bytes-length : (n len : ℕ) (ps : List (List ℕ)) → HoldPieces n len ps → length (take len (concat ps)) ≡ len
-bytes-length n len ps h = omega (arith, length-take len (concat ps), bytes-within n len ps h)
+bytes-length n len ps h = omega (arith, length-take len (concat ps), bytes-within n _ _ h)
 
 pub pieces-in_use : (n len : ℕ) (ps : List (List ℕ)) → HoldPieces n len ps → ArePieces n (take len (concat ps)) (in_use len ps)
 pieces-in_use n len ps h = record {
@@ -194,30 +194,30 @@ pub HoldPieces-grown : (n len more d k : ℕ) (ps qs all : List (List ℕ)) → 
     → d ≡ div_ceil (len + more) n → k ≡ length ps → HoldPieces n (len + more) all
 HoldPieces-grown n len more d k ps qs all h is s count ceil size =
     let counted : length qs ≡ div_ceil (len + more) n - length ps = count ∙ ap (λ i. i - k) ceil ∙ ap (λ i. div_ceil (len + more) n - i) size in
-    rw is (HoldPieces-more n len more ps qs h s counted)
+    rw is (HoldPieces-more n _ _ _ _ h s counted)
 
 -- bytes put after those in use
 pub bytes-more : (n len : ℕ) (ps qs all rs : List (List ℕ)) (bytes : List ℕ) → HoldPieces n len ps → all ≡ ps ++ qs
     → concat rs ≡ put_over (concat all) len bytes
     → take (len + length bytes) (concat rs) ≡ take len (concat ps) ++ bytes
 bytes-more n len ps qs all rs bytes h is e =
-    let inside = bytes-within n len ps h in
-    let joined : concat all ≡ concat ps ++ concat qs = ap (λ (l : List (List ℕ)). concat l) is ∙ concat-append ps qs in
-    let size = ap (λ (l : List ℕ). length l) joined ∙ length-append (concat ps) (concat qs) in
+    let inside = bytes-within n _ _ h in
+    let joined : concat all ≡ concat ps ++ concat qs = ap (λ l. concat l) is ∙ concat-append ps qs in
+    let size = ap (λ l. length l) joined ∙ length-append (concat ps) (concat qs) in
     let room : len ≤ length (concat all) = omega arith in
-    ap (λ (l : List ℕ). take (len + length bytes) l) e ∙ take-put_over (concat all) len bytes room
-    ∙ ap (λ (l : List ℕ). l ++ bytes) (ap (λ (l : List ℕ). take len l) joined ∙ take-append-le len (concat ps) (concat qs) inside)
+    ap (λ l. take (len + length bytes) l) e ∙ take-put_over _ _ _ room
+    ∙ ap (λ l. l ++ bytes) (ap (λ l. take len l) joined ∙ take-append-le len (concat ps) (concat qs) inside)
 
 -- bytes put over some of those in use
 pub bytes-over : (n len at : ℕ) (ps rs : List (List ℕ)) (bytes : List ℕ) → HoldPieces n len ps → at + length bytes ≤ len
     → concat rs ≡ put_over (concat ps) at bytes
     → take len (concat rs) ≡ put_over (take len (concat ps)) at bytes
 bytes-over n len at ps rs bytes h fits e =
-    ap (λ (l : List ℕ). take len l) e ∙ put_over-take (concat ps) len at bytes fits (bytes-within n len ps h)
+    ap (λ l. take len l) e ∙ put_over-take _ _ _ _ fits (bytes-within n _ _ h)
 
 pub take-before : (old : List ℕ) (at : ℕ) (bytes : List ℕ) → at ≤ length old → take at (put_over old at bytes) ≡ take at old
 take-before old at bytes h =
-    ap (λ (l : List ℕ). take at l) (append_assoc (take at old) bytes (drop (at + length bytes) old))
+    ap (λ l. take at l) (append_assoc (take at old) bytes (drop (at + length bytes) old))
     ∙ take_at (take at old) (bytes ++ drop (at + length bytes) old) at (omega (arith, length-take at old))
 
 -- ---- the refusals of a place
@@ -239,10 +239,10 @@ patched-past old at bytes h past =
 -- so many pieces
 pub piece-count : (n len : ℕ) (ps : List (List ℕ)) → HoldPieces n len ps → length ps ≡ div_ceil (length (take len (concat ps))) n
 piece-count n len ps h =
-    count_is n len (length ps) h.positive h.enough h.needed ∙ ap (λ k. div_ceil k n) (sym (bytes-length n len ps h))
+    count_is n _ _ h.positive h.enough h.needed ∙ ap (λ k. div_ceil k n) (sym (bytes-length n _ _ h))
 
 -- where no more are needed
 pub no_piece : (n len more : ℕ) (ps : List (List ℕ)) → HoldPieces n len ps → NeedsNoPiece n (length (take len (concat ps))) more
     → div_ceil (len + more) n ≡ length ps
 no_piece n len more ps h e =
-    ap (λ k. div_ceil (k + more) n) (sym (bytes-length n len ps h)) ∙ e ∙ sym (piece-count n len ps h)
+    ap (λ k. div_ceil (k + more) n) (sym (bytes-length n _ _ h)) ∙ e ∙ sym (piece-count n _ _ h)

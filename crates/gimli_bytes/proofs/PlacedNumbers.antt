@@ -20,18 +20,18 @@ placed-word big n size fits = ap (λ k. udata big k size) (mod-eq_of_lt fits) �
     by true is =
         let eight : size ≡ 8 = eqb-true size 8 is in
         let small : n < 2 ^ 64 = rw eight at fits in
-        sym (word-is big n size small)
+        sym (word-is _ n size small)
 
 pub placed-address : (at : Placement) (big : Bool) (address : Address) (size : ℕ) → CallFits at (AddressOf address size)
     → placed_address at big address size ≡ address_bytes big (address_placed at address) size
 placed-address at big (Constant n) size fits = refl
 placed-address at big (Symbol symbol addend) size fits =
     let n = fits.0.0 in
-    let sum = wraps (at.symbol symbol) addend n fits.0.1 fits.1 in
+    let sum = wraps _ _ n fits.0.1 fits.1 in
     rw fits.0.1 (by n sum.0 sum.1 fits.0.2 (is_size size) refl)
   where
     by : (n q : ℕ) → at.symbol symbol + cast_unsigned w64 addend ≡ n + q * 2 ^ 64 → n < 256 ^ size → (b : Bool) → is_size size ≡ b
         → lowest_bytes big (at.symbol symbol + cast_unsigned w64 addend) size ≡ udata big n size
     by n q sum small true is =
-        ap (λ k. udata big k size) (sum_low size (at.symbol symbol) (cast_unsigned w64 addend) n q (size_short size is) sum small)
+        ap (λ k. udata big k size) (sum_low _ _ _ n q (size_short _ is) sum small)
     by n q sum small false is = rw is refl

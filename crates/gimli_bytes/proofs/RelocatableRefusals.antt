@@ -1,5 +1,5 @@
 -- What calls of a section with relocations are refused with.
-use Rattle.std.proofs.Common.{◌≡◌, ◌⊎◌, inl, inr, ℕ, ◌+◌, ◌^◌, ◌<◌, ℤ, Bool, true, false, List, ◌++◌, length, refl, sym, subst, Ok, Err, IfErr}
+use Rattle.std.proofs.Common.{◌≡◌, ◌⊎◌, inl, inr, ℕ, ◌+◌, ◌^◌, ◌<◌, ℤ, Bool, true, false, List, length, refl, sym, subst, Ok, Err, IfErr}
 use Rattle.std.specs.Prelude.{Result, nat_lt, if◌then◌else◌}
 use Rattle.std.specs.List.{list_any}
 use Rattle.std.proofs.Math.Nat.{mod-lt}
@@ -11,8 +11,8 @@ use Rattle.gimli_bytes.specs.Number.{udata, address_bytes}
 use Rattle.gimli_bytes.specs.Hand.{Placement}
 use Rattle.gimli_bytes.specs.Written.{overwrite_of, patch}
 use Rattle.gimli_bytes.specs.Relocatable.{Relocatable}
-use Rattle.gimli_bytes.specs.Relocations.{Bytes, AddressOf, BytesAt, IsRefusal, IsRelocatableRefusal, number_in_place, relocation_at, touches}
-use Rattle.gimli_bytes.specs.Relocations.{with_place, with_place_at, with_relocation, placed_address}
+use Rattle.gimli_bytes.specs.Relocations.{Bytes, AddressOf, BytesAt, IsRefusal, IsRelocatableRefusal, number_in_place, touches}
+use Rattle.gimli_bytes.specs.Relocations.{with_place, with_place_at, placed_address}
 use Rattle.gimli_bytes.specs.declared.address.Address.{Address}
 use Rattle.gimli_bytes.specs.declared.address.Address.TheVariants.{Constant, Symbol}
 use Rattle.gimli_bytes.specs.declared.error.Error.{Error}
@@ -43,8 +43,8 @@ never h = absurd cc
 -- ---- a number that fits its size is refused for the size alone
 
 in_place_fits : (addends : Addends) (z : ℤ) (size : ℕ) → number_in_place addends z size < 256 ^ size
-in_place_fits Listed z size = pow_positive size
-in_place_fits InPlace z size = mod-lt _ (pow_positive size)
+in_place_fits Listed z size = pow_positive _
+in_place_fits InPlace z size = mod-lt _ (pow_positive _)
 
 size_refused : (big : Bool) (n size : ℕ) (e : Error) → n < 256 ^ size → udata big n size ≡ Err e → IsRelocatableRefusal e
 size_refused big n size e fits h = by (is_size size) refl h
@@ -54,7 +54,7 @@ size_refused big n size e fits h = by (is_size size) refl h
         if b then (if nat_lt n (256 ^ size) then Ok (number_bytes big size n) else Err ValueTooLarge) else Err (UnsupportedWordSize size) in r) ≡ Err e
         → IsRelocatableRefusal e
     by true is h = never (rw (lt-ltb n (256 ^ size) fits) at h)
-    by false is h = subst IsRelocatableRefusal (same_err (UnsupportedWordSize size) e h) tt
+    by false is h = subst IsRelocatableRefusal (same_err _ e h) tt
 
 mapped_refused : {A : Type 0} (f : List ℕ → A) (r : Result (List ℕ) Error) (e : Error) → result_map f r ≡ Err e → r ≡ Err e
 mapped_refused f (Ok word) e h = never h
@@ -70,8 +70,8 @@ pub place_refused : (v : Relocatable) (target : RelocationTarget) (z : ℤ) (siz
 place_refused v target z size e (inl memory) = memory_is e memory
 place_refused v target z size e (inr is) =
     let n = number_in_place v.addends z size in
-    size_refused v.big n size e (in_place_fits v.addends z size)
-    (mapped_refused (λ word. with_relocation v (relocation_at v (length v.bytes) target z size) (v.bytes ++ word)) (udata v.big n size) e is)
+    size_refused _ n _ e (in_place_fits _ z _)
+    (mapped_refused _ _ e is)
 
 pub bytes_refused : (v : Relocatable) (x : List ℕ) (e : Error) → IsRefusal v (Bytes x) e → IsRelocatableRefusal e
 bytes_refused v x e (inl memory) = memory_is e memory
@@ -81,7 +81,7 @@ number_refused : (v : Relocatable) (n size : ℕ) (e : Error) → IsRefusal v (A
     → IsRelocatableRefusal e ⊎ (udata v.big n size ≡ Err e)
 number_refused v n size e (inl memory) = inl (memory_is e memory)
 number_refused v n size e (inr is) =
-    inr (mapped_refused (λ word. let u : Relocatable = record v { bytes = v.bytes ++ word } in u) (udata v.big n size) e is)
+    inr (mapped_refused _ _ e is)
 
 -- by plain numbers, and once a linker has placed all
 pub address_refused : (v : Relocatable) (a : Address) (size : ℕ) (e : Error) → IsRefusal v (AddressOf a size) e
@@ -102,14 +102,14 @@ over_refused old at x e h = by (nat_lt (length old) at) (nat_lt (length old) (at
     by : (a b : Bool)
         → (let r : Result (List ℕ) Error = if a then Err OffsetOutOfBounds else (if b then Err LengthOutOfBounds else Ok (put_over old at x)) in r) ≡ Err e
         → IsRelocatableRefusal e
-    by true b h = subst IsRelocatableRefusal (same_err OffsetOutOfBounds e h) tt
-    by false true h = subst IsRelocatableRefusal (same_err LengthOutOfBounds e h) tt
+    by true b h = subst IsRelocatableRefusal (same_err _ e h) tt
+    by false true h = subst IsRelocatableRefusal (same_err _ e h) tt
     by false false h = never h
 
 -- unless a place has one of them
 free_refused : (touched : Bool) (written : Result (List ℕ) Error) (e : Error) → (written ≡ Err e → IsRelocatableRefusal e)
     → (let r : Result (List ℕ) Error = if touched then Err InvalidRange else written in r) ≡ Err e → IsRelocatableRefusal e
-free_refused true written e others h = subst IsRelocatableRefusal (same_err InvalidRange e h) tt
+free_refused true written e others h = subst IsRelocatableRefusal (same_err _ e h) tt
 free_refused false written e others h = others h
 
 pub bytes_at_refused : (v : Relocatable) (at : ℕ) (x : List ℕ) (e : Error) → IsRefusal v (BytesAt at x) e → IsRelocatableRefusal e
@@ -118,8 +118,8 @@ bytes_at_refused v at x e (inr is) =
     let touched = list_any (touches at (length x)) v.relocations in
     let written = overwrite_of v.bytes at x in
     let free : Result (List ℕ) Error = if touched then Err InvalidRange else written in
-    free_refused touched written e (over_refused v.bytes at x e)
-    (mapped_refused (λ new. let u : Relocatable = record v { bytes = new } in u) free e is)
+    free_refused touched _ e (over_refused v.bytes at x e)
+    (mapped_refused _ _ e is)
 
 patch_refused : (wanted : Result (List ℕ) Error) (old : List ℕ) (at : ℕ) (e : Error) → (wanted ≡ Err e → IsRelocatableRefusal e)
     → patch wanted old at ≡ Err e → IsRelocatableRefusal e
@@ -134,5 +134,5 @@ place_at_refused v at target z size e (inr is) =
     let touched = list_any (touches at size) v.relocations in
     let written = patch (udata v.big n size) v.bytes at in
     let free : Result (List ℕ) Error = if touched then Err InvalidRange else written in
-    free_refused touched written e (patch_refused (udata v.big n size) v.bytes at e (size_refused v.big n size e (in_place_fits v.addends z size)))
-    (mapped_refused (with_relocation v (relocation_at v at target z size)) free e is)
+    free_refused _ _ e (patch_refused _ _ _ e (size_refused _ n _ e (in_place_fits _ z _)))
+    (mapped_refused _ _ e is)

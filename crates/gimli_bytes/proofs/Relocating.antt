@@ -52,7 +52,7 @@ pub inside-from : (n : ℕ) (rs : List Relocation) → are_within n rs ≡ true 
 inside-from n [] is = λ k d lt. absurd (omega arith)
 inside-from n (r ∷ rs) is =
     let parts = and_parts (nat_le (r.offset + r.size) n) (are_within n rs) is in
-    All-cons (λ r. r.offset + r.size ≤ n) r rs (leb-true (r.offset + r.size) n parts.0)
+    All-cons (λ r. r.offset + r.size ≤ n) r _ (leb-true (r.offset + r.size) n parts.0)
     (inside-from n rs parts.1)
 
 pub inside-to : (n : ℕ) (rs : List Relocation) → Inside n rs → are_within n rs ≡ true
@@ -96,17 +96,17 @@ word_fits p big r n there inside =
 pub length-relocated : (p : Placement) (big : Bool) (bytes : List ℕ) (r : Relocation)
     → r.offset + r.size ≤ length bytes → length (relocated p big bytes r) ≡ length bytes
 length-relocated p big bytes r inside =
-    length-put_over bytes r.offset (word_at p big r (stands_at r bytes))
-    (word_fits p big r (length bytes) (stands_at r bytes) inside)
+    length-put_over _ _ _
+    (word_fits p _ r _ (stands_at r bytes) inside)
 
 pub relocated-more : (p : Placement) (big : Bool) (bytes more : List ℕ) (r : Relocation)
     → r.offset + r.size ≤ length bytes
     → relocated p big (bytes ++ more) r ≡ relocated p big bytes r ++ more
 relocated-more p big bytes more r inside =
-    let front = front_same bytes more r.offset r.size inside in
-    ap (λ (l : List ℕ). put_over (bytes ++ more) r.offset (word_at p big r l)) front
-    ∙ sym (put_over-front bytes more r.offset (word_at p big r (stands_at r bytes))
-    (word_fits p big r (length bytes) (stands_at r bytes) inside))
+    let front = front_same _ _ _ _ inside in
+    ap (λ l. put_over (bytes ++ more) r.offset (word_at p big r l)) front
+    ∙ sym (put_over-front _ _ _ _
+    (word_fits p _ r _ (stands_at r bytes) inside))
 
 -- bytes that are put apart from its place
 pub relocated-over : (p : Placement) (big : Bool) (bytes : List ℕ) (at : ℕ) (x : List ℕ)
@@ -114,14 +114,14 @@ pub relocated-over : (p : Placement) (big : Bool) (bytes : List ℕ) (at : ℕ) 
     → IsApart at (length x) r
     → relocated p big (put_over bytes at x) r ≡ put_over (relocated p big bytes r) at x
 relocated-over p big bytes at x r inside fits (inl before) =
-    let same = before-put_over bytes at x r.offset r.size before (omega arith) in
-    ap (λ (l : List ℕ). put_over (put_over bytes at x) r.offset (word_at p big r l)) same
-    ∙ sym (put_over-apart bytes r.offset (word_at p big r (stands_at r bytes)) at x
-    (word_fits p big r at (stands_at r bytes) before) (omega arith))
+    let same = before-put_over _ _ x _ _ before (omega arith) in
+    ap (λ l. put_over (put_over bytes at x) r.offset (word_at p big r l)) same
+    ∙ sym (put_over-apart _ _ _ _ x
+    (word_fits p _ r _ (stands_at r bytes) before) (omega arith))
 relocated-over p big bytes at x r inside fits (inr after) =
-    let same = ap (λ (l : List ℕ). take r.size l) (after-put_over bytes at x r.offset after fits) in
-    ap (λ (l : List ℕ). put_over (put_over bytes at x) r.offset (word_at p big r l)) same
-    ∙ put_over-apart bytes at x r.offset (word_at p big r (stands_at r bytes)) after (omega arith)
+    let same = ap (λ l. take r.size l) (after-put_over _ _ x _ after fits) in
+    ap (λ l. put_over (put_over bytes at x) r.offset (word_at p big r l)) same
+    ∙ put_over-apart _ _ x _ _ after (omega arith)
 
 -- a place after the bytes
 pub relocated-end : (p : Placement) (big : Bool) (bytes word : List ℕ) (r : Relocation)
@@ -151,12 +151,12 @@ pub relocated-put : (p : Placement) (big : Bool) (bytes word : List ℕ) (r : Re
     (word_at p big r word)
 relocated-put p big bytes word r size fits =
     let there : stands_at r (put_over bytes r.offset word) ≡ word =
-    ap (λ (k : ℕ). take k (drop r.offset (put_over bytes r.offset word))) size
-    ∙ there-put_over bytes r.offset word fits in
+    ap (λ k. take k (drop r.offset (put_over bytes r.offset word))) size
+    ∙ there-put_over _ _ _ fits in
     let long : length word ≡ length (word_at p big r word) = sym size
-    ∙ sym (length-number big r.size (sum_at p big r word)) in
-    ap (λ (l : List ℕ). put_over (put_over bytes r.offset word) r.offset (word_at p big r l)) there
-    ∙ put_over-again bytes r.offset word (word_at p big r word) long fits
+    ∙ sym (length-number _ _ _) in
+    ap (λ l. put_over (put_over bytes r.offset word) r.offset (word_at p big r l)) there
+    ∙ put_over-again _ _ _ _ long fits
 
 -- ---- all of them
 
@@ -206,7 +206,7 @@ inside_more n m rs le inside = λ k d lt. omega (arith, inside k d lt)
 pub inside_last : (n : ℕ) (rs : List Relocation) (r : Relocation) → Inside n rs
     → r.offset + r.size ≤ n → Inside n (rs ++ r ∷ [])
 inside_last n rs r inside fits =
-    All-append (λ r. r.offset + r.size ≤ n) rs (r ∷ []) inside
+    All-append (λ r. r.offset + r.size ≤ n) _ _ inside
     (All-cons (λ r. r.offset + r.size ≤ n) r [] fits (λ k d lt. absurd (omega arith)))
 
 -- ---- sums
@@ -217,16 +217,16 @@ pub sum_low : (size t c n q : ℕ) → size ≤ 8 → t + c ≡ n + q * 2 ^ 64 �
 sum_low size t c n q short sum fits =
     let parts : 8 - size + size ≡ 8 = omega arith in
     let whole : 256 ^ (8 - size) * 256 ^ size ≡ 2 ^ 64 = sym (pow-add 256 (8 - size) size)
-    ∙ ap (λ (k : ℕ). 256 ^ k) parts in
+    ∙ ap (λ k. 256 ^ k) parts in
     let split : t + c ≡ n + q * 256 ^ (8 - size) * 256 ^ size = sum ∙ rw (← whole) (grind arith) in
-    ap (λ (k : ℕ). k % 256 ^ size) split
+    ap (λ k. k % 256 ^ size) split
     ∙ add-mul-mod_self_right n (q * 256 ^ (8 - size)) (256 ^ size)
     ∙ mod-eq_of_lt fits
 
 low_sum : (t c m : ℕ) → (t + c % m) % m ≡ (t + c) % m
 low_sum t c m =
     let split : t + c ≡ t + c % m + c / m * m = omega (arith, div-add-mod' c m) in
-    sym (add-mul-mod_self_right (t + c % m) (c / m) m) ∙ ap (λ (k : ℕ). k % m) (sym split)
+    sym (add-mul-mod_self_right (t + c % m) (c / m) m) ∙ ap (λ k. k % m) (sym split)
 
 -- what stands at a place and what the list has make one addend: the lowest bytes of the sum
 pub lowest_is : (big : Bool) (addends : Addends) (z : ℤ) (size t : ℕ)
@@ -236,12 +236,12 @@ pub lowest_is : (big : Bool) (addends : Addends) (z : ℤ) (size t : ℕ)
     (number_bytes big size (number_in_place addends z size))) ≡ number_bytes big size
     ((t + cast_unsigned w64 z) % 256 ^ size)
 lowest_is big addends z size t small =
-    let there = (number_spelled big size (number_in_place addends z size) small).value_is in
-    ap (λ (k : ℕ). number_bytes big size (t + cast_unsigned w64 (addend_in_list addends z) + k))
+    let there = (number_spelled _ _ _ small).value_is in
+    ap (λ k. number_bytes big size (t + cast_unsigned w64 (addend_in_list addends z) + k))
     there
-    ∙ number-mod big size
-    (t + cast_unsigned w64 (addend_in_list addends z) + number_in_place addends z size)
-    ∙ ap (number_bytes big size) (low addends)
+    ∙ number-mod _ _
+    _
+    ∙ ap (number_bytes big size) (low _)
   where
     low : (a : Addends) → (t + cast_unsigned w64 (addend_in_list a z) + number_in_place a z size) %
         256 ^ size ≡ (t + cast_unsigned w64 z) % 256 ^ size
@@ -250,7 +250,7 @@ lowest_is big addends z size t small =
         rw none refl
     low InPlace =
         let none : t + 0 ≡ t = omega arith in
-        rw none (low_sum t (cast_unsigned w64 z) (256 ^ size))
+        rw none (low_sum t _ _)
 
 -- the sum itself, where it fits
 pub sum_is : (big : Bool) (addends : Addends) (z : ℤ) (size t n q : ℕ) → size ≤ 8
@@ -260,19 +260,19 @@ pub sum_is : (big : Bool) (addends : Addends) (z : ℤ) (size t n q : ℕ) → s
     (t + cast_unsigned w64 (addend_in_list addends z) + value_of big
     (number_bytes big size (number_in_place addends z size))) ≡ number_bytes big size n
 sum_is big addends z size t n q short small sum fits =
-    let there = (number_spelled big size (number_in_place addends z size) small).value_is in
-    ap (λ (k : ℕ). number_bytes big size (t + cast_unsigned w64 (addend_in_list addends z) + k))
+    let there = (number_spelled _ _ _ small).value_is in
+    ap (λ k. number_bytes big size (t + cast_unsigned w64 (addend_in_list addends z) + k))
     there
-    ∙ number-mod big size
-    (t + cast_unsigned w64 (addend_in_list addends z) + number_in_place addends z size)
-    ∙ ap (number_bytes big size) (low addends)
+    ∙ number-mod _ _
+    _
+    ∙ ap (number_bytes big size) (low _)
   where
     low : (a : Addends) → (t + cast_unsigned w64 (addend_in_list a z) + number_in_place a z size) %
         256 ^ size ≡ n
     low Listed =
         let none : t + cast_unsigned w64 z + 0 ≡ t + cast_unsigned w64 z = omega arith in
-        rw none (sum_low size t (cast_unsigned w64 z) n q short sum fits)
+        rw none (sum_low _ t _ n q short sum fits)
     low InPlace =
         let none : t + 0 ≡ t = omega arith in
-        rw none (low_sum t (cast_unsigned w64 z) (256 ^ size)
-        ∙ sum_low size t (cast_unsigned w64 z) n q short sum fits)
+        rw none (low_sum t _ _
+        ∙ sum_low _ t _ n q short sum fits)

@@ -14,15 +14,15 @@ use Rattle.gimli_bytes.proofs.PieceLemmas.{length-put_over, put_over-front, put_
 
 length_low : (size i n : ℕ) → length (bytes_low_first i size n) ≡ size
 length_low zero i n = refl
-length_low (suc size) i n = ap suc (length_low size (suc i) n)
+length_low (suc size) i n = ap suc (length_low _ _ n)
 
 length_high : (size n : ℕ) → length (bytes_high_first size n) ≡ size
 length_high zero n = refl
-length_high (suc size) n = ap suc (length_high size n)
+length_high (suc size) n = ap suc (length_high _ n)
 
 pub length-number : (big : Bool) (size n : ℕ) → length (number_bytes big size n) ≡ size
-length-number true size n = length_high size n
-length-number false size n = length_low size 0 n
+length-number true size n = length_high _ n
+length-number false size n = length_low _ 0 n
 
 -- ---- bytes put over others
 
@@ -31,14 +31,14 @@ parts_over : (p s : List ℕ) (at : ℕ) (x : List ℕ) (k : ℕ) (y : List ℕ)
     → put_over (put_over (p ++ s) at x) (length p + k) y ≡ put_over
     (put_over (p ++ s) (length p + k) y) at x
 parts_over p s at x k y fits =
-    let size : length (put_over p at x) ≡ length p = length-put_over p at x fits in
+    let size : length (put_over p at x) ≡ length p = length-put_over p _ x fits in
     let first : put_over (p ++ s) at x ≡ put_over p at x ++ s =
-    sym (put_over-front p s at x fits) in
-    ap (λ (l : List ℕ). put_over l (length p + k) y) first
-    ∙ ap (λ (m : ℕ). put_over (put_over p at x ++ s) (m + k) y) (sym size)
-    ∙ put_over-after (put_over p at x) s k y
-    ∙ put_over-front p (put_over s k y) at x fits
-    ∙ ap (λ (l : List ℕ). put_over l at x) (sym (put_over-after p s k y))
+    sym (put_over-front p s _ x fits) in
+    ap (λ l. put_over l (length p + k) y) first
+    ∙ ap (λ m. put_over (put_over p at x ++ s) (m + k) y) (sym size)
+    ∙ put_over-after _ s k y
+    ∙ put_over-front p _ _ x fits
+    ∙ ap (λ l. put_over l at x) (sym (put_over-after p s k y))
 
 -- two that are apart
 pub put_over-apart : (old : List ℕ) (at : ℕ) (x : List ℕ) (off : ℕ) (y : List ℕ)
@@ -63,13 +63,13 @@ after-put_over old at x off before inside =
     rw place at (drop-append-add (take at old ++ x) (drop (at + length x) old)
     (off - (at + length x))) in
     let whole : put_over old at x ≡ (take at old ++ x) ++ drop (at + length x) old = refl in
-    left ∙ drop-drop (off - (at + length x)) (at + length x) old ∙ ap (λ (k : ℕ). drop k old) more
+    left ∙ drop-drop (off - (at + length x)) (at + length x) old ∙ ap (λ k. drop k old) more
 
 -- what stands in a part in front
 pub front_same : (p s : List ℕ) (off size : ℕ) → off + size ≤ length p
     → take size (drop off (p ++ s)) ≡ take size (drop off p)
 front_same p s off size fits =
-    ap (λ (l : List ℕ). take size l) (drop-append-le off p s (omega arith))
+    ap (λ l. take size l) (drop-append-le off p s (omega arith))
     ∙ take-append-le size (drop off p) s (omega (arith, length-drop off p))
 
 -- what stands before them
@@ -78,20 +78,20 @@ pub before-put_over : (old : List ℕ) (at : ℕ) (x : List ℕ) (off size : ℕ
     → take size (drop off (put_over old at x)) ≡ take size (drop off old)
 before-put_over old at x off size before inside =
     let front : off + size ≤ length (take at old) = omega (arith, length-take at old) in
-    ap (λ (l : List ℕ). take size (drop off l))
+    ap (λ l. take size (drop off l))
     (append_assoc (take at old) x (drop (at + length x) old))
-    ∙ front_same (take at old) (x ++ drop (at + length x) old) off size front
-    ∙ sym (front_same (take at old) (drop at old) off size front)
-    ∙ ap (λ (l : List ℕ). take size (drop off l)) (take-append-drop at old)
+    ∙ front_same _ _ _ _ front
+    ∙ sym (front_same _ _ _ _ front)
+    ∙ ap (λ l. take size (drop off l)) (take-append-drop at old)
 
 -- the bytes that are put there
 pub there-put_over : (old : List ℕ) (at : ℕ) (x : List ℕ) → at + length x ≤ length old
     → take (length x) (drop at (put_over old at x)) ≡ x
 there-put_over old at x inside =
     let size : length (take at old) ≡ at = omega (arith, length-take at old) in
-    ap (λ (l : List ℕ). take (length x) (drop at l))
+    ap (λ l. take (length x) (drop at l))
     (append_assoc (take at old) x (drop (at + length x) old))
-    ∙ ap (λ (l : List ℕ). take (length x) l)
+    ∙ ap (λ l. take (length x) l)
     (drop_at (take at old) (x ++ drop (at + length x) old) at size)
     ∙ take_at x (drop (at + length x) old) (length x) refl
 
@@ -102,10 +102,10 @@ put_over-again old at x y same inside =
     let size : length (take at old) ≡ at = omega (arith, length-take at old) in
     let assoc = append_assoc (take at old) x (drop (at + length x) old) in
     let taken : take at (put_over old at x) ≡ take at old =
-    ap (λ (l : List ℕ). take at l) assoc
+    ap (λ l. take at l) assoc
     ∙ take_at (take at old) (x ++ drop (at + length x) old) at size in
     let left : drop (at + length y) (put_over old at x) ≡ drop (at + length y) old =
-    after-put_over old at x (at + length y) (omega arith) inside in
+    after-put_over _ _ x _ (omega arith) inside in
     rw (taken, left) refl
 
 -- ---- the lowest bytes of a number
@@ -126,9 +126,9 @@ byte_below i j n q =
     let parts : n + q * 256 ^ (i + suc j) ≡ n + q * 256 ^ j * 256 * 256 ^ i =
     rw (worth, more) (grind arith) in
     let positive : 0 < 256 ^ i = pow_positive i in
-    byte_is i (n + q * 256 ^ (i + suc j))
-    ∙ ap (λ (m : ℕ). m / 256 ^ i % 256) parts
-    ∙ ap (λ (m : ℕ). m % 256) (add-mul-div_right n (q * 256 ^ j * 256) positive)
+    byte_is i _
+    ∙ ap (λ m. m / 256 ^ i % 256) parts
+    ∙ ap (λ m. m % 256) (add-mul-div_right n (q * 256 ^ j * 256) positive)
     ∙ add-mul-mod_self_right (n / 256 ^ i) (q * 256 ^ j) 256
     ∙ sym (byte_is i n)
 
@@ -155,12 +155,12 @@ high_same (suc size) k n q below =
 
 number_same : (big : Bool) (size n q : ℕ)
     → number_bytes big size (n + q * 256 ^ size) ≡ number_bytes big size n
-number_same true size n q = high_same size size n q (omega arith)
-number_same false size n q = low_same size 0 size n q (omega arith)
+number_same true size n q = high_same _ _ n q (omega arith)
+number_same false size n q = low_same _ 0 _ n q (omega arith)
 
 pub number-mod : (big : Bool) (size n : ℕ)
     → number_bytes big size n ≡ number_bytes big size (n % 256 ^ size)
 number-mod big size n =
     let parts : n % 256 ^ size + n / 256 ^ size * 256 ^ size ≡ n =
     omega (arith, div-add-mod' n (256 ^ size)) in
-    ap (number_bytes big size) (sym parts) ∙ number_same big size (n % 256 ^ size) (n / 256 ^ size)
+    ap (number_bytes big size) (sym parts) ∙ number_same _ _ _ _

@@ -6,7 +6,7 @@ use Rattle.gimli_bytes.specs.Hand.{section_word}
 
 -- of 64 bits
 pub word-is : (big : Bool) (n size : ℕ) → n < 2 ^ 64 → section_word big n size ≡ udata big n size
-word-is big n size small = by (nat_eq size 8) refl
+word-is big n size small = by _ refl
   where
     by : (b : Bool) → nat_eq size 8 ≡ b → section_word big n size ≡ udata big n size
     by false is = rw is refl

@@ -17,7 +17,7 @@ power_of_128 : (k : ℕ) → 2 ^ (7 * k) ≡ 128 ^ k
 power_of_128 zero = refl
 power_of_128 (suc k) =
     let more : 7 * suc k ≡ 7 * k + 7 = omega arith in
-    let split : 2 ^ (7 * suc k) ≡ 2 ^ (7 * k) * 2 ^ 7 = ap (λ (i : ℕ). 2 ^ i) more ∙ pow-add 2 (7 * k) 7 in
+    let split : 2 ^ (7 * suc k) ≡ 2 ^ (7 * k) * 2 ^ 7 = ap (λ i. 2 ^ i) more ∙ pow-add 2 (7 * k) 7 in
     omega (arith, split, power_of_128 k, pow-succ' 128 k)
 
 -- ---- any spelling: the last byte is the sign, and the number is within what the bytes hold
@@ -50,15 +50,15 @@ sign_taken true n p = refl
 sign_taken false n p = omega (arith, ints)
 
 within : (b : ℕ) (bytes : List ℕ) (n : ℕ) (z : ℤ) → Groups (b ∷ bytes) n → signed_value (b ∷ bytes) n ≡ z → mag z < 64 * 128 ^ length bytes
-within b bytes n z h value = by (is_negative (b ∷ bytes)) refl (sym (sign_taken (is_negative (b ∷ bytes)) n (2 ^ (7 * suc (length bytes)))) ∙ value)
+within b bytes n z h value = by (is_negative (b ∷ bytes)) refl (sym (sign_taken _ n _) ∙ value)
   where
     by : (sign : Bool) → is_negative (b ∷ bytes) ≡ sign → (if sign then pos n -ℤ pos (2 ^ (7 * suc (length bytes))) else pos n) ≡ z
         → mag z < 64 * 128 ^ length bytes
-    by false sign e = within_positive n (64 * 128 ^ length bytes) z (Groups-positive b bytes n h sign) e
+    by false sign e = within_positive n _ z (Groups-positive b _ n h sign) e
     by true sign e =
-        let power : 2 ^ (7 * suc (length bytes)) ≡ 128 * 128 ^ length bytes = power_of_128 (suc (length bytes)) ∙ pow-succ' 128 (length bytes) in
+        let power : 2 ^ (7 * suc (length bytes)) ≡ 128 * 128 ^ length bytes = power_of_128 _ ∙ pow-succ' 128 (length bytes) in
         let below : n < 128 * 128 ^ length bytes = omega (arith, Groups-below (b ∷ bytes) n h, pow-succ' 128 (length bytes)) in
-        within_negative n (128 ^ length bytes) z (Groups-negative b bytes n h sign) below (ap (λ (p : ℕ). pos n -ℤ pos p) (sym power) ∙ e)
+        within_negative n _ z (Groups-negative b _ n h sign) below (ap (λ p. pos n -ℤ pos p) (sym power) ∙ e)
 
 -- ---- the written one: no more groups than hold the number
 
@@ -82,7 +82,7 @@ length-sleb_within (suc more) j z h = by (has_seven_bits z) refl j h (λ i. leng
     by false e zero h rest = absurd (omega (arith, h, more_bits z e))
     by false e (suc i) h rest =
         let power : 128 ^ suc i ≡ 128 * 128 ^ i = pow-succ' 128 i in
-        let high : mag (high_bits z) < 64 * 128 ^ i = high_within z (64 * 128 ^ i) (omega (arith, h, power)) in
+        let high : mag (high_bits z) < 64 * 128 ^ i = high_within z _ (omega (arith, h, power)) in
         omega (arith, ap length (sleb_more more z e), rest i high)
 
 -- ---- the written one is a spelling
@@ -154,7 +154,7 @@ spells (pos n) h =
       unsigned = n;
       groups = p.groups;
       value_is =
-          sign_taken (is_negative (sleb_within 9 (pos n))) n (2 ^ (7 * length (sleb_within 9 (pos n))))
+          sign_taken _ n _
           ∙ ap (λ b. if b then pos n -ℤ pos (2 ^ (7 * length (sleb_within 9 (pos n)))) else pos n) p.sign;
       short = length-sleb_within 9 9 (pos n) size;
       fits = h;
@@ -163,14 +163,14 @@ spells (negsuc n) h =
     let size : n < 64 * 128 ^ 9 = omega (arith, h.sfits) in
     let bytes : List ℕ = sleb_within 9 (negsuc n) in
     let p : Negative n bytes = negative 9 n size in
-    let power : 2 ^ (7 * length bytes) ≡ p.unsigned + suc n = power_of_128 (length bytes) ∙ sym p.short_by in
+    let power : 2 ^ (7 * length bytes) ≡ p.unsigned + suc n = power_of_128 _ ∙ sym p.short_by in
     record {
       unsigned = p.unsigned;
       groups = p.groups;
       value_is =
           sign_taken (is_negative bytes) p.unsigned (2 ^ (7 * length bytes))
           ∙ ap (λ b. if b then pos p.unsigned -ℤ pos (2 ^ (7 * length bytes)) else pos p.unsigned) p.sign
-          ∙ ap (λ (k : ℕ). pos p.unsigned -ℤ pos k) power
+          ∙ ap (λ k. pos p.unsigned -ℤ pos k) power
           ∙ (let e : pos p.unsigned -ℤ pos (p.unsigned + suc n) ≡ negsuc n = omega (arith, ints) in e);
       short = length-sleb_within 9 9 (negsuc n) size;
       fits = h;
@@ -179,7 +179,7 @@ spells (negsuc n) h =
 -- any spelling is at least as long
 least : (other : List ℕ) (z : ℤ) → SpellsSleb128 other z → length (sleb_within 9 z) ≤ length other
 least [] z s = absurd s.groups
-least (b ∷ bytes) z s = length-sleb_within 9 (length bytes) z (within b bytes s.unsigned z s.groups s.value_is)
+least (b ∷ bytes) z s = length-sleb_within 9 (length bytes) z (within b _ _ z s.groups s.value_is)
 
 pub sleb_shortest : (z : ℤ) → FitsSigned w64 z → IsShortest SpellsSleb128 (sleb z) z
 unfolding sleb

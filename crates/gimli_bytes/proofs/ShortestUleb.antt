@@ -40,11 +40,11 @@ Groups-uleb_within zero n h =
     let low : n < 128 = omega (arith, h) in
     (omega arith, sym (mod-eq_of_lt low))
 Groups-uleb_within (suc more) n h = elim (cases_lt n 128) [
-  | inl low ↦ rw (uleb_last (suc more) n low) (low, refl)
+  | inl low ↦ rw (uleb_last _ n low) (low, refl)
   | inr high ↦
       let power : 128 ^ suc (suc more) ≡ 128 * 128 ^ suc more = pow-succ' 128 (suc more) in
       let rest : n / 128 < 128 ^ suc more = omega (arith, power, h) in
-      rw (uleb_more more n high)
+      rw (uleb_more _ n high)
       (Groups-cons (n % 128 + 128) (uleb_within more (n / 128)) n (n / 128) (omega arith) (omega arith) (Groups-uleb_within more (n / 128) rest))
 ]
 

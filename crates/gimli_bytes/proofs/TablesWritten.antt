@@ -23,13 +23,13 @@ pub text_put : (items : List (Vec ℕ Global)) (i : ℕ) (item : Vec ℕ Global)
     → new ≡ old ++ table_bytes (texts_of (take (i + 1) items))
 text_put items i item big text old mid later new lt is same before put ended =
     let done = table_bytes (texts_of (take i items)) in
-    ended ∙ ap (λ (l : List ℕ). later ++ l) (zero_byte big)
-    ∙ ap (λ (l : List ℕ). l ++ 0 ∷ []) (put ∙ ap (λ (l : List ℕ). mid ++ l) same ∙ ap (λ (l : List ℕ). l ++ item.items) before)
+    ended ∙ ap (λ l. later ++ l) (zero_byte _)
+    ∙ ap (λ l. l ++ 0 ∷ []) (put ∙ ap (λ l. mid ++ l) same ∙ ap (λ l. l ++ item.items) before)
     ∙ append_assoc (old ++ done) item.items (0 ∷ []) ∙ append_assoc old done (item.items ++ 0 ∷ [])
-    ∙ ap (λ (l : List ℕ). old ++ l) (sym (one_more items i item lt is))
+    ∙ ap (λ l. old ++ l) (sym (one_more _ i _ lt is))
 
 pub all_put : (items keys : List (Vec ℕ Global)) (i : ℕ) (texts : List (List ℕ)) (old new : List ℕ) → length items ≤ i → items ≡ keys → texts_of keys ≡ texts
     → new ≡ old ++ table_bytes (texts_of (take i items)) → new ≡ old ++ table_bytes texts
 all_put items keys i texts old new end same seen put =
-    put ∙ ap (λ (l : List (Vec ℕ Global)). old ++ table_bytes (texts_of l)) (take_all i items end ∙ same)
-    ∙ ap (λ (l : List (List ℕ)). old ++ table_bytes l) seen
+    put ∙ ap (λ l. old ++ table_bytes (texts_of l)) (take_all i items end ∙ same)
+    ∙ ap (λ l. old ++ table_bytes l) seen

@@ -24,7 +24,7 @@ append_as is append = rw is append
 pub refused_at_once : {W X : Type 0} {sink : Ghosts W} {wanted : Result (List ℕ) Error} {e : Error} (old : W) → wanted ≡ Err e
     → IsAppend {X = X} sink old old (Err e) (λ hand. wanted)
 refused_at_once {sink = sink} old is = rw is (record {
-  keeps = begins_self (sink.contents old);
+  keeps = begins_self _;
   ordered = refl;
   stays = λ completes. completes;
   ok = λ keeps_bytes. tt;
@@ -110,19 +110,19 @@ other_signed big z size a b c d = rw (ne_eqb size 1 a, ne_eqb size 2 b, ne_eqb s
 -- ---- pointers
 
 same_format : (format encoding : DwEhPe) → format.0 ≡ bit_and encoding.0 0x0f → format_of encoding ≡ format
-same_format format encoding is = ap (λ (n : ℕ). let f : DwEhPe = record { 0 = n } in f) (sym is)
+same_format format encoding is = ap (λ n. let f : DwEhPe = record { 0 = n } in f) (sym is)
 
 pub absolute_pointer : (big : Bool) (old : List ℕ) (address : Address) (n : ℕ) (encoding : DwEhPe) (format : DwEhPe) (size : ℕ) → address ≡ Constant n
     → bit_and encoding.0 0x70 ≡ 0 → format.0 ≡ bit_and encoding.0 0x0f
     → pointer_at_end big old address encoding size ≡ pointer_data big n format size
 absolute_pointer big old address n encoding format size constant kind is =
-    rw (constant, kind) (ap (λ (f : DwEhPe). pointer_data big n f size) (same_format format encoding is))
+    rw (constant, kind) (ap (λ f. pointer_data big n f size) (same_format _ _ is))
 
 pub relative_pointer : (big : Bool) (old : List ℕ) (address : Address) (n place : ℕ) (encoding : DwEhPe) (format : DwEhPe) (size : ℕ) → address ≡ Constant n
     → bit_and encoding.0 0x70 ≡ 0x10 → place ≡ length old → format.0 ≡ bit_and encoding.0 0x0f
     → pointer_at_end big old address encoding size ≡ pointer_data big ((n + (2 ^ 64 - place)) % 2 ^ 64) format size
 relative_pointer big old address n place encoding format size constant kind later is =
-    rw (constant, kind, ← later) (ap (λ (f : DwEhPe). pointer_data big ((n + (2 ^ 64 - place)) % 2 ^ 64) f size) (same_format format encoding is))
+    rw (constant, kind, ← later) (ap (λ f. pointer_data big ((n + (2 ^ 64 - place)) % 2 ^ 64) f size) (same_format _ _ is))
 
 pub other_pointer : (big : Bool) (old : List ℕ) (address : Address) (n : ℕ) (encoding : DwEhPe) (size : ℕ) → address ≡ Constant n → bit_and encoding.0 0x70 ≢ 0
     → bit_and encoding.0 0x70 ≢ 0x10
@@ -133,7 +133,7 @@ other_pointer big old address n encoding size constant not_absolute not_relative
 
 pub formatted_as : (big : Bool) (n : ℕ) (format : DwEhPe) (size known : ℕ) → format.0 ≡ known
     → pointer_data big n format size ≡ (let f : DwEhPe = record { 0 = known } in pointer_data big n f size)
-formatted_as big n format size known is = ap (λ (k : ℕ). let f : DwEhPe = record { 0 = k } in pointer_data big n f size) is
+formatted_as big n format size known is = ap (λ k. let f : DwEhPe = record { 0 = k } in pointer_data big n f size) is
 
 pub other_format : (big : Bool) (n : ℕ) (format : DwEhPe) (size : ℕ) → format.0 ≢ 0x00 → format.0 ≢ 0x01 → format.0 ≢ 0x02 → format.0 ≢ 0x03 → format.0 ≢ 0x04
     → format.0 ≢ 0x09 → format.0 ≢ 0x0a → format.0 ≢ 0x0b → format.0 ≢ 0x0c

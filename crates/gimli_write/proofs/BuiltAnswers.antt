@@ -9,7 +9,6 @@ use Rattle.gimli_core.specs.declared.error.Error.{Error}
 use Rattle.gimli_bytes.specs.Texts.{StringTables}
 use Rattle.gimli_line.specs.header.Header.{Header, UnitEntry}
 use Rattle.gimli_line.specs.header.HeaderGrammar.{SpellsUnit}
-use Rattle.gimli_line.specs.run.Instruction.{Ins}
 use Rattle.gimli_line.specs.header.File.{File as ReadFile}
 use Rattle.gimli_line.specs.run.Events.{Event, row, fault, Events, program_events}
 use Rattle.gimli_line.specs.declared.run.row.LineRow.{LineRow as ReadRow}
@@ -18,15 +17,14 @@ use Rattle.gimli_line.proofs.InstructionLaws.{one_decoding}
 use Rattle.gimli_build.specs.LineText.{bytes_in}
 use Rattle.gimli_build.specs.Tables.{File}
 use Rattle.gimli_build.specs.Built.{Built}
-use Rattle.gimli_build.specs.Stored.{stored_details}
 use Rattle.gimli_build.specs.Items.{AddressesFit}
 use Rattle.gimli_build.specs.SameRow.{RowsMatch}
 use Rattle.gimli_build.specs.Texts.{Sections, IsText, IsOptionalText, OneByOne}
-use Rattle.gimli_build.specs.ReadsBack.{IsUnit, IsDirectory, IsFile, ReadsBack, ReadsBackAs, directories_from_zero}
+use Rattle.gimli_build.specs.ReadsBack.{IsUnit, IsFile, ReadsBack, ReadsBackAs}
 use Rattle.gimli_write.specs.declared.convert_error.ConvertError.{ConvertError}
 use Rattle.gimli_write.specs.declared.convert_error.ConvertError.TheVariants.{Read, OutOfMemory as NoMemory}
 use Rattle.gimli_write.specs.declared.read_back.RoundTrip.{RoundTrip}
-use Rattle.gimli_write.specs.RoundTrip.{FileAnswer, file_answer, built_file, Answers, answers, IsFileAnswer, AreAnswers, AnswersUnit, AnswersProgram}
+use Rattle.gimli_write.specs.RoundTrip.{FileAnswer, file_answer, built_file, Answers, IsFileAnswer, AreAnswers, AnswersUnit, AnswersProgram}
 use Rattle.gimli_write.specs.RoundTrip.{IsRunRefusal, RefusesUnit, slice_notation, unit_entry_of, sections_of}
 use Rattle.gimli_write.proofs.ReadTexts.{text_there}
 use Rattle.gimli_write.proofs.ReadUnits.{read_back, AreShort}

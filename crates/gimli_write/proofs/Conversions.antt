@@ -1,16 +1,15 @@
 -- A conversion, one read after the other.
-use Rattle.std.proofs.Common.{◌≡◌, ℕ, Bool, true, false, not, ◌&&◌, if◌then◌else◌, List, [], ◌∷◌, refl, sym, ap, ◌∙◌, subst, inl, inr}
+use Rattle.std.proofs.Common.{◌≡◌, ℕ, true, false, not, ◌&&◌, if◌then◌else◌, List, [], ◌∷◌, refl, sym, ap, ◌∙◌, subst, inl, inr}
 use Rattle.std.specs.Prelude.{Option, Some, None, Result, Ok, Err, is_err, is_some}
 use Rattle.gimli_core.specs.declared.error.Error.{Error}
 use Rattle.gimli_core.specs.Values.{Value}
 use Rattle.gimli_line.specs.header.File.{File}
 use Rattle.gimli_line.specs.header.Header.{Header}
 use Rattle.gimli_line.specs.run.Instruction.{Ins}
-use Rattle.gimli_line.specs.run.InstructionReading.{decoded_at}
 use Rattle.gimli_build.specs.Texts.{Sections}
 use Rattle.gimli_write.specs.declared.convert_error.ConvertError.{ConvertError}
-use Rattle.gimli_write.specs.convert.Texts.{◌>>=◌, IsRefusedBy, source_path}
-use Rattle.gimli_write.specs.convert.SourceTables.{SourceTables, TablesAndTexts, tables_with, version_of, with_path, directory_added, FileParts, file_parts}
+use Rattle.gimli_write.specs.convert.Texts.{◌>>=◌, IsRefusedBy}
+use Rattle.gimli_write.specs.convert.SourceTables.{SourceTables, TablesAndTexts, tables_with, with_path, directory_added, FileParts}
 use Rattle.gimli_write.specs.convert.SourceTables.{with_parts, file_added, all_added}
 use Rattle.gimli_write.specs.convert.Preparation.{Handed, tables_of_header, start_of_tables, first_texts, encoding_of}
 use Rattle.gimli_write.specs.convert.Items.{Reading, stops, defines, offers, file_id, row_in, built_row, row_offered, row_or_end_offered, defines_first}

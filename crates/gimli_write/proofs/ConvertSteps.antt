@@ -12,7 +12,7 @@ use Rattle.gimli_build.specs.Tables.{with_directory, index_of_directory, with_fi
 use Rattle.gimli_build.specs.Texts.{Sections}
 use Rattle.gimli_write.specs.declared.convert_error.ConvertError.{ConvertError}
 use Rattle.gimli_write.specs.convert.Texts.{◌>>=◌, IsRefusedBy, source_path}
-use Rattle.gimli_write.specs.convert.SourceTables.{TablesAndTexts, version_of, with_path, directory_added, FileParts, with_parts, all_added}
+use Rattle.gimli_write.specs.convert.SourceTables.{TablesAndTexts, version_of, directory_added, FileParts, with_parts, all_added}
 
 -- ---- one step and the next
 

@@ -3,7 +3,7 @@ use Rattle.std.proofs.Common.{◌++◌, List, [], ◌∷◌, refl, sym, ap, ◌�
 use Rattle.std.specs.Prelude.{Some}
 use Rattle.std.proofs.lemmas.List.{length-append, get_or_append_left}
 use Rattle.std.proofs.lemmas.Option.{slice_get-get_or}
-use Rattle.gimli_build.specs.Tables.{Keeps, keys_of}
+use Rattle.gimli_build.specs.Tables.{Keeps}
 use Rattle.gimli_write.specs.convert.SourceTables.{SourceTables}
 use Rattle.gimli_write.specs.convert.KeptTables.{KeepsFiles}
 

@@ -17,7 +17,7 @@ use Rattle.gimli_build.specs.LineText.{LineText, made_text, made_table}
 use Rattle.gimli_build.specs.Tables.{FileKey, Details, File as BuiltFile, key_eq, has_file, index_of_file, with_details, with_file, keys_of}
 use Rattle.gimli_build.specs.Texts.{Sections, OneByOne}
 use Rattle.gimli_build.proofs.building.TableLemmas.{file_found_at, file_keeps, file_others, some_within}
-use Rattle.gimli_write.specs.convert.SourceTables.{TablesAndTexts, version_of, FileParts, file_parts, with_parts, file_added, all_added}
+use Rattle.gimli_write.specs.convert.SourceTables.{TablesAndTexts, version_of, FileParts, file_parts, file_added, all_added}
 use Rattle.gimli_write.specs.convert.Items.{tables_after_definition, tables_at}
 use Rattle.gimli_write.specs.convert.Preparation.{first_ids}
 use Rattle.gimli_write.proofs.ReadTexts.{one_by_one_push}

@@ -29,7 +29,7 @@ use Rattle.gimli_write.specs.convert.SourceTables.{TablesAndTexts, version_of, w
 use Rattle.gimli_write.specs.convert.SourceTables.{all_added}
 use Rattle.gimli_write.specs.convert.Items.{tables_after_definition, tables_at}
 use Rattle.gimli_write.specs.convert.Preparation.{SourceFile, working_directory, source_file, line_encoding_of, first_texts, start_of_tables, Handed}
-use Rattle.gimli_write.specs.convert.Preparation.{encoding_of, tables_at_start, lists_added, tables_of_header}
+use Rattle.gimli_write.specs.convert.Preparation.{encoding_of, lists_added, tables_of_header}
 
 -- ---- steps that were done
 

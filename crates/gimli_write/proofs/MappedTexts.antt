@@ -1,7 +1,7 @@
 -- Texts that a conversion makes: the same text is made the same, however many others were made since.
 use Rattle.std.proofs.Common.{◌≡◌, ℕ, zero, suc, ◌+◌, Bool, true, false, cond, not, ◌||◌, if◌then◌else◌, List, [], ◌∷◌, ◌++◌, length, refl, sym, ap, subst, ◌∙◌}
 use Rattle.std.proofs.Common.{arith}
-use Rattle.std.specs.Prelude.{nat_le, Option, Some, unwrap_or, slice_get, bytes_eq}
+use Rattle.std.specs.Prelude.{nat_le, Some, unwrap_or, slice_get, bytes_eq}
 use Rattle.std.specs.List.{list_any, position_or_len}
 use Rattle.std.proofs.lemmas.Bool.{or_left, or_right, or_parts, eq-eqb}
 use Rattle.std.proofs.lemmas.List.Folds.{list_any-append}

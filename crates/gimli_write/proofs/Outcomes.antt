@@ -10,7 +10,6 @@ use Rattle.gimli_line.specs.declared.run.instruction.LineInstruction.TheVariants
 use Rattle.gimli_line.specs.run.Instruction.{Ins}
 use Rattle.gimli_line.specs.run.OperationPointer.{overflows}
 use Rattle.gimli_build.specs.Built.{Built}
-use Rattle.gimli_build.specs.LineText.{LineText}
 use Rattle.gimli_write.specs.declared.convert_error.ConvertError.{ConvertError}
 use Rattle.gimli_write.specs.declared.convert_error.ConvertError.TheVariants.{MissingLineEndSequence, OutOfMemory, Read}
 use Rattle.gimli_write.specs.declared.convert.rows.ConvertLineRow.{ConvertLineRow}

@@ -1,6 +1,6 @@
 -- A step of a source: an instruction that was executed from its bytes does what it does when it is parsed.
-use Rattle.std.proofs.Common.{◌≡◌, ◌≢◌, ◌∙◌, ℕ, ◌<◌, ◌-◌, Bool, true, false, if◌then◌else◌, List, length, refl, sym, ap, subst}
-use Rattle.std.specs.Prelude.{Option, Some, None, Result, Ok, Err, OnOk, IfErr, IfOk}
+use Rattle.std.proofs.Common.{◌≡◌, ◌≢◌, ◌∙◌, ℕ, ◌<◌, Bool, true, false, if◌then◌else◌, List, length, refl, sym, ap, subst}
+use Rattle.std.specs.Prelude.{Some, None, Result, Ok, Err, OnOk, IfErr, IfOk}
 use Rattle.gimli_core.specs.declared.error.Error.{Error}
 use Rattle.gimli_core.specs.declared.error.Error.TheVariants.{AddressOverflow}
 use Rattle.gimli_line.specs.declared.run.from_bytes.Executed.{Executed}
@@ -9,7 +9,7 @@ use Rattle.gimli_line.specs.declared.run.instruction.LineInstruction.TheVariants
 use Rattle.gimli_line.specs.declared.run.row.LineRow.{LineRow}
 use Rattle.gimli_line.specs.header.Header.{Header}
 use Rattle.gimli_line.specs.run.Execution.{IsExecuted, RefusesNext, told_of}
-use Rattle.gimli_line.specs.run.Instruction.{Ins, defines_file, files_after, makes_row}
+use Rattle.gimli_line.specs.run.Instruction.{Ins, defines_file, files_after}
 use Rattle.gimli_line.specs.run.InstructionReading.{ins_at}
 use Rattle.gimli_line.specs.run.Machine.{is_refused, reset_row, step_of}
 use Rattle.gimli_line.specs.run.NextInstruction.{TakesNext}

@@ -5,7 +5,6 @@ use Rattle.gimli_core.specs.Notation.{Notation}
 use Rattle.gimli_core.specs.declared.error.Error.{Error}
 use Rattle.gimli_core.specs.declared.error.Error.TheVariants.{AddressOverflow}
 use Rattle.gimli_line.specs.header.Header.{Header}
-use Rattle.gimli_line.specs.declared.run.row.LineRow.{LineRow}
 use Rattle.gimli_line.specs.declared.run.instruction.LineInstruction.TheVariants.{EndSequence, SetAddress}
 use Rattle.gimli_line.specs.run.Instruction.{Ins, makes_row}
 use Rattle.gimli_line.specs.run.InstructionReading.{decoded_at}

@@ -10,7 +10,6 @@ use Rattle.gimli_build.specs.LineText.{LineText, IsWithin, HasNoZero}
 use Rattle.gimli_build.specs.Tables.{Details, File as BuiltFile}
 use Rattle.gimli_write.specs.convert.SourceTables.{SourceTables}
 use Rattle.gimli_write.specs.convert.Outcome.{without_items}
-use Rattle.gimli_write.specs.convert.Conversion.{Conversion, with_program}
 use Rattle.gimli_write.specs.convert.KeptTables.{StaysWritable}
 use Rattle.gimli_write.proofs.ConvertSteps.{kept_then, still_there}
 use Rattle.gimli_write.proofs.MappedTables.{within_where, if_some_where, files_with}

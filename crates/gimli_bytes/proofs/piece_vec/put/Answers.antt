@@ -19,10 +19,10 @@ pub put-requires : goal.put-requires
 put-requires c =
     let some : 0 < length c.loop-rest.rest.now = grind (arith, common_steps) in
     let inside =
-    piece-inside c.args.size c.loop-rest.at c.loop-rest.pieces.items c.requires.size c.loop-rest.invariant.sizes
+    piece-inside _ _ _ c.requires.size c.loop-rest.invariant.sizes
     (omega (arith, c.loop-rest.invariant.fits)) in
     let size = c.loop-rest.invariant.sizes (c.loop-rest.at / c.args.size) c.index_mut-piece.result.now inside in
-    let same = ap (λ (l : List ℕ). length l) c.index_mut-piece.ensures.value in
+    let same = ap (λ l. length l) c.index_mut-piece.ensures.value in
     omega (arith, size, same, c.split_at.ensures.front_len, c.min.ensures, mod_below c.loop-rest.at c.args.size c.requires.size)
 
 pub overflow_add-at : goal.overflow_add-at

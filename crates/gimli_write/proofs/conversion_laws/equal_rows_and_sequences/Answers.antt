@@ -11,7 +11,7 @@ use Rattle.gimli_build.proofs.building.Equality.{row-Decides}
 use Rattle.gimli_write.specs.contracts.convert.rows.ConvertLineSequenceEnd.{as_values, enum}
 use Rattle.gimli_write.specs.contracts.convert.rows.ConvertLineSequenceEndPartialEq.TheImpl.{ghosts as the_ends}
 use Rattle.gimli_write.specs.declared.convert.rows.ConvertLineSequenceEnd.{ConvertLineSequenceEnd}
-use Rattle.gimli_write.specs.convert.Sequences.{SequenceRead, sequence_with}
+use Rattle.gimli_write.specs.convert.Sequences.{sequence_with}
 use Rattle.gimli_write.proofs.conversion_laws.equal_rows_and_sequences.Goals as goal
 
 starts : (x y : Option ℕ) → Decides (option_eq nat_eq x y) (x ≡ y)

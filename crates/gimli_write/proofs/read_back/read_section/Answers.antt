@@ -1,4 +1,4 @@
-use Rattle.std.proofs.Common.{◌∙◌, ◌^◌, drop}
+use Rattle.std.proofs.Common.{◌∙◌, drop}
 use Rattle.gimli_write.specs.RoundTrip.{slice_notation}
 use Rattle.gimli_write.specs.inside.RoundTrip.{unit_entry_with}
 use Rattle.gimli_write.proofs.ReadUnits.{same_unit, same_fault, same_sections, same_notation, same_header, texts_there, header_refused, same_answers}

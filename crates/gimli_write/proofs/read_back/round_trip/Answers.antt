@@ -1,12 +1,11 @@
-use Rattle.std.proofs.Common.{ℕ, List, drop, refl, subst}
+use Rattle.std.proofs.Common.{drop, refl, subst}
 use Rattle.std.specs.Prelude.{Result, Ok, Err, OnOk, IfErr}
 use Rattle.gimli_bytes.specs.Texts.{texts_in}
 use Rattle.gimli_build.specs.Version5Tables.{texts_after}
 use Rattle.gimli_bytes.specs.Hand.{plain}
-use Rattle.gimli_build.specs.Cause.{first_cause}
 use Rattle.gimli_build.specs.Unit.{unit_bytes}
 use Rattle.gimli_build.proofs.refusals.Causes.{no-cause, refused-for}
-use Rattle.gimli_write.specs.RoundTrip.{RefusesUnit, slice_notation, unit_entry_of, to_write}
+use Rattle.gimli_write.specs.RoundTrip.{RefusesUnit, slice_notation, unit_entry_of}
 use Rattle.gimli_write.proofs.RoundTrips.{write_refused, unwritten_refused, memory_refused, unit_not_answered}
 use Rattle.gimli_build.proofs.building.EmptySource.{can-write-after}
 use Rattle.gimli_write.proofs.read_back.round_trip.Goals as goal

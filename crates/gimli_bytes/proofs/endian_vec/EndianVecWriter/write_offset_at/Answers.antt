@@ -1,6 +1,4 @@
 use Rattle.std.proofs.Common.{◌<◌, ◌^◌, arith}
-use Rattle.gimli_bytes.specs.Hand.{Hand}
-use Rattle.gimli_bytes.specs.Number.{udata}
 use Rattle.gimli_bytes.proofs.SectionWords.{word-is}
 use Rattle.gimli_bytes.proofs.WrittenAs.{plainly_over}
 use Rattle.gimli_bytes.proofs.endian_vec.EndianVecWriter.write_offset_at.Goals as goal
@@ -11,5 +9,5 @@ returns g c =
     let n = c.args.val in
     let size = c.args.size in
     let small : n < 2 ^ 64 = omega arith in
-    plainly_over c.args.offset (λ (hand : Hand). hand.offset big c.args._section n size) (udata big n size) (λ never. never) (word-is big n size small)
+    plainly_over _ _ _ (λ never. never) (word-is big n size small)
     c.write_udata_at.ensures

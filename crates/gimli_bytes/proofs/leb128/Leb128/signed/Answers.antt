@@ -22,7 +22,7 @@ loop-len-preserved c =
       ten = length-set c.loop-len.bytes c.loop-len.len (c.low_bits-low.result + 128) ∙ c.loop-len.invariant.ten;
       so =
           rw (back, c.low_bits-low.ensures.value)
-          (sleb_step c.loop-len.bytes c.loop-len.len (to_z w64 c.loop-len.rest-bits) (sleb_within 9 (to_z w64 (of_z w64 c.args.val)))
+          (sleb_step _ _ _ _
           (omega (arith, c.loop-len.invariant.ten)) (omega arith) (sym c.if-has_seven_bits.ensures) c.loop-len.invariant.so);
     }
 

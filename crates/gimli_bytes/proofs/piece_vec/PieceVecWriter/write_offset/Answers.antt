@@ -1,6 +1,4 @@
 use Rattle.std.proofs.Common.{◌<◌, ◌^◌, arith}
-use Rattle.gimli_bytes.specs.Hand.{Hand}
-use Rattle.gimli_bytes.specs.Number.{udata}
 use Rattle.gimli_bytes.proofs.SectionWords.{word-is}
 use Rattle.gimli_bytes.proofs.WrittenAs.{plainly}
 use Rattle.gimli_bytes.proofs.piece_vec.PieceVecWriter.write_offset.Goals as goal
@@ -11,4 +9,4 @@ returns g c =
     let n = c.args.val in
     let size = c.args.size in
     let small : n < 2 ^ 64 = omega arith in
-    plainly (λ (hand : Hand). hand.offset big c.args._section n size) (udata big n size) (λ never. never) (word-is big n size small) c.write_udata.ensures
+    plainly _ _ (λ never. never) (word-is big n size small) c.write_udata.ensures

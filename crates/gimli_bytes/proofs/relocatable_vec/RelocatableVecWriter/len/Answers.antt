@@ -1,4 +1,4 @@
-use Rattle.std.proofs.Common.{◌∙◌, sym, length}
+use Rattle.std.proofs.Common.{◌∙◌, sym}
 use Rattle.gimli_bytes.proofs.Relocating.{inside-from, length-all}
 use Rattle.gimli_bytes.proofs.relocatable_vec.RelocatableVecWriter.len.Goals as goal
 
@@ -8,4 +8,4 @@ returns-clause-completed g c =
     let v = c.self.inside in
     c.len.ensures.contents
     ∙ sym
-    (length-all at (g.E.Endianity.big v.section.endian) v.relocations.items v.section.bytes (inside-from (length v.section.bytes) v.relocations.items is)))
+    (length-all _ _ _ _ (inside-from _ _ is)))

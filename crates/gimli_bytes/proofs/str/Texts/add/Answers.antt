@@ -54,16 +54,16 @@ returns-clause-found c =
     ∙ with_text-found (texts_of c.self.inside.strings.keys) c.args.text.now)
 
 pub returns-clause-stays : goal.returns-clause-stays
-returns-clause-stays c = rw (← c.self.view_is) (rw (added c) (with_text-KeepsTexts (texts_of c.self.inside.strings.keys) c.args.text.now))
+returns-clause-stays c = rw (← c.self.view_is) (rw (added c) (with_text-KeepsTexts _ _))
 
 pub returns-then-text-self-clause-there : goal.returns-then-text-self-clause-there
 returns-then-text-self-clause-there c =
-    rw (← c.self.view_is) (λ there. absurd (not_there c.self.inside.strings.keys c.args.text.now c.in_default.ensures.found there))
+    rw (← c.self.view_is) (λ there. absurd (not_there _ _ c.in_default.ensures.found there))
 
 pub returns-in_err-copy-clause-there : goal.returns-in_err-copy-clause-there
 returns-in_err-copy-clause-there c =
-    rw (← c.self.view_is) (λ there. absurd (not_there c.self.inside.strings.keys c.args.text.now c.in_default.ensures.found there))
+    rw (← c.self.view_is) (λ there. absurd (not_there _ _ c.in_default.ensures.found there))
 
 pub returns-in_err-index-clause-there : goal.returns-in_err-index-clause-there
 returns-in_err-index-clause-there c =
-    rw (← c.self.view_is) (λ there. absurd (not_there c.self.inside.strings.keys c.args.text.now c.in_default.ensures.found there))
+    rw (← c.self.view_is) (λ there. absurd (not_there _ _ c.in_default.ensures.found there))

@@ -17,7 +17,7 @@ overflow_add-offset-in-loop-text c =
 pub returns-clause-offset : goal.returns-clause-offset
 returns-clause-offset c =
     c.loop-text.invariant
-    ∙ ap (λ (l : List (Vec ℕ Global)). byte_count (texts_of l)) (take_all c.loop-text.text-index (take c.args.index c.as_slice.result.now) (omega arith))
-    ∙ ap byte_count (sym (take-map (λ (k : Vec ℕ Global). k.items) c.args.index c.as_slice.result.now))
-    ∙ ap (λ (l : List (Vec ℕ Global)). offset_of (texts_of l) c.args.index) c.as_slice.ensures.keys
+    ∙ ap (λ l. byte_count (texts_of l)) (take_all c.loop-text.text-index (take c.args.index c.as_slice.result.now) (omega arith))
+    ∙ ap byte_count (sym (take-map (λ k. k.items) c.args.index c.as_slice.result.now))
+    ∙ ap (λ l. offset_of (texts_of l) c.args.index) c.as_slice.ensures.keys
     ∙ ap (λ ts. offset_of ts c.args.index) c.self.view_is

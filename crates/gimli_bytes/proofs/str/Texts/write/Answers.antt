@@ -33,19 +33,19 @@ pub loop-text-preserved : goal.loop-text-preserved
 loop-text-preserved g c =
     let contents = g.W.Sink.contents in
     record {
-      keeps = begins_then (contents c.args.w.now) (contents c.write.new.self) (contents c.write_u8.new.self)
-          (begins_then (contents c.args.w.now) (contents c.loop-text.w) (contents c.write.new.self) c.loop-text.invariant.keeps c.in_ok-write.ensures.keeps)
+      keeps = begins_then _ _ _
+          (begins_then _ _ _ c.loop-text.invariant.keeps c.in_ok-write.ensures.keeps)
           c.in_ok-write_u8.ensures.keeps;
       ordered = c.in_ok-write_u8.ensures.ordered ∙ c.in_ok-write.ensures.ordered ∙ c.loop-text.invariant.ordered;
       stays = λ completes. c.in_ok-write_u8.ensures.stays (c.in_ok-write.ensures.stays (c.loop-text.invariant.stays completes));
-      put = λ keeps. text_put c.as_slice-text-items.result.now c.loop-text.text-index c.text-item.result (g.W.Sink.big c.write.new.self) c.as_slice.result.now
-          (contents c.args.w.now) (contents c.loop-text.w) (contents c.write.new.self) (contents c.write_u8.new.self)
+      put = λ keeps. text_put _ _ _ _ _
+          _ _ _ _
           c.loop-text-test.true c.text-item.is c.as_slice.ensures.value (c.loop-text.invariant.put keeps) (c.in_ok-write.ensures.ok keeps)
           (c.in_ok-write_u8.ensures.ok keeps);
       completed = λ at completes.
-          text_put c.as_slice-text-items.result.now c.loop-text.text-index c.text-item.result (g.W.Sink.big c.write.new.self) c.as_slice.result.now
-          (g.W.Sink.completed at c.args.w.now) (g.W.Sink.completed at c.loop-text.w) (g.W.Sink.completed at c.write.new.self)
-          (g.W.Sink.completed at c.write_u8.new.self) c.loop-text-test.true c.text-item.is c.as_slice.ensures.value
+          text_put _ _ _ _ _
+          _ _ _
+          _ c.loop-text-test.true c.text-item.is c.as_slice.ensures.value
           (c.loop-text.invariant.completed at completes) (c.in_ok-write.ensures.completed at (c.loop-text.invariant.stays completes))
           (c.in_ok-write_u8.ensures.completed at (c.in_ok-write.ensures.stays (c.loop-text.invariant.stays completes)));
     }
@@ -57,11 +57,11 @@ returns-clause-appends g c =
       keeps = c.loop-text.invariant.keeps;
       ordered = c.loop-text.invariant.ordered;
       stays = c.loop-text.invariant.stays;
-      ok = λ keeps. all_put c.as_slice-text-items.result.now c.self.inside.strings.keys c.loop-text.text-index c.args.self.now
-          (contents c.args.w.now) (contents c.loop-text.w) c.loop-text-test.false c.as_slice-text-items.ensures.keys c.self.view_is
+      ok = λ keeps. all_put _ _ _ _
+          _ _ c.loop-text-test.false c.as_slice-text-items.ensures.keys c.self.view_is
           (c.loop-text.invariant.put keeps);
-      completed = λ at completes. all_put c.as_slice-text-items.result.now c.self.inside.strings.keys c.loop-text.text-index c.args.self.now
-          (g.W.Sink.completed at c.args.w.now) (g.W.Sink.completed at c.loop-text.w) c.loop-text-test.false c.as_slice-text-items.ensures.keys c.self.view_is
+      completed = λ at completes. all_put _ _ _ _
+          _ _ c.loop-text-test.false c.as_slice-text-items.ensures.keys c.self.view_is
           (c.loop-text.invariant.completed at completes);
       err = λ memory_alone. tt;
       own = tt;

@@ -7,7 +7,7 @@ returns-in-DW_EH_PE_absptr g c =
     let old = g.Self.Sink.contents c.args.self.now in
     let kind : c.application.result.0 ≡ 0 = omega arith in
     let wanted =
-    absolute_pointer (g.Self.Sink.big c.args.self.now) old c.args.address c.in-Constant.val c.args.eh_pe c.format.result c.args.size c.in-Constant.is
+    absolute_pointer _ _ _ _ _ _ _ c.in-Constant.is
     (sym c.application.ensures ∙ kind) c.format.ensures in
     append_as wanted c.write_eh_pointer_data.ensures
 
@@ -17,17 +17,17 @@ returns-in-DW_EH_PE_pcrel g c =
     let call = c.write_eh_pointer_data-in-DW_EH_PE_pcrel in
     let kind : c.application.result.0 ≡ 0x10 = omega arith in
     let wanted =
-    relative_pointer (g.Self.Sink.big c.args.self.now) old c.args.address c.in-Constant.val c.len.result c.args.eh_pe c.format-in-DW_EH_PE_pcrel.result
-    c.args.size c.in-Constant.is (sym c.application.ensures ∙ kind) c.len.ensures.contents c.format-in-DW_EH_PE_pcrel.ensures in
+    relative_pointer _ _ _ _ _ _ _
+    _ c.in-Constant.is (sym c.application.ensures ∙ kind) c.len.ensures.contents c.format-in-DW_EH_PE_pcrel.ensures in
     append_as wanted call.ensures
 
 pub returns-in_default : goal.returns-in_default
 returns-in_default g c =
     let not_absolute : c.application.result.0 ≢ 0 = omega arith in
     let not_relative : c.application.result.0 ≢ 0x10 = omega arith in
-    refused_at_once c.args.self.now (other_pointer (g.Self.Sink.big c.args.self.now) (g.Self.Sink.contents c.args.self.now) c.args.address c.in-Constant.val
-    c.args.eh_pe c.args.size c.in-Constant.is
+    refused_at_once _ (other_pointer _ _ _ _
+    _ _ c.in-Constant.is
     (rw (← c.application.ensures) not_absolute) (rw (← c.application.ensures) not_relative))
 
 pub returns-in-Symbol : goal.returns-in-Symbol
-returns-in-Symbol g c = refused_at_once c.args.self.now (rw c.in-Symbol.is refl)
+returns-in-Symbol g c = refused_at_once _ (rw c.in-Symbol.is refl)

@@ -8,26 +8,26 @@ use Rattle.gimli_bytes.proofs.writer.Writer.write_initial_length.Goals as goal
 -- ---- refused
 
 pub returns-in_err-write_u32-in-Dwarf32-clause-after : goal.returns-in_err-write_u32-in-Dwarf32-clause-after
-returns-in_err-write_u32-in-Dwarf32-clause-after g c = IfOk-from_err c.from_residual.result _ c.from_residual.ensures.0
+returns-in_err-write_u32-in-Dwarf32-clause-after g c = IfOk-from_err _ _ c.from_residual.ensures.0
 
 pub returns-in_err-write_u32-in-Dwarf32-clause-place : goal.returns-in_err-write_u32-in-Dwarf32-clause-place
-returns-in_err-write_u32-in-Dwarf32-clause-place g c = λ keeps. IfOk-from_err c.from_residual.result _ c.from_residual.ensures.0
+returns-in_err-write_u32-in-Dwarf32-clause-place g c = λ keeps. IfOk-from_err _ _ c.from_residual.ensures.0
 
 pub returns-in_err-write_u32-in-Dwarf64-clause-after : goal.returns-in_err-write_u32-in-Dwarf64-clause-after
 returns-in_err-write_u32-in-Dwarf64-clause-after g c =
-    IfOk-from_err c.from_residual-in_err-write_u32-in-Dwarf64.result _ c.from_residual-in_err-write_u32-in-Dwarf64.ensures.0
+    IfOk-from_err _ _ c.from_residual-in_err-write_u32-in-Dwarf64.ensures.0
 
 pub returns-in_err-write_u32-in-Dwarf64-clause-place : goal.returns-in_err-write_u32-in-Dwarf64-clause-place
 returns-in_err-write_u32-in-Dwarf64-clause-place g c =
-    λ keeps. IfOk-from_err c.from_residual-in_err-write_u32-in-Dwarf64.result _ c.from_residual-in_err-write_u32-in-Dwarf64.ensures.0
+    λ keeps. IfOk-from_err _ _ c.from_residual-in_err-write_u32-in-Dwarf64.ensures.0
 
 pub returns-in_err-write_u64-in-Dwarf64-clause-after : goal.returns-in_err-write_u64-in-Dwarf64-clause-after
 returns-in_err-write_u64-in-Dwarf64-clause-after g c =
-    IfOk-from_err c.from_residual-in_err-write_u64-in-Dwarf64.result _ c.from_residual-in_err-write_u64-in-Dwarf64.ensures.0
+    IfOk-from_err _ _ c.from_residual-in_err-write_u64-in-Dwarf64.ensures.0
 
 pub returns-in_err-write_u64-in-Dwarf64-clause-place : goal.returns-in_err-write_u64-in-Dwarf64-clause-place
 returns-in_err-write_u64-in-Dwarf64-clause-place g c =
-    λ keeps. IfOk-from_err c.from_residual-in_err-write_u64-in-Dwarf64.result _ c.from_residual-in_err-write_u64-in-Dwarf64.ensures.0
+    λ keeps. IfOk-from_err _ _ c.from_residual-in_err-write_u64-in-Dwarf64.ensures.0
 
 pub returns-in_err-write_u32-in-Dwarf32-clause-appends : goal.returns-in_err-write_u32-in-Dwarf32-clause-appends
 returns-in_err-write_u32-in-Dwarf32-clause-appends g c =
@@ -52,47 +52,47 @@ returns-in_err-write_u64-in-Dwarf64-clause-appends g c =
 -- ---- written
 
 pub returns-in_ok-write_u32-in-Dwarf32-clause-after : goal.returns-in_ok-write_u32-in-Dwarf32-clause-after
-returns-in_ok-write_u32-in-Dwarf32-clause-after g c = at_end (g.Self.Sink.contents c.args.self.now) c.len.result c.len.ensures.contents
+returns-in_ok-write_u32-in-Dwarf32-clause-after g c = at_end _ _ c.len.ensures.contents
 
 pub returns-in_ok-write_u32-in-Dwarf32-clause-place : goal.returns-in_ok-write_u32-in-Dwarf32-clause-place
 returns-in_ok-write_u32-in-Dwarf32-clause-place g c =
-    λ keeps. place_32 c.args.format (g.Self.Sink.contents c.args.self.now) c.len.result c.in-Dwarf32.is c.len.ensures.contents
+    λ keeps. place_32 _ _ _ c.in-Dwarf32.is c.len.ensures.contents
 
 pub returns-in_ok-write_u64-in-Dwarf64-clause-after : goal.returns-in_ok-write_u64-in-Dwarf64-clause-after
 returns-in_ok-write_u64-in-Dwarf64-clause-after g c =
-    later (g.Self.Sink.contents c.args.self.now) (g.Self.Sink.contents c.write_u32-in-Dwarf64.new.self) c.len-in-Dwarf64.result
+    later _ _ _
     c.in_ok-write_u32-in-Dwarf64.ensures.keeps c.len-in-Dwarf64.ensures.contents
 
 pub returns-in_ok-write_u64-in-Dwarf64-clause-place : goal.returns-in_ok-write_u64-in-Dwarf64-clause-place
 returns-in_ok-write_u64-in-Dwarf64-clause-place g c = λ keeps.
-    place_64 c.args.format (g.Self.Sink.big c.args.self.now) 0xffff_ffff (g.Self.Sink.contents c.args.self.now)
-    (g.Self.Sink.contents c.write_u32-in-Dwarf64.new.self) c.len-in-Dwarf64.result c.in-Dwarf64.is (c.in_ok-write_u32-in-Dwarf64.ensures.ok keeps)
+    place_64 _ _ 0xffff_ffff _
+    _ _ c.in-Dwarf64.is (c.in_ok-write_u32-in-Dwarf64.ensures.ok keeps)
     c.len-in-Dwarf64.ensures.contents
 
 pub returns-in_ok-write_u32-in-Dwarf32-clause-appends : goal.returns-in_ok-write_u32-in-Dwarf32-clause-appends
-returns-in_ok-write_u32-in-Dwarf32-clause-appends g c = opened_32 c.args.format c.in-Dwarf32.is c.in_ok-write_u32-in-Dwarf32.ensures
+returns-in_ok-write_u32-in-Dwarf32-clause-appends g c = opened_32 _ c.in-Dwarf32.is c.in_ok-write_u32-in-Dwarf32.ensures
 
 pub returns-in_ok-write_u64-in-Dwarf64-clause-appends : goal.returns-in_ok-write_u64-in-Dwarf64-clause-appends
 returns-in_ok-write_u64-in-Dwarf64-clause-appends g c =
-    opened_64 c.args.format c.in-Dwarf64.is c.in_ok-write_u32-in-Dwarf64.ensures c.in_ok-write_u64-in-Dwarf64.ensures
+    opened_64 _ c.in-Dwarf64.is c.in_ok-write_u32-in-Dwarf64.ensures c.in_ok-write_u64-in-Dwarf64.ensures
 
 pub returns-in_err-write_u32-in-Dwarf32-clause-completed : goal.returns-in_err-write_u32-in-Dwarf32-clause-completed
-returns-in_err-write_u32-in-Dwarf32-clause-completed g c = λ at completes. IfOk-from_err c.from_residual.result _ c.from_residual.ensures.0
+returns-in_err-write_u32-in-Dwarf32-clause-completed g c = λ at completes. IfOk-from_err _ _ c.from_residual.ensures.0
 
 pub returns-in_err-write_u32-in-Dwarf64-clause-completed : goal.returns-in_err-write_u32-in-Dwarf64-clause-completed
 returns-in_err-write_u32-in-Dwarf64-clause-completed g c =
-    λ at completes. IfOk-from_err c.from_residual-in_err-write_u32-in-Dwarf64.result _ c.from_residual-in_err-write_u32-in-Dwarf64.ensures.0
+    λ at completes. IfOk-from_err _ _ c.from_residual-in_err-write_u32-in-Dwarf64.ensures.0
 
 pub returns-in_err-write_u64-in-Dwarf64-clause-completed : goal.returns-in_err-write_u64-in-Dwarf64-clause-completed
 returns-in_err-write_u64-in-Dwarf64-clause-completed g c =
-    λ at completes. IfOk-from_err c.from_residual-in_err-write_u64-in-Dwarf64.result _ c.from_residual-in_err-write_u64-in-Dwarf64.ensures.0
+    λ at completes. IfOk-from_err _ _ c.from_residual-in_err-write_u64-in-Dwarf64.ensures.0
 
 pub returns-in_ok-write_u32-in-Dwarf32-clause-completed : goal.returns-in_ok-write_u32-in-Dwarf32-clause-completed
 returns-in_ok-write_u32-in-Dwarf32-clause-completed g c = λ at completes.
-    place_32 c.args.format (g.Self.Sink.completed at c.args.self.now) c.len.result c.in-Dwarf32.is (c.len.ensures.completed at completes)
+    place_32 _ _ _ c.in-Dwarf32.is (c.len.ensures.completed at completes)
 
 pub returns-in_ok-write_u64-in-Dwarf64-clause-completed : goal.returns-in_ok-write_u64-in-Dwarf64-clause-completed
 returns-in_ok-write_u64-in-Dwarf64-clause-completed g c = λ at completes.
-    place_64 c.args.format (g.Self.Sink.big c.args.self.now) 0xffff_ffff (g.Self.Sink.completed at c.args.self.now)
-    (g.Self.Sink.completed at c.write_u32-in-Dwarf64.new.self) c.len-in-Dwarf64.result c.in-Dwarf64.is
+    place_64 _ _ 0xffff_ffff _
+    _ _ c.in-Dwarf64.is
     (c.in_ok-write_u32-in-Dwarf64.ensures.completed at completes) (c.len-in-Dwarf64.ensures.completed at (c.in_ok-write_u32-in-Dwarf64.ensures.stays completes))

@@ -18,7 +18,7 @@ pub returns-in_ok-bits_of_i8-in-1 : goal.returns-in_ok-bits_of_i8-in-1
 returns-in_ok-bits_of_i8-in-1 g c =
     let wanted : sdata (g.Self.Sink.big c.args.self.now) c.args.val c.args.size
     ≡ Ok (number_bytes (g.Self.Sink.big c.args.self.now) 1 c.in_ok-bits_of_i8-in-1.field-0) =
-    signed_as (g.Self.Sink.big c.args.self.now) c.args.val (to_z w64 (of_z w64 c.args.val)) c.args.size 1 (Ok c.in_ok-bits_of_i8-in-1.field-0) c.in-1.is refl
+    signed_as _ _ _ _ 1 _ c.in-1.is refl
     c.in_ok-bits_of_i8-in-1.ensures (to_z-of_z w64 c.args.val c.ranges.val) in
     append_as wanted c.write_u8.ensures
 
@@ -34,7 +34,7 @@ pub returns-in_ok-bits_of_i16-in-2 : goal.returns-in_ok-bits_of_i16-in-2
 returns-in_ok-bits_of_i16-in-2 g c =
     let wanted : sdata (g.Self.Sink.big c.args.self.now) c.args.val c.args.size
     ≡ Ok (number_bytes (g.Self.Sink.big c.args.self.now) 2 c.in_ok-bits_of_i16-in-2.field-0) =
-    signed_as (g.Self.Sink.big c.args.self.now) c.args.val (to_z w64 (of_z w64 c.args.val)) c.args.size 2 (Ok c.in_ok-bits_of_i16-in-2.field-0) c.in-2.is refl
+    signed_as _ _ _ _ 2 _ c.in-2.is refl
     c.in_ok-bits_of_i16-in-2.ensures (to_z-of_z w64 c.args.val c.ranges.val) in
     append_as wanted c.write_u16.ensures
 
@@ -50,15 +50,15 @@ pub returns-in_ok-bits_of_i32-in-4 : goal.returns-in_ok-bits_of_i32-in-4
 returns-in_ok-bits_of_i32-in-4 g c =
     let wanted : sdata (g.Self.Sink.big c.args.self.now) c.args.val c.args.size
     ≡ Ok (number_bytes (g.Self.Sink.big c.args.self.now) 4 c.in_ok-bits_of_i32-in-4.field-0) =
-    signed_as (g.Self.Sink.big c.args.self.now) c.args.val (to_z w64 (of_z w64 c.args.val)) c.args.size 4 (Ok c.in_ok-bits_of_i32-in-4.field-0) c.in-4.is refl
+    signed_as _ _ _ _ 4 _ c.in-4.is refl
     c.in_ok-bits_of_i32-in-4.ensures (to_z-of_z w64 c.args.val c.ranges.val) in
     append_as wanted c.write_u32.ensures
 
 pub returns-in-8 : goal.returns-in-8
 returns-in-8 g c =
-    let bits = all_bits c.args.val c.cast_unsigned.result c.ranges.val (c.cast_unsigned.ensures ∙ ap (of_z w64) (to_z-of_z w64 c.args.val c.ranges.val)) in
+    let bits = all_bits _ _ c.ranges.val (c.cast_unsigned.ensures ∙ ap (of_z w64) (to_z-of_z w64 c.args.val c.ranges.val)) in
     let wanted : sdata (g.Self.Sink.big c.args.self.now) c.args.val c.args.size ≡ Ok (number_bytes (g.Self.Sink.big c.args.self.now) 8 c.cast_unsigned.result) =
-    signed_as (g.Self.Sink.big c.args.self.now) c.args.val c.args.val c.args.size 8 (Ok c.cast_unsigned.result) c.in-8.is refl bits refl in
+    signed_as _ _ _ _ 8 _ c.in-8.is refl bits refl in
     append_as wanted c.write_u64.ensures
 
 pub returns-in_default : goal.returns-in_default
@@ -67,4 +67,4 @@ returns-in_default g c =
     let b : c.args.size ≢ 2 = omega arith in
     let d : c.args.size ≢ 4 = omega arith in
     let e : c.args.size ≢ 8 = omega arith in
-    refused_at_once c.args.self.now (other_signed (g.Self.Sink.big c.args.self.now) c.args.val c.args.size a b d e)
+    refused_at_once _ (other_signed _ _ _ a b d e)

@@ -8,7 +8,7 @@ use Rattle.gimli_write.specs.declared.convert.rows.ConvertLineRow.TheVariants.{S
 use Rattle.gimli_write.specs.declared.convert.rows.ConvertLineSequenceEnd.TheVariants.{Address}
 use Rattle.gimli_write.specs.convert.Items.{Reading, offers}
 use Rattle.gimli_write.specs.convert.Sequences.{SequenceRead, sequence_with, sequence_from}
-use Rattle.gimli_write.specs.convert.Conversion.{beside, tables_of, still_to_read}
+use Rattle.gimli_write.specs.convert.Conversion.{tables_of, still_to_read}
 use Rattle.gimli_write.proofs.ConvertSteps.{refused_same}
 use Rattle.gimli_write.proofs.Outcomes.{one_fewer}
 use Rattle.gimli_write.proofs.ReadLemmas.{reads_then, reads_kept}

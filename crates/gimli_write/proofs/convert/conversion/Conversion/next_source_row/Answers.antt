@@ -1,10 +1,7 @@
 use Rattle.std.proofs.Common.{List, ℕ, sym, ap, ◌∙◌}
-use Rattle.std.specs.Prelude.{Result}
 use Rattle.std.proofs.lemmas.Result.{err_from_is_err_and}
 use Rattle.gimli_line.specs.header.File.{file_seen}
-use Rattle.gimli_line.specs.header.Header.{Header}
-use Rattle.gimli_write.specs.declared.convert_error.ConvertError.{ConvertError}
-use Rattle.gimli_write.specs.convert.SourceTables.{SourceTables, TablesAndTexts, tables_with, file_added}
+use Rattle.gimli_write.specs.convert.SourceTables.{SourceTables, tables_with, file_added}
 use Rattle.gimli_write.specs.convert.TablesAtEnd.{unless_refused, tables_at_end}
 use Rattle.gimli_write.specs.convert.Items.{defines, defines_first, after_definitions}
 use Rattle.gimli_write.specs.convert.Conversion.{without_built, source_left}

@@ -1,6 +1,6 @@
-use Rattle.std.proofs.Common.{◌≡◌, ℕ, ◌-◌, true, false, None, refl, sym, ap, ◌∙◌, subst}
+use Rattle.std.proofs.Common.{◌≡◌, ◌-◌, true, false, refl, sym, ap, ◌∙◌, subst}
 use Rattle.gimli_line.specs.run.Machine.{is_refused, reset_row}
-use Rattle.gimli_write.specs.convert.SourceRun.{SourceRun, state_after}
+use Rattle.gimli_write.specs.convert.SourceRun.{state_after}
 use Rattle.gimli_write.specs.inside.convert.SourceRun.{step_made}
 use Rattle.gimli_line.specs.run.Instruction.{ins_seen}
 use Rattle.gimli_write.specs.declared.convert_error.ConvertError.TheVariants.{Read}

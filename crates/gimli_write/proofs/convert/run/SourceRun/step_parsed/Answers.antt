@@ -1,10 +1,7 @@
-use Rattle.std.proofs.Common.{◌≡◌, ◌<◌, false, length, refl, sym, ap, ◌∙◌, subst}
+use Rattle.std.proofs.Common.{◌≡◌, false, refl, ap}
 use Rattle.gimli_line.specs.declared.run.instruction.LineInstruction.TheVariants.{SetAddress, DefineFile}
 use Rattle.gimli_line.specs.header.File.{file_seen}
 use Rattle.gimli_line.specs.run.Instruction.{ins_seen, defines_file}
-use Rattle.gimli_line.specs.run.Unread.{Unread}
-use Rattle.gimli_write.specs.convert.SourceRun.{SourceRun, reading_left}
-use Rattle.gimli_write.specs.convert.TablesAtEnd.{tables_at_end}
 use Rattle.gimli_write.proofs.TablesAtEnd.{none_last, fault_last, file_last}
 use Rattle.gimli_write.proofs.SourceSteps.{state, other_kind, spelled_as, is_shorter, none_left, at_fault, after_file}
 use Rattle.gimli_write.proofs.SourceFromBytes.{steps_source}
