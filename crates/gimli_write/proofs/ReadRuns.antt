@@ -7,7 +7,7 @@ use Rattle.gimli_core.specs.declared.error.Error.TheVariants.{OutOfMemory}
 use Rattle.gimli_line.specs.declared.run.row.LineRow.{LineRow}
 use Rattle.gimli_line.specs.header.Header.{Header}
 use Rattle.gimli_line.specs.header.File.{File}
-use Rattle.gimli_line.specs.run.Events.{Event, row, fault, Events}
+use Rattle.gimli_line.specs.run.Events.{row, fault, Events}
 use Rattle.gimli_line.specs.run.RunState.{RunState}
 use Rattle.gimli_line.specs.run.Progress.{with_reset_row}
 use Rattle.gimli_line.specs.run.Rows.{live_events, FaultIs, events_left}

@@ -10,7 +10,7 @@ use Rattle.gimli_line.specs.run.Instruction.{Ins, makes_row}
 use Rattle.gimli_line.specs.run.InstructionReading.{decoded_at}
 use Rattle.gimli_line.specs.run.Machine.{is_refused}
 use Rattle.gimli_line.specs.run.OperationPointer.{is_under_tombstone, overflows}
-use Rattle.gimli_line.specs.run.EventsWithFiles.{registers_after}
+use Rattle.gimli_line.specs.run.Machine.{registers_after}
 use Rattle.gimli_line.specs.run.Unread.{Unread}
 use Rattle.gimli_line.proofs.Backwards.{refused_after, tombstone_after, row_after}
 use Rattle.gimli_line.proofs.InstructionLaws.{is_decoded}
@@ -58,7 +58,7 @@ state_is h u past i =
 row_same : (h : Header) (u : Unread) (past : List Ins) (i : Ins) → makes_row i ≡ true → is_under_tombstone h.parameters past ≡ false
     → row_made (state_at h past u) i ≡ source_row h.parameters past i
 row_same h u past i loud seen =
-    ap (λ (row : LineRow). let r : SourceRow = record { set_address = pending_address past; address_offset = row.address - base_at past; row = row } in r)
+    ap (λ row. let r : SourceRow = record { set_address = pending_address past; address_offset = row.address - base_at past; row = row } in r)
     (row_after h.parameters past i loud)
 
 module _ (give : SourceRow → Reading) (stop rest : Reading) where

@@ -18,7 +18,7 @@ use Rattle.gimli_line.specs.run.Instruction.{Ins, ins_seen, is_end, makes_row, d
 use Rattle.gimli_line.specs.run.InstructionGrammar.{SpellsInstruction, instruction_production}
 use Rattle.gimli_line.specs.run.InstructionReading.{decoded_at}
 use Rattle.gimli_line.specs.run.Machine.{step_of, reset_row, is_refused}
-use Rattle.gimli_line.specs.run.EventsWithFiles.{next_registers}
+use Rattle.gimli_line.specs.run.Machine.{next_registers}
 use Rattle.gimli_line.specs.run.Unread.{Unread}
 use Rattle.gimli_line.proofs.InstructionLaws.{is_decoded, one_decoding, instructions_bounded}
 use Rattle.gimli_build.specs.Texts.{Sections}

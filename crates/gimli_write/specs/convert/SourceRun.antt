@@ -8,7 +8,7 @@ use Rattle.gimli_line.specs.declared.run.row.LineRow.{LineRow}
 use Rattle.gimli_line.specs.run.Instruction.{Ins, is_end, makes_row}
 use Rattle.gimli_line.specs.run.InstructionReading.{decoded_at}
 use Rattle.gimli_line.specs.run.Machine.{initial, step_of, is_refused}
-use Rattle.gimli_line.specs.run.EventsWithFiles.{next_registers}
+use Rattle.gimli_line.specs.run.Machine.{next_registers}
 use Rattle.gimli_line.specs.run.Unread.{Unread}
 use Rattle.gimli_build.specs.Texts.{Sections}
 use Rattle.gimli_write.specs.declared.convert_error.ConvertError.{ConvertError}

@@ -1,4 +1,4 @@
-use Rattle.std.proofs.Common.{◌≡◌, ◌-◌, true, false, refl, sym, ap, ◌∙◌, subst}
+use Rattle.std.proofs.Common.{◌≡◌, true, false, refl, sym, ap, ◌∙◌, subst}
 use Rattle.gimli_line.specs.run.Machine.{is_refused, reset_row}
 use Rattle.gimli_write.specs.convert.SourceRun.{state_after}
 use Rattle.gimli_write.specs.inside.convert.SourceRun.{step_made}
