@@ -57,8 +57,8 @@ fn ranges_are_those_of_the_index() {
     let (first, second) = (Some((5, Some(b"/a.c".to_vec()))), Some((6, None)));
     let wanted = [(0x1000, Some(0x1010), first), (0x1010, Some(0x1020), second.clone()), (0x1020, None, None)];
     assert_eq!(ranges(&bytes), wanted);
-    // The first two starts have one address: the second holds. They stand from byte 88 on.
-    bytes[92] = 0;
+    // The first two starts have one address: the second holds. They stand from byte 96 on.
+    bytes[100] = 0;
     assert_eq!(ranges(&bytes), [(0x1000, Some(0x1020), second.clone()), (0x1020, None, None)]);
     // And that address is 0, since the base at byte 16 is.
     bytes[17] = 0;
