@@ -138,11 +138,11 @@ none" ]
 crash=$here/c/crash.c
 if [ "$(uname -m)" = x86_64 ] || [ "$(uname -m)" = aarch64 ]; then
     cc -std=c11 -Wall -Wextra -Werror -O2 -g -I "$crate/include" -I "$here/c" "$crash" "$work/calls.o" "$library" "$kit/liblibc_c.a" -o "$work/crash"
-    mkdir "$work/indexes"
-    "$work/make_index" "$work/crash" "$work/indexes/crash.lines" >/dev/null
-    [ "$("$work/crash" "$work/indexes")" = "$crash:$(grep -n __builtin_trap "$crash" | cut -d: -f1)" ]
-    cp "$work/built.index" "$work/indexes/crash.lines"
-    [ "$("$work/crash" "$work/indexes" || true)" = "??" ]
+    mkdir "$work/loaded"
+    "$work/make_index" "$work/crash" "$work/loaded/crash.lines" >/dev/null
+    [ "$("$work/crash" "$work/loaded")" = "$crash:$(grep -n __builtin_trap "$crash" | cut -d: -f1)" ]
+    cp "$work/built.index" "$work/loaded/crash.lines"
+    [ "$("$work/crash" "$work/loaded" || true)" = "??" ]
 fi
 # The lines of two functions whose addresses a linker gives, by each form of relocations: addr2line finds what compiler.c wrote.
 linked=0
