@@ -1,5 +1,6 @@
 -- What no public clause reaches: private functions and proofs alone speak of it.
 pub mod Conditions
+pub mod DueFormats
 pub mod EmptySource
 pub mod LentDetails
 pub mod ReadAs

@@ -5,7 +5,7 @@ ghost use Rattle.std.specs.Prelude.{◌≡◌, ◌<◌, ◌≤◌, ◌^◌, true
 ghost use Rattle.std.specs.Prelude.{if◌then◌else◌, nat_eq, IfOk, IfErr, IfSome, OnOk, OnErr, Ok};
 ghost use Rattle.std.specs.Prelude.{Err, Some, None, All, Contains, unwrap_or};
 ghost use Rattle.std.specs.Option.{is_none};
-ghost use Rattle.std.specs.List.{list_any};
+ghost use Rattle.std.specs.List.{list_any, flat_map};
 ghost use Rattle.gimli_bytes.specs.Number.{uleb};
 ghost use Rattle.gimli_bytes.specs.Texts.{AreTexts, byte_count, with_text, texts_in};
 ghost use Rattle.gimli_bytes.specs.declared.error.Error.TheVariants.{OutOfMemory};
@@ -19,6 +19,7 @@ ghost use Rattle.gimli_build.specs.Version5Tables.{text_in_form, directory_table
 ghost use Rattle.gimli_build.specs.Version5Tables.{source_bytes, file_entry_bytes};
 ghost use Rattle.gimli_build.specs.Version5Tables.{file_table_bytes};
 ghost use Rattle.gimli_build.specs.WrittenTables.{HaveEmptySource};
+ghost use Rattle.gimli_build.specs.inside.DueFormats.{due_formats};
 ghost use Rattle.gimli_build.specs.inside.EmptySource.{StandsForNone};
 ghost use Rattle.gimli_build.specs.inside.Writes.{Writes, always};
 
@@ -151,7 +152,10 @@ fn directory_form(directories: &[LineString]) -> DwForm
 }
 
 /// Appends the directories and the files.
-pub(crate) fn write_version_5_tables<W: Writer>(w: &mut W, input: &UnitInput<'_>) -> Result<()>
+pub(crate) fn write_version_5_tables<W: Writer>(
+    w: &mut W,
+    input: &UnitInput<'_>,
+) -> Result<()>
     requires version { 5 ≤ input.now.program.encoding.version }
     ensures writes { Writes W.Sink w.old w.new result
         (λ hand. let program = input.now.program in let format = program.encoding.format in
@@ -164,25 +168,58 @@ pub(crate) fn write_version_5_tables<W: Writer>(w: &mut W, input: &UnitInput<'_>
 }
 
 /// Appends the directories.
-fn write_directory_table<W: Writer>(w: &mut W, input: &UnitInput<'_>) -> Result<()>
+fn write_directory_table<W: Writer>(
+    w: &mut W,
+    input: &UnitInput<'_>,
+) -> Result<()>
     ensures { Writes W.Sink w.old w.new result
         (λ hand. directory_table_bytes hand (W.big w.old) input.now.program.encoding.format
         input.now.texts input.now.program) }
 {
     let directories = input.program().tables().directories();
     let form = directory_form(directories);
-    write_directory_formats(w, form, directories.len())?;
+    let formats = [(true, constants::DW_LNCT_path, form)];
+    write_formats(w, 1, &formats, directories.len())?;
     write_texts(w, input, form, directories)
 }
 
-/// Appends the formats of directories, and their number.
-fn write_directory_formats<W: Writer>(w: &mut W, form: DwForm, count: usize) -> Result<()>
+/// Appends the number of the formats that are due, these formats, and the number of entries.
+fn write_formats<W: Writer>(
+    w: &mut W,
+    count: u8,
+    formats: &[(bool, DwLnct, DwForm)],
+    entries: usize,
+) -> Result<()>
+    requires { count ≡ length (due_formats formats.now) }
     ensures { Writes W.Sink w.old w.new result
-        (always (Ok (formats_bytes ((0x0001, form.0) ∷ []) ++ uleb count))) }
+        (always (Ok (formats_bytes (due_formats formats.now) ++ uleb entries))) }
 {
-    write_byte(w, 1)?;
-    write_format(w, constants::DW_LNCT_path, form)?;
-    w.write_uleb128(count as u64)
+    write_byte(w, count)?;
+    write_due_formats(w, formats)?;
+    w.write_uleb128(entries as u64)
+}
+
+/// Appends the formats that are due.
+fn write_due_formats<W: Writer>(w: &mut W, formats: &[(bool, DwLnct, DwForm)]) -> Result<()>
+    ensures { Writes W.Sink w.old w.new result (always (Ok (flat_map
+        (λ f. uleb f.0 ++ uleb f.1) (due_formats formats.now)))) }
+{
+    for index in 0..formats.len() {
+        let (due, content, form) = formats[index];
+        write_format_if(w, due, content, form)?;
+    }
+    Ok(())
+}
+
+/// Appends a content type and a form, where they are due.
+fn write_format_if<W: Writer>(w: &mut W, due: bool, content: DwLnct, form: DwForm) -> Result<()>
+    ensures { Writes W.Sink w.old w.new result
+        (always (Ok (if due then uleb content.0 ++ uleb form.0 else []))) }
+{
+    if !due {
+        return Ok(());
+    }
+    write_format(w, content, form)
 }
 
 /// Appends a content type and a form.
@@ -241,7 +278,10 @@ fn write_line_string<W: Writer>(
 }
 
 /// Appends the files.
-fn write_file_table<W: Writer>(w: &mut W, input: &UnitInput<'_>) -> Result<()>
+fn write_file_table<W: Writer>(
+    w: &mut W,
+    input: &UnitInput<'_>,
+) -> Result<()>
     requires version { 5 ≤ input.now.program.encoding.version }
     ensures writes { Writes W.Sink w.old w.new result
         (λ hand. file_table_bytes hand (W.big w.old) input.now.program.encoding.format
@@ -250,46 +290,10 @@ fn write_file_table<W: Writer>(w: &mut W, input: &UnitInput<'_>) -> Result<()>
 {
     let program = input.program();
     let form = source_form(program.tables());
-    write_file_formats(w, program, form)?;
+    let formats = file_formats(program, form);
+    let files = program.tables().file_count();
+    write_formats(w, format_count(program), &formats, files)?;
     write_file_entries(w, input, form)
-}
-
-/// Appends the formats of files, and their number.
-fn write_file_formats<W: Writer>(
-    w: &mut W,
-    program: &LineProgram,
-    source_form: DwForm,
-) -> Result<()>
-    requires { source_form.0 ≡ first_form (sources program.now.files) }
-    ensures { Writes W.Sink w.old w.new result
-        (always
-        (Ok (formats_bytes (file_formats program.now) ++ uleb (length program.now.files)))) }
-{
-    write_key_formats(w, program)?;
-    write_detail_formats(w, program)?;
-    write_format_if(
-        w,
-        program.file_has_source,
-        constants::DW_LNCT_LLVM_source,
-        source_form,
-    )?;
-    w.write_uleb128(program.tables().file_count() as u64)
-}
-
-/// Appends the number of formats of files, and those of the path and the directory.
-fn write_key_formats<W: Writer>(w: &mut W, program: &LineProgram) -> Result<()>
-    ensures { Writes W.Sink w.old w.new result
-        (always (Ok (length (file_formats program.now)
-        ∷ (uleb 0x0001 ++ uleb (first_form (path_texts program.now.files))) ++ uleb 0x0002
-        ++ uleb 0x0f))) }
-{
-    write_byte(w, format_count(program))?;
-    write_format(w, constants::DW_LNCT_path, path_form(program.tables()))?;
-    write_format(
-        w,
-        constants::DW_LNCT_directory_index,
-        constants::DW_FORM_udata,
-    )
 }
 
 /// The number of formats of files.
@@ -302,34 +306,22 @@ fn format_count(program: &LineProgram) -> u8
         + u8::from(program.file_has_source)
 }
 
-/// Appends the formats of what else is stored of files, but for their sources.
-fn write_detail_formats<W: Writer>(w: &mut W, program: &LineProgram) -> Result<()>
-    ensures { Writes W.Sink w.old w.new result
-        (always (Ok ((if program.now.file_has_timestamp then uleb 0x0003 ++ uleb 0x0f else [])
-        ++ (if program.now.file_has_size then uleb 0x0004 ++ uleb 0x0f else [])
-        ++ (if program.now.file_has_md5 then uleb 0x0005 ++ uleb 0x1e else [])))) }
+/// The formats of files: what a program's flags leave out isn't due.
+fn file_formats(program: &LineProgram, source_form: DwForm) -> [(bool, DwLnct, DwForm); 6]
+    requires { source_form.0 ≡ first_form (sources program.now.files) }
+    ensures { due_formats result ≡ file_formats program.now }
 {
     let udata = constants::DW_FORM_udata;
     let data16 = constants::DW_FORM_data16;
-    write_format_if(
-        w,
-        program.file_has_timestamp,
-        constants::DW_LNCT_timestamp,
-        udata,
-    )?;
-    write_format_if(w, program.file_has_size, constants::DW_LNCT_size, udata)?;
-    write_format_if(w, program.file_has_md5, constants::DW_LNCT_MD5, data16)
-}
-
-/// Appends a content type and a form, where they are due.
-fn write_format_if<W: Writer>(w: &mut W, due: bool, content: DwLnct, form: DwForm) -> Result<()>
-    ensures { Writes W.Sink w.old w.new result
-        (always (Ok (if due then uleb content.0 ++ uleb form.0 else []))) }
-{
-    if !due {
-        return Ok(());
-    }
-    write_format(w, content, form)
+    let path_form = path_form(program.tables());
+    [
+        (true, constants::DW_LNCT_path, path_form),
+        (true, constants::DW_LNCT_directory_index, udata),
+        (program.file_has_timestamp, constants::DW_LNCT_timestamp, udata),
+        (program.file_has_size, constants::DW_LNCT_size, udata),
+        (program.file_has_md5, constants::DW_LNCT_MD5, data16),
+        (program.file_has_source, constants::DW_LNCT_LLVM_source, source_form),
+    ]
 }
 
 /// Appends files one after the other.

@@ -1,0 +1,9 @@
+use Rattle.std.proofs.Common.{take, Ok}
+use Rattle.gimli_build.specs.inside.Writes.{Writes, always}
+use Rattle.gimli_build.proofs.building.FormatLemmas.{due_bytes}
+use Rattle.gimli_build.proofs.tables.version_5.write_due_formats.Given as goal
+
+abbrev pub invariant-loop-index : goal.invariant-loop-index
+invariant-loop-index g l = record {
+  so : Writes {X = Unit {0}} g.W.Sink l.fn.w l.w (Ok tt) (always (Ok (due_bytes (take l.index l.formats))));
+}
