@@ -5,7 +5,6 @@ pub mod EventsBack
 pub mod NoFiles
 pub mod ReadyTexts
 pub mod EmittedTexts
-pub mod HeldOffsets
 pub mod TablesBack
 pub mod UnitHeader
 pub mod ReadBack

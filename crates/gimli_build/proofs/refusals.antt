@@ -1,5 +1,4 @@
 -- What a program is refused for.
 pub mod Refusals
-pub mod NumberRefusals
 pub mod TableRefusals
 pub mod Causes

@@ -1,6 +1,4 @@
 -- How many bytes what is written has.
 pub mod Steps
 pub mod RowSizes
-pub mod PartSizes
-pub mod TableSizes
 pub mod UnitSizes

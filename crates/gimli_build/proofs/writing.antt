@@ -1,5 +1,4 @@
 -- Calls that append, one after the other.
-pub mod Joins
 pub mod Joined
 pub mod Writes
 pub mod InstructionsWritten

@@ -1,5 +1,6 @@
 -- What builder calls keep true of a program.
-use Rattle.std.proofs.Common.{◌≡◌, ℕ, zero, suc, ◌-◌, ◌<◌, ◌≤◌, Bool, true, false, List, [], ◌∷◌, ◌++◌, length, drop, refl, sym, subst, if◌then◌else◌}
+use Rattle.std.proofs.Common.{◌≡◌, ℕ, zero, suc, ◌-◌, ◌<◌, ◌≤◌, Bool, true, false, List, [], ◌∷◌, ◌++◌, length, drop}
+use Rattle.std.proofs.Common.{refl, sym, subst, if◌then◌else◌}
 use Rattle.std.proofs.Common.{slice_get, Option, arith, length-append}
 use Rattle.std.specs.Prelude.{All}
 use Rattle.std.specs.Option.{option_map_or}
@@ -36,28 +37,34 @@ unfolding reached
 reached_last [] = refl
 reached_last (item ∷ items) = last_at (0, 0) item items (length (item ∷ items) - 1) (omega arith)
 
-push_reached : (e : LineEncoding) (position : ℕ × ℕ) (items : List BuiltItem) (item : BuiltItem) → AreBuilt e position items
+push_reached : (e : LineEncoding) (position : ℕ × ℕ) (items : List BuiltItem) (item : BuiltItem)
+    → AreBuilt e position items
     → CanBuild e (reached position items) item → AreBuilt e position (items ++ item ∷ [])
 unfolding reached
 push_reached e position [] item so can = (can, tt)
 push_reached e position (first ∷ items) item so can = (so.0, push_reached e (position_after first) items item so.1 can)
 
-stands_at : (e : LineEncoding) (position : ℕ × ℕ) (items : List BuiltItem) → CanEncode e → IsPosition e position.0 position.1 → AreBuilt e position items
+stands_at : (e : LineEncoding) (position : ℕ × ℕ) (items : List BuiltItem) → CanEncode e
+    → IsPosition e position.0 position.1 → AreBuilt e position items
     → IsPosition e (reached position items).0 (reached position items).1
 unfolding reached
 stands_at e position [] can so built = so
 stands_at e position (SetAddress a ∷ items) can so built = stands_at e (0, 0) items can (start_position e can) built.1
-stands_at e position (Row r ∷ items) can so built = stands_at e (r.address_offset, r.op_index) items can built.0.0.position built.1
+stands_at e position (Row r ∷ items) can so built =
+    stands_at e (r.address_offset, r.op_index) items can built.0.0.position built.1
 stands_at e position (End o i ∷ items) can so built = stands_at e (0, 0) items can (start_position e can) built.1
 
 -- the previous row stands at a position
 pub previous_stands : (e : LineEncoding) (items : List BuiltItem) → CanEncode e → AreBuilt e (0, 0) items
     → IsPosition e (previous_position items).0 (previous_position items).1
 previous_stands e items can built =
-    subst (λ position. IsPosition e position.0 position.1) (reached_last items) (stands_at e (0, 0) items can (start_position e can) built)
+    subst (λ position. IsPosition e position.0 position.1) (reached_last items)
+    (stands_at e _ _ can (start_position e can) built)
 
 -- an item is built after others
-pub item_pushed : {is_none : Bool} {encoding : Encoding} {e : LineEncoding} {directories : List LineText} {keys : List FileKey} (items : List BuiltItem)
+pub item_pushed : {is_none : Bool} {encoding : Encoding} {e : LineEncoding} {directories : List LineText} {keys : List
+    FileKey}
+    (items : List BuiltItem)
     (item : BuiltItem)
     → IsProgram is_none encoding e directories keys items → CanBuild e (previous_position items) item
     → IsProgram is_none encoding e directories keys (items ++ item ∷ [])
@@ -68,7 +75,8 @@ item_pushed {e = e} items item so can = record {
   source_file = so.source_file;
   directories_not_empty = so.directories_not_empty;
   paths_not_empty = so.paths_not_empty;
-  items_built = push_reached e (0, 0) items item so.items_built (subst (λ position. CanBuild e position item) (sym (reached_last items)) can);
+  items_built =
+      push_reached e _ _ _ so.items_built (subst (λ position. CanBuild e position item) (sym (reached_last items)) can);
 }
 
 -- ---- tables
@@ -91,7 +99,9 @@ longer (d ∷ ds) t some = by _
     by false = omega arith
 
 -- a directory is added
-pub directory_added : {is_none : Bool} {encoding : Encoding} {e : LineEncoding} {keys : List FileKey} {items : List BuiltItem} (ds : List LineText)
+pub directory_added : {is_none : Bool} {encoding : Encoding} {e : LineEncoding} {keys : List FileKey} {items : List
+    BuiltItem}
+    (ds : List LineText)
     (t : LineText)
     → IsProgram is_none encoding e ds keys items → is_none ≡ false → (encoding.version ≤ 4 → IsNotEmpty t)
     → IsProgram is_none encoding e (with_directory ds t) keys items
@@ -100,12 +110,14 @@ directory_added ds t so is not_empty = record {
   address_size = so.address_size;
   working_dir = λ h. longer _ t (so.working_dir is);
   source_file = so.source_file;
-  directories_not_empty = λ old. not_empty_pushed _ t (so.working_dir is) (so.directories_not_empty old) (not_empty old);
+  directories_not_empty =
+      λ old. not_empty_pushed _ t (so.working_dir is) (so.directories_not_empty old) (not_empty old);
   paths_not_empty = so.paths_not_empty;
   items_built = so.items_built;
 }
 
-paths_pushed : (files : List File) (k : FileKey) (given : Option Details) → All (λ l. IsNotEmpty l.0) (keys_of files) → IsNotEmpty k.0
+paths_pushed : (files : List File) (k : FileKey) (given : Option Details) → All (λ l. IsNotEmpty l.0) (keys_of files)
+    → IsNotEmpty k.0
     → All (λ l. IsNotEmpty l.0) (keys_of (with_file files k given))
 paths_pushed files k given all h = rw (keys-with_file files k given) (by _)
   where
@@ -113,7 +125,8 @@ paths_pushed files k given all h = rw (keys-with_file files k given) (by _)
     by true = all
     by false = All-push (λ l. IsNotEmpty l.0) _ k all h
 
-files_longer : (files : List File) (k : FileKey) (given : Option Details) → 0 < length (keys_of files) → 0 < length (keys_of (with_file files k given))
+files_longer : (files : List File) (k : FileKey) (given : Option Details) → 0 < length (keys_of files)
+    → 0 < length (keys_of (with_file files k given))
 files_longer files k given some = rw (keys-with_file files k given) (by _)
   where
     by : (b : Bool) → 0 < length (if b then keys_of files else keys_of files ++ k ∷ [])
@@ -121,7 +134,8 @@ files_longer files k given some = rw (keys-with_file files k given) (by _)
     by false = omega (arith, some, length-append (keys_of files) (k ∷ []))
 
 -- a file is added
-pub file_added : {is_none : Bool} {encoding : Encoding} {e : LineEncoding} {ds : List LineText} {items : List BuiltItem} (files : List File) (k : FileKey)
+pub file_added : {is_none : Bool} {encoding : Encoding} {e : LineEncoding} {ds : List LineText} {items : List BuiltItem}
+    (files : List File) (k : FileKey)
     (given : Option Details)
     → IsProgram is_none encoding e ds (keys_of files) items → (encoding.version ≤ 4 → IsNotEmpty k.0)
     → IsProgram is_none encoding e ds (keys_of (with_file files k given)) items
@@ -136,7 +150,10 @@ file_added files k given so not_empty = record {
 }
 
 -- details are written
-pub details_written : {is_none : Bool} {encoding : Encoding} {e : LineEncoding} {ds : List LineText} {items : List BuiltItem} (files : List File) (i : ℕ)
+pub details_written : {is_none : Bool} {encoding : Encoding} {e : LineEncoding} {ds : List LineText} {items : List
+    BuiltItem}
+    (files : List File) (i : ℕ)
     (d : Details)
-    → IsProgram is_none encoding e ds (keys_of files) items → IsProgram is_none encoding e ds (keys_of (with_details files i d)) items
+    → IsProgram is_none encoding e ds (keys_of files) items
+    → IsProgram is_none encoding e ds (keys_of (with_details files i d)) items
 details_written files i d so = rw (keys-with_details files i d) so

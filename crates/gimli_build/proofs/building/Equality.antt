@@ -19,12 +19,35 @@ module _ (a b : LineRow) where
   abbrev Registers : Type 0
   Registers =
       (a.address_offset ≡ b.address_offset)
-      × ((a.op_index ≡ b.op_index) × ((a.file ≡ b.file) × ((a.line ≡ b.line) × ((a.column ≡ b.column) × ((a.discriminator ≡ b.discriminator)
+      × ((a.op_index ≡ b.op_index)
+      × ((a.file ≡ b.file) × ((a.line ≡ b.line) × ((a.column ≡ b.column) × ((a.discriminator ≡ b.discriminator)
       × ((a.is_statement ≡ b.is_statement)
-      × ((a.basic_block ≡ b.basic_block) × ((a.prologue_end ≡ b.prologue_end) × ((a.epilogue_begin ≡ b.epilogue_begin) × (a.isa ≡ b.isa))))))))))
+      × ((a.basic_block ≡ b.basic_block)
+      × ((a.prologue_end ≡ b.prologue_end) × ((a.epilogue_begin ≡ b.epilogue_begin) × (a.isa ≡ b.isa))))))))))
 
   same_row : Registers → a ≡ b
-  same_row (address_offset, (op_index, (file, (line, (column, (discriminator, (is_statement, (basic_block, (prologue_end, (epilogue_begin, (isa))))))))))) =
+  same_row (
+    address_offset,
+    (
+      op_index,
+      (
+        file,
+        (
+          line,
+          (
+            column,
+            (
+              discriminator,
+              (
+                is_statement,
+                (basic_block, (prologue_end, (epilogue_begin, (isa)))),
+              ),
+            ),
+          ),
+        ),
+      ),
+    ),
+  ) =
       λ i. record {
         address_offset = address_offset i;
         op_index = op_index i;
@@ -75,10 +98,13 @@ module _ (a b : LineRow) where
   pub row-Decides : Decides (rows.eq a b) (a ≡ b)
   row-Decides =
       Decides-like _ same_row same_registers
-      (also (Decides-eqb a.address_offset b.address_offset) (also (Decides-eqb a.op_index b.op_index) (also (Decides-eqb a.file b.file)
-      (also (Decides-eqb a.line b.line) (also (Decides-eqb a.column b.column) (also (Decides-eqb a.discriminator b.discriminator)
+      (also (Decides-eqb a.address_offset b.address_offset)
+      (also (Decides-eqb a.op_index b.op_index) (also (Decides-eqb a.file b.file)
+      (also (Decides-eqb a.line b.line)
+      (also (Decides-eqb a.column b.column) (also (Decides-eqb a.discriminator b.discriminator)
       (also (booleans_Decides a.is_statement b.is_statement) (also (booleans_Decides a.basic_block b.basic_block)
-      (also (booleans_Decides a.prologue_end b.prologue_end) (also (booleans_Decides a.epilogue_begin b.epilogue_begin) (Decides-eqb a.isa b.isa)))))))))))
+      (also (booleans_Decides a.prologue_end b.prologue_end)
+      (also (booleans_Decides a.epilogue_begin b.epilogue_begin) (Decides-eqb a.isa b.isa)))))))))))
 
 pub item-Decides : (a b : BuiltItem) → Decides (items.eq a b) (a ≡ b)
 item-Decides (SetAddress a) (SetAddress b) =

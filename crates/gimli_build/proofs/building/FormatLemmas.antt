@@ -1,5 +1,6 @@
 -- The formats that are due, one after the other.
-use Rattle.std.proofs.Common.{◌≡◌, ◌<◌, ◌+◌, ℕ, Bool, true, false, List, [], ◌∷◌, ◌++◌, length, take, get_or, if◌then◌else◌, refl, sym, ap, ◌∙◌, append_assoc}
+use Rattle.std.proofs.Common.{◌≡◌, ◌<◌, ◌+◌, ℕ, Bool, true, false, List, [], ◌∷◌, ◌++◌, length, take, get_or}
+use Rattle.std.proofs.Common.{if◌then◌else◌, refl, sym, ap, ◌∙◌, append_assoc}
 use Rattle.std.proofs.Common.{add-one}
 use Rattle.std.specs.List.{flat_map}
 use Rattle.std.proofs.Math.Seq.{take-suc}
@@ -37,7 +38,8 @@ due_more formats i d lt =
     ∙ ap (λ l. due_bytes (take i formats) ++ l) (one_due f.0 (f.1.0, f.2.0)))
 
 -- two that are there, and four that may be
-pub six_due : {A : Type 0} (a b : A) (t s m o : List A) → a ∷ b ∷ (t ++ (s ++ (m ++ (o ++ [])))) ≡ a ∷ b ∷ t ++ s ++ m ++ o
+pub six_due : {A : Type 0} (a b : A) (t s m o : List A)
+    → a ∷ b ∷ (t ++ (s ++ (m ++ (o ++ [])))) ≡ a ∷ b ∷ t ++ s ++ m ++ o
 six_due a b t s m o =
     ap (λ l. a ∷ b ∷ (t ++ (s ++ (m ++ l)))) (append-nil o)
     ∙ ap (λ l. a ∷ b ∷ l) (sym (append_assoc (t ++ s) m o ∙ append_assoc t s (m ++ o)))

@@ -1,18 +1,28 @@
 -- The first source of files, and whether one has none, looked for from the first file on.
-use Rattle.std.proofs.Common.{◌≡◌, ℕ, ◌+◌, Bool, true, false, ◌||◌, List, [], ◌∷◌, drop, slice_get, refl, sym, ap, ◌∙◌, Option, Some, None, option_map}
+use Rattle.std.proofs.Common.{◌≡◌, ℕ, ◌+◌, Bool, true, false, ◌||◌, List, [], ◌∷◌, drop, slice_get, refl, sym, ap, ◌∙◌}
+use Rattle.std.proofs.Common.{Option, Some, None, option_map, zero, suc, ◌≤◌, ◌<◌, ◌&&◌, length, arith}
 use Rattle.std.specs.Option.{is_none}
 use Rattle.std.specs.List.{list_any}
-use Rattle.gimli_build.specs.LineText.{LineText}
+use Rattle.gimli_build.specs.LineText.{LineText, IsWithin}
 use Rattle.gimli_build.specs.Tables.{File}
-use Rattle.gimli_build.specs.Version5Tables.{text_form, first_form, path_texts, sources}
+use Rattle.gimli_build.specs.Version5Tables.{text_form, first_form, path_texts, sources, needs_empty, texts_after}
 use Rattle.gimli_build.proofs.writing.Joined.{next_at}
+use Rattle.std.specs.Prelude.{IfSome, Contains, slice_index_or}
+use Rattle.std.proofs.lemmas.Bool.{le-leb}
+use Rattle.std.proofs.lemmas.List.Elements.{All-weaker}
+use Rattle.gimli_bytes.specs.Texts.{StringTables}
+use Rattle.gimli_build.specs.Built.{Built}
+use Rattle.gimli_build.specs.Conditions.{CanWrite}
+use Rattle.gimli_build.proofs.reading.ReadyTexts.{within_after}
 
 module _ {A : Type 0} (test : A → Bool) (xs : List A) (i : ℕ) where
-  any_next : (x : A) → slice_get xs i ≡ Some x → list_any test (drop i xs) ≡ list_any test xs → list_any test xs ≡ (test x || list_any test (drop (i + 1) xs))
+  any_next : (x : A) → slice_get xs i ≡ Some x → list_any test (drop i xs) ≡ list_any test xs
+      → list_any test xs ≡ (test x || list_any test (drop (i + 1) xs))
   any_next x at so = sym so ∙ ap (list_any test) (next_at _ i x at)
 
   -- an element has it
-  pub any_found : (x : A) → slice_get xs i ≡ Some x → list_any test (drop i xs) ≡ list_any test xs → test x ≡ true → list_any test xs ≡ true
+  pub any_found : (x : A) → slice_get xs i ≡ Some x → list_any test (drop i xs) ≡ list_any test xs → test x ≡ true
+      → list_any test xs ≡ true
   any_found x at so is = any_next x at so ∙ ap (λ b. b || list_any test (drop (i + 1) xs)) is
 
   -- an element hasn't
@@ -31,24 +41,31 @@ module _ (files : List File) (i : ℕ) where
   sources_next f at so = sym so ∙ ap sources (next_at files i f at) ∙ by f.1.source
     where
       by : (o : Option LineText)
-          → (elim o [ Some t ↦ t ∷ sources (drop (i + 1) files) | None ↦ sources (drop (i + 1) files) ]) ≡ found o (sources (drop (i + 1) files))
+          → (elim o [ Some t ↦ t ∷ sources (drop (i + 1) files) | None ↦ sources (drop (i + 1) files) ])
+          ≡ found o (sources (drop (i + 1) files))
       by (Some t) = refl
       by None = refl
 
   -- the first source
-  pub source_found : (f : File) (t : LineText) → slice_get files i ≡ Some f → sources (drop i files) ≡ sources files → f.1.source ≡ Some t
+  pub source_found : (f : File) (t : LineText) → slice_get files i ≡ Some f → sources (drop i files) ≡ sources files
+      → f.1.source ≡ Some t
       → text_form t ≡ first_form (sources files)
   unfolding found
-  source_found f t at so is = sym (ap first_form (sources_next f at so ∙ ap (λ (o : Option LineText). found o (sources (drop (i + 1) files))) is))
+  source_found f t at so is =
+      sym
+      (ap first_form (sources_next f at so ∙ ap (λ (o : Option LineText). found o (sources (drop (i + 1) files))) is))
 
   -- a file without one
-  pub source_passed : (f : File) → slice_get files i ≡ Some f → sources (drop i files) ≡ sources files → f.1.source ≡ None
+  pub source_passed : (f : File) → slice_get files i ≡ Some f → sources (drop i files) ≡ sources files
+      → f.1.source ≡ None
       → sources (drop (i + 1) files) ≡ sources files
   unfolding found
-  source_passed f at so is = sym (sources_next f at so ∙ ap (λ (o : Option LineText). found o (sources (drop (i + 1) files))) is)
+  source_passed f at so is =
+      sym (sources_next f at so ∙ ap (λ (o : Option LineText). found o (sources (drop (i + 1) files))) is)
 
 -- the first path
-pub first_path : (files : List File) (f : File) → slice_get files 0 ≡ Some f → text_form f.0.0 ≡ first_form (path_texts files)
+pub first_path : (files : List File) (f : File) → slice_get files 0 ≡ Some f
+    → text_form f.0.0 ≡ first_form (path_texts files)
 first_path [] f at = cc
 first_path (g ∷ files) f at = let same : g ≡ f = cc in ap (λ h. text_form h.0.0) (sym same)
 
@@ -56,3 +73,47 @@ first_path (g ∷ files) f at = let same : g ≡ f = cc in ap (λ h. text_form h
 pub none_seen : {A B : Type 0} (f : A → B) (o : Option A) → is_none (option_map f o) ≡ is_none o
 none_seen f (Some x) = refl
 none_seen f None = refl
+
+-- ---- the empty text that stands for the source of a file that has none, and the tables that have it
+
+-- ---- what is there stays
+
+if-some : {A : Type 0} (P Q : A → Type 0) → ((x : A) → P x → Q x) → (o : Option A) → IfSome o P → IfSome o Q
+if-some P Q f (Some x) p = f x p
+if-some P Q f None p = tt
+
+-- a program that could be written can be written then
+pub can-write-after : (p : Built) (texts : StringTables) → CanWrite p texts → CanWrite p (texts_after p texts)
+can-write-after p texts can =
+    let after = texts_after p texts in
+    let within = within_after p _ in
+    record {
+      program = can.program;
+      directories = All-weaker (IsWithin texts) _ within _ can.directories;
+      paths = All-weaker (λ f. IsWithin texts f.0.0) _ (λ f w. within f.0.0 w) _ can.paths;
+      sources =
+          All-weaker (λ f. IfSome f.1.source (IsWithin texts)) _
+          (λ f w. if-some _ _ within _ w) _ can.sources;
+      sources_end = can.sources_end;
+    }
+
+-- ---- where it is needed
+
+any-at : {A : Type 0} (test : A → Bool) (xs : List A) (i : ℕ) (x : A) → i < length xs → slice_index_or xs i x ≡ x
+    → test x ≡ true → list_any test xs ≡ true
+any-at test [] i x lt at is = absurd (omega arith)
+any-at test (y ∷ xs) zero x lt at is = ap (λ b. b || list_any test xs) (ap test at ∙ is)
+any-at test (y ∷ xs) (suc i) x lt at is = ap (λ b. test y || b) (any-at test xs i x (omega arith) at is) ∙ by _
+  where
+    by : (b : Bool) → (b || true) ≡ true
+    by true = refl
+    by false = refl
+
+-- a file has no source
+pub needs-empty : (p : Built) (f : File) → 5 ≤ p.encoding.version → Contains p.files f → p.file_has_source ≡ true
+    → f.1.source ≡ None
+    → needs_empty p ≡ true
+needs-empty p f new there has without =
+    let one = le-leb 5 p.encoding.version new in
+    let any = any-at _ _ _ f there.1 there.2 (ap is_none without) in
+    λ j. one j && has j && any j

@@ -1,6 +1,8 @@
 -- The tables of directories and files, seen as lists.
-use Rattle.std.proofs.Common.{◌≡◌, ◌≢◌, ℕ, zero, suc, ◌+◌, ◌<◌, Bool, true, false, cond, not, ◌||◌, ◌&&◌, List, [], ◌∷◌, ◌++◌, map, length, refl, sym, ap}
-use Rattle.std.proofs.Common.{subst, ◌∙◌, if◌then◌else◌, slice_get, get_or, drop, Option, Some, None, option_map, true≢false, arith}
+use Rattle.std.proofs.Common.{◌≡◌, ◌≢◌, ℕ, zero, suc, ◌+◌, ◌<◌, Bool, true, false, cond, not, ◌||◌, ◌&&◌, List, [], ◌∷◌}
+use Rattle.std.proofs.Common.{◌++◌, map, length, refl, sym, ap}
+use Rattle.std.proofs.Common.{subst, ◌∙◌, if◌then◌else◌, slice_get, drop, Option, Some, None, option_map}
+use Rattle.std.proofs.Common.{true≢false, arith}
 use Rattle.std.proofs.Common.{length-append}
 use native.Mathlib.Nat.{suc-add as suc_add}
 use Rattle.std.specs.Prelude.{nat_eq, is_some, unwrap_or}
@@ -22,7 +24,8 @@ use Rattle.gimli_build.specs.declared.built.line_string.LineString.TheVariants.{
 use Rattle.gimli_build.specs.declared.built.files.FileInfo.{FileInfo}
 use Rattle.gimli_build.specs.contracts.built.line_string.LineStringPartialEq.TheImpl.{ghosts}
 use Rattle.gimli_build.specs.LineText.{LineText, Inline, InStrings, InLineStrings, line_text, line_text_eq, HasNoZero}
-use Rattle.gimli_build.specs.Tables.{with_directory, index_of_directory, FileKey, Details, no_details, File, key_eq, has_file, index_of_file, with_details}
+use Rattle.gimli_build.specs.Tables.{with_directory, index_of_directory, FileKey, Details, no_details, File, key_eq}
+use Rattle.gimli_build.specs.Tables.{has_file, index_of_file, with_details}
 use Rattle.gimli_build.specs.Tables.{with_file, keys_of, Keeps, AreTables, with_indexes}
 use Rattle.gimli_build.specs.TableFields.{details}
 use Rattle.gimli_build.specs.inside.TableFields.{key, directories_of, files_of}
@@ -60,23 +63,30 @@ and_true false b h = absurd (true≢false (sym h))
 
 -- ---- directories
 
-any-directories : (k : LineString) (ks : List LineString) → list_any (ghosts.eq k) ks ≡ list_any (line_text_eq (line_text k)) (directories_of ks)
+any-directories : (k : LineString) (ks : List LineString)
+    → list_any (ghosts.eq k) ks ≡ list_any (line_text_eq (line_text k)) (directories_of ks)
 any-directories k [] = refl
 any-directories k (x ∷ xs) = λ i. line_eq k x i || any-directories k xs i
 
-pub directories_insert : (ks : List LineString) (k : LineString) → directories_of (insert_key ghosts.eq ks k) ≡ with_directory (directories_of ks) (line_text k)
+pub directories_insert : (ks : List LineString) (k : LineString)
+    → directories_of (insert_key ghosts.eq ks k) ≡ with_directory (directories_of ks) (line_text k)
 directories_insert ks k =
-    by (list_any (ghosts.eq k) ks) ∙ ap (λ b. if b then directories_of ks else directories_of ks ++ line_text k ∷ []) (any-directories k _)
+    by (list_any (ghosts.eq k) ks)
+    ∙ ap (λ b. if b then directories_of ks else directories_of ks ++ line_text k ∷ []) (any-directories k _)
   where
-    by : (b : Bool) → directories_of (if b then ks else ks ++ k ∷ []) ≡ (if b then directories_of ks else directories_of ks ++ line_text k ∷ [])
+    by : (b : Bool)
+        → directories_of (if b then ks else ks ++ k ∷ [])
+        ≡ (if b then directories_of ks else directories_of ks ++ line_text k ∷ [])
     by true = refl
     by false = map-append line_text ks (k ∷ [])
 
-pub index_of_equal_directory : (ks : List LineString) (k : LineString) → position_or_len (ghosts.eq k) ks ≡ index_of_directory (directories_of ks) (line_text k)
+pub index_of_equal_directory : (ks : List LineString) (k : LineString)
+    → position_or_len (ghosts.eq k) ks ≡ index_of_directory (directories_of ks) (line_text k)
 index_of_equal_directory [] k = refl
 index_of_equal_directory (x ∷ xs) k = λ i. cond (not (line_eq k x i)) (1 + index_of_equal_directory xs k i) 0
 
-pub with_directory-AreTables : (ds : List LineText) (ks : List FileKey) (t : LineText) → AreTables ds ks → HasNoZero t → AreTables (with_directory ds t) ks
+pub with_directory-AreTables : (ds : List LineText) (ks : List FileKey) (t : LineText) → AreTables ds ks → HasNoZero t
+    → AreTables (with_directory ds t) ks
 with_directory-AreTables ds ks t so clean = by (list_any (line_text_eq t) ds) refl
   where
     by : (b : Bool) → list_any (line_text_eq t) ds ≡ b → AreTables (if b then ds else ds ++ t ∷ []) ks
@@ -88,7 +98,8 @@ with_directory-AreTables ds ks t so clean = by (list_any (line_text_eq t) ds) re
       directories_end = All-push HasNoZero _ t so.directories_end clean;
       distinct_files = so.distinct_files;
       paths_end = so.paths_end;
-      in_directories = λ k d short. let below = so.in_directories k d short in omega (arith, below, length-append ds (t ∷ []));
+      in_directories =
+          λ k d short. let below = so.in_directories k d short in omega (arith, below, length-append ds (t ∷ []));
     }
 
 -- ---- files
@@ -109,30 +120,40 @@ pub files_insert : (es : List ((LineString × ℕ) × FileInfo)) (k : LineString
 files_insert [] k v = refl
 files_insert (e ∷ es) k v =
     by (pair_eq k e.0)
-    ∙ (λ i. if pair_eq-is k e.0 i then (key e.0, details v) ∷ files_of es else (key e.0, details e.1) ∷ files_insert es k v i)
+    ∙ (λ i.
+    if pair_eq-is k e.0 i then (key e.0, details v) ∷ files_of es else (key e.0, details e.1) ∷ files_insert es k v i)
     ∙ joined _ _
   where
     by : (b : Bool)
         → files_of (if b then (e.0, v) ∷ es else e ∷ insert_entry pair_eq es k v)
-        ≡ (if b then (key e.0, details v) ∷ files_of es else (key e.0, details e.1) ∷ files_of (insert_entry pair_eq es k v))
+        ≡ (if b then (key e.0, details v) ∷ files_of es
+        else (key e.0, details e.1) ∷ files_of (insert_entry pair_eq es k v))
     by true = refl
     by false = refl
 
-    one : (n : ℕ) → with_details ((key e.0, details e.1) ∷ files_of es) (1 + n) (details v) ≡ (key e.0, details e.1) ∷ with_details (files_of es) n (details v)
-    one n = let h : 1 + n ≡ suc n = omega arith in ap (λ m. with_details ((key e.0, details e.1) ∷ files_of es) m (details v)) h
+    one : (n : ℕ)
+        → with_details ((key e.0, details e.1) ∷ files_of es) (1 + n) (details v)
+        ≡ (key e.0, details e.1) ∷ with_details (files_of es) n (details v)
+    one n =
+        let h : 1 + n ≡ suc n = omega arith in
+        ap (λ m. with_details ((key e.0, details e.1) ∷ files_of es) m (details v)) h
 
     joined : (b there : Bool)
         → (if b then (key e.0, details v) ∷ files_of es
         else (key e.0, details e.1)
-        ∷ (if there then with_details (files_of es) (index_of_file (files_of es) (key k)) (details v) else files_of es ++ (key k, details v) ∷ []))
-        ≡ (if b || there then with_details ((key e.0, details e.1) ∷ files_of es) (cond (not b) (1 + index_of_file (files_of es) (key k)) 0) (details v)
+        ∷ (if there then with_details (files_of es) (index_of_file (files_of es) (key k)) (details v)
+        else files_of es ++ (key k, details v) ∷ []))
+        ≡ (if b || there
+        then with_details ((key e.0, details e.1) ∷ files_of es)
+        (cond (not b) (1 + index_of_file (files_of es) (key k)) 0) (details v)
         else (key e.0, details e.1) ∷ files_of es ++ (key k, details v) ∷ [])
     joined true true = refl
     joined true false = refl
     joined false true = sym (one _)
     joined false false = refl
 
-pub any-files : (k : LineString × ℕ) (es : List ((LineString × ℕ) × FileInfo)) → list_any (pair_eq k) (map (λ e. e.0) es) ≡ has_file (files_of es) (key k)
+pub any-files : (k : LineString × ℕ) (es : List ((LineString × ℕ) × FileInfo))
+    → list_any (pair_eq k) (map (λ e. e.0) es) ≡ has_file (files_of es) (key k)
 any-files k [] = refl
 any-files k (e ∷ es) = λ i. pair_eq-is k e.0 i || any-files k es i
 
@@ -142,7 +163,8 @@ index_of_equal_file [] k = refl
 index_of_equal_file (e ∷ es) k = λ i. cond (not (pair_eq-is k e.0 i)) (1 + index_of_equal_file es k i) 0
 
 -- a search found a file, or none
-pub file_found : (es : List ((LineString × ℕ) × FileInfo)) (k : LineString × ℕ) (b : Bool) → b ≡ is_some (lookup (pair_eq k) es)
+pub file_found : (es : List ((LineString × ℕ) × FileInfo)) (k : LineString × ℕ) (b : Bool)
+    → b ≡ is_some (lookup (pair_eq k) es)
     → has_file (files_of es) (key k) ≡ b
 file_found es k b e = sym (any-files k _) ∙ sym (is_some-lookup (pair_eq k) es) ∙ sym e
 
@@ -151,7 +173,8 @@ pub with_file-kept : (files : List File) (k : FileKey) → has_file files k ≡ 
 with_file-kept files k h = ap (λ b. if b then files else files ++ (k, no_details) ∷ []) h
 
 -- a new file has no details, where none are handed
-pub with_file-new : (files : List File) (k : FileKey) → has_file files k ≡ false → with_file files k (Some no_details) ≡ with_file files k None
+pub with_file-new : (files : List File) (k : FileKey) → has_file files k ≡ false
+    → with_file files k (Some no_details) ≡ with_file files k None
 with_file-new files k h =
     ap (λ b. if b then with_details files (index_of_file files k) no_details else files ++ (k, no_details) ∷ []) h
     ∙ ap (λ b. if b then files else files ++ (k, no_details) ∷ []) (sym h)
@@ -161,46 +184,53 @@ keys-with_details [] i d = refl
 keys-with_details (f ∷ files) zero d = refl
 keys-with_details (f ∷ files) (suc i) d = ap (λ ks. f.0 ∷ ks) (keys-with_details files i d)
 
-pub with_file-AreTables : (ds : List LineText) (files : List File) (k : FileKey) (d : Details) → AreTables ds (keys_of files) → HasNoZero k.0 → k.1 < length ds
+pub with_file-AreTables : (ds : List LineText) (files : List File) (k : FileKey) (d : Details)
+    → AreTables ds (keys_of files) → HasNoZero k.0 → k.1 < length ds
     → AreTables ds (keys_of (with_file files k (Some d)))
 with_file-AreTables ds files k d so clean within = by (has_file files k) refl
   where
     absent : has_file files k ≡ false → list_any (key_eq k) (keys_of files) ≡ false
     absent h = any-map (key_eq k) (λ f. f.0) files ∙ h
 
-    by : (b : Bool) → has_file files k ≡ b → AreTables ds (keys_of (if b then with_details files (index_of_file files k) d else files ++ (k, d) ∷ []))
+    by : (b : Bool) → has_file files k ≡ b
+        → AreTables ds (keys_of (if b then with_details files (index_of_file files k) d else files ++ (k, d) ∷ []))
     by true h = rw (keys-with_details files (index_of_file files k) d) so
     by false h = rw (map-append (λ (f : File). f.0) files ((k, d) ∷ [])) (record {
       distinct_directories = so.distinct_directories;
       directories_end = so.directories_end;
       distinct_files =
           all_pairs_push (λ l m. l ≢ m) (keys_of files) k so.distinct_files (λ i l short same.
-          true≢false (sym (list_any_at (key_eq k) (keys_of files) i l short (key_eq-same (get_or (keys_of files) i l) k same)) ∙ absent h));
+          true≢false (sym (list_any_at (key_eq k) (keys_of files) i l short (key_eq-same _ k same)) ∙ absent h));
       paths_end = All-push (λ l. HasNoZero l.0) (keys_of files) k so.paths_end clean;
       in_directories = All-push (λ l. l.1 < length ds) (keys_of files) k so.in_directories within;
     })
 
 -- ---- details that are written
 
-pub files_with : (es : List ((LineString × ℕ) × FileInfo)) (n : ℕ) (v : FileInfo) → files_of (set_value_at es n v) ≡ with_details (files_of es) n (details v)
+pub files_with : (es : List ((LineString × ℕ) × FileInfo)) (n : ℕ) (v : FileInfo)
+    → files_of (set_value_at es n v) ≡ with_details (files_of es) n (details v)
 files_with [] n v = refl
 files_with (e ∷ es) zero v = refl
 files_with (e ∷ es) (suc n) v = ap (λ t. (key e.0, details e.1) ∷ t) (files_with es n v)
 
-pub details_at : (es : List ((LineString × ℕ) × FileInfo)) (n : ℕ) (v : FileInfo) → Some v ≡ slice_get (map (λ e. e.1) es) n
+pub details_at : (es : List ((LineString × ℕ) × FileInfo)) (n : ℕ) (v : FileInfo)
+    → Some v ≡ slice_get (map (λ e. e.1) es) n
     → option_map (λ f. f.1) (slice_get (files_of es) n) ≡ Some (details v)
 details_at [] n v h = cc
 details_at (e ∷ es) zero v h = let same : v ≡ e.1 = cc in ap (λ i. Some (details i)) (sym same)
 details_at (e ∷ es) (suc n) v h = details_at es n v h
 
-pub written-AreTables : (ds : List LineText) (es : List ((LineString × ℕ) × FileInfo)) (n : ℕ) (v : FileInfo) → AreTables ds (keys_of (files_of es))
+pub written-AreTables : (ds : List LineText) (es : List ((LineString × ℕ) × FileInfo)) (n : ℕ) (v : FileInfo)
+    → AreTables ds (keys_of (files_of es))
     → AreTables ds (keys_of (files_of (set_value_at es n v)))
 written-AreTables ds es n v so = rw (files_with es n v) (rw (keys-with_details (files_of es) n (details v)) so)
 
 -- ---- a walk over the files
 
-pub numbered_more : (es : List ((LineString × ℕ) × FileInfo)) (i j : ℕ) (e : (LineString × ℕ) × FileInfo) → slice_get es i ≡ Some e
-    → with_indexes j (drop i (files_of es)) ≡ (j, line_text e.0.0, e.0.1) ∷ with_indexes (j + 1) (drop (i + 1) (files_of es))
+pub numbered_more : (es : List ((LineString × ℕ) × FileInfo)) (i j : ℕ) (e : (LineString × ℕ) × FileInfo)
+    → slice_get es i ≡ Some e
+    → with_indexes j (drop i (files_of es))
+    ≡ (j, line_text e.0.0, e.0.1) ∷ with_indexes (j + 1) (drop (i + 1) (files_of es))
 numbered_more [] i j e h = cc
 numbered_more (x ∷ xs) zero j e h =
     let s : x ≡ e = cc in ap (λ k. (j, line_text k.0.0, k.0.1) ∷ with_indexes (j + 1) (files_of xs)) s
@@ -209,7 +239,8 @@ numbered_more (x ∷ xs) (suc n) j e h = rw suc_add (numbered_more xs n j e h)
 -- ---- clones
 
 -- clones of directories are the same directories
-pub directories_cloned : (ks ls : List LineString) → AllZip (λ k l. line_text l ≡ line_text k) ks ls → directories_of ls ≡ directories_of ks
+pub directories_cloned : (ks ls : List LineString) → AllZip (λ k l. line_text l ≡ line_text k) ks ls
+    → directories_of ls ≡ directories_of ks
 directories_cloned [] [] z = refl
 directories_cloned [] (l ∷ ls) z = absurd z
 directories_cloned (k ∷ ks) [] z = absurd z
@@ -217,7 +248,8 @@ directories_cloned (k ∷ ks) (l ∷ ls) z = λ i. z.0 i ∷ directories_cloned 
 
 -- and clones of files the same files
 pub files_cloned : (es fs : List ((LineString × ℕ) × FileInfo))
-    → AllZip (λ e f. ((line_text f.0.0 ≡ line_text e.0.0) × (f.0.1 ≡ e.0.1)) × (details f.1 ≡ details e.1)) es fs → files_of fs ≡ files_of es
+    → AllZip (λ e f. ((line_text f.0.0 ≡ line_text e.0.0) × (f.0.1 ≡ e.0.1)) × (details f.1 ≡ details e.1)) es fs
+    → files_of fs ≡ files_of es
 files_cloned [] [] z = refl
 files_cloned [] (f ∷ fs) z = absurd z
 files_cloned (e ∷ es) [] z = absurd z
@@ -231,7 +263,8 @@ keys-with_file files k given = by (has_file files k) given
   where
     by : (b : Bool) (given : Option Details)
         → keys_of
-        (if b then (elim given [ Some d ↦ with_details files (index_of_file files k) d | None ↦ files ]) else files ++ (k, unwrap_or given no_details) ∷ [])
+        (if b then (elim given [ Some d ↦ with_details files (index_of_file files k) d | None ↦ files ])
+        else files ++ (k, unwrap_or given no_details) ∷ [])
         ≡ (if b then keys_of files else keys_of files ++ k ∷ [])
     by true (Some d) = keys-with_details _ _ d
     by true None = refl
@@ -255,23 +288,27 @@ key_eq-tells k l h =
     let both = and_true (line_text_eq k.0 l.0) (nat_eq k.1 l.1) h in
     λ i. (line_text_eq-tells k.0 l.0 both.0 i, nat_eq-tells k.1 l.1 both.1 i)
 
-found_there : {A : Type 0} (eq : A → A → Bool) → ((x y : A) → eq x y ≡ true → x ≡ y) → (xs : List A) (x : A) → list_any (eq x) xs ≡ true
+found_there : {A : Type 0} (eq : A → A → Bool) → ((x y : A) → eq x y ≡ true → x ≡ y) → (xs : List A) (x : A)
+    → list_any (eq x) xs ≡ true
     → slice_get xs (position_or_len (eq x) xs) ≡ Some x
 found_there eq tells [] x h = cc
 found_there eq tells (y ∷ xs) x h = at (eq x y) refl (found_there eq tells xs x) h
   where
-    at : (b : Bool) → eq x y ≡ b → (list_any (eq x) xs ≡ true → slice_get xs (position_or_len (eq x) xs) ≡ Some x) → (b || list_any (eq x) xs) ≡ true
+    at : (b : Bool) → eq x y ≡ b → (list_any (eq x) xs ≡ true → slice_get xs (position_or_len (eq x) xs) ≡ Some x)
+        → (b || list_any (eq x) xs) ≡ true
         → slice_get (y ∷ xs) (cond (not b) (1 + position_or_len (eq x) xs) 0) ≡ Some x
     at true e rest h = ap Some (sym (tells x y e))
     at false e rest h =
         let one : 1 + position_or_len (eq x) xs ≡ suc (position_or_len (eq x) xs) = omega arith in
         ap (slice_get (y ∷ xs)) one ∙ rest h
 
-found_new : {A : Type 0} (eq : A → A → Bool) (xs : List A) (x : A) → list_any (eq x) xs ≡ false → slice_get (xs ++ x ∷ []) (position_or_len (eq x) xs) ≡ Some x
+found_new : {A : Type 0} (eq : A → A → Bool) (xs : List A) (x : A) → list_any (eq x) xs ≡ false
+    → slice_get (xs ++ x ∷ []) (position_or_len (eq x) xs) ≡ Some x
 found_new eq [] x h = refl
 found_new eq (y ∷ xs) x h = at (eq x y) (found_new eq xs x) h
   where
-    at : (b : Bool) → (list_any (eq x) xs ≡ false → slice_get (xs ++ x ∷ []) (position_or_len (eq x) xs) ≡ Some x) → (b || list_any (eq x) xs) ≡ false
+    at : (b : Bool) → (list_any (eq x) xs ≡ false → slice_get (xs ++ x ∷ []) (position_or_len (eq x) xs) ≡ Some x)
+        → (b || list_any (eq x) xs) ≡ false
         → slice_get (y ∷ xs ++ x ∷ []) (cond (not b) (1 + position_or_len (eq x) xs) 0) ≡ Some x
     at true rest h = cc
     at false rest h =
@@ -282,20 +319,24 @@ found : {A : Type 0} (eq : A → A → Bool) → ((x y : A) → eq x y ≡ true 
     → slice_get (if list_any (eq x) xs then xs else xs ++ x ∷ []) (position_or_len (eq x) xs) ≡ Some x
 found eq tells xs x = by (list_any (eq x) xs) refl
   where
-    by : (b : Bool) → list_any (eq x) xs ≡ b → slice_get (if b then xs else xs ++ x ∷ []) (position_or_len (eq x) xs) ≡ Some x
+    by : (b : Bool) → list_any (eq x) xs ≡ b
+        → slice_get (if b then xs else xs ++ x ∷ []) (position_or_len (eq x) xs) ≡ Some x
     by true h = found_there eq tells xs x h
     by false h = found_new eq xs x h
 
-pub directory_found : (ds : List LineText) (t : LineText) → slice_get (with_directory ds t) (index_of_directory ds t) ≡ Some t
+pub directory_found : (ds : List LineText) (t : LineText)
+    → slice_get (with_directory ds t) (index_of_directory ds t) ≡ Some t
 directory_found ds t = found _ line_text_eq-tells _ t
 
 index_of_key : (files : List File) (k : FileKey) → index_of_file files k ≡ position_or_len (key_eq k) (keys_of files)
 index_of_key [] k = refl
 index_of_key (f ∷ files) k = ap (λ n. cond (not (key_eq k f.0)) (1 + n) 0) (index_of_key files k)
 
-pub file_found_at : (files : List File) (k : FileKey) (given : Option Details) → slice_get (keys_of (with_file files k given)) (index_of_file files k) ≡ Some k
+pub file_found_at : (files : List File) (k : FileKey) (given : Option Details)
+    → slice_get (keys_of (with_file files k given)) (index_of_file files k) ≡ Some k
 file_found_at files k given =
-    rw (keys-with_file files k given, index_of_key files k, ← any-map (key_eq k) (λ f. f.0) files) (found _ key_eq-tells _ k)
+    rw (keys-with_file files k given, index_of_key files k, ← any-map (key_eq k) (λ f. f.0) files)
+    (found _ key_eq-tells _ k)
 
 pub some_within : {A : Type 0} (xs : List A) (i : ℕ) (x : A) → slice_get xs i ≡ Some x → i < length xs
 some_within [] i x h = absurd cc
@@ -316,23 +357,28 @@ kept false xs x = record { grows = omega (arith, length-append xs (x ∷ [])); s
 pub directory_keeps : (ds : List LineText) (t : LineText) → Keeps ds (with_directory ds t)
 directory_keeps ds t = kept _ _ t
 
-pub file_keeps : (files : List File) (k : FileKey) (given : Option Details) → Keeps (keys_of files) (keys_of (with_file files k given))
+pub file_keeps : (files : List File) (k : FileKey) (given : Option Details)
+    → Keeps (keys_of files) (keys_of (with_file files k given))
 file_keeps files k given = rw (keys-with_file files k given) (kept _ _ k)
 
-with_details-others : (files : List File) (n : ℕ) (d : Details) (i : ℕ) → i ≢ n → slice_get (with_details files n d) i ≡ slice_get files i
+with_details-others : (files : List File) (n : ℕ) (d : Details) (i : ℕ) → i ≢ n
+    → slice_get (with_details files n d) i ≡ slice_get files i
 with_details-others [] n d i h = refl
 with_details-others (f ∷ files) zero d zero h = absurd (h refl)
 with_details-others (f ∷ files) zero d (suc i) h = refl
 with_details-others (f ∷ files) (suc n) d zero h = refl
 with_details-others (f ∷ files) (suc n) d (suc i) h = with_details-others files n d i (λ e. h (ap suc e))
 
-pub file_others : (files : List File) (k : FileKey) (given : Option Details) (i : ℕ) → i < length files → i ≢ index_of_file files k
+pub file_others : (files : List File) (k : FileKey) (given : Option Details) (i : ℕ) → i < length files
+    → i ≢ index_of_file files k
     → slice_get (with_file files k given) i ≡ slice_get files i
 file_others files k given i short other = by (has_file files k) given
   where
     by : (b : Bool) (given : Option Details)
         → slice_get
-        (if b then (elim given [ Some d ↦ with_details files (index_of_file files k) d | None ↦ files ]) else files ++ (k, unwrap_or given no_details) ∷ []) i
+        (if b then (elim given [ Some d ↦ with_details files (index_of_file files k) d | None ↦ files ])
+        else files ++ (k, unwrap_or given no_details) ∷ [])
+        i
         ≡ slice_get files i
     by true (Some d) = with_details-others _ _ d i other
     by true None = refl

@@ -9,6 +9,7 @@ use Rattle.gimli_build.specs.Built.{Built}
 use Rattle.gimli_build.specs.Version5Tables.{first_form, path_texts, sources}
 use Rattle.gimli_build.specs.Cause.{file_texts, emitted_texts}
 use Rattle.gimli_build.proofs.reading.ReadyTexts.{source_of}
+use Rattle.gimli_build.specs.ReadsBack.{IsOffsetHeld}
 
 module _ (P : LineText → Type 0) (p : Built) (texts : StringTables) where
   -- of those of a file
@@ -28,7 +29,8 @@ module _ (P : LineText → Type 0) (p : Built) (texts : StringTables) where
 
   first_part : (ts us : List (ℕ × LineText)) → All IsEmitted (ts ++ us) → All IsEmitted ts
   first_part [] us all = All-nil IsEmitted
-  first_part (t ∷ ts) us all = All-cons IsEmitted t _ (All-head IsEmitted t _ all) (first_part ts us (All-tail IsEmitted t _ all))
+  first_part (t ∷ ts) us all =
+      All-cons IsEmitted t _ (All-head IsEmitted t _ all) (first_part ts us (All-tail IsEmitted t _ all))
 
   last_part : (ts us : List (ℕ × LineText)) → All IsEmitted (ts ++ us) → All IsEmitted us
   last_part [] us all = all
@@ -58,7 +60,8 @@ module _ (P : LineText → Type 0) (p : Built) (texts : StringTables) where
   of-files [] all = All-nil IsOfFile
   of-files (f ∷ fs) all =
       let own = file_texts p texts in
-      All-cons IsOfFile f _ (of-file f (first_part (own f) (flat_map own fs) all)) (of-files fs (last_part (own f) _ all))
+      All-cons IsOfFile f _ (of-file f (first_part (own f) (flat_map own fs) all))
+      (of-files fs (last_part (own f) _ all))
 
   -- ---- all that is emitted
 
@@ -69,3 +72,20 @@ module _ (P : LineText → Type 0) (p : Built) (texts : StringTables) where
       let filed = flat_map (file_texts p texts) p.files in
       let emitted : All IsEmitted (named ++ filed) = rw new at all in
       record { directories = of-directories _ _ (first_part _ _ emitted); files = of-files _ (last_part _ _ emitted) }
+
+-- ---- the offsets of texts that a reader has to hold, text by text
+
+module _ (limit : ℕ) (p : Built) (texts : StringTables) where
+  abbrev pub IsHeld : LineText → Type 0
+  IsHeld t = IsOffsetHeld limit texts t
+
+  -- those of a file
+  abbrev pub IsFileHeld : File → Type 0
+  IsFileHeld f = IsOfFile IsHeld p texts f
+
+  -- those of a program of version 5
+  abbrev pub AreHeld : Type 0
+  AreHeld = AreOfTables IsHeld p texts
+
+  pub are-held : nat_le p.encoding.version 4 ≡ false → All (λ t. IsHeld t.1) (emitted_texts p texts) → AreHeld
+  are-held new all = of-tables IsHeld p texts new all

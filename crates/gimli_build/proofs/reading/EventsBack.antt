@@ -34,29 +34,43 @@ use Rattle.gimli_build.proofs.spellings.ItemSpellings.{items-spelled}
 -- ---- the decoding
 
 -- bytes that are spellings and nothing else are decoded into these
-cut_whole : (notation : Notation) (h : Header) (bytes : List ℕ) (list : List Ins) → Each (SpellsInstruction notation h) bytes list
+cut_whole : (notation : Notation) (h : Header) (bytes : List ℕ) (list : List Ins)
+    → Each (SpellsInstruction notation h) bytes list
     → Decodes notation h bytes list None
-cut_whole notation h bytes list spelled = record { front = bytes; rest = []; parts = sym (append-nil bytes); spelled = spelled; ended = refl }
+cut_whole notation h bytes list spelled = record {
+  front = bytes;
+  rest = [];
+  parts = sym (append-nil bytes);
+  spelled = spelled;
+  ended = refl;
+}
 
 -- the items of a unit whose header has this encoding
-spelled_under : (notation : Notation) (h : Header) (encoding : Encoding) (e : LineEncoding) (items : List BuiltItem) (bytes : List ℕ)
-    → h.parameters.encoding ≡ encoding → h.parameters.opcode_base ≡ 13 → 11 < notation.limit → CanEncode e → AreBuilt e (0, 0) items
+spelled_under : (notation : Notation) (h : Header) (encoding : Encoding) (e : LineEncoding) (items : List BuiltItem)
+    (bytes : List ℕ)
+    → h.parameters.encoding ≡ encoding → h.parameters.opcode_base ≡ 13 → 11 < notation.limit → CanEncode e
+    → AreBuilt e (0, 0) items
     → AreFit encoding.version items
     → items_bytes plain notation.big encoding e (initial_row encoding.version e.default_is_stmt) items ≡ Ok bytes
-    → Each (SpellsInstruction notation h) bytes (items_instructions encoding.version e (initial_row encoding.version e.default_is_stmt) items)
+    → Each (SpellsInstruction notation h) bytes
+    (items_instructions encoding.version e (initial_row encoding.version e.default_is_stmt) items)
 spelled_under notation h encoding e items bytes same base wide can built fit written =
     subst (λ x. AreFit x.version items
     → items_bytes plain notation.big x e (initial_row x.version e.default_is_stmt) items ≡ Ok bytes
-    → Each (SpellsInstruction notation h) bytes (items_instructions x.version e (initial_row x.version e.default_is_stmt) items))
+    → Each (SpellsInstruction notation h) bytes
+    (items_instructions x.version e (initial_row x.version e.default_is_stmt) items))
     same
     (items-spelled notation h base wide e can _ _ _ (lit< tt) built)
     fit written
 
 -- the instructions of a written program
-pub cut-back : (notation : Notation) (h : Header) (p : Built) → IsBuilt p → 11 < notation.limit → h.parameters ≡ built_rules p.encoding p.line_encoding
+pub cut-back : (notation : Notation) (h : Header) (p : Built) → IsBuilt p → 11 < notation.limit
+    → h.parameters ≡ built_rules p.encoding p.line_encoding
     → program_bytes plain notation.big p ≡ Ok h.program
     → Decodes notation h h.program
-    (items_instructions p.encoding.version p.line_encoding (initial_row p.encoding.version p.line_encoding.default_is_stmt) p.items) None
+    (items_instructions p.encoding.version p.line_encoding
+    (initial_row p.encoding.version p.line_encoding.default_is_stmt) p.items)
+    None
 cut-back notation h p built wide parameters written =
     cut_whole _ h _
     _
@@ -72,15 +86,19 @@ same_rows version e past previous [] = refl
 same_rows version e past previous (SetAddress a ∷ items) =
     same_rows version e (SetAddress a ∷ past) (next_previous version e.default_is_stmt previous (SetAddress a)) items
 same_rows version e past previous (Row r ∷ items) = (refl, same_rows version e (Row r ∷ past) r items)
-same_rows version e past previous (End offset op_index ∷ items) =
-    (record { address = refl; operation = refl; ends = refl }, same_rows version e (End offset op_index ∷ past) (initial_row version e.default_is_stmt) items)
+same_rows version e past previous (End offset op_index ∷ items) = (
+  record { address = refl; operation = refl; ends = refl },
+  same_rows version e (End offset op_index ∷ past) (initial_row version e.default_is_stmt) items,
+)
 
 -- the events of items from a start are their rows
-rows_given : (parameters : Parameters) (encoding : Encoding) (e : LineEncoding) (items : List BuiltItem) → parameters ≡ built_rules encoding e
+rows_given : (parameters : Parameters) (encoding : Encoding) (e : LineEncoding) (items : List BuiltItem)
+    → parameters ≡ built_rules encoding e
     → IsTrue (is_address_size encoding.address_size) → CanEncode e → encoding.version ≤ 5 → AreBuilt e (0, 0) items
     → AddressesFit encoding.address_size 0 (0, 0) items
     → map row (items_rows encoding.version e 0 (initial_row encoding.version e.default_is_stmt) items)
-    ≡ program_events parameters (items_instructions encoding.version e (initial_row encoding.version e.default_is_stmt) items) None
+    ≡ program_events parameters
+    (items_instructions encoding.version e (initial_row encoding.version e.default_is_stmt) items) None
 rows_given parameters encoding e items same known can version built held =
     let first = initial_row encoding.version e.default_is_stmt in
     let list = items_instructions encoding.version e first items in
@@ -90,7 +108,8 @@ rows_given parameters encoding e items same known can version built held =
     ∙ ap (λ (r : Parameters). events_after r [] list None) (sym same)
 
 -- the rows of a written program, where addresses hold its items and none is a tombstone
-pub rows-back : (notation : Notation) (h : Header) (p : Built) → IsBuilt p → p.encoding.version ≤ 5 → 11 < notation.limit
+pub rows-back : (notation : Notation) (h : Header) (p : Built) → IsBuilt p → p.encoding.version ≤ 5
+    → 11 < notation.limit
     → h.parameters ≡ built_rules p.encoding p.line_encoding → program_bytes plain notation.big p ≡ Ok h.program
     → AddressesFit p.encoding.address_size 0 (0, 0) p.items
     → (rows : List ReadRow) × Events notation h h.program (map row rows) × RowsMatch p.encoding.version [] p.items rows
@@ -102,7 +121,8 @@ rows-back notation h p built known wide parameters written held =
         end = None;
         decoding = cut-back notation h p built wide parameters written;
         given =
-            rows_given h.parameters p.encoding p.line_encoding p.items parameters (built.is.address_size refl) built.is.lines known built.is.items_built held;
+            rows_given h.parameters p.encoding p.line_encoding p.items parameters (built.is.address_size refl)
+            built.is.lines known built.is.items_built held;
       },
       same_rows p.encoding.version p.line_encoding [] first p.items,
     )

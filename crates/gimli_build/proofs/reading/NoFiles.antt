@@ -1,5 +1,6 @@
 -- The instructions of items define no file; and what a run is refused for that defines none.
-use Rattle.std.proofs.Common.{◌≡◌, ℕ, Bool, true, false, not, List, [], ◌∷◌, ◌++◌, refl, sym, ap, ◌∙◌, append_assoc, if◌then◌else◌, nat_eq, nat_le}
+use Rattle.std.proofs.Common.{◌≡◌, ℕ, Bool, true, false, not, List, [], ◌∷◌, ◌++◌, refl, sym, ap, ◌∙◌, append_assoc}
+use Rattle.std.proofs.Common.{if◌then◌else◌, nat_eq, nat_le}
 use Rattle.std.proofs.Common.{inl, inr, true≢false}
 use Rattle.std.specs.Prelude.{All, None, ℤ, pos, ◌-ℤ◌, ◌*◌, ◌+◌, ◌-◌}
 use Rattle.std.proofs.lemmas.List.{append-nil}
@@ -16,7 +17,10 @@ use Rattle.gimli_line.specs.header.Parameters.{Parameters}
 use Rattle.gimli_line.specs.declared.run.row.LineRow.{LineRow as ReadRow}
 use Rattle.gimli_line.specs.declared.run.instruction.LineInstruction.TheVariants.{Special, Copy, AdvancePc, AdvanceLine}
 use Rattle.gimli_line.specs.declared.run.instruction.LineInstruction.TheVariants.{ConstAddPc}
-use Rattle.gimli_line.specs.declared.run.instruction.LineInstruction.TheVariants.{EndSequence, SetAddress as ReadAddress}
+use Rattle.gimli_line.specs.declared.run.instruction.LineInstruction.TheVariants.{
+  EndSequence,
+  SetAddress as ReadAddress,
+}
 use Rattle.gimli_line.specs.run.Instruction.{Ins, defines_file, makes_row}
 use Rattle.gimli_line.specs.run.InstructionGrammar.{SpellsInstruction, Decodes}
 use Rattle.gimli_line.specs.run.InstructionReading.{decoded_at}
@@ -33,7 +37,8 @@ use Rattle.gimli_build.specs.declared.built.items.BuiltItem.TheVariants.{SetAddr
 use Rattle.gimli_build.specs.Advance.{operations}
 use Rattle.gimli_build.specs.Built.{address_value}
 use Rattle.gimli_build.specs.Due.{when}
-use Rattle.gimli_build.specs.Encode.{marks, changes, is_special_advance, line_opcode, line_part, still_opcode, constant_advance, row_maker}
+use Rattle.gimli_build.specs.Encode.{marks, changes, is_special_advance, line_opcode, line_part, still_opcode}
+use Rattle.gimli_build.specs.Encode.{constant_advance, row_maker}
 use Rattle.gimli_build.specs.Encode.{operation_part, row_instructions, end_instructions}
 use Rattle.gimli_build.specs.Items.{next_previous, item_instructions, items_instructions}
 use Rattle.gimli_build.specs.NoFiles.{DefinesNoFile, program_started}
@@ -47,7 +52,8 @@ none_when : (due : Bool) (i : Ins) → NoFile i → All NoFile (when due i)
 none_when true i none = All-cons NoFile i [] none (All-nil NoFile)
 none_when false i none = All-nil NoFile
 
-four_when : (a b c d : Bool) (i j k l : Ins) → NoFile i → NoFile j → NoFile k → NoFile l → All NoFile (when a i ++ when b j ++ when c k ++ when d l)
+four_when : (a b c d : Bool) (i j k l : Ins) → NoFile i → NoFile j → NoFile k → NoFile l
+    → All NoFile (when a i ++ when b j ++ when c k ++ when d l)
 four_when a b c d i j k l p q r s =
     All-append NoFile _ _
     (All-append NoFile _ _
@@ -99,13 +105,15 @@ row_none version e previous r =
     (All-append NoFile _ _
     (All-append NoFile _ _ (marks_none r) (changes_none _ previous r)) (line_none e d)) (operation_none e s n)
 
-end_none : (e : LineEncoding) (previous : LineRow) (offset op_index : ℕ) → All NoFile (end_instructions e previous offset op_index)
+end_none : (e : LineEncoding) (previous : LineRow) (offset op_index : ℕ)
+    → All NoFile (end_instructions e previous offset op_index)
 end_none e previous offset op_index =
     let n = operations e previous.address_offset previous.op_index offset op_index in
     All-append NoFile (when (not (nat_eq n 0)) (AdvancePc n)) (EndSequence ∷ [])
     (none_when (not (nat_eq n 0)) (AdvancePc n) refl) (All-cons NoFile EndSequence [] refl (All-nil NoFile))
 
-item_none : (version : ℕ) (e : LineEncoding) (previous : LineRow) (item : BuiltItem) → All NoFile (item_instructions version e previous item)
+item_none : (version : ℕ) (e : LineEncoding) (previous : LineRow) (item : BuiltItem)
+    → All NoFile (item_instructions version e previous item)
 item_none version e previous (SetAddress a) = All-cons NoFile (ReadAddress (address_value a)) [] refl (All-nil NoFile)
 item_none version e previous (Row r) = row_none version e previous r
 item_none version e previous (End offset op_index) = end_none e previous offset op_index
@@ -124,13 +132,20 @@ module _ (notation : Notation) (h : Header) where
   abbrev Spelled : List ℕ → List Ins → Type 0
   Spelled bytes list = Each (SpellsInstruction notation h) bytes list
 
-  each_joined : (front after : List ℕ) (list more : List Ins) → Spelled front list → Spelled after more → Spelled (front ++ after) (list ++ more)
+  each_joined : (front after : List ℕ) (list more : List Ins) → Spelled front list → Spelled after more
+      → Spelled (front ++ after) (list ++ more)
   each_joined front after [] more s t = rw s t
-  each_joined front after (i ∷ list) more s t =
-      (s.0, s.1 ++ after, ap (λ xs. xs ++ after) s.2 ∙ append_assoc s.0 s.1 after, s.3, each_joined s.1 after list more s.4 t)
+  each_joined front after (i ∷ list) more s t = (
+    s.0,
+    s.1 ++ after,
+    ap (λ xs. xs ++ after) s.2 ∙ append_assoc s.0 s.1 after,
+    s.3,
+    each_joined s.1 after list more s.4 t,
+  )
 
   -- what stands after whole instructions of a program is the rest of it
-  pub rest_decoded : (bytes front rest : List ℕ) (list passed : List Ins) → Decodes notation h bytes list None → bytes ≡ front ++ rest → Spelled front passed
+  pub rest_decoded : (bytes front rest : List ℕ) (list passed : List Ins) → Decodes notation h bytes list None
+      → bytes ≡ front ++ rest → Spelled front passed
       → (more : List Ins) × (list ≡ passed ++ more) × Decodes notation h rest more None
   rest_decoded bytes front rest list passed all parts spelled =
       let more = (decoded_at notation h rest).0 in
@@ -165,15 +180,18 @@ no_memory : (a b : RunState) → DefinesNoFile a → WantsMemory a b → ⊥
 no_memory a b none wants =
     let position = goes-none a wants.point [] none wants.passed in
     let rest =
-    rest_decoded wants.point.unread.notation wants.point.fixed wants.point.unread.bytes wants.front wants.rest position.list (wants.definition ∷ [])
+    rest_decoded wants.point.unread.notation wants.point.fixed wants.point.unread.bytes wants.front wants.rest
+    position.list (wants.definition ∷ [])
     position.decoding wants.parts
     (wants.front, [], sym (append-nil wants.front), wants.spelled, refl) in
     let all : All NoFile (wants.definition ∷ rest.0) = rw rest.1 at position.none in
     true≢false (sym wants.defines ∙ All-head NoFile wants.definition rest.0 all)
 
 -- the only fault of whole instructions
-only_overflow : (appends : Bool) (parameters : Parameters) (r : ReadRow) (files seen : List File) (list : List Ins) (rest : List EventWithFiles) (e : Error)
-    → given_of (made_from appends parameters r files list None) ≡ record { event = fault e; files = seen } ∷ rest → e ≡ AddressOverflow
+only_overflow : (appends : Bool) (parameters : Parameters) (r : ReadRow) (files seen : List File) (list : List Ins)
+    (rest : List EventWithFiles) (e : Error)
+    → given_of (made_from appends parameters r files list None) ≡ record { event = fault e; files = seen } ∷ rest
+    → e ≡ AddressOverflow
 only_overflow appends parameters r files seen [] rest e is = absurd cc
 only_overflow appends parameters r files seen (i ∷ list) rest e is =
     by (is_refused parameters i r) (makes_row i)
@@ -186,40 +204,53 @@ only_overflow appends parameters r files seen (i ∷ list) rest e is =
     Next = given_of later ≡ record { event = fault e; files = seen } ∷ rest → e ≡ AddressOverflow
 
     row_or_next : (b : Bool) → Next
-        → (if b then record { event = row (step_of parameters i r); files = files } ∷ given_of later else given_of later)
+        → (if b then record { event = row (step_of parameters i r); files = files } ∷ given_of later
+        else given_of later)
         ≡ record { event = fault e; files = seen } ∷ rest
         → e ≡ AddressOverflow
     row_or_next true next is = let first = ap events_of is in absurd cc
     row_or_next false next is = next is
 
     by : (refused made : Bool) → Next
-        → given_of (with_files files (if refused then fault AddressOverflow ∷ [] else (if made then row (step_of parameters i r) ∷ [] else [])) ++ later)
+        → given_of (with_files files
+        (if refused then fault AddressOverflow ∷ [] else (if made then row (step_of parameters i r) ∷ [] else []))
+        ++ later)
         ≡ record { event = fault e; files = seen } ∷ rest
         → e ≡ AddressOverflow
     by true made next is = let first = ap events_of is in cc
     by false true next is = row_or_next (not (step_of parameters i r).tombstone) next is
     by false false next is = next is
 
-pub refused-none : (a b : RunState) (e : Error) → DefinesNoFile a → FaultIs live_events (with_reset_row a) b e → e ≡ AddressOverflow
+pub refused-none : (a b : RunState) (e : Error) → DefinesNoFile a → FaultIs live_events (with_reset_row a) b e
+    → e ≡ AddressOverflow
 refused-none a b e none (inl memory) =
     absurd (no_memory _ b (record { list = none.list; decoding = none.decoding; none = none.none }) memory.1)
 refused-none a b e none (inr next) =
     let same = one_decoding a.unread.notation a.fixed _ _ _ none.decoding in
-    let whole = ap (λ p. given_of (made_from a.appends a.fixed.parameters (with_reset_row a).row a.files p.0 p.1)) same in
+    let whole =
+    ap (λ p. given_of (made_from a.appends a.fixed.parameters (with_reset_row a).row a.files p.0 p.1)) same in
     only_overflow a.appends a.fixed.parameters (with_reset_row a).row a.files _ none.list _ e (whole ∙ next.0)
 
 -- ---- a program from its start
 
 -- files have no part in how instructions are spelled
-bare_each : (notation : Notation) (h : Header) (front : List ℕ) (list : List Ins) → Each (SpellsInstruction notation h) front list
+bare_each : (notation : Notation) (h : Header) (front : List ℕ) (list : List Ins)
+    → Each (SpellsInstruction notation h) front list
     → Each (SpellsInstruction notation (without_files h)) front list
 bare_each notation h front [] s = s
 bare_each notation h front (i ∷ list) s = (s.0, s.1, s.2, s.3, bare_each notation h s.1 list s.4)
 
-pub starts-none : (source : Source) (h : Header) (appends : Bool) (list : List Ins) → Decodes source.notation h h.program list None
+pub starts-none : (source : Source) (h : Header) (appends : Bool) (list : List Ins)
+    → Decodes source.notation h h.program list None
     → All (λ i. defines_file i ≡ false) list → DefinesNoFile (program_started appends h source)
 starts-none source h appends list d none = record {
   list = list;
-  decoding = record { front = d.front; rest = d.rest; parts = d.parts; spelled = bare_each _ h _ _ d.spelled; ended = d.ended };
+  decoding = record {
+    front = d.front;
+    rest = d.rest;
+    parts = d.parts;
+    spelled = bare_each _ h _ _ d.spelled;
+    ended = d.ended;
+  };
   none = none;
 }

@@ -1,5 +1,6 @@
 -- What is read of a written unit: its header, its decoding, and its rows together.
-use Rattle.std.proofs.Common.{◌≡◌, ℕ, ◌<◌, ◌≤◌, ◌^◌, Bool, List, [], ◌∷◌, length, Ok, if◌then◌else◌, ap, ◌∙◌, arith, length-append}
+use Rattle.std.proofs.Common.{◌≡◌, ℕ, ◌<◌, ◌≤◌, ◌^◌, Bool, List, [], ◌∷◌, length, Ok, if◌then◌else◌, ap, ◌∙◌, arith}
+use Rattle.std.proofs.Common.{length-append}
 use Rattle.std.specs.Prelude.{nat_le}
 use Rattle.gimli_core.specs.Notation.{Notation}
 use Rattle.gimli_core.specs.declared.common.Encoding.{Encoding}
@@ -22,22 +23,29 @@ use Rattle.gimli_build.proofs.reading.UnitHeader.{whole_written, header-back}
 use Rattle.gimli_build.proofs.reading.EventsBack.{cut-back, rows-back}
 
 -- a unit that is written has a known version
-unit_known : (big : Bool) (p : Built) (texts : StringTables) (unit : List ℕ) → whole_bytes plain big p texts ≡ Ok unit → p.encoding.version ≤ 5
+unit_known : (big : Bool) (p : Built) (texts : StringTables) (unit : List ℕ) → whole_bytes plain big p texts ≡ Ok unit
+    → p.encoding.version ≤ 5
 unit_known big p texts unit is =
     let w = unit_written _ p _ _ is in
     let address : List ℕ = if nat_le p.encoding.version 4 then [] else p.encoding.address_size ∷ 0 ∷ [] in
     let b = before_written _ _ _ w.opening_is in
     version-known _ _ _ b.front_is
 
-reads-back : (notation : Notation) (unit_entry : UnitEntry) (sections : Sections) (big : Bool) (unit_encoding : Encoding) (p : Built)
+reads-back : (notation : Notation) (unit_entry : UnitEntry) (sections : Sections) (big : Bool)
+    (unit_encoding : Encoding) (p : Built)
     (old_texts : StringTables) (unit : List ℕ)
-    → length unit < 2 ^ 64 → IsBuilt p → CanWrite p old_texts → AreTexts (texts_after p old_texts).strings → AreTexts (texts_after p old_texts).line_strings
+    → length unit < 2 ^ 64 → IsBuilt p → CanWrite p old_texts → AreTexts (texts_after p old_texts).strings
+    → AreTexts (texts_after p old_texts).line_strings
     → byte_count (texts_after p old_texts).strings < 2 ^ 64 → byte_count (texts_after p old_texts).line_strings < 2 ^ 64
-    → unit_bytes plain big unit_encoding p old_texts ≡ Ok unit → IsReadWell notation unit_entry sections big p (texts_after p old_texts) unit
+    → unit_bytes plain big unit_encoding p old_texts ≡ Ok unit
+    → IsReadWell notation unit_entry sections big p (texts_after p old_texts) unit
     → ReadsBack notation unit_entry sections p (texts_after p old_texts) unit
-reads-back notation unit_entry sections big unit_encoding p old_texts unit small built can are_texts are_line_texts short line_short is well =
+reads-back notation unit_entry sections big unit_encoding p old_texts unit small built can are_texts are_line_texts
+    short line_short is well =
     let texts = texts_after p old_texts in
-    let h = header-back notation unit_entry sections big unit_encoding p old_texts unit small built can are_texts are_line_texts short line_short is well in
+    let h =
+    header-back notation unit_entry sections big unit_encoding p old_texts unit small built can are_texts
+    are_line_texts short line_short is well in
     let whole = whole_written big unit_encoding p old_texts unit is in
     let known = unit_known big p texts unit whole in
     let wide = well.instructions_held in
@@ -54,10 +62,13 @@ reads-back notation unit_entry sections big unit_encoding p old_texts unit small
     }
 
 -- what is appended is read back so
-pub appended-back : (big : Bool) (unit_encoding : Encoding) (p : Built) (old_texts : StringTables) (old new : List ℕ) → length new < 2 ^ 64 → IsBuilt p
-    → CanWrite p old_texts → AreTexts (texts_after p old_texts).strings → AreTexts (texts_after p old_texts).line_strings
+pub appended-back : (big : Bool) (unit_encoding : Encoding) (p : Built) (old_texts : StringTables) (old new : List ℕ)
+    → length new < 2 ^ 64 → IsBuilt p
+    → CanWrite p old_texts → AreTexts (texts_after p old_texts).strings
+    → AreTexts (texts_after p old_texts).line_strings
     → byte_count (texts_after p old_texts).strings < 2 ^ 64 → byte_count (texts_after p old_texts).line_strings < 2 ^ 64
-    → Appends (unit_bytes plain big unit_encoding p old_texts) old new → AppendsThat (ReadsBackAs big p (texts_after p old_texts)) old new
+    → Appends (unit_bytes plain big unit_encoding p old_texts) old new
+    → AppendsThat (ReadsBackAs big p (texts_after p old_texts)) old new
 appended-back big unit_encoding p old_texts old new short built can are_texts are_line_texts held line_held written =
     let a = appended_bytes (unit_bytes plain big unit_encoding p old_texts) old new written in
     let long = ap length a.2 ∙ length-append old a.0 in
@@ -65,5 +76,6 @@ appended-back big unit_encoding p old_texts old new short built can are_texts ar
       a.0,
       a.2,
       λ notation unit_entry sections well.
-          reads-back notation unit_entry sections big unit_encoding p old_texts a.0 small built can are_texts are_line_texts held line_held a.1 well,
+          reads-back notation unit_entry sections big unit_encoding p old_texts a.0 small built can are_texts
+          are_line_texts held line_held a.1 well,
     )

@@ -1,5 +1,6 @@
 -- The texts of a program of version 5 can be read back, with the tables as they are once it is written.
-use Rattle.std.proofs.Common.{◌≡◌, ◌≢◌, ℕ, ◌≤◌, Bool, true, false, List, [], ◌∷◌, ◌++◌, length, map, get_or, Option, Some, None, refl, sym, ap, ◌∙◌, arith}
+use Rattle.std.proofs.Common.{◌≡◌, ◌≢◌, ℕ, ◌≤◌, Bool, true, false, List, [], ◌∷◌, ◌++◌, length, map, get_or, Option}
+use Rattle.std.proofs.Common.{Some, None, refl, sym, ap, ◌∙◌, arith}
 use Rattle.std.proofs.Common.{◌||◌, if◌then◌else◌, length-append}
 use Rattle.std.specs.Prelude.{◌&&◌, nat_eq, nat_le, slice_get, unwrap_or, All, IfSome, bytes_eq}
 use Rattle.std.specs.Option.{is_none, option_map_or}
@@ -25,11 +26,13 @@ use Rattle.gimli_build.proofs.spellings.TextForms.{IsReady}
 added : (texts : List (List ℕ)) → list_any (bytes_eq []) (with_text texts []) ≡ true
 added texts = by (list_any (bytes_eq []) texts) refl
   where
-    by : (b : Bool) → list_any (bytes_eq []) texts ≡ b → list_any (bytes_eq []) (if b then texts else texts ++ [] ∷ []) ≡ true
+    by : (b : Bool) → list_any (bytes_eq []) texts ≡ b
+        → list_any (bytes_eq []) (if b then texts else texts ++ [] ∷ []) ≡ true
     by true h = h
     by false h = list_any-append (bytes_eq []) texts _ ∙ ap (λ b. b || true) h
 
-gained : (due : Bool) (texts : List (List ℕ)) → due ≡ true → list_any (bytes_eq []) (if due then with_text texts [] else texts) ≡ true
+gained : (due : Bool) (texts : List (List ℕ)) → due ≡ true
+    → list_any (bytes_eq []) (if due then with_text texts [] else texts) ≡ true
 gained true texts is = added texts
 gained false texts is = absurd cc
 
@@ -45,14 +48,16 @@ grows : (due : Bool) (texts : List (List ℕ)) → length texts ≤ length (if d
 grows true texts = longer _
 grows false texts = omega arith
 
-within_more : (texts more : StringTables) → length texts.strings ≤ length more.strings → length texts.line_strings ≤ length more.line_strings
+within_more : (texts more : StringTables) → length texts.strings ≤ length more.strings
+    → length texts.line_strings ≤ length more.line_strings
     → (t : LineText) → IsWithin texts t → IsWithin more t
 within_more texts more s l (Inline text) within = tt
 within_more texts more s l (InStrings i) within = omega (arith, s, within)
 within_more texts more s l (InLineStrings i) within = omega (arith, l, within)
 
 -- a text that was within the tables is within them once a program is written
-pub within_after : (p : Built) (texts : StringTables) (t : LineText) → IsWithin texts t → IsWithin (texts_after p texts) t
+pub within_after : (p : Built) (texts : StringTables) (t : LineText) → IsWithin texts t
+    → IsWithin (texts_after p texts) t
 within_after p texts t within =
     within_more _ _
     (grows _ _)
@@ -64,8 +69,10 @@ record IsEmpty (texts : StringTables) (t : LineText) : Type 0 where
   ready : IsReady texts t
   none : bytes_in texts t ≡ []
 
-empty_there : (texts : List (List ℕ)) → list_any (bytes_eq []) texts ≡ true → slice_get texts (index_of_text texts []) ≡ Some []
-empty_there texts has = ap (λ l. slice_get l (index_of_text texts [])) (sym (with_text-there _ [] has)) ∙ with_text-found texts _
+empty_there : (texts : List (List ℕ)) → list_any (bytes_eq []) texts ≡ true
+    → slice_get texts (index_of_text texts []) ≡ Some []
+empty_there texts has =
+    ap (λ l. slice_get l (index_of_text texts [])) (sym (with_text-there _ [] has)) ∙ with_text-found texts _
 
 empty_is : (form : ℕ) (texts : StringTables) → (nat_eq form 0x0e ≡ true → list_any (bytes_eq []) texts.strings ≡ true)
     → (nat_eq form 0x1f ≡ true → list_any (bytes_eq []) texts.line_strings ≡ true)
@@ -74,17 +81,24 @@ empty_is form texts has has_line = by (nat_eq form 0x0e) refl (nat_eq form 0x1f)
   where
     by : (b : Bool) → nat_eq form 0x0e ≡ b → (c : Bool) → nat_eq form 0x1f ≡ c
         → IsEmpty texts
-        (if b then InStrings (index_of_text texts.strings []) else (if c then InLineStrings (index_of_text texts.line_strings []) else Inline []))
+        (if b then InStrings (index_of_text texts.strings [])
+        else (if c then InLineStrings (index_of_text texts.line_strings []) else Inline []))
     by true s c l =
         let found = empty_there texts.strings (has s) in
         record {
-          ready = record { clean = tt; within = slice_get_within texts.strings (index_of_text texts.strings []) [] found };
+          ready = record {
+            clean = tt;
+            within = slice_get_within texts.strings (index_of_text texts.strings []) [] found;
+          };
           none = ap (λ (o : Option (List ℕ)). unwrap_or o []) found;
         }
     by false s true l =
         let found = empty_there texts.line_strings (has_line l) in
         record {
-          ready = record { clean = tt; within = slice_get_within texts.line_strings (index_of_text texts.line_strings []) [] found };
+          ready = record {
+            clean = tt;
+            within = slice_get_within texts.line_strings (index_of_text texts.line_strings []) [] found;
+          };
           none = ap (λ (o : Option (List ℕ)). unwrap_or o []) found;
         }
     by false s false l = record { ready = record { clean = All-nil (λ b. b ≢ 0); within = tt }; none = refl }
@@ -99,13 +113,15 @@ pub record IsFileReady (p : Built) (texts : StringTables) (f : File) : Type 0 wh
   pub path : IsReady texts f.0.0
   pub fits : FitsFile f
   pub source : p.file_has_source ≡ true → IsReady texts (source_of p texts f)
-  pub source_bytes : p.file_has_source ≡ true → bytes_in texts (source_of p texts f) ≡ option_map_or (bytes_in texts) f.1.source []
+  pub source_bytes : p.file_has_source ≡ true
+      → bytes_in texts (source_of p texts f) ≡ option_map_or (bytes_in texts) f.1.source []
 
 pub record AreReady (p : Built) (texts : StringTables) : Type 0 where
   pub directories : All (IsReady texts) p.directories
   pub files : All (IsFileReady p texts) p.files
 
-source_ready : (texts : StringTables) (o : Option LineText) (e : LineText) → IfSome o (IsWithin texts) → IfSome o HasNoZero → (o ≡ None → IsEmpty texts e)
+source_ready : (texts : StringTables) (o : Option LineText) (e : LineText) → IfSome o (IsWithin texts)
+    → IfSome o HasNoZero → (o ≡ None → IsEmpty texts e)
     → IsReady texts (unwrap_or o e)
 source_ready texts (Some t) e within clean empty = record { clean = clean; within = within }
 source_ready texts None e within clean empty = (empty refl).ready
@@ -130,12 +146,14 @@ both true true a b = refl
 both false y a b = absurd cc
 both true false a b = absurd cc
 
-some_within : (texts more : StringTables) → length texts.strings ≤ length more.strings → length texts.line_strings ≤ length more.line_strings
+some_within : (texts more : StringTables) → length texts.strings ≤ length more.strings
+    → length texts.line_strings ≤ length more.line_strings
     → (o : Option LineText) → IfSome o (IsWithin texts) → IfSome o (IsWithin more)
 some_within texts more s l (Some t) within = within_more _ _ s l t within
 some_within texts more s l None within = tt
 
-module _ (p : Built) (old_texts : StringTables) (new : nat_le p.encoding.version 4 ≡ false) (built : IsBuilt p) (can : CanWrite p old_texts) where
+module _ (p : Built) (old_texts : StringTables) (new : nat_le p.encoding.version 4 ≡ false) (built : IsBuilt p)
+    (can : CanWrite p old_texts) where
   abbrev texts : StringTables
   texts = texts_after p old_texts
 
@@ -152,24 +170,29 @@ module _ (p : Built) (old_texts : StringTables) (new : nat_le p.encoding.version
   more_lines = grows _ _
 
   -- where sources are written and a file has none, the empty text is there
-  empty_ready : p.file_has_source ≡ true → list_any (λ f. is_none f.1.source) p.files ≡ true → IsEmpty texts (empty_text form texts)
+  empty_ready : p.file_has_source ≡ true → list_any (λ f. is_none f.1.source) p.files ≡ true
+      → IsEmpty texts (empty_text form texts)
   empty_ready flag wanting =
       let needs : needs_empty p
-      ≡ true = all_three (nat_le 5 p.encoding.version) p.file_has_source (list_any (λ f. is_none f.1.source) p.files) (le-leb 5 p.encoding.version late)
+      ≡ true = all_three _ _ _ (le-leb 5 p.encoding.version late)
       flag wanting in
       empty_is form texts
-      (λ same. gained (needs_empty p && nat_eq form 0x0e) old_texts.strings (both (needs_empty p) (nat_eq form 0x0e) needs same))
-      (λ same. gained (needs_empty p && nat_eq form 0x1f) old_texts.line_strings (both (needs_empty p) (nat_eq form 0x1f) needs same))
+      (λ same. gained _ old_texts.strings (both _ _ needs same))
+      (λ same. gained _ old_texts.line_strings (both _ _ needs same))
 
-  file_ready : (f : File) → HasNoZero f.0.0 → IsWithin old_texts f.0.0 → FitsFile f → IfSome f.1.source (IsWithin old_texts)
-      → (p.file_has_source ≡ true → IfSome f.1.source HasNoZero) → (f.1.source ≡ None → list_any (λ f. is_none f.1.source) p.files ≡ true)
+  file_ready : (f : File) → HasNoZero f.0.0 → IsWithin old_texts f.0.0 → FitsFile f
+      → IfSome f.1.source (IsWithin old_texts)
+      → (p.file_has_source ≡ true → IfSome f.1.source HasNoZero)
+      → (f.1.source ≡ None → list_any (λ f. is_none f.1.source) p.files ≡ true)
       → IsFileReady p texts f
   file_ready f clean within fits source ends wanting = record {
-    path = record { clean = clean; within = within_more old_texts texts more more_lines f.0.0 within };
+    path = record { clean = clean; within = within_more _ _ more more_lines _ within };
     fits = fits;
-    source = λ flag. source_ready texts f.1.source (empty_text form texts)
-        (some_within old_texts texts more more_lines f.1.source source) (ends flag) (λ none. empty_ready flag (wanting none));
-    source_bytes = λ flag. source_same texts f.1.source (empty_text form texts) (λ none. empty_ready flag (wanting none));
+    source = λ flag. source_ready _ _ (empty_text form texts)
+        (some_within old_texts texts more more_lines f.1.source source) (ends flag) (λ none.
+        empty_ready flag (wanting none));
+    source_bytes =
+        λ flag. source_same texts f.1.source (empty_text form texts) (λ none. empty_ready flag (wanting none));
   }
 
   pub tables-ready : AreReady p texts
@@ -179,7 +202,8 @@ module _ (p : Built) (old_texts : StringTables) (new : nat_le p.encoding.version
       within = within_more old_texts texts more more_lines (get_or p.directories i d) (can.directories i d lt);
     };
     files = λ i d lt.
-        file_ready (get_or p.files i d) (unmapped (λ k. HasNoZero k.0) (λ f. f.0) p.files built.tables.paths_end i d lt) (can.paths i d lt)
+        file_ready (get_or p.files i d) (unmapped (λ k. HasNoZero k.0) (λ f. f.0) p.files built.tables.paths_end i d lt)
+        (can.paths i d lt)
         (built.files_fit i d lt) (can.sources i d lt)
         (λ flag. can.sources_end late flag i d lt)
         (λ none. list_any_at (λ f. is_none f.1.source) p.files i d lt (ap is_none none));

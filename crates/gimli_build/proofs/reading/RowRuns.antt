@@ -1,9 +1,12 @@
 -- The machine over the instructions of a row, and of an end.
-use Rattle.std.proofs.Common.{◌≡◌, ℕ, ◌+◌, ◌-◌, ◌*◌, ◌/◌, ◌%◌, ◌^◌, ◌<◌, ◌≤◌, Bool, true, false, not, List, [], ◌∷◌, ◌++◌, refl, sym, ap, ◌∙◌, arith, nat_eq}
-use Rattle.std.proofs.Common.{nat_le, if◌then◌else◌, ℤ, pos, negsuc, ◌+ℤ◌, ◌-ℤ◌, ◌<ℤ◌, ◌≤ℤ◌, nat_lt, add-zero, append_assoc, lit<}
+use Rattle.std.proofs.Common.{◌≡◌, ℕ, ◌+◌, ◌-◌, ◌*◌, ◌/◌, ◌%◌, ◌^◌, ◌<◌, ◌≤◌, Bool, true, false, not, List, [], ◌∷◌}
+use Rattle.std.proofs.Common.{◌++◌, refl, sym, ap, ◌∙◌, arith, nat_eq}
+use Rattle.std.proofs.Common.{nat_le, if◌then◌else◌, ℤ, pos, negsuc, ◌+ℤ◌, ◌-ℤ◌, ◌<ℤ◌, ◌≤ℤ◌, nat_lt, add-zero}
+use Rattle.std.proofs.Common.{append_assoc, lit<}
 use Rattle.std.specs.Prelude.{unsigned_abs, IsTrue}
 use Rattle.std.specs.Int.Signed.{lt_z, le_z}
-use Rattle.std.proofs.Math.Nat.{mod-eq_of_lt, div-eq_of_lt, div-one, div-mul-le_self, mod-lt, mod-le, pow-le-pow_right, add-mul-div_right}
+use Rattle.std.proofs.Math.Nat.{mod-eq_of_lt, div-eq_of_lt, div-one, div-mul-le_self, mod-lt, mod-le, pow-le-pow_right}
+use Rattle.std.proofs.Math.Nat.{add-mul-div_right}
 use Rattle.std.proofs.Math.Nat.{add-mul-mod_self_right, mul-add, mul-le-mul_left}
 use Rattle.std.proofs.lemmas.Nat.{div-add-mod', le-div}
 use Rattle.std.proofs.lemmas.Int.{ints}
@@ -13,9 +16,20 @@ use Rattle.gimli_core.specs.Numbers.{is_address_size}
 use Rattle.gimli_core.specs.declared.common.Encoding.{Encoding}
 use Rattle.gimli_core.specs.declared.common.LineEncoding.{LineEncoding}
 use Rattle.gimli_line.specs.declared.run.row.LineRow.{LineRow as ReadRow}
-use Rattle.gimli_line.specs.declared.run.instruction.LineInstruction.TheVariants.{Special, Copy, AdvancePc, AdvanceLine, SetFile, SetColumn, NegateStatement}
-use Rattle.gimli_line.specs.declared.run.instruction.LineInstruction.TheVariants.{SetBasicBlock, ConstAddPc, SetPrologueEnd, SetEpilogueBegin, SetIsa}
-use Rattle.gimli_line.specs.declared.run.instruction.LineInstruction.TheVariants.{EndSequence, SetAddress, SetDiscriminator}
+use Rattle.gimli_line.specs.declared.run.instruction.LineInstruction.TheVariants.{Special, Copy, AdvancePc, AdvanceLine}
+use Rattle.gimli_line.specs.declared.run.instruction.LineInstruction.TheVariants.{SetFile, SetColumn, NegateStatement}
+use Rattle.gimli_line.specs.declared.run.instruction.LineInstruction.TheVariants.{
+  SetBasicBlock,
+  ConstAddPc,
+  SetPrologueEnd,
+  SetEpilogueBegin,
+  SetIsa,
+}
+use Rattle.gimli_line.specs.declared.run.instruction.LineInstruction.TheVariants.{
+  EndSequence,
+  SetAddress,
+  SetDiscriminator,
+}
 use Rattle.gimli_line.specs.header.Parameters.{Parameters}
 use Rattle.gimli_line.specs.run.Instruction.{Ins}
 use Rattle.gimli_line.specs.run.Registers.{advanced_line}
@@ -25,12 +39,14 @@ use Rattle.gimli_line.specs.run.Machine.{run, initial, reset_row, pointer_of, at
 use Rattle.gimli_build.specs.declared.built.row.LineRow.{LineRow}
 use Rattle.gimli_build.specs.Advance.{CanEncode, IsPosition, CanFollow, operations}
 use Rattle.gimli_build.specs.Due.{when}
-use Rattle.gimli_build.specs.Encode.{marks, changes, differ, line_part, line_opcode, is_special_advance, operation_part, row_instructions, row_maker}
+use Rattle.gimli_build.specs.Encode.{marks, changes, differ, line_part, line_opcode, is_special_advance, operation_part}
+use Rattle.gimli_build.specs.Encode.{row_instructions, row_maker}
 use Rattle.gimli_build.specs.Encode.{still_opcode, constant_advance, end_instructions}
 use Rattle.gimli_build.specs.FileNumber.{file_number}
 use Rattle.gimli_build.specs.Rows.{initial_row}
 use Rattle.gimli_build.specs.SameRow.{built_rules, read_row, registers_after_row, read_end}
-use Rattle.gimli_build.proofs.sizes.Steps.{operations_above, whole_steps, taken_apart, special_parts, enough_of, none_of}
+use Rattle.gimli_build.proofs.sizes.Steps.{operations_above, whole_steps, taken_apart, special_parts, enough_of}
+use Rattle.gimli_build.proofs.sizes.Steps.{none_of}
 
 -- ---- pointers
 
@@ -46,7 +62,9 @@ one_operation e n p = record { address = p.address + e.minimum_instruction_lengt
 
 abbrev more_operations : LineEncoding → ℕ → OperationPointer → OperationPointer
 more_operations e n p = record {
-  address = p.address + e.minimum_instruction_length * ((p.op_index + n) % 2 ^ 64 / e.maximum_operations_per_instruction) % 2 ^ 64;
+  address =
+      p.address
+      + e.minimum_instruction_length * ((p.op_index + n) % 2 ^ 64 / e.maximum_operations_per_instruction) % 2 ^ 64;
   op_index = (p.op_index + n) % 2 ^ 64 % e.maximum_operations_per_instruction;
 }
 
@@ -55,7 +73,8 @@ pub record HasRoom (parameters : Parameters) (p : OperationPointer) (n : ℕ) : 
   pub within : p.op_index < parameters.line_encoding.maximum_operations_per_instruction
   pub count : p.op_index + n < 2 ^ 64
   pub address : p.address
-      + parameters.line_encoding.minimum_instruction_length * ((p.op_index + n) / parameters.line_encoding.maximum_operations_per_instruction)
+      + parameters.line_encoding.minimum_instruction_length
+      * ((p.op_index + n) / parameters.line_encoding.maximum_operations_per_instruction)
       < address_limit parameters
   pub limit : address_limit parameters ≤ 2 ^ 64
 
@@ -65,7 +84,8 @@ pub on-ahead : (parameters : Parameters) (p : OperationPointer) (n : ℕ) → Ha
 on-ahead parameters p n room = by (nat_eq parameters.line_encoding.maximum_operations_per_instruction 1) refl
   where
     by : (b : Bool) → nat_eq parameters.line_encoding.maximum_operations_per_instruction 1 ≡ b
-        → (if b then one_operation parameters.line_encoding n p else more_operations parameters.line_encoding n p) ≡ ahead parameters.line_encoding n p
+        → (if b then one_operation parameters.line_encoding n p else more_operations parameters.line_encoding n p)
+        ≡ ahead parameters.line_encoding n p
     by true h =
         let k = parameters.line_encoding.maximum_operations_per_instruction in
         let m = parameters.line_encoding.minimum_instruction_length in
@@ -80,37 +100,46 @@ on-ahead parameters p n room = by (nat_eq parameters.line_encoding.maximum_opera
         let k = parameters.line_encoding.maximum_operations_per_instruction in
         let m = parameters.line_encoding.minimum_instruction_length in
         let whole : (p.op_index + n) % 2 ^ 64 ≡ p.op_index + n = mod-eq_of_lt room.count in
-        let a : m * ((p.op_index + n) % 2 ^ 64 / k) % 2 ^ 64 ≡ m * ((p.op_index + n) / k) = rw whole (mod-eq_of_lt (omega (arith, room.address, room.limit))) in
+        let a : m * ((p.op_index + n) % 2 ^ 64 / k) % 2 ^ 64
+        ≡ m * ((p.op_index + n) / k) = rw whole (mod-eq_of_lt (omega (arith, room.address, room.limit))) in
         λ j. record { address = p.address + a j; op_index = whole j % k }
 
 -- an address holds it
 pub not_exceeding : (parameters : Parameters) (p : OperationPointer) (n : ℕ) → HasRoom parameters p n
     → is_too_large parameters (ahead parameters.line_encoding n p) ≡ false
-not_exceeding parameters p n room = lt-leb (address_limit parameters) (ahead parameters.line_encoding n p).address room.address
+not_exceeding parameters p n room =
+    lt-leb (address_limit parameters) (ahead parameters.line_encoding n p).address room.address
 
 -- one advance after the other
-pub ahead-ahead : (e : LineEncoding) (p : OperationPointer) (q n : ℕ) → 1 ≤ e.maximum_operations_per_instruction → ahead e n (ahead e q p) ≡ ahead e (q + n) p
+pub ahead-ahead : (e : LineEncoding) (p : OperationPointer) (q n : ℕ) → 1 ≤ e.maximum_operations_per_instruction
+    → ahead e n (ahead e q p) ≡ ahead e (q + n) p
 ahead-ahead e p q n pk =
     let k = e.maximum_operations_per_instruction in
     let m = e.minimum_instruction_length in
     let x = p.op_index + q in
     let split : p.op_index + (q + n) ≡ x % k + n + x / k * k = (let h = div-add-mod' x k in omega (arith, h)) in
-    let division : (p.op_index + (q + n)) / k ≡ (x % k + n) / k + x / k = rw split (add-mul-div_right (x % k + n) (x / k) (omega arith)) in
+    let division : (p.op_index + (q + n)) / k
+    ≡ (x % k + n) / k + x / k = rw split (add-mul-div_right (x % k + n) (x / k) (omega arith)) in
     let rest : (p.op_index + (q + n)) % k ≡ (x % k + n) % k = rw split (add-mul-mod_self_right (x % k + n) (x / k) k) in
     let address : p.address + m * (x / k) + m * ((x % k + n) / k)
-    ≡ p.address + m * ((p.op_index + (q + n)) / k) = rw division (let h = mul-add m ((x % k + n) / k) (x / k) in omega (arith, h)) in
+    ≡ p.address
+    + m
+    * ((p.op_index + (q + n)) / k) = rw division (let h = mul-add m ((x % k + n) / k) (x / k) in omega (arith, h)) in
     λ j. record { address = address j; op_index = sym rest j }
 
 -- no operations
-pub ahead-none : (e : LineEncoding) (p : OperationPointer) → p.op_index < e.maximum_operations_per_instruction → ahead e 0 p ≡ p
+pub ahead-none : (e : LineEncoding) (p : OperationPointer) → p.op_index < e.maximum_operations_per_instruction
+    → ahead e 0 p ≡ p
 ahead-none e p lt =
     let q : (p.op_index + 0) / e.maximum_operations_per_instruction ≡ 0 = rw add-zero (div-eq_of_lt lt) in
     let w : (p.op_index + 0) % e.maximum_operations_per_instruction ≡ p.op_index = rw add-zero (mod-eq_of_lt lt) in
-    let a : p.address + e.minimum_instruction_length * ((p.op_index + 0) / e.maximum_operations_per_instruction) ≡ p.address = rw q (omega arith) in
+    let a : p.address + e.minimum_instruction_length * ((p.op_index + 0) / e.maximum_operations_per_instruction)
+    ≡ p.address = rw q (omega arith) in
     λ j. record { address = a j; op_index = w j }
 
 -- fewer operations need no more room
-pub less_room : (parameters : Parameters) (p : OperationPointer) (q n : ℕ) → q ≤ n → HasRoom parameters p n → HasRoom parameters p q
+pub less_room : (parameters : Parameters) (p : OperationPointer) (q n : ℕ) → q ≤ n → HasRoom parameters p n
+    → HasRoom parameters p q
 less_room parameters p q n le room =
     let k = parameters.line_encoding.maximum_operations_per_instruction in
     let m = parameters.line_encoding.minimum_instruction_length in
@@ -161,7 +190,8 @@ module _ (encoding : Encoding) (e : LineEncoding) where
 
   -- these instructions make one row, their last
   abbrev Makes : ReadRow → List Ins → ReadRow → Type 0
-  Makes r is s = (list : List Ins) → run parameters r (is ++ list) ≡ row s ∷ run parameters (reset_row parameters s) list
+  Makes r is s =
+      (list : List Ins) → run parameters r (is ++ list) ≡ row s ∷ run parameters (reset_row parameters s) list
 
   goes_then : (r s t : ReadRow) (is js : List Ins) → Goes r is s → Goes s js t → Goes r (is ++ js) t
   goes_then r s t is js h k list = ap (run parameters r) (append_assoc is js list) ∙ h (js ++ list) ∙ k list
@@ -170,7 +200,8 @@ module _ (encoding : Encoding) (e : LineEncoding) where
   makes_then r s t is js h k list = ap (run parameters r) (append_assoc is js list) ∙ h (js ++ list) ∙ k list
 
   -- an instruction that is due or not
-  keep : (r s : ReadRow) (due : Bool) (i : Ins) → (due ≡ true → Goes r (i ∷ []) s) → (due ≡ false → r ≡ s) → Goes r (when due i) s
+  keep : (r s : ReadRow) (due : Bool) (i : Ins) → (due ≡ true → Goes r (i ∷ []) s) → (due ≡ false → r ≡ s)
+      → Goes r (when due i) s
   keep r s true i goes stands list = goes refl list
   keep r s false i goes stands list = ap (λ t. run parameters t list) (stands refl)
 
@@ -187,10 +218,16 @@ module _ (encoding : Encoding) (e : LineEncoding) where
   stays false b h = h
 
   -- what stands for one row alone
-  goes-marks : (r : ReadRow) (built : LineRow) → r.discriminator ≡ 0 → r.basic_block ≡ false → r.prologue_end ≡ false → r.epilogue_begin ≡ false
+  goes-marks : (r : ReadRow) (built : LineRow) → r.discriminator ≡ 0 → r.basic_block ≡ false → r.prologue_end ≡ false
+      → r.epilogue_begin ≡ false
       → Goes r (marks built)
       (record
-      r { discriminator = built.discriminator; basic_block = built.basic_block; prologue_end = built.prologue_end; epilogue_begin = built.epilogue_begin })
+      r {
+        discriminator = built.discriminator;
+        basic_block = built.basic_block;
+        prologue_end = built.prologue_end;
+        epilogue_begin = built.epilogue_begin;
+      })
   goes-marks r built d0 b0 p0 e0 =
       let r1 : ReadRow = record r { discriminator = built.discriminator } in
       let r2 : ReadRow = record r1 { basic_block = built.basic_block } in
@@ -214,10 +251,17 @@ module _ (encoding : Encoding) (e : LineEncoding) where
       goes_then r _ _ (w1 ++ w2 ++ w3) w4 (goes_then r _ _ (w1 ++ w2) w3 (goes_then r _ _ w1 w2 s1 s2) s3) s4
 
   -- what lasts from row to row
-  goes-changes : (r : ReadRow) (version : ℕ) (previous built : LineRow) → r.is_stmt ≡ previous.is_statement → r.file ≡ file_number version previous.file
+  goes-changes : (r : ReadRow) (version : ℕ) (previous built : LineRow) → r.is_stmt ≡ previous.is_statement
+      → r.file ≡ file_number version previous.file
       → r.column ≡ previous.column → r.isa ≡ previous.isa
       → Goes r (changes version previous built)
-      (record r { is_stmt = built.is_statement; file = file_number version built.file; column = built.column; isa = built.isa })
+      (record
+      r {
+        is_stmt = built.is_statement;
+        file = file_number version built.file;
+        column = built.column;
+        isa = built.isa;
+      })
   goes-changes r version previous built hs hf hc hi =
       let r1 : ReadRow = record r { is_stmt = built.is_statement } in
       let r2 : ReadRow = record r1 { file = file_number version built.file } in
@@ -231,7 +275,9 @@ module _ (encoding : Encoding) (e : LineEncoding) where
       (λ h list. ap (λ x. run parameters (record r { is_stmt = x }) list) (ap not hs ∙ turned _ _ h))
       (λ h. ap (λ x. let s : ReadRow = record r { is_stmt = x } in s) (hs ∙ stays _ _ h)) in
       let s2 : Goes r1 w2 r2 = keep _ _ _ _ (λ h list. refl)
-      (λ h. ap (λ x. let s : ReadRow = record r1 { file = x } in s) (hf ∙ ap (file_number version) (sym (same_from_test _ _ h)))) in
+      (λ h.
+      ap (λ x. let s : ReadRow = record r1 { file = x } in s)
+      (hf ∙ ap (file_number version) (sym (same_from_test _ _ h)))) in
       let s3 : Goes r2 w3 r3 = keep _ _ _ _ (λ h list. refl)
       (λ h. ap (λ x. let s : ReadRow = record r2 { column = x } in s) (hc ∙ sym (same_from_test _ _ h))) in
       let s4 : Goes r3 w4 r4 = keep _ _ _ _ (λ h list. refl)
@@ -240,20 +286,23 @@ module _ (encoding : Encoding) (e : LineEncoding) where
 
   -- ---- advances
 
-  goes-advance : (r : ReadRow) (n : ℕ) → r.tombstone ≡ false → HasRoom parameters (pointer_of r) n → Goes r (AdvancePc n ∷ []) (moved_on e n r)
-  goes-advance r n shown room list = rw (on-ahead parameters (pointer_of r) n room, not_exceeding parameters (pointer_of r) n room, shown) refl
+  goes-advance : (r : ReadRow) (n : ℕ) → r.tombstone ≡ false → HasRoom parameters (pointer_of r) n
+      → Goes r (AdvancePc n ∷ []) (moved_on e n r)
+  goes-advance r n shown room list = rw (on-ahead _ _ n room, not_exceeding _ _ n room, shown) refl
 
   goes-constant : (r : ReadRow) → r.tombstone ≡ false → HasRoom parameters (pointer_of r) (constant_advance e)
       → Goes r (ConstAddPc ∷ []) (moved_on e (constant_advance e) r)
   goes-constant r shown room list =
-      rw (on-ahead parameters (pointer_of r) (constant_advance e) room, not_exceeding parameters (pointer_of r) (constant_advance e) room, shown) refl
+      rw (on-ahead _ _ _ room, not_exceeding _ _ _ room, shown) refl
 
   -- a special opcode of this line advance above the base, and of so many operations
-  makes-special : (r : ReadRow) (u n : ℕ) → 1 ≤ e.line_range → u < e.line_range → r.tombstone ≡ false → HasRoom parameters (pointer_of r) n
-      → Makes r (Special (13 + u + n * e.line_range) ∷ []) (record (moved_on e n r) { line = advanced_line (e.line_base +ℤ pos u) r.line })
+  makes-special : (r : ReadRow) (u n : ℕ) → 1 ≤ e.line_range → u < e.line_range → r.tombstone ≡ false
+      → HasRoom parameters (pointer_of r) n
+      → Makes r (Special (13 + u + n * e.line_range) ∷ [])
+      (record (moved_on e n r) { line = advanced_line (e.line_base +ℤ pos u) r.line })
   makes-special r u n some lt shown room list =
       let parts = special_parts _ u n some lt in
-      rw (parts.0, parts.1, on-ahead parameters (pointer_of r) n room, not_exceeding parameters (pointer_of r) n room, shown) refl
+      rw (parts.0, parts.1, on-ahead _ _ n room, not_exceeding _ _ n room, shown) refl
 
   -- the line after the advance to another line
   advance_to : (l to : ℕ) (z : ℤ) → pos to ≡ pos l +ℤ z → to < 2 ^ 64 → advanced_line z l ≡ to
@@ -268,7 +317,8 @@ module _ (encoding : Encoding) (e : LineEncoding) where
   makes-copy r shown list = rw shown refl
 
   -- the last instruction of a row
-  makes-row : (r : ReadRow) (u n : ℕ) → CanEncode e → u < e.line_range → r.tombstone ≡ false → r.line < 2 ^ 64 → HasRoom parameters (pointer_of r) n
+  makes-row : (r : ReadRow) (u n : ℕ) → CanEncode e → u < e.line_range → r.tombstone ≡ false → r.line < 2 ^ 64
+      → HasRoom parameters (pointer_of r) n
       → Makes r (row_maker e (13 + u + n * e.line_range) ∷ []) (made u n r)
   makes-row r u n can lt shown small room list = by (nat_eq (13 + u + n * e.line_range) (still_opcode e)) refl
     where
@@ -279,24 +329,30 @@ module _ (encoding : Encoding) (e : LineEncoding) where
       by true t =
           let g = e.line_range in
           let same : 13 + u + n * g ≡ still_opcode e = grind (arith, nat_tests) in
-          let idle : n ≡ 0 = none_of n u g (unsigned_abs e.line_base) (omega (arith, same)) (omega (arith, ints, can.base, can.above)) in
+          let idle : n
+          ≡ 0 = none_of n u g (unsigned_abs e.line_base) (omega (arith, same))
+          (omega (arith, ints, can.base, can.above)) in
           let product = ap (λ x. x * g) idle in
           let low : u ≡ unsigned_abs e.line_base = omega (arith, same, product) in
           let flat : e.line_base +ℤ pos u ≡ pos 0 = omega (arith, ints, low, can.base) in
-          let line : advanced_line (e.line_base +ℤ pos u) r.line ≡ r.line = rw flat (ap (λ l. l % 2 ^ 64) (add-zero r.line) ∙ mod-eq_of_lt small) in
-          let there : ahead e n (pointer_of r) ≡ pointer_of r = ap (λ x. ahead e x (pointer_of r)) idle ∙ ahead-none e _ room.within in
+          let line : advanced_line (e.line_base +ℤ pos u) r.line
+          ≡ r.line = rw flat (ap (λ l. l % 2 ^ 64) (add-zero r.line) ∙ mod-eq_of_lt small) in
+          let there : ahead e n (pointer_of r) ≡ pointer_of r = ap (λ x. ahead e x (pointer_of r)) idle
+          ∙ ahead-none e _ room.within in
           let stands : r ≡ made u n r = λ j. record (at_pointer (sym there j) r) { line = sym line j } in
           makes-copy r shown list ∙ ap (λ s. row s ∷ run parameters (reset_row parameters s) list) stands
 
   -- the operations of a row, and the row
-  makes-operations : (r : ReadRow) (u n : ℕ) → CanEncode e → u < e.line_range → r.tombstone ≡ false → r.line < 2 ^ 64 → HasRoom parameters (pointer_of r) n
+  makes-operations : (r : ReadRow) (u n : ℕ) → CanEncode e → u < e.line_range → r.tombstone ≡ false → r.line < 2 ^ 64
+      → HasRoom parameters (pointer_of r) n
       → Makes r (operation_part e (13 + u) n) (made u n r)
   makes-operations r u n can lt shown small room list =
       by (nat_le (13 + u + n * e.line_range) 255) refl (nat_le (13 + u + (n - constant_advance e) * e.line_range) 255)
     where
       by : (b : Bool) → nat_le (13 + u + n * e.line_range) 255 ≡ b → (c : Bool)
           → run parameters r ((if b then row_maker e (13 + u + n * e.line_range) ∷ []
-          else (if c then ConstAddPc ∷ row_maker e (13 + u + (n - constant_advance e) * e.line_range) ∷ [] else AdvancePc n ∷ row_maker e (13 + u) ∷ []))
+          else (if c then ConstAddPc ∷ row_maker e (13 + u + (n - constant_advance e) * e.line_range) ∷ []
+          else AdvancePc n ∷ row_maker e (13 + u) ∷ []))
           ++ list)
           ≡ row (made u n r) ∷ run parameters (reset_row parameters (made u n r)) list
       by true h c = makes-row r u n can lt shown small room list
@@ -307,11 +363,14 @@ module _ (encoding : Encoding) (e : LineEncoding) where
           let some : 1 ≤ g = omega (arith, lt) in
           let enough : q ≤ n = enough_of g u n q some lt over (div-mul-le_self 242 g) in
           let back : q + (n - q) ≡ n = omega arith in
-          let there : ahead e (n - q) (ahead e q (pointer_of r)) ≡ ahead e n (pointer_of r) = ahead-ahead e _ q _ can.operations
+          let there : ahead e (n - q) (ahead e q (pointer_of r))
+          ≡ ahead e n (pointer_of r) = ahead-ahead e _ q _ can.operations
           ∙ ap (λ x. ahead e x (pointer_of r)) back in
           let s : ReadRow = moved_on e q r in
-          let same : made u (n - q) s ≡ made u n r = λ j. record (at_pointer (there j) r) { line = advanced_line (e.line_base +ℤ pos u) r.line } in
-          let first = goes-constant r shown (less_room _ _ q n enough room) (row_maker e (13 + u + (n - q) * g) ∷ list) in
+          let same : made u (n - q) s ≡ made u n r = λ j.
+          record (at_pointer (there j) r) { line = advanced_line (e.line_base +ℤ pos u) r.line } in
+          let first =
+          goes-constant r shown (less_room _ _ q n enough room) (row_maker e (13 + u + (n - q) * g) ∷ list) in
           let second = makes-row s u _ can lt shown small (rest_room _ _ q n enough room) list in
           first ∙ second ∙ ap (λ x. row x ∷ run parameters (reset_row parameters x) list) same
       by false h false =
@@ -321,22 +380,27 @@ module _ (encoding : Encoding) (e : LineEncoding) where
           let rest : HasRoom parameters (ahead e n (pointer_of r)) (n - n) = rest_room _ _ n n (omega arith) room in
           let room0 : HasRoom parameters (pointer_of s) 0 = rw none_left at rest in
           let there : ahead e 0 (ahead e n (pointer_of r)) ≡ ahead e n (pointer_of r) = ahead-none e _ room0.within in
-          let same : made u 0 s ≡ made u n r = λ j. record (at_pointer (there j) r) { line = advanced_line (e.line_base +ℤ pos u) r.line } in
+          let same : made u 0 s ≡ made u n r = λ j.
+          record (at_pointer (there j) r) { line = advanced_line (e.line_base +ℤ pos u) r.line } in
           let first = goes-advance r n shown room (row_maker e (13 + u) ∷ list) in
           let second = makes-row s u 0 can lt shown small room0 list in
           first ∙ ap (λ x. run parameters s (row_maker e x ∷ list)) keeps_bytes ∙ second
           ∙ ap (λ x. row x ∷ run parameters (reset_row parameters x) list) same
 
   -- the line and the operations of a row, and the row
-  makes-move : (r : ReadRow) (d : ℤ) (n to : ℕ) → CanEncode e → r.tombstone ≡ false → r.line < 2 ^ 64 → to < 2 ^ 64 → pos to ≡ pos r.line +ℤ d
+  makes-move : (r : ReadRow) (d : ℤ) (n to : ℕ) → CanEncode e → r.tombstone ≡ false → r.line < 2 ^ 64 → to < 2 ^ 64
+      → pos to ≡ pos r.line +ℤ d
       → HasRoom parameters (pointer_of r) n
       → Makes r (line_part e d ++ operation_part e (line_opcode e d) n) (record (moved_on e n r) { line = to })
   makes-move r d n to can shown small small' there room list = by (is_special_advance e d) refl
     where
       by : (b : Bool) → is_special_advance e d ≡ b
           → run parameters r
-          (((if b then [] else AdvanceLine d ∷ []) ++ operation_part e (if b then 13 + unsigned_abs (d -ℤ e.line_base) else still_opcode e) n) ++ list)
-          ≡ row (record (moved_on e n r) { line = to }) ∷ run parameters (reset_row parameters (record (moved_on e n r) { line = to })) list
+          (((if b then [] else AdvanceLine d ∷ [])
+          ++ operation_part e (if b then 13 + unsigned_abs (d -ℤ e.line_base) else still_opcode e) n)
+          ++ list)
+          ≡ row (record (moved_on e n r) { line = to })
+          ∷ run parameters (reset_row parameters (record (moved_on e n r) { line = to })) list
       by true t =
           let two = and_parts (le_z e.line_base d) (lt_z d (e.line_base +ℤ pos e.line_range)) t in
           let low : e.line_base ≤ℤ d = grind (arith, ints) in
@@ -346,7 +410,10 @@ module _ (encoding : Encoding) (e : LineEncoding) where
           let same : e.line_base +ℤ pos u ≡ d = omega (arith, ints, low) in
           let line : advanced_line (e.line_base +ℤ pos u) r.line ≡ to = rw same (advance_to _ _ d there small') in
           makes-operations r u n can lt shown small room list
-          ∙ ap (λ l. row (record (moved_on e n r) { line = l }) ∷ run parameters (reset_row parameters (record (moved_on e n r) { line = l })) list) line
+          ∙ ap
+          (λ l. row (record (moved_on e n r) { line = l })
+          ∷ run parameters (reset_row parameters (record (moved_on e n r) { line = l })) list)
+          line
       by false t =
           let s : ReadRow = record r { line = advanced_line d r.line } in
           let u = unsigned_abs e.line_base in
@@ -354,9 +421,13 @@ module _ (encoding : Encoding) (e : LineEncoding) where
           let lt : u < e.line_range = omega (arith, ints, can.base, can.above) in
           let flat : e.line_base +ℤ pos u ≡ pos 0 = omega (arith, ints, can.base) in
           let small1 : s.line < 2 ^ 64 = rw reached small' in
-          let line : advanced_line (e.line_base +ℤ pos u) s.line ≡ to = rw (flat, reached) (ap (λ l. l % 2 ^ 64) (add-zero to) ∙ mod-eq_of_lt small') in
+          let line : advanced_line (e.line_base +ℤ pos u) s.line
+          ≡ to = rw (flat, reached) (ap (λ l. l % 2 ^ 64) (add-zero to) ∙ mod-eq_of_lt small') in
           makes-operations s u n can lt shown small1 room list
-          ∙ ap (λ l. row (record (moved_on e n r) { line = l }) ∷ run parameters (reset_row parameters (record (moved_on e n r) { line = l })) list) line
+          ∙ ap
+          (λ l. row (record (moved_on e n r) { line = l })
+          ∷ run parameters (reset_row parameters (record (moved_on e n r) { line = l })) list)
+          line
 
   -- ---- rows and ends
 
@@ -370,16 +441,20 @@ module _ (encoding : Encoding) (e : LineEncoding) where
   -- where the operations to a position that can follow lead
   record Reaches (base p j o i : ℕ) : Type 0 where
     room : HasRoom parameters (record { address = base + p; op_index = j }) (operations e p j o i)
-    there : ahead e (operations e p j o i) (record { address = base + p; op_index = j }) ≡ record { address = base + o; op_index = i }
+    there : ahead e (operations e p j o i) (record { address = base + p; op_index = j })
+        ≡ record { address = base + o; op_index = i }
 
-  reaches : (base p j o i : ℕ) → IsTrue (is_address_size encoding.address_size) → CanEncode e → IsPosition e p j → CanFollow e p j o i
+  reaches : (base p j o i : ℕ) → IsTrue (is_address_size encoding.address_size) → CanEncode e → IsPosition e p j
+      → CanFollow e p j o i
       → base + o < 2 ^ (8 * encoding.address_size) → Reaches base p j o i
   reaches base p j o i known can position follows held =
       let k = e.maximum_operations_per_instruction in
       let m = e.minimum_instruction_length in
       let t = (o - p) / m in
       let n = operations e p j o i in
-      let above = operations_above m k p j o i can.instruction_length position.divides follows.position.divides follows.after follows.later position.within in
+      let above =
+      operations_above m k p j o i can.instruction_length position.divides follows.position.divides follows.after
+      follows.later position.within in
       let sum : j + n ≡ t * k + i = omega (arith, above) in
       let apart = taken_apart k t i follows.position.within in
       let q : (j + n) / k ≡ t = rw sum apart.0 in
@@ -399,9 +474,11 @@ module _ (encoding : Encoding) (e : LineEncoding) where
   -- the instructions of a row make the row, from the registers after the row before it
   pub row-runs : (base : ℕ) (previous built : LineRow) → IsTrue (is_address_size encoding.address_size) → CanEncode e
       → IsPosition e previous.address_offset previous.op_index
-      → CanFollow e previous.address_offset previous.op_index built.address_offset built.op_index → previous.line < 2 ^ 63 → built.line < 2 ^ 63
+      → CanFollow e previous.address_offset previous.op_index built.address_offset built.op_index
+      → previous.line < 2 ^ 63 → built.line < 2 ^ 63
       → base + built.address_offset < 2 ^ (8 * encoding.address_size)
-      → Makes (registers_after_row encoding.version base previous) (row_instructions encoding.version e previous built) (read_row encoding.version base built)
+      → Makes (registers_after_row encoding.version base previous) (row_instructions encoding.version e previous built)
+      (read_row encoding.version base built)
   row-runs base previous built known can position follows from to held =
       let version = encoding.version in
       let r0 : ReadRow = registers_after_row version base previous in
@@ -413,7 +490,12 @@ module _ (encoding : Encoding) (e : LineEncoding) where
         prologue_end = built.prologue_end;
         epilogue_begin = built.epilogue_begin;
       } in
-      let r2 : ReadRow = record r1 { is_stmt = built.is_statement; file = file_number version built.file; column = built.column; isa = built.isa } in
+      let r2 : ReadRow = record r1 {
+        is_stmt = built.is_statement;
+        file = file_number version built.file;
+        column = built.column;
+        isa = built.isa;
+      } in
       let s1 = goes-marks r0 built refl refl refl refl in
       let s2 = goes-changes r1 version previous built refl refl refl refl in
       let apart : pos built.line ≡ pos previous.line +ℤ d = omega (arith, ints) in
@@ -429,15 +511,19 @@ module _ (encoding : Encoding) (e : LineEncoding) where
       let s12 = goes_then r0 _ _ (marks built) (changes version previous built) s1 s2 in
       λ list.
       ap (λ is. run parameters r0 (is ++ list))
-      (append_assoc (marks built ++ changes version previous built) (line_part e d) (operation_part e (line_opcode e d) n))
-      ∙ makes_then r0 _ _ (marks built ++ changes version previous built) (line_part e d ++ operation_part e (line_opcode e d) n)
+      (append_assoc (marks built ++ changes version previous built) (line_part e d)
+      (operation_part e (line_opcode e d) n))
+      ∙ makes_then r0 _ _ (marks built ++ changes version previous built)
+      (line_part e d ++ operation_part e (line_opcode e d) n)
       s12 s4 list
 
   -- the instructions of an end make the end
-  pub end-runs : (base : ℕ) (previous : LineRow) (o i : ℕ) → IsTrue (is_address_size encoding.address_size) → CanEncode e
+  pub end-runs : (base : ℕ) (previous : LineRow) (o i : ℕ) → IsTrue (is_address_size encoding.address_size)
+      → CanEncode e
       → IsPosition e previous.address_offset previous.op_index
       → CanFollow e previous.address_offset previous.op_index o i → base + o < 2 ^ (8 * encoding.address_size)
-      → Makes (registers_after_row encoding.version base previous) (end_instructions e previous o i) (read_end encoding.version base previous o i)
+      → Makes (registers_after_row encoding.version base previous) (end_instructions e previous o i)
+      (read_end encoding.version base previous o i)
   end-runs base previous o i known can position follows held =
       let r : ReadRow = registers_after_row encoding.version base previous in
       let n = operations e previous.address_offset previous.op_index o i in
@@ -452,26 +538,37 @@ module _ (encoding : Encoding) (e : LineEncoding) where
       makes_then r s _ (when (not (nat_eq n 0)) (AdvancePc n)) (EndSequence ∷ []) first (λ list. refl)
 
   -- a set address that doesn't go back moves the registers there
-  pub set-address-runs : (base a : ℕ) (previous : LineRow) → base + previous.address_offset ≤ a → a < 2 ^ (8 * encoding.address_size) - 2
+  pub set-address-runs : (base a : ℕ) (previous : LineRow) → base + previous.address_offset ≤ a
+      → a < 2 ^ (8 * encoding.address_size) - 2
       → Goes (registers_after_row encoding.version base previous) (SetAddress a ∷ [])
       (registers_after_row encoding.version a (record previous { address_offset = 0; op_index = 0 }))
   set-address-runs base a previous le lt list =
       let low : nat_lt a (base + previous.address_offset) ≡ false = le-ltb a (base + previous.address_offset) le in
-      let high : nat_le (2 ^ (8 * encoding.address_size) - 2) a ≡ false = lt-leb (2 ^ (8 * encoding.address_size) - 2) a lt in
+      let high : nat_le (2 ^ (8 * encoding.address_size) - 2) a
+      ≡ false = lt-leb (2 ^ (8 * encoding.address_size) - 2) a lt in
       let from : a ≡ a + 0 = sym (add-zero a) in
       rw (low, high)
-      (ap (λ x. run parameters (at_pointer (record { address = x; op_index = 0 }) (registers_after_row encoding.version base previous)) list) from)
+      (ap
+      (λ x. run parameters
+      (at_pointer (record { address = x; op_index = 0 }) (registers_after_row encoding.version base previous)) list)
+      from)
 
   -- a sequence starts after its initial row
-  pub start-is : encoding.version ≤ 5 → initial parameters ≡ registers_after_row encoding.version 0 (initial_row encoding.version e.default_is_stmt)
+  pub start-is : encoding.version ≤ 5
+      → initial parameters ≡ registers_after_row encoding.version 0 (initial_row encoding.version e.default_is_stmt)
   start-is le = by (nat_eq encoding.version 5) refl
     where
       by : (b : Bool) → nat_eq encoding.version 5 ≡ b
-          → initial parameters ≡ registers_after_row encoding.version 0 (record (initial_row encoding.version e.default_is_stmt) { file = if b then 1 else 0 })
+          → initial parameters
+          ≡ registers_after_row encoding.version 0
+          (record (initial_row encoding.version e.default_is_stmt) { file = if b then 1 else 0 })
       by true h =
           let over : nat_le encoding.version 4
-          ≡ false = lt-leb encoding.version 4 (let five : encoding.version ≡ 5 = grind (arith, nat_tests) in omega (arith, five)) in
+          ≡ false = lt-leb encoding.version 4
+          (let five : encoding.version ≡ 5 = grind (arith, nat_tests) in omega (arith, five)) in
           rw over refl
       by false h =
-          let below : nat_le encoding.version 4 ≡ true = le-leb encoding.version 4 (let other : encoding.version ≤ 4 = grind (arith, nat_tests) in other) in
+          let below : nat_le encoding.version 4
+          ≡ true = le-leb encoding.version 4
+          (let other : encoding.version ≤ 4 = grind (arith, nat_tests) in other) in
           rw below refl

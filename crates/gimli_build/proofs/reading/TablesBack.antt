@@ -1,5 +1,6 @@
 -- The tables of a written unit: their bytes spell them, and what is read of them stands for what was built.
-use Rattle.std.proofs.Common.{◌≡◌, ℕ, ◌<◌, ◌^◌, Bool, true, false, List, [], ◌∷◌, ◌++◌, length, drop, map, option_map, Option, None, slice_get, if◌then◌else◌}
+use Rattle.std.proofs.Common.{◌≡◌, ℕ, ◌<◌, ◌^◌, Bool, true, false, List, [], ◌∷◌, ◌++◌, length, drop, map, option_map}
+use Rattle.std.proofs.Common.{Option, None, slice_get, if◌then◌else◌}
 use Rattle.std.proofs.Common.{Ok, refl, sym, ap, ◌∙◌, arith, length-append}
 use Rattle.std.specs.Prelude.{Result, nat_le, replicate}
 use Rattle.std.specs.Option.{option_to_list}
@@ -33,14 +34,17 @@ use Rattle.gimli_build.proofs.spellings.TableSpellings.{read_file, directories-s
 use Rattle.gimli_build.proofs.spellings.EncodingSpellings.{first-chosen, second-chosen}
 use Rattle.gimli_build.proofs.spellings.FormatForms.{read_format}
 use Rattle.gimli_build.proofs.reading.ReadyTexts.{AreReady}
-use Rattle.gimli_build.proofs.reading.HeldOffsets.{AreHeld}
-use Rattle.gimli_build.proofs.spellings.Version5TableSpellings.{directory_entry, file_entry, new-directories-spelled, new-files-spelled, new-directories-back}
+use Rattle.gimli_build.proofs.reading.EmittedTexts.{AreHeld}
+use Rattle.gimli_build.proofs.spellings.Version5TableSpellings.{directory_entry, file_entry, new-directories-spelled}
+use Rattle.gimli_build.proofs.spellings.Version5TableSpellings.{new-files-spelled, new-directories-back}
 use Rattle.gimli_build.proofs.spellings.Version5TableSpellings.{new-files-back}
 
 -- the directories from index 0 on: up to version 4 the one that was handed is the first
 abbrev from_zero : Built → UnitEntry → List Value → List Value
 from_zero p unit_entry directories =
-    if nat_le p.encoding.version 4 then option_to_list (option_map String (handed_value p.encoding unit_entry.directory)) ++ directories else directories
+    if nat_le p.encoding.version 4
+    then option_to_list (option_map String (handed_value p.encoding unit_entry.directory)) ++ directories
+    else directories
 
 abbrev formats_of_directories : Built → List (ℕ × ℕ)
 formats_of_directories p = directory_formats p
@@ -49,7 +53,8 @@ abbrev formats_of_files : Built → List (ℕ × ℕ)
 formats_of_files p = file_formats p
 
 -- what is read of the tables
-pub record TablesBack (notation : Notation) (unit_entry : UnitEntry) (sections : Sections) (p : Built) (texts : StringTables) (bytes : List ℕ) : Type 0 where
+pub record TablesBack (notation : Notation) (unit_entry : UnitEntry) (sections : Sections) (p : Built)
+    (texts : StringTables) (bytes : List ℕ) : Type 0 where
   pub directory_formats : List FileEntryFormat
   pub directories : List Value
   pub file_formats : List FileEntryFormat
@@ -57,9 +62,11 @@ pub record TablesBack (notation : Notation) (unit_entry : UnitEntry) (sections :
   pub directory_bytes : List ℕ
   pub file_bytes : List ℕ
   pub whole : bytes ≡ directory_bytes ++ file_bytes
-  pub directory_formats_are : nat_le p.encoding.version 4 ≡ false → directory_formats ≡ map read_format (formats_of_directories p)
+  pub directory_formats_are : nat_le p.encoding.version 4 ≡ false
+      → directory_formats ≡ map read_format (formats_of_directories p)
   pub file_formats_are : nat_le p.encoding.version 4 ≡ false → file_formats ≡ map read_format (formats_of_files p)
-  pub directories_spelled : (directory_table notation p.encoding).Spells directory_bytes (directory_formats, directories)
+  pub directories_spelled : (directory_table notation p.encoding).Spells directory_bytes
+      (directory_formats, directories)
   pub files_spelled : (file_table notation p.encoding).Spells file_bytes (file_formats, files)
   pub directories_back : OneByOne (IsDirectory sections texts) (from_zero p unit_entry directories) p.directories
   pub files_back : OneByOne (IsFile sections p texts) files p.files
@@ -78,16 +85,19 @@ module _ (sections : Sections) (texts : StringTables) where
   abbrev with_handed : Option (List ℕ) → List LineText → List Value
   with_handed handed ds = option_to_list (option_map String handed) ++ map String (map (bytes_in texts) (drop 1 ds))
 
-  handed_back : (ds : List LineText) → 0 < length ds → AreDirectories (with_handed (option_map (bytes_in texts) (slice_get ds 0)) ds) ds
+  handed_back : (ds : List LineText) → 0 < length ds
+      → AreDirectories (with_handed (option_map (bytes_in texts) (slice_get ds 0)) ds) ds
   handed_back [] some = absurd (omega (arith, some))
   handed_back (d ∷ ds) some = (refl, texts_back _)
 
   -- what a file keeps
   stored_old : (p : Built) (d : Details) → nat_le p.encoding.version 4 ≡ true
-      → stored_details p texts d ≡ record { timestamp = d.timestamp; size = d.size; md5 = replicate 16 0; source = None }
+      → stored_details p texts d
+      ≡ record { timestamp = d.timestamp; size = d.size; md5 = replicate 16 0; source = None }
   stored_old p d old = rw old refl
 
-  file_back : (p : Built) (f : File) → nat_le p.encoding.version 4 ≡ true → IsFile sections p texts (read_file texts f) f
+  file_back : (p : Built) (f : File) → nat_le p.encoding.version 4 ≡ true
+      → IsFile sections p texts (read_file texts f) f
   file_back p f old =
       let same = stored_old p f.1 old in
       record {
@@ -99,32 +109,42 @@ module _ (sections : Sections) (texts : StringTables) where
         source = rw (ap (λ (s : Stored). s.source) same) tt;
       }
 
-  files_back : (p : Built) (fs : List File) → nat_le p.encoding.version 4 ≡ true → OneByOne (IsFile sections p texts) (map (read_file texts) fs) fs
+  files_back : (p : Built) (fs : List File) → nat_le p.encoding.version 4 ≡ true
+      → OneByOne (IsFile sections p texts) (map (read_file texts) fs) fs
   files_back p [] old = tt
   files_back p (f ∷ fs) old = (file_back p f old, files_back p fs old)
 
-module _ (notation : Notation) (unit_entry : UnitEntry) (sections : Sections) (p : Built) (texts : StringTables) (built : IsBuilt p) where
+module _ (notation : Notation) (unit_entry : UnitEntry) (sections : Sections) (p : Built) (texts : StringTables)
+    (built : IsBuilt p) where
   module _ (old : nat_le p.encoding.version 4 ≡ true) where
     old_directories_spelled : (bytes : List ℕ) → directories_bytes p.directories ≡ Ok bytes
-        → (directory_table notation p.encoding).Spells bytes ([], map String (map (bytes_in texts) (drop 1 p.directories)))
+        → (directory_table notation p.encoding).Spells bytes
+        ([], map String (map (bytes_in texts) (drop 1 p.directories)))
     old_directories_spelled bytes is =
         let clean = All-drop HasNoZero 1 _ built.tables.directories_end in
-        let spelled = directories-spelled texts p.directories _ (built.is.directories_not_empty (leb-true p.encoding.version 4 old)) clean is in
+        let spelled =
+        directories-spelled texts p.directories _
+        (built.is.directories_not_empty (leb-true p.encoding.version 4 old)) clean is in
         first-chosen _ _ _ _ _ old
         (map (bytes_in texts) (drop 1 p.directories), bytes, [], sym (append-nil bytes), spelled, (refl, refl))
 
-    old_files_spelled : (bytes : List ℕ) → files_bytes p.files ≡ Ok bytes → (file_table notation p.encoding).Spells bytes ([], map (read_file texts) p.files)
+    old_files_spelled : (bytes : List ℕ) → files_bytes p.files ≡ Ok bytes
+        → (file_table notation p.encoding).Spells bytes ([], map (read_file texts) p.files)
     old_files_spelled bytes is =
         let spelled =
-        files-spelled texts _ _ (built.is.paths_not_empty (leb-true p.encoding.version 4 old)) built.tables.paths_end built.files_fit is in
-        first-chosen _ _ _ _ _ old (map (read_file texts) p.files, bytes, [], sym (append-nil bytes), spelled, (refl, refl))
+        files-spelled texts _ _ (built.is.paths_not_empty (leb-true p.encoding.version 4 old)) built.tables.paths_end
+        built.files_fit is in
+        first-chosen _ _ _ _ _ old
+        (map (read_file texts) p.files, bytes, [], sym (append-nil bytes), spelled, (refl, refl))
 
     old_back : unit_entry.directory ≡ option_map (bytes_in texts) (slice_get p.directories 0)
-        → OneByOne (IsDirectory sections texts) (from_zero p unit_entry (map String (map (bytes_in texts) (drop 1 p.directories)))) p.directories
+        → OneByOne (IsDirectory sections texts)
+        (from_zero p unit_entry (map String (map (bytes_in texts) (drop 1 p.directories)))) p.directories
     old_back known = rw (old, known) (handed_back sections texts _ (built.is.working_dir refl))
 
     old_tables : (bytes : List ℕ) → unit_entry.directory ≡ option_map (bytes_in texts) (slice_get p.directories 0)
-        → result_append (directories_bytes p.directories) (files_bytes p.files) ≡ Ok bytes → TablesBack notation unit_entry sections p texts bytes
+        → result_append (directories_bytes p.directories) (files_bytes p.files) ≡ Ok bytes
+        → TablesBack notation unit_entry sections p texts bytes
     old_tables bytes known is =
         let b = both_written _ _ _ is in
         record {
@@ -145,37 +165,49 @@ module _ (notation : Notation) (unit_entry : UnitEntry) (sections : Sections) (p
 
   -- ---- version 5
 
-  module _ (new : nat_le p.encoding.version 4 ≡ false) (ready : AreReady p texts) (strings_are : sections.strings ≡ table_bytes texts.strings)
+  module _ (new : nat_le p.encoding.version 4 ≡ false) (ready : AreReady p texts)
+      (strings_are : sections.strings ≡ table_bytes texts.strings)
       (line_strings_are : sections.line_strings ≡ table_bytes texts.line_strings)
-      (are_texts : AreTexts texts.strings) (are_line_texts : AreTexts texts.line_strings) (strings_short : length (table_bytes texts.strings) < 2 ^ 64)
+      (are_texts : AreTexts texts.strings) (are_line_texts : AreTexts texts.line_strings)
+      (strings_short : length (table_bytes texts.strings) < 2 ^ 64)
       (line_strings_short : length (table_bytes texts.line_strings) < 2 ^ 64)
       (held : p.encoding.format ≡ Dwarf64 → AreHeld notation.limit p texts) where
-    new_directories_spelled : (bytes : List ℕ) → directory_table_bytes plain notation.big p.encoding.format texts p ≡ Ok bytes → length bytes < 2 ^ 64
-        → (directory_table notation p.encoding).Spells bytes (map read_format (directory_formats p), map path_of (map (directory_entry texts) p.directories))
+    new_directories_spelled : (bytes : List ℕ)
+        → directory_table_bytes plain notation.big p.encoding.format texts p ≡ Ok bytes → length bytes < 2 ^ 64
+        → (directory_table notation p.encoding).Spells bytes
+        (map read_format (directory_formats p), map path_of (map (directory_entry texts) p.directories))
     new_directories_spelled bytes is small =
         let entries = map (directory_entry texts) p.directories in
-        let spelled = new-directories-spelled notation p texts ready strings_short line_strings_short held bytes is small in
+        let spelled =
+        new-directories-spelled notation p texts ready strings_short line_strings_short held bytes is small in
         second-chosen (nat_le p.encoding.version 4) _ _ bytes _ new
         ((map read_format (directory_formats p), entries), bytes, [], sym (append-nil bytes), spelled, (refl, refl))
 
-    new_files_spelled : (bytes : List ℕ) → file_table_bytes plain notation.big p.encoding.format texts p ≡ Ok bytes → length bytes < 2 ^ 64
-        → (file_table notation p.encoding).Spells bytes (map read_format (file_formats p), map file_of_entry (map (file_entry p texts) p.files))
+    new_files_spelled : (bytes : List ℕ) → file_table_bytes plain notation.big p.encoding.format texts p ≡ Ok bytes
+        → length bytes < 2 ^ 64
+        → (file_table notation p.encoding).Spells bytes
+        (map read_format (file_formats p), map file_of_entry (map (file_entry p texts) p.files))
     new_files_spelled bytes is small =
         let entries = map (file_entry p texts) p.files in
         let spelled = new-files-spelled notation p texts ready strings_short line_strings_short held bytes is small in
         second-chosen (nat_le p.encoding.version 4) _ _ bytes _ new
         ((map read_format (file_formats p), entries), bytes, [], sym (append-nil bytes), spelled, (refl, refl))
 
-    new_back : OneByOne (IsDirectory sections texts) (from_zero p unit_entry (map path_of (map (directory_entry texts) p.directories))) p.directories
-    new_back = rw new (new-directories-back sections p texts strings_are line_strings_are are_texts are_line_texts _ ready.directories)
+    new_back : OneByOne (IsDirectory sections texts)
+        (from_zero p unit_entry (map path_of (map (directory_entry texts) p.directories))) p.directories
+    new_back =
+        rw new (new-directories-back sections p texts strings_are line_strings_are are_texts are_line_texts _
+        ready.directories)
 
     new_tables : (bytes : List ℕ) → length bytes < 2 ^ 64
-        → result_append (directory_table_bytes plain notation.big p.encoding.format texts p) (file_table_bytes plain notation.big p.encoding.format texts p)
+        → result_append (directory_table_bytes plain notation.big p.encoding.format texts p)
+        (file_table_bytes plain notation.big p.encoding.format texts p)
         ≡ Ok bytes
         → TablesBack notation unit_entry sections p texts bytes
     new_tables bytes small is =
         let b =
-        both_written (directory_table_bytes plain notation.big p.encoding.format texts p) (file_table_bytes plain notation.big p.encoding.format texts p) bytes
+        both_written (directory_table_bytes plain notation.big p.encoding.format texts p)
+        (file_table_bytes plain notation.big p.encoding.format texts p) bytes
         is in
         let whole = ap length b.whole ∙ length-append b.first b.rest in
         record {
@@ -191,14 +223,17 @@ module _ (notation : Notation) (unit_entry : UnitEntry) (sections : Sections) (p
           directories_spelled = new_directories_spelled b.first b.first_is (omega (arith, whole, small));
           files_spelled = new_files_spelled b.rest b.rest_is (omega (arith, whole, small));
           directories_back = new_back;
-          files_back = new-files-back sections p texts strings_are line_strings_are are_texts are_line_texts p.files new ready.files;
+          files_back =
+              new-files-back sections p texts strings_are line_strings_are are_texts are_line_texts p.files new
+              ready.files;
         }
 
   -- ---- any version
 
   -- how the tables have to be read
   pub record AreReadWell : Type 0 where
-    pub directory : nat_le p.encoding.version 4 ≡ true → unit_entry.directory ≡ option_map (bytes_in texts) (slice_get p.directories 0)
+    pub directory : nat_le p.encoding.version 4 ≡ true
+        → unit_entry.directory ≡ option_map (bytes_in texts) (slice_get p.directories 0)
     pub ready : nat_le p.encoding.version 4 ≡ false → AreReady p texts
     pub strings_are : sections.strings ≡ table_bytes texts.strings
     pub line_strings_are : sections.line_strings ≡ table_bytes texts.line_strings
@@ -208,19 +243,24 @@ module _ (notation : Notation) (unit_entry : UnitEntry) (sections : Sections) (p
     pub line_strings_short : length (table_bytes texts.line_strings) < 2 ^ 64
     pub held : nat_le p.encoding.version 4 ≡ false → p.encoding.format ≡ Dwarf64 → AreHeld notation.limit p texts
 
-  pub tables-back : (bytes : List ℕ) → AreReadWell → length bytes < 2 ^ 64 → tables_bytes plain notation.big p texts ≡ Ok bytes
+  pub tables-back : (bytes : List ℕ) → AreReadWell → length bytes < 2 ^ 64
+      → tables_bytes plain notation.big p texts ≡ Ok bytes
       → TablesBack notation unit_entry sections p texts bytes
   tables-back bytes well small is =
       by (nat_le p.encoding.version 4) refl (result_append (directories_bytes p.directories) (files_bytes p.files))
-      (result_append (directory_table_bytes plain notation.big p.encoding.format texts p) (file_table_bytes plain notation.big p.encoding.format texts p)) refl
+      (result_append (directory_table_bytes plain notation.big p.encoding.format texts p)
+      (file_table_bytes plain notation.big p.encoding.format texts p))
+      refl
       refl is
     where
       by : (b : Bool) → nat_le p.encoding.version 4 ≡ b → (r s : Result (List ℕ) Error)
           → r ≡ result_append (directories_bytes p.directories) (files_bytes p.files)
           → s
-          ≡ result_append (directory_table_bytes plain notation.big p.encoding.format texts p) (file_table_bytes plain notation.big p.encoding.format texts p)
+          ≡ result_append (directory_table_bytes plain notation.big p.encoding.format texts p)
+          (file_table_bytes plain notation.big p.encoding.format texts p)
           → (if b then r else s) ≡ Ok bytes → TablesBack notation unit_entry sections p texts bytes
       by true old r s first second is = old_tables old bytes (well.directory old) (sym first ∙ is)
       by false new r s first second is =
-          new_tables new (well.ready new) well.strings_are well.line_strings_are well.are_texts well.are_line_texts well.strings_short well.line_strings_short
+          new_tables new (well.ready new) well.strings_are well.line_strings_are well.are_texts well.are_line_texts
+          well.strings_short well.line_strings_short
           (well.held new) bytes small (sym second ∙ is)

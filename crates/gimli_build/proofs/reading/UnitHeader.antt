@@ -1,5 +1,6 @@
 -- What is read of the header of a written unit.
-use Rattle.std.proofs.Common.{◌≡◌, ℕ, ◌-◌, ◌<◌, ◌^◌, Bool, true, false, List, length, if◌then◌else◌, Ok, refl, ap, ◌∙◌, arith}
+use Rattle.std.proofs.Common.{◌≡◌, ℕ, ◌-◌, ◌<◌, ◌^◌, Bool, true, false, List, length, if◌then◌else◌, Ok, refl, ap, ◌∙◌}
+use Rattle.std.proofs.Common.{arith}
 use Rattle.std.specs.Prelude.{Result, Err, nat_le}
 use Rattle.std.proofs.lemmas.Bool.{leb-true, leb-false}
 use Rattle.gimli_core.specs.Notation.{Notation}
@@ -20,12 +21,14 @@ use Rattle.gimli_build.specs.Version5Tables.{texts_after}
 use Rattle.gimli_build.specs.ReadsBack.{AreFormats, IsUnit, directories_from_zero, IsDirectory, IsFile, IsReadWell}
 use Rattle.gimli_build.specs.Unit.{operand_counts, program_bytes, whole_bytes, unit_bytes}
 use Rattle.gimli_build.proofs.reading.ReadyTexts.{tables-ready}
-use Rattle.gimli_build.proofs.reading.HeldOffsets.{are-held}
+use Rattle.gimli_build.proofs.reading.EmittedTexts.{are-held}
 use Rattle.gimli_build.proofs.reading.TablesBack.{AreReadWell, tables-back}
-use Rattle.gimli_build.proofs.spellings.UnitSpellings.{UnitWritten, unit_written, fields_written, inside-short, fields-short, tables-short, header_of, unit-is}
+use Rattle.gimli_build.proofs.spellings.UnitSpellings.{UnitWritten, unit_written, fields_written, inside-short}
+use Rattle.gimli_build.proofs.spellings.UnitSpellings.{fields-short, tables-short, header_of, unit-is}
 
 -- the bytes are a unit, and its header is what was built; its program is what was written of the items
-pub record HeaderBack (notation : Notation) (unit_entry : UnitEntry) (sections : Sections) (p : Built) (texts : StringTables) (unit : List ℕ) : Type 0 where
+pub record HeaderBack (notation : Notation) (unit_entry : UnitEntry) (sections : Sections) (p : Built)
+    (texts : StringTables) (unit : List ℕ) : Type 0 where
   pub header : Header
   pub is_unit : IsUnit notation unit_entry unit header
   pub parameters : header.parameters ≡ built_rules p.encoding p.line_encoding
@@ -42,7 +45,8 @@ pub whole_written : (big : Bool) (unit_encoding : Encoding) (p : Built) (old_tex
 whole_written big unit_encoding p old_texts unit is =
     by _ _ is
   where
-    by : (b : Bool) (r : Result (List ℕ) Error) → (let s : Result (List ℕ) Error = if b then Err IncompatibleLineProgramEncoding else r in s) ≡ Ok unit
+    by : (b : Bool) (r : Result (List ℕ) Error)
+        → (let s : Result (List ℕ) Error = if b then Err IncompatibleLineProgramEncoding else r in s) ≡ Ok unit
         → r ≡ Ok unit
     by true r is = absurd cc
     by false r is = is
@@ -50,16 +54,21 @@ whole_written big unit_encoding p old_texts unit is =
 module _ (notation : Notation) (unit_entry : UnitEntry) (sections : Sections) (p : Built) (built : IsBuilt p) where
   whole_back : (texts : StringTables) (unit : List ℕ) → AreReadWell notation unit_entry sections p texts built
       → unit_entry.address_size ≡ p.encoding.address_size
-      → (p.encoding.format ≡ Dwarf64 → length unit - 12 < notation.limit) → length unit < 2 ^ 64 → UnitWritten notation.big p texts unit
+      → (p.encoding.format ≡ Dwarf64 → length unit - 12 < notation.limit) → length unit < 2 ^ 64
+      → UnitWritten notation.big p texts unit
       → HeaderBack notation unit_entry sections p texts unit
   whole_back texts unit well same holds small w =
       let v = fields_written notation.big p texts w.fields w.fields_are in
       let inside = inside-short notation.big p texts unit w in
       let fields = fields-short notation.big p texts unit w in
       let tables = tables-short notation.big p texts w.fields v in
-      let t = tables-back notation unit_entry sections p texts built v.tables well (omega (arith, inside, fields, tables, small)) v.tables_are in
+      let t =
+      tables-back notation unit_entry sections p texts built v.tables well
+      (omega (arith, inside, fields, tables, small)) v.tables_are in
       record {
-        header = header_of notation unit_entry sections p texts built v.tables t (length w.inside) (length w.fields) w.program;
+        header =
+            header_of notation unit_entry sections p texts built v.tables t (length w.inside) (length w.fields)
+            w.program;
         is_unit = unit-is notation unit_entry sections p texts built unit w v t same holds small;
         parameters = refl;
         counts = refl;
@@ -70,9 +79,11 @@ module _ (notation : Notation) (unit_entry : UnitEntry) (sections : Sections) (p
       }
 
   -- how the unit is read, the tables are
-  read_well : (old_texts : StringTables) (unit : List ℕ) → CanWrite p old_texts → AreTexts (texts_after p old_texts).strings
+  read_well : (old_texts : StringTables) (unit : List ℕ) → CanWrite p old_texts
+      → AreTexts (texts_after p old_texts).strings
       → AreTexts (texts_after p old_texts).line_strings
-      → byte_count (texts_after p old_texts).strings < 2 ^ 64 → byte_count (texts_after p old_texts).line_strings < 2 ^ 64
+      → byte_count (texts_after p old_texts).strings < 2 ^ 64
+      → byte_count (texts_after p old_texts).line_strings < 2 ^ 64
       → IsReadWell notation unit_entry sections notation.big p (texts_after p old_texts) unit
       → AreReadWell notation unit_entry sections p (texts_after p old_texts) built
   read_well old_texts unit can are_texts are_line_texts short line_short well = record {
@@ -89,13 +100,17 @@ module _ (notation : Notation) (unit_entry : UnitEntry) (sections : Sections) (p
   }
 
 -- a unit whose length 64 bits hold
-pub header-back : (notation : Notation) (unit_entry : UnitEntry) (sections : Sections) (big : Bool) (unit_encoding : Encoding) (p : Built)
+pub header-back : (notation : Notation) (unit_entry : UnitEntry) (sections : Sections) (big : Bool)
+    (unit_encoding : Encoding) (p : Built)
     (old_texts : StringTables) (unit : List ℕ)
-    → length unit < 2 ^ 64 → IsBuilt p → CanWrite p old_texts → AreTexts (texts_after p old_texts).strings → AreTexts (texts_after p old_texts).line_strings
+    → length unit < 2 ^ 64 → IsBuilt p → CanWrite p old_texts → AreTexts (texts_after p old_texts).strings
+    → AreTexts (texts_after p old_texts).line_strings
     → byte_count (texts_after p old_texts).strings < 2 ^ 64 → byte_count (texts_after p old_texts).line_strings < 2 ^ 64
-    → unit_bytes plain big unit_encoding p old_texts ≡ Ok unit → IsReadWell notation unit_entry sections big p (texts_after p old_texts) unit
+    → unit_bytes plain big unit_encoding p old_texts ≡ Ok unit
+    → IsReadWell notation unit_entry sections big p (texts_after p old_texts) unit
     → HeaderBack notation unit_entry sections p (texts_after p old_texts) unit
-header-back notation unit_entry sections big unit_encoding p old_texts unit small built can are_texts are_line_texts short line_short is well =
+header-back notation unit_entry sections big unit_encoding p old_texts unit small built can are_texts are_line_texts
+    short line_short is well =
     let texts = texts_after p old_texts in
     let whole : whole_bytes plain notation.big p texts ≡ Ok unit =
     ap (λ (b : Bool). whole_bytes plain b p texts) well.order ∙ whole_written big unit_encoding p old_texts unit is in

@@ -1,5 +1,6 @@
 -- The first cause of a program is what its bytes are refused for.
-use Rattle.std.proofs.Common.{◌≡◌, ℕ, Bool, true, false, not, List, [], ◌∷◌, length, map, Ok, Err, refl, sym, ap, ◌∙◌, if◌then◌else◌, nat_le, nat_eq}
+use Rattle.std.proofs.Common.{◌≡◌, ℕ, Bool, true, false, not, List, [], ◌∷◌, length, map, Ok, Err, refl, sym, ap, ◌∙◌}
+use Rattle.std.proofs.Common.{if◌then◌else◌, nat_le, nat_eq}
 use Rattle.std.proofs.Common.{◌⊎◌, inl, inr}
 use Rattle.std.specs.Prelude.{IsTrue, Option, Some, None, Result, ◌&&◌, nat_lt}
 use Rattle.gimli_core.specs.Numbers.{is_address_size}
@@ -11,7 +12,11 @@ use Rattle.gimli_bytes.specs.Number.{length_word}
 use Rattle.gimli_bytes.specs.Written.{Appends}
 use Rattle.gimli_bytes.specs.declared.address.Address.TheVariants.{Constant, Symbol}
 use Rattle.gimli_bytes.specs.declared.error.Error.{Error}
-use Rattle.gimli_bytes.specs.declared.error.Error.TheVariants.{IncompatibleLineProgramEncoding, UnsupportedVersion, NeedVersion}
+use Rattle.gimli_bytes.specs.declared.error.Error.TheVariants.{
+  IncompatibleLineProgramEncoding,
+  UnsupportedVersion,
+  NeedVersion,
+}
 use Rattle.gimli_bytes.specs.Texts.{StringTables}
 use Rattle.gimli_build.specs.declared.built.row.LineRow.{LineRow}
 use Rattle.gimli_build.specs.declared.built.items.BuiltItem.{BuiltItem}
@@ -22,13 +27,17 @@ use Rattle.gimli_build.specs.FormatWord.{format_word}
 use Rattle.gimli_build.specs.Joined.{result_append}
 use Rattle.gimli_build.specs.Items.{item_bytes, items_bytes, next_previous}
 use Rattle.gimli_build.specs.Version5Tables.{texts_after}
-use Rattle.gimli_build.specs.Unit.{opening_bytes, operations_bytes, line_encoding_bytes, flag_byte, base_byte, opcode_bytes, tables_bytes}
-use Rattle.gimli_build.specs.Unit.{fields_bytes, header_bytes, program_bytes, inside_bytes, escape_bytes, whole_bytes, is_incompatible, unit_bytes}
-use Rattle.gimli_build.specs.Cause.{cause_if, first_of, text_cause, item_cause, word_cause, unit_length_cause, header_length, unit_length, emitted_texts}
+use Rattle.gimli_build.specs.Unit.{opening_bytes, operations_bytes, line_encoding_bytes, flag_byte, base_byte}
+use Rattle.gimli_build.specs.Unit.{opcode_bytes, tables_bytes}
+use Rattle.gimli_build.specs.Unit.{fields_bytes, header_bytes, program_bytes, inside_bytes, escape_bytes, whole_bytes}
+use Rattle.gimli_build.specs.Unit.{is_incompatible, unit_bytes}
+use Rattle.gimli_build.specs.Cause.{cause_if, first_of, text_cause, item_cause, word_cause, unit_length_cause}
+use Rattle.gimli_build.specs.Cause.{header_length, unit_length, emitted_texts}
 use Rattle.gimli_build.specs.Cause.{first_cause, refusal}
-use Rattle.gimli_build.proofs.refusals.Refusals.{or_first, first_before_none, first_apart, joined-refusal, after-refusal, tested-refusal}
+use Rattle.gimli_build.proofs.refusals.Refusals.{or_first, first_before_none, first_apart, joined-refusal}
+use Rattle.gimli_build.proofs.refusals.Refusals.{after-refusal, tested-refusal}
 use Rattle.gimli_build.proofs.refusals.Refusals.{barred-refusal, seven_causes}
-use Rattle.gimli_build.proofs.refusals.NumberRefusals.{not_below, word-refusal, length-refusal, address-refusal}
+use Rattle.gimli_build.proofs.refusals.Refusals.{not_below, word-refusal, length-refusal, address-refusal}
 use Rattle.gimli_build.proofs.refusals.TableRefusals.{tables-refusal}
 use Rattle.gimli_build.proofs.writing.Joined.{appended_bytes}
 use Rattle.gimli_build.proofs.sizes.UnitSizes.{fields_size, inside_size}
@@ -36,7 +45,8 @@ use Rattle.gimli_build.proofs.sizes.UnitSizes.{fields_size, inside_size}
 -- ---- the causes one by one
 
 abbrev version_cause : Built → Option Error
-version_cause p = cause_if (not (nat_le 2 p.encoding.version && nat_le p.encoding.version 5)) (UnsupportedVersion p.encoding.version)
+version_cause p =
+    cause_if (not (nat_le 2 p.encoding.version && nat_le p.encoding.version 5)) (UnsupportedVersion p.encoding.version)
 
 abbrev operations_cause : ℕ → ℕ → Option Error
 operations_cause version operations = cause_if (nat_lt version 4 && not (nat_eq operations 1)) (NeedVersion 4)
@@ -59,7 +69,8 @@ unit_cause big p texts = unit_length_cause p.encoding.format (unit_length big p 
 -- ---- the version and what stands with it
 
 opening-refusal : (big : Bool) (encoding : Encoding)
-    → refusal (opening_bytes big encoding) ≡ cause_if (not (nat_le 2 encoding.version && nat_le encoding.version 5)) (UnsupportedVersion encoding.version)
+    → refusal (opening_bytes big encoding)
+    ≡ cause_if (not (nat_le 2 encoding.version && nat_le encoding.version 5)) (UnsupportedVersion encoding.version)
 opening-refusal big encoding =
     let version = encoding.version in
     joined-refusal _ _
@@ -68,13 +79,15 @@ opening-refusal big encoding =
 
 -- ---- what the header length counts
 
-operations-refusal : (version operations : ℕ) → refusal (operations_bytes version operations) ≡ operations_cause version operations
+operations-refusal : (version operations : ℕ)
+    → refusal (operations_bytes version operations) ≡ operations_cause version operations
 operations-refusal version operations =
     by _ _
     ∙ ap (λ b. cause_if (b && not (nat_eq operations 1)) (NeedVersion 4)) (sym below)
   where
     by : (fourth one : Bool)
-        → refusal (if fourth then Ok (operations ∷ []) else (if one then Ok [] else Err (NeedVersion 4))) ≡ cause_if (not fourth && not one) (NeedVersion 4)
+        → refusal (if fourth then Ok (operations ∷ []) else (if one then Ok [] else Err (NeedVersion 4)))
+        ≡ cause_if (not fourth && not one) (NeedVersion 4)
     by true one = refl
     by false true = refl
     by false false = refl
@@ -98,12 +111,15 @@ line_encoding-refusal version e =
 
 -- ---- items
 
-seen-refusal : (view : List ℕ → List ℕ) (written : Result (List ℕ) Error) → refusal (result_map view written) ≡ refusal written
+seen-refusal : (view : List ℕ → List ℕ) (written : Result (List ℕ) Error)
+    → refusal (result_map view written) ≡ refusal written
 seen-refusal view (Ok bytes) = refl
 seen-refusal view (Err e) = refl
 
-item-refusal : (big : Bool) (encoding : Encoding) (e : LineEncoding) (previous : LineRow) → IsTrue (is_address_size encoding.address_size)
-    → (item : BuiltItem) → refusal (item_bytes plain big encoding e previous item) ≡ item_cause encoding.address_size item
+item-refusal : (big : Bool) (encoding : Encoding) (e : LineEncoding) (previous : LineRow)
+    → IsTrue (is_address_size encoding.address_size)
+    → (item : BuiltItem)
+    → refusal (item_bytes plain big encoding e previous item) ≡ item_cause encoding.address_size item
 item-refusal big encoding e previous known (SetAddress (Constant a)) =
     seen-refusal _ _
     ∙ address-refusal _ a _ known
@@ -113,13 +129,15 @@ item-refusal big encoding e previous known (End offset op_index) = refl
 
 items-refusal : (big : Bool) (encoding : Encoding) (e : LineEncoding) → IsTrue (is_address_size encoding.address_size)
     → (previous : LineRow) (items : List BuiltItem)
-    → refusal (items_bytes plain big encoding e previous items) ≡ first_of (map (item_cause encoding.address_size) items)
+    → refusal (items_bytes plain big encoding e previous items)
+    ≡ first_of (map (item_cause encoding.address_size) items)
 items-refusal big encoding e known previous [] = refl
 items-refusal big encoding e known previous (item ∷ items) =
     let size = encoding.address_size in
     let next = next_previous encoding.version e.default_is_stmt previous item in
     joined-refusal _ _
-    ∙ ap (λ c. or_first c (refusal (items_bytes plain big encoding e next items))) (item-refusal big encoding e previous known item)
+    ∙ ap (λ c. or_first c (refusal (items_bytes plain big encoding e next items)))
+    (item-refusal big encoding e previous known item)
     ∙ ap (λ c. or_first (item_cause size item) c) (items-refusal big encoding e known next items)
     ∙ sym (first_apart (item_cause size item) (map (item_cause size) items))
 
@@ -132,7 +150,8 @@ module _ (big : Bool) (p : Built) (texts : StringTables) where
       let rest = result_append (Ok opcode_bytes) tables in
       joined-refusal (line_encoding_bytes p.encoding.version p.line_encoding) rest
       ∙ ap (λ (c : Option Error). or_first c (refusal rest)) (line_encoding-refusal p.encoding.version p.line_encoding)
-      ∙ ap (λ (c : Option Error). or_first (encoding_cause p) c) (joined-refusal (Ok opcode_bytes) tables ∙ tables-refusal big p texts)
+      ∙ ap (λ (c : Option Error). or_first (encoding_cause p) c)
+      (joined-refusal (Ok opcode_bytes) tables ∙ tables-refusal big p texts)
 
   -- the causes of the header
   abbrev first_causes : Option Error
@@ -169,30 +188,35 @@ module _ (big : Bool) (p : Built) (texts : StringTables) where
     whole-refusal =
         let format = p.encoding.format in
         let cause = unit_cause big p texts in
-        after-refusal (λ n. result_append (Ok (escape_bytes big format)) (length_word big format n)) (inside_bytes plain big p texts) cause
+        after-refusal (λ n. result_append (Ok (escape_bytes big format)) (length_word big format n))
+        (inside_bytes plain big p texts) cause
         (λ bytes is. joined-refusal (Ok (escape_bytes big format)) (length_word big format (length bytes))
         ∙ length-refusal big format (length bytes) ∙ ap (unit_length_cause format) (inside_size big p texts bytes is))
         ∙ ap (λ (c : Option Error). or_first c cause) inside-refusal
 
 -- the first cause of a program is what its bytes are refused for
-pub cause-is : (big : Bool) (unit : Encoding) (p : Built) (texts : StringTables) → IsTrue (is_address_size p.encoding.address_size)
+pub cause-is : (big : Bool) (unit : Encoding) (p : Built) (texts : StringTables)
+    → IsTrue (is_address_size p.encoding.address_size)
     → first_cause big unit p texts ≡ refusal (unit_bytes plain big unit p texts)
 cause-is big unit p texts known =
     let barred = is_incompatible unit p.encoding in
     let bar = cause_if barred IncompatibleLineProgramEncoding in
     let after = texts_after p texts in
-    seven_causes bar (version_cause p) (encoding_cause p) (texts_cause p after) (header_cause p after) (items_cause p) (unit_cause big p after)
+    seven_causes bar (version_cause p) (encoding_cause p) (texts_cause p after) (header_cause p after) (items_cause p)
+    (unit_cause big p after)
     ∙ ap (λ (c : Option Error). or_first bar c) (sym (whole-refusal big p after known))
     ∙ sym (barred-refusal barred IncompatibleLineProgramEncoding (whole_bytes plain big p after))
 
 -- ---- what a call knows
 
 -- what was written has no cause
-pub no-cause : (cause : Option Error) (wanted : Result (List ℕ) Error) (old new : List ℕ) → cause ≡ refusal wanted → Appends wanted old new → cause ≡ None
+pub no-cause : (cause : Option Error) (wanted : Result (List ℕ) Error) (old new : List ℕ) → cause ≡ refusal wanted
+    → Appends wanted old new → cause ≡ None
 no-cause cause wanted old new is written = is ∙ ap refusal (appended_bytes _ _ _ written).1
 
 -- what was refused was so for the first cause, or for another reason
-pub refused-for : {A : Type 0} (cause : Option Error) (wanted : Result (List ℕ) Error) (e : Error) → cause ≡ refusal wanted → A ⊎ (wanted ≡ Err e)
+pub refused-for : {A : Type 0} (cause : Option Error) (wanted : Result (List ℕ) Error) (e : Error)
+    → cause ≡ refusal wanted → A ⊎ (wanted ≡ Err e)
     → A ⊎ (cause ≡ Some e)
 refused-for cause wanted e is (inl own) = inl own
 refused-for cause wanted e is (inr wanted_is) = inr (is ∙ ap refusal wanted_is)

@@ -1,5 +1,6 @@
 -- What the tables of a unit are refused for.
-use Rattle.std.proofs.Common.{◌≡◌, ℕ, Bool, true, false, not, List, [], ◌∷◌, ◌++◌, length, drop, map, Ok, Err, refl, sym, ap, ◌∙◌, if◌then◌else◌, nat_le}
+use Rattle.std.proofs.Common.{◌≡◌, ℕ, Bool, true, false, not, List, [], ◌∷◌, ◌++◌, length, drop, map, Ok, Err, refl}
+use Rattle.std.proofs.Common.{sym, ap, ◌∙◌, if◌then◌else◌, nat_le}
 use Rattle.std.proofs.Common.{nat_eq}
 use Rattle.std.specs.Prelude.{Option, Result, flat_map, unwrap_or}
 use Rattle.gimli_core.specs.declared.common.Format.{Format}
@@ -13,13 +14,16 @@ use Rattle.gimli_build.specs.Tables.{File}
 use Rattle.gimli_build.specs.Built.{Built}
 use Rattle.gimli_build.specs.Joined.{result_append}
 use Rattle.gimli_build.specs.Version4Tables.{name_bytes, directories_bytes, file_bytes, files_bytes}
-use Rattle.gimli_build.specs.Version5Tables.{text_form, first_form, path_texts, sources, empty_text, directory_formats, file_formats, formats_bytes}
-use Rattle.gimli_build.specs.Version5Tables.{detail_bytes, text_bytes, text_in_form, directory_table_bytes, source_bytes, file_entry_bytes, file_table_bytes}
+use Rattle.gimli_build.specs.Version5Tables.{text_form, first_form, path_texts, sources, empty_text, directory_formats}
+use Rattle.gimli_build.specs.Version5Tables.{file_formats, formats_bytes}
+use Rattle.gimli_build.specs.Version5Tables.{detail_bytes, text_bytes, text_in_form, directory_table_bytes}
+use Rattle.gimli_build.specs.Version5Tables.{source_bytes, file_entry_bytes, file_table_bytes}
 use Rattle.gimli_build.specs.Unit.{tables_bytes}
 use Rattle.gimli_build.specs.Cause.{cause_if, first_of, offset_cause, text_cause, file_texts, emitted_texts, refusal}
-use Rattle.gimli_build.proofs.refusals.Refusals.{or_first, first_before_none, first_apart, first_alone, causes_append, causes_map, causes_flat}
+use Rattle.gimli_build.proofs.refusals.Refusals.{or_first, first_before_none, first_apart, first_alone, causes_append}
+use Rattle.gimli_build.proofs.refusals.Refusals.{causes_map, causes_flat}
 use Rattle.gimli_build.proofs.refusals.Refusals.{joined-refusal, parts-refusal}
-use Rattle.gimli_build.proofs.refusals.NumberRefusals.{word-refusal}
+use Rattle.gimli_build.proofs.refusals.Refusals.{word-refusal}
 
 module _ (format : Format) (texts : StringTables) where
   -- why a text isn't written
@@ -37,7 +41,8 @@ module _ (format : Format) (texts : StringTables) where
   name-refusal (InStrings i) = refl
   name-refusal (InLineStrings i) = refl
 
-  directories-refusal : (directories : List LineText) → refusal (directories_bytes directories) ≡ first_of (map name_cause (drop 1 directories))
+  directories-refusal : (directories : List LineText)
+      → refusal (directories_bytes directories) ≡ first_of (map name_cause (drop 1 directories))
   directories-refusal directories =
       joined-refusal _ _
       ∙ first_before_none _
@@ -76,31 +81,39 @@ module _ (format : Format) (texts : StringTables) where
     stored-refusal (InStrings i) = word-refusal big format (offset_of texts.strings i)
     stored-refusal (InLineStrings i) = word-refusal big format (offset_of texts.line_strings i)
 
-    formed-refusal : (form : ℕ) (t : LineText) → refusal (text_in_form plain big format texts form t) ≡ cause_of (form, t)
-    formed-refusal form t = by (nat_eq (text_form t) form) (text_bytes plain big format texts t) (offset_cause format texts t) (stored-refusal t)
+    formed-refusal : (form : ℕ) (t : LineText)
+        → refusal (text_in_form plain big format texts form t) ≡ cause_of (form, t)
+    formed-refusal form t =
+        by (nat_eq (text_form t) form) (text_bytes plain big format texts t) (offset_cause format texts t)
+        (stored-refusal t)
       where
         by : (same : Bool) (written : Result (List ℕ) Error) (cause : Option Error) → refusal written ≡ cause
-            → refusal (if same then written else Err LineStringFormMismatch) ≡ first_of (cause_if (not same) LineStringFormMismatch ∷ cause ∷ [])
+            → refusal (if same then written else Err LineStringFormMismatch)
+            ≡ first_of (cause_if (not same) LineStringFormMismatch ∷ cause ∷ [])
         by true written cause h = h ∙ sym (first_alone _)
         by false written cause h = refl
 
     -- a source that is written, or none
     source-refusal : (has : Bool) (form : ℕ) (t : LineText)
-        → refusal (if has then text_in_form plain big format texts form t else Ok []) ≡ first_of (map cause_of (if has then (form, t) ∷ [] else []))
+        → refusal (if has then text_in_form plain big format texts form t else Ok [])
+        ≡ first_of (map cause_of (if has then (form, t) ∷ [] else []))
     source-refusal true form t = formed-refusal _ t ∙ sym (first_alone _)
     source-refusal false form t = refl
 
 -- ---- tables of version 5
 
 -- what can't be refused stands first
-after-refusal : (first : List ℕ) (rest : Result (List ℕ) Error) (cause : Option Error) → refusal rest ≡ cause → refusal (result_append (Ok first) rest) ≡ cause
+after-refusal : (first : List ℕ) (rest : Result (List ℕ) Error) (cause : Option Error) → refusal rest ≡ cause
+    → refusal (result_append (Ok first) rest) ≡ cause
 after-refusal first rest cause h = joined-refusal (Ok first) rest ∙ h
 
 module _ (big : Bool) (p : Built) (texts : StringTables) where
   abbrev own_cause : ℕ × LineText → Option Error
   own_cause t = text_cause p.encoding.format texts t
 
-  entry-refusal : (f : File) → refusal (file_entry_bytes plain big p.encoding.format texts p f) ≡ first_of (map own_cause (file_texts p texts f))
+  entry-refusal : (f : File)
+      → refusal (file_entry_bytes plain big p.encoding.format texts p f)
+      ≡ first_of (map own_cause (file_texts p texts f))
   entry-refusal f =
       let format = p.encoding.format in
       let path_form = first_form (path_texts p.files) in
@@ -111,9 +124,11 @@ module _ (big : Bool) (p : Built) (texts : StringTables) where
       let written = source_bytes plain big format texts p f in
       let details = Ok (detail_bytes p f) in
       joined-refusal path (result_append details written)
-      ∙ ap (λ (c : Option Error). or_first c (refusal (result_append details written))) (formed-refusal format texts big path_form f.0.0)
+      ∙ ap (λ (c : Option Error). or_first c (refusal (result_append details written)))
+      (formed-refusal format texts big path_form f.0.0)
       ∙ ap (λ (c : Option Error). or_first (own_cause (path_form, f.0.0)) c)
-      (after-refusal (detail_bytes p f) written (first_of (map own_cause last)) (source-refusal format texts big p.file_has_source form source))
+      (after-refusal (detail_bytes p f) written (first_of (map own_cause last))
+      (source-refusal format texts big p.file_has_source form source))
       ∙ sym (first_apart (own_cause (path_form, f.0.0)) (map own_cause last))
 
   directory_table-refusal : refusal (directory_table_bytes plain big p.encoding.format texts p)
@@ -137,8 +152,10 @@ module _ (big : Bool) (p : Built) (texts : StringTables) where
       (parts-refusal _ _ entry-refusal _
       ∙ sym (causes_flat own_cause own p.files))
 
-  new-refusal : refusal (result_append (directory_table_bytes plain big p.encoding.format texts p) (file_table_bytes plain big p.encoding.format texts p))
-      ≡ first_of (map own_cause (map (λ (t : LineText). (first_form p.directories, t)) p.directories ++ flat_map (file_texts p texts) p.files))
+  new-refusal : refusal (result_append (directory_table_bytes plain big p.encoding.format texts p)
+      (file_table_bytes plain big p.encoding.format texts p))
+      ≡ first_of (map own_cause
+      (map (λ (t : LineText). (first_form p.directories, t)) p.directories ++ flat_map (file_texts p texts) p.files))
   new-refusal =
       let directories = directory_table_bytes plain big p.encoding.format texts p in
       let files = file_table_bytes plain big p.encoding.format texts p in
@@ -155,7 +172,8 @@ module _ (big : Bool) (p : Built) (texts : StringTables) where
   pub tables-refusal : refusal (tables_bytes plain big p texts) ≡ first_of (map own_cause (emitted_texts p texts))
   tables-refusal =
       by (nat_le p.encoding.version 4) (result_append (directories_bytes p.directories) (files_bytes p.files))
-      (result_append (directory_table_bytes plain big p.encoding.format texts p) (file_table_bytes plain big p.encoding.format texts p))
+      (result_append (directory_table_bytes plain big p.encoding.format texts p)
+      (file_table_bytes plain big p.encoding.format texts p))
       (map (λ (t : LineText). (0x08, t)) (drop 1 p.directories ++ path_texts p.files))
       (map (λ (t : LineText). (first_form p.directories, t)) p.directories ++ flat_map (file_texts p texts) p.files)
       (old-refusal p.encoding.format texts p.directories p.files) new-refusal

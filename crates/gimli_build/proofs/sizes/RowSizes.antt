@@ -1,5 +1,6 @@
 -- How many instructions and bytes a row has.
-use Rattle.std.proofs.Common.{◌≡◌, ℕ, ◌+◌, ◌-◌, ◌*◌, ◌/◌, ◌%◌, ◌<◌, ◌≤◌, Bool, true, false, not, List, [], ◌∷◌, ◌++◌, length, refl, sym, ap, ◌∙◌, arith, lit≤}
+use Rattle.std.proofs.Common.{◌≡◌, ℕ, ◌+◌, ◌-◌, ◌*◌, ◌/◌, ◌%◌, ◌<◌, ◌≤◌, Bool, true, false, not, List, [], ◌∷◌, ◌++◌}
+use Rattle.std.proofs.Common.{length, refl, sym, ap, ◌∙◌, arith, lit≤}
 use Rattle.std.proofs.Common.{nat_eq, nat_le, if◌then◌else◌, ℤ, pos, ◌+ℤ◌, ◌-ℤ◌, ◌≤ℤ◌, ◌<ℤ◌, Some}
 use Rattle.std.specs.Prelude.{unsigned_abs, int_le, int_lt}
 use Rattle.std.proofs.Math.Nat.{mod-lt, div-add-mod'}
@@ -9,8 +10,15 @@ use Rattle.std.proofs.lemmas.Bool.{le-leb}
 use Rattle.std.proofs.lemmas.Bool.Decides.{nat_tests}
 use Rattle.gimli_core.specs.declared.common.Encoding.{Encoding}
 use Rattle.gimli_core.specs.declared.common.LineEncoding.{LineEncoding}
-use Rattle.gimli_line.specs.declared.run.instruction.LineInstruction.TheVariants.{Special, Copy, AdvancePc, AdvanceLine, SetFile, SetColumn, NegateStatement}
-use Rattle.gimli_line.specs.declared.run.instruction.LineInstruction.TheVariants.{SetBasicBlock, ConstAddPc, SetPrologueEnd, SetEpilogueBegin, SetIsa}
+use Rattle.gimli_line.specs.declared.run.instruction.LineInstruction.TheVariants.{Special, Copy, AdvancePc, AdvanceLine}
+use Rattle.gimli_line.specs.declared.run.instruction.LineInstruction.TheVariants.{SetFile, SetColumn, NegateStatement}
+use Rattle.gimli_line.specs.declared.run.instruction.LineInstruction.TheVariants.{
+  SetBasicBlock,
+  ConstAddPc,
+  SetPrologueEnd,
+  SetEpilogueBegin,
+  SetIsa,
+}
 use Rattle.gimli_line.specs.declared.run.instruction.LineInstruction.TheVariants.{SetDiscriminator}
 use Rattle.gimli_line.specs.run.Instruction.{Ins}
 use Rattle.gimli_line.specs.run.OperationPointer.{operation_advance}
@@ -18,7 +26,8 @@ use Rattle.gimli_build.specs.declared.built.row.LineRow.{LineRow}
 use Rattle.gimli_build.specs.FileNumber.{file_number}
 use Rattle.gimli_build.specs.Advance.{CanEncode, operations}
 use Rattle.gimli_build.specs.Due.{when}
-use Rattle.gimli_build.specs.Encode.{marks, changes, differ, line_part, line_opcode, is_special_advance, still_opcode, row_maker, constant_advance}
+use Rattle.gimli_build.specs.Encode.{marks, changes, differ, line_part, line_opcode, is_special_advance, still_opcode}
+use Rattle.gimli_build.specs.Encode.{row_maker, constant_advance}
 use Rattle.gimli_build.specs.Encode.{operation_part, row_instructions}
 use Rattle.gimli_build.specs.InstructionBytes.{instruction_bytes, instructions_bytes}
 use Rattle.gimli_build.specs.SameRow.{built_rules}
@@ -30,8 +39,10 @@ when_short : (due : Bool) (i : Ins) → length (when due i) ≤ 1
 when_short true i = lit≤ tt
 when_short false i = lit≤ tt
 
-four_short : (a b c d : List Ins) → length a ≤ 1 → length b ≤ 1 → length c ≤ 1 → length d ≤ 1 → length (a ++ b ++ c ++ d) ≤ 4
-four_short a b c d ha hb hc hd = omega (arith, length-append (a ++ b ++ c) d, length-append (a ++ b) c, length-append a b)
+four_short : (a b c d : List Ins) → length a ≤ 1 → length b ≤ 1 → length c ≤ 1 → length d ≤ 1
+    → length (a ++ b ++ c ++ d) ≤ 4
+four_short a b c d ha hb hc hd =
+    omega (arith, length-append (a ++ b ++ c) d, length-append (a ++ b) c, length-append a b)
 
 line_short : (e : LineEncoding) (d : ℤ) → length (line_part e d) ≤ 1
 line_short e d = by (is_special_advance e d)
@@ -41,16 +52,20 @@ line_short e d = by (is_special_advance e d)
     by false = lit≤ tt
 
 operations_short : (e : LineEncoding) (s n : ℕ) → length (operation_part e s n) ≤ 2
-operations_short e s n = by (nat_le (s + n * e.line_range) 255) (nat_le (s + (n - constant_advance e) * e.line_range) 255)
+operations_short e s n =
+    by (nat_le (s + n * e.line_range) 255) (nat_le (s + (n - constant_advance e) * e.line_range) 255)
   where
     by : (b c : Bool) → length {A = Ins} (if b then row_maker e (s + n * e.line_range) ∷ []
-        else (if c then ConstAddPc ∷ row_maker e (s + (n - constant_advance e) * e.line_range) ∷ [] else AdvancePc n ∷ row_maker e s ∷ [])) ≤ 2
+        else (if c then ConstAddPc ∷ row_maker e (s + (n - constant_advance e) * e.line_range) ∷ []
+        else AdvancePc n ∷ row_maker e s ∷ []))
+        ≤ 2
     by true c = lit≤ tt
     by false true = lit≤ tt
     by false false = lit≤ tt
 
 -- eleven at most
-pub row_short : (version : ℕ) (e : LineEncoding) (previous built : LineRow) → length (row_instructions version e previous built) ≤ 11
+pub row_short : (version : ℕ) (e : LineEncoding) (previous built : LineRow)
+    → length (row_instructions version e previous built) ≤ 11
 row_short version e previous built =
     let d = pos built.line -ℤ pos previous.line in
     let n = operations e previous.address_offset previous.op_index built.address_offset built.op_index in
@@ -59,14 +74,15 @@ row_short version e previous built =
     let l = line_part e d in
     let o = operation_part e (line_opcode e d) n in
     let hm : length m
-    ≤ 4 = four_short (when (not (nat_eq built.discriminator 0)) (SetDiscriminator built.discriminator)) (when built.basic_block SetBasicBlock)
-    (when built.prologue_end SetPrologueEnd) (when built.epilogue_begin SetEpilogueBegin)
-    (when_short (not (nat_eq built.discriminator 0)) (SetDiscriminator built.discriminator)) (when_short built.basic_block SetBasicBlock)
+    ≤ 4 = four_short _ _
+    _ _
+    (when_short (not (nat_eq built.discriminator 0)) (SetDiscriminator built.discriminator))
+    (when_short built.basic_block SetBasicBlock)
     (when_short built.prologue_end SetPrologueEnd) (when_short built.epilogue_begin SetEpilogueBegin) in
     let hc : length c
-    ≤ 4 = four_short (when (differ built.is_statement previous.is_statement) NegateStatement)
-    (when (not (nat_eq built.file previous.file)) (SetFile (file_number version built.file)))
-    (when (not (nat_eq built.column previous.column)) (SetColumn built.column)) (when (not (nat_eq built.isa previous.isa)) (SetIsa built.isa))
+    ≤ 4 = four_short _
+    _
+    _ _
     (when_short (differ built.is_statement previous.is_statement) NegateStatement)
     (when_short (not (nat_eq built.file previous.file)) (SetFile (file_number version built.file)))
     (when_short (not (nat_eq built.column previous.column)) (SetColumn built.column))
@@ -85,13 +101,14 @@ not_turned true b h = rw (← h) refl
 not_turned false b h = rw (← h) refl
 
 -- a row that only moves says nothing outright
-silent : (version : ℕ) (previous built : LineRow) → OnlyMoves previous built → marks built ++ changes version previous built ≡ []
+silent : (version : ℕ) (previous built : LineRow) → OnlyMoves previous built
+    → marks built ++ changes version previous built ≡ []
 silent version previous built only =
-    let a1 = not_due built.discriminator 0 (SetDiscriminator built.discriminator) only.discriminator in
-    let a5 = not_turned built.is_statement previous.is_statement only.is_statement in
-    let a6 = not_due built.file previous.file (SetFile (file_number version built.file)) only.file in
-    let a7 = not_due built.column previous.column (SetColumn built.column) only.column in
-    let a8 = not_due built.isa previous.isa (SetIsa built.isa) only.isa in
+    let a1 = not_due _ 0 (SetDiscriminator built.discriminator) only.discriminator in
+    let a5 = not_turned _ _ only.is_statement in
+    let a6 = not_due _ _ (SetFile (file_number version built.file)) only.file in
+    let a7 = not_due _ _ (SetColumn built.column) only.column in
+    let a8 = not_due _ _ (SetIsa built.isa) only.isa in
     rw (a1, only.basic_block, only.prologue_end, only.epilogue_begin, a5, a6, a7, a8) refl
 
 maker_bytes : (e : LineEncoding) (s : ℕ) → length (instruction_bytes (row_maker e s)) ≡ 1
@@ -111,7 +128,8 @@ record Parts (e : LineEncoding) (d : ℤ) (n : ℕ) : Type 0 where
 some_same : {A : Type 0} (x y : A) → Some x ≡ Some y → x ≡ y
 some_same x y e = cc
 
-parts_of : (encoding : Encoding) (e : LineEncoding) (d : ℤ) (n : ℕ) → CanEncode e → HasSpecial (built_rules encoding e) d n → Parts e d n
+parts_of : (encoding : Encoding) (e : LineEncoding) (d : ℤ) (n : ℕ) → CanEncode e
+    → HasSpecial (built_rules encoding e) d n → Parts e d n
 parts_of encoding e d n can has =
     let g = e.line_range in
     let z = has.opcode - 13 in
@@ -137,7 +155,8 @@ special_line e d n p =
     rw (first, second) refl
 
 -- the bytes of a row that only moves, where special opcodes have its line advance
-module _ (encoding : Encoding) (e : LineEncoding) (previous built : LineRow) (can : CanEncode e) (only : OnlyMoves previous built) where
+module _ (encoding : Encoding) (e : LineEncoding) (previous built : LineRow) (can : CanEncode e)
+    (only : OnlyMoves previous built) where
   abbrev advance : ℤ
   advance = pos built.line -ℤ pos previous.line
 
@@ -155,21 +174,24 @@ module _ (encoding : Encoding) (e : LineEncoding) (previous built : LineRow) (ca
   above_is : (n : ℕ) (p : Parts e advance n) → p.above ≡ unsigned_abs (advance -ℤ e.line_base)
   above_is n p = omega (arith, ints, p.line)
 
-  pub one_byte : HasSpecial (built_rules encoding e) advance count → length (instructions_bytes (row_instructions encoding.version e previous built)) ≡ 1
+  pub one_byte : HasSpecial (built_rules encoding e) advance count
+      → length (instructions_bytes (row_instructions encoding.version e previous built)) ≡ 1
   one_byte has =
       let p = parts_of _ e _ _ can has in
       let whole = left _ (special_line e _ count p) (above_is count p) in
-      let room : nat_le (13 + p.above + count * e.line_range) 255 ≡ true = le-leb (13 + p.above + count * e.line_range) 255 p.fits in
+      let room : nat_le (13 + p.above + count * e.line_range) 255
+      ≡ true = le-leb (13 + p.above + count * e.line_range) 255 p.fits in
       ap (λ is. length (instructions_bytes is)) whole ∙ rw room (one_maker _)
     where
       one_maker : (s : ℕ) → length (instructions_bytes (row_maker e s ∷ [])) ≡ 1
       one_maker s = omega (arith, length-append (instruction_bytes (row_maker e s)) [], maker_bytes e s)
 
-  pub two_bytes : (q : ℕ) → operation_advance (built_rules encoding e) ConstAddPc ≡ Some q → HasSpecial (built_rules encoding e) advance (count - q)
+  pub two_bytes : (q : ℕ) → operation_advance (built_rules encoding e) ConstAddPc ≡ Some q
+      → HasSpecial (built_rules encoding e) advance (count - q)
       → length (instructions_bytes (row_instructions encoding.version e previous built)) ≤ 2
   two_bytes q is has =
-      let constant : constant_advance e ≡ q = some_same (constant_advance e) q is in
-      let p = parts_of encoding e advance (count - q) can has in
+      let constant : constant_advance e ≡ q = some_same _ q is in
+      let p = parts_of _ e _ _ can has in
       let whole = left p.above (special_line e advance (count - q) p) (above_is (count - q) p) in
       let fits : 13 + p.above + (count - constant_advance e) * e.line_range ≤ 255 = rw constant p.fits in
       let room : nat_le (13 + p.above + (count - constant_advance e) * e.line_range) 255
@@ -182,7 +204,9 @@ module _ (encoding : Encoding) (e : LineEncoding) (previous built : LineRow) (ca
       by : (u : ℕ) → nat_le (13 + u + (count - constant_advance e) * e.line_range) 255 ≡ true → (b : Bool)
           → length (instructions_bytes (if b then row_maker e (13 + u + count * e.line_range) ∷ []
           else (if nat_le (13 + u + (count - constant_advance e) * e.line_range) 255
-          then ConstAddPc ∷ row_maker e (13 + u + (count - constant_advance e) * e.line_range) ∷ [] else AdvancePc count ∷ row_maker e (13 + u) ∷ [])))
+          then ConstAddPc ∷ row_maker e (13 + u + (count - constant_advance e) * e.line_range) ∷ []
+          else AdvancePc count ∷ row_maker e (13 + u) ∷ [])))
           ≤ 2
       by u room true = let one = one_maker (13 + u + count * e.line_range) in omega (arith, one)
-      by u room false = rw room (let one = one_maker (13 + u + (count - constant_advance e) * e.line_range) in omega (arith, one))
+      by u room false =
+          rw room (let one = one_maker (13 + u + (count - constant_advance e) * e.line_range) in omega (arith, one))

@@ -1,6 +1,7 @@
 -- How many operations one position is after another.
 use Rattle.std.proofs.Common.{◌≡◌, ℕ, zero, suc, ◌+◌, ◌-◌, ◌*◌, ◌/◌, ◌%◌, ◌<◌, ◌≤◌, arith, ap, ◌∙◌, inl, inr, refl}
-use Rattle.std.proofs.Math.Nat.{mul-le-mul_right, mod-eq_of_lt, div-eq_of_lt, mul-div_cancel, add-mul-div_right, add-mul-mod_self_right, add-mul, mul_comm}
+use Rattle.std.proofs.Math.Nat.{mul-le-mul_right, mod-eq_of_lt, div-eq_of_lt, mul-div_cancel, add-mul-div_right}
+use Rattle.std.proofs.Math.Nat.{add-mul-mod_self_right, add-mul, mul_comm}
 use Rattle.std.proofs.Math.Nat.{div-mul-le_self}
 use Rattle.std.proofs.lemmas.Nat.{div-add-mod', le-div}
 use Rattle.std.proofs.lemmas.Bool.{cases_lt}
@@ -16,7 +17,8 @@ apart_by m p o hp ho lt =
     ]
 
 -- the operations from a position to a later one aren't fewer than those of the first in its own instruction
-pub operations_above : (m k p j o i : ℕ) → 0 < m → p % m ≡ 0 → o % m ≡ 0 → p ≤ o → (o ≡ p → j ≤ i) → j < k → j ≤ (o - p) / m * k + i
+pub operations_above : (m k p j o i : ℕ) → 0 < m → p % m ≡ 0 → o % m ≡ 0 → p ≤ o → (o ≡ p → j ≤ i) → j < k
+    → j ≤ (o - p) / m * k + i
 operations_above m k p j o i pm hp ho le same jk =
     elim (cases_lt p o) [
       | inl below ↦
@@ -52,14 +54,18 @@ taken_apart k t i lt =
 -- a special opcode by its parts
 pub special_parts : (g u n : ℕ) → 1 ≤ g → u < g → ((13 + u + n * g - 13) % g ≡ u) × ((13 + u + n * g - 13) / g ≡ n)
 special_parts g u n pg lt =
-    let off : 13 + u + n * g - 13 ≡ u + n * g = omega arith in
-    (rw off (add-mul-mod_self_right u n g ∙ mod-eq_of_lt lt), rw off (add-mul-div_right u n (omega arith) ∙ (let z = div-eq_of_lt lt in omega (arith, z))))
+    let off : 13 + u + n * g - 13 ≡ u + n * g = omega arith in (
+      rw off (add-mul-mod_self_right u n g ∙ mod-eq_of_lt lt),
+      rw off (add-mul-div_right u n (omega arith) ∙ (let z = div-eq_of_lt lt in omega (arith, z))),
+    )
 
 -- where one special opcode doesn't do, there are as many operations as const_add_pc has
 pub enough_of : (g u n q : ℕ) → 1 ≤ g → u < g → 255 < 13 + u + n * g → q * g ≤ 242 → q ≤ n
 enough_of g u n q pg lt over le =
     elim (cases_lt n q) [
-      | inl below ↦ absurd (let up : (n + 1) * g ≤ q * g = mul-le-mul_right g (omega arith) in let d = add-mul n 1 g in omega (arith, up, d))
+      | inl below ↦
+          absurd (let up : (n + 1) * g ≤ q * g = mul-le-mul_right g (omega arith) in let d = add-mul n 1 g in
+          omega (arith, up, d))
       | inr above ↦ above
     ]
 

@@ -1,22 +1,226 @@
--- How many bytes a unit is, where it is written.
-use Rattle.std.proofs.Common.{◌≡◌, ℕ, ◌+◌, Bool, true, false, List, [], ◌∷◌, Ok, Err, refl, arith, if◌then◌else◌, nat_le}
-use Rattle.std.specs.Prelude.{Result}
+-- How many bytes the parts of a unit have, its tables, and a unit.
+use Rattle.std.proofs.Common.{◌≡◌, ℕ, ◌+◌, Bool, true, false, List, [], ◌∷◌, Ok, Err, refl, arith, if◌then◌else◌}
+use Rattle.std.proofs.Common.{nat_le, ◌++◌, length, drop, sym, ap, ◌∙◌}
+use Rattle.std.specs.Prelude.{Result, sum_by, unwrap_or}
 use Rattle.gimli_core.specs.Numbers.{word_size}
 use Rattle.gimli_core.specs.declared.common.Encoding.{Encoding}
 use Rattle.gimli_core.specs.declared.common.LineEncoding.{LineEncoding}
 use Rattle.gimli_bytes.specs.Hand.{plain}
 use Rattle.gimli_bytes.specs.declared.error.Error.{Error}
-use Rattle.gimli_bytes.specs.declared.error.Error.TheVariants.{NeedVersion}
+use Rattle.gimli_bytes.specs.declared.error.Error.TheVariants.{NeedVersion, LineStringFormMismatch}
 use Rattle.gimli_bytes.specs.Texts.{StringTables}
 use Rattle.gimli_bytes.proofs.RelocationLemmas.{length-number}
 use Rattle.gimli_build.specs.Built.{Built}
 use Rattle.gimli_build.specs.FormatWord.{format_word}
-use Rattle.gimli_build.specs.Joined.{result_append}
-use Rattle.gimli_build.specs.Unit.{version_bytes, opening_bytes, operations_bytes, line_encoding_bytes, flag_byte, base_byte, opcode_bytes, tables_bytes}
-use Rattle.gimli_build.specs.Unit.{fields_bytes, header_bytes, program_bytes, inside_bytes}
-use Rattle.gimli_build.specs.Cause.{tables_size, header_length, size_of, unit_length}
-use Rattle.gimli_build.proofs.sizes.PartSizes.{HasSize, size_of_ok, size_of_none, size_as, size_tested, size_joined, size_after, format_word_size}
-use Rattle.gimli_build.proofs.sizes.TableSizes.{tables-size}
+use Rattle.gimli_build.specs.Joined.{result_append, result_concat, after_length}
+use Rattle.gimli_build.specs.Unit.{version_bytes, opening_bytes, operations_bytes, line_encoding_bytes, flag_byte}
+use Rattle.gimli_build.specs.Unit.{base_byte, opcode_bytes, tables_bytes, fields_bytes, header_bytes, program_bytes}
+use Rattle.gimli_build.specs.Unit.{inside_bytes}
+use Rattle.gimli_build.specs.Cause.{tables_size, header_length, size_of, unit_length, text_size, file_size, entry_size}
+use Rattle.std.proofs.lemmas.List.{length-append}
+use Rattle.std.proofs.lemmas.List.Sums.{sum_by-cons}
+use Rattle.gimli_core.specs.declared.common.Format.{Format}
+use Rattle.gimli_bytes.specs.Number.{uleb}
+use Rattle.gimli_build.specs.LineText.{LineText, Inline, InStrings, InLineStrings}
+use Rattle.gimli_build.specs.Tables.{File}
+use Rattle.gimli_build.specs.Version4Tables.{name_bytes, directories_bytes, file_bytes, files_bytes}
+use Rattle.gimli_build.specs.Version5Tables.{first_form, path_texts, sources, empty_text, directory_formats}
+use Rattle.gimli_build.specs.Version5Tables.{file_formats, formats_bytes, detail_bytes, text_bytes, text_in_form}
+use Rattle.gimli_build.specs.Version5Tables.{directory_table_bytes, source_bytes, file_entry_bytes, file_table_bytes}
+use Rattle.gimli_core.specs.declared.common.Format.TheVariants.{Dwarf32, Dwarf64}
+
+-- these are so many bytes, where they are written
+abbrev pub HasSize : Result (List ℕ) Error → ℕ → Type 0
+HasSize written n = (bytes : List ℕ) → written ≡ Ok bytes → length bytes ≡ n
+
+-- ---- parts
+
+pub size_of_ok : (own : List ℕ) → HasSize (Ok own) (length own)
+size_of_ok own bytes is = let same : own ≡ bytes = cc in ap length (sym same)
+
+pub size_of_none : (e : Error) (n : ℕ) → HasSize (Err e) n
+size_of_none e n bytes is = absurd cc
+
+pub size_as : (written : Result (List ℕ) Error) (m n : ℕ) → m ≡ n → HasSize written m → HasSize written n
+size_as written m n same size bytes is = size bytes is ∙ same
+
+pub size_tested : (test : Bool) (own : List ℕ) (e : Error) → HasSize (if test then Ok own else Err e) (length own)
+size_tested true own e = size_of_ok _
+size_tested false own e = size_of_none e _
+
+-- one of two, as a test says
+pub size_either : (test : Bool) (first second : Result (List ℕ) Error) (m n : ℕ) → HasSize first m → HasSize second n
+    → HasSize (if test then first else second) (if test then m else n)
+size_either true first second m n one other = one
+size_either false first second m n one other = other
+
+pub size_joined : (first rest : Result (List ℕ) Error) (m n : ℕ) → HasSize first m → HasSize rest n
+    → HasSize (result_append first rest) (m + n)
+size_joined (Ok a) (Ok b) m n first rest bytes is =
+    let same : a ++ b ≡ bytes = cc in
+    ap length (sym same) ∙ length-append a b ∙ ap (λ k. k + length b) (first a refl) ∙ ap (λ k. m + k) (rest b refl)
+size_joined (Ok a) (Err e) m n first rest bytes is = absurd cc
+size_joined (Err e) written m n first rest bytes is = absurd cc
+
+pub size_parts : {A : Type 0} (part : A → Result (List ℕ) Error) (size : A → ℕ) → ((x : A) → HasSize (part x) (size x))
+    → (xs : List A) → HasSize (result_concat part xs) (sum_by size xs)
+size_parts part size each [] = size_of_ok _
+size_parts part size each (x ∷ xs) =
+    size_as _ _ _ (sym (sum_by-cons size x xs))
+    (size_joined _ _ _ _ (each x) (size_parts part size each xs))
+
+pub size_after : (length_of : ℕ → Result (List ℕ) Error) (counted : Result (List ℕ) Error) (m n : ℕ)
+    → ((k : ℕ) → HasSize (length_of k) m) → HasSize counted n
+    → HasSize (after_length length_of counted) (m + n)
+size_after length_of (Ok own) m n before counted = size_joined _ _ m n (before (length own)) counted
+size_after length_of (Err e) m n before counted = size_of_none e _
+
+-- ---- numbers
+
+-- a word of a format
+pub format_word_size : (big : Bool) (format : Format) (n : ℕ) → HasSize (format_word big format n) (word_size format)
+format_word_size big Dwarf32 n =
+    size_as _ _ 4 (length-number _ 4 n)
+    (size_tested _ _ _)
+format_word_size big Dwarf64 n =
+    size_as _ _ 8 (length-number _ 8 n) (size_of_ok _)
+
+-- ---- how many bytes a unit is, where it is written
+
+-- ---- up to version 4
+
+name_size : (format : Format) (t : LineText) → HasSize (name_bytes t) (text_size format t)
+name_size format (Inline text) =
+    size_as _ _ _ (length-append text (0 ∷ [])) (size_of_ok _)
+name_size format (InStrings i) = size_of_none _ _
+name_size format (InLineStrings i) = size_of_none _ _
+
+directories_size : (format : Format) (directories : List LineText)
+    → HasSize (directories_bytes directories) (sum_by (text_size format) (drop 1 directories) + 1)
+directories_size format directories =
+    size_joined _ _ _ 1
+    (size_parts _ _ (name_size format) (drop 1 directories)) (size_of_ok (0 ∷ []))
+
+three_lengths : (a b c : List ℕ) (n : ℕ) → n + length (a ++ b ++ c) ≡ n + length a + length b + length c
+three_lengths a b c n =
+    let whole = length-append (a ++ b) c in
+    let first = length-append a b in
+    omega (arith, whole, first)
+
+one_file_size : (format : Format) (f : File) → HasSize (file_bytes f) (file_size format f)
+one_file_size format f =
+    let numbers = uleb f.0.1 ++ uleb f.1.timestamp ++ uleb f.1.size in
+    let path = text_size format f.0.0 in
+    size_as _ _ _ (three_lengths _ _ _ _)
+    (size_joined _ _ _ _ (name_size _ _) (size_of_ok _))
+
+files_size : (format : Format) (files : List File) → HasSize (files_bytes files) (sum_by (file_size format) files + 1)
+files_size format files =
+    size_joined _ _ _ 1
+    (size_parts _ _ (one_file_size format) files) (size_of_ok (0 ∷ []))
+
+-- ---- texts of version 5
+
+nothing_first : (n : ℕ) → n ≡ 0 + n
+nothing_first n = omega arith
+
+module _ (big : Bool) (format : Format) (texts : StringTables) where
+  stored_size : (t : LineText) → HasSize (text_bytes plain big format texts t) (text_size format t)
+  stored_size (Inline text) = name_size format (Inline text)
+  stored_size (InStrings i) = format_word_size _ _ _
+  stored_size (InLineStrings i) = format_word_size _ _ _
+
+  tested_text : (same : Bool) (t : LineText)
+      → HasSize (if same then text_bytes plain big format texts t else Err LineStringFormMismatch) (text_size format t)
+  tested_text true t = stored_size t
+  tested_text false t = size_of_none _ _
+
+  formed_size : (form : ℕ) (t : LineText) → HasSize (text_in_form plain big format texts form t) (text_size format t)
+  formed_size form t = tested_text _ t
+
+  -- a source that is written, or none
+  source_size : (has : Bool) (form : ℕ) (t : LineText)
+      → HasSize (if has then text_in_form plain big format texts form t else Ok [])
+      (sum_by (λ (s : ℕ × LineText). text_size format s.1) (if has then (form, t) ∷ [] else []))
+  source_size true form t =
+      let size = text_size format t in
+      size_as _ _ _ (nothing_first _) (formed_size _ t)
+  source_size false form t = size_of_ok _
+
+-- ---- tables of version 5
+
+-- formats and a number, and what stands after them
+prefixed_size : (formats number : List ℕ) (rest : Result (List ℕ) Error) (n : ℕ) → HasSize rest n
+    → HasSize (result_append (Ok (formats ++ number)) rest) (length formats + length number + n)
+prefixed_size formats number rest n size =
+    size_as _ _ _
+    (ap (λ k. k + n) (length-append formats number))
+    (size_joined _ _ _ n (size_of_ok _) size)
+
+path_first : (path details source : ℕ) → path + (details + source) ≡ (path + source) + details
+path_first path details source = omega arith
+
+module _ (big : Bool) (p : Built) (texts : StringTables) where
+  one_entry_size : (f : File) → HasSize (file_entry_bytes plain big p.encoding.format texts p f) (entry_size p texts f)
+  one_entry_size f =
+      let format = p.encoding.format in
+      let form = first_form (sources p.files) in
+      let source = unwrap_or f.1.source (empty_text form texts) in
+      let sized = λ (s : ℕ × LineText). text_size format s.1 in
+      let last = if p.file_has_source then (form, source) ∷ [] else [] in
+      let path = text_size format f.0.0 in
+      let details = length (detail_bytes p f) in
+      let written = source_bytes plain big format texts p f in
+      size_as _ _ _
+      (path_first path details (sum_by sized last)
+      ∙ ap (λ (k : ℕ). k + details) (sym (sum_by-cons sized (first_form (path_texts p.files), f.0.0) last)))
+      (size_joined _ _ _
+      _
+      (formed_size big format texts (first_form (path_texts p.files)) f.0.0)
+      (size_joined _ _ _ _ (size_of_ok (detail_bytes p f))
+      (source_size big format texts p.file_has_source form source)))
+
+  directory_table_size : HasSize (directory_table_bytes plain big p.encoding.format texts p)
+      (length (formats_bytes (directory_formats p)) + length (uleb (length p.directories))
+      + sum_by (text_size p.encoding.format) p.directories)
+  directory_table_size =
+      let format = p.encoding.format in
+      let form = first_form p.directories in
+      prefixed_size (formats_bytes (directory_formats p)) (uleb (length p.directories))
+      _ _
+      (size_parts _ _ (formed_size big format texts form) p.directories)
+
+  file_table_size : HasSize (file_table_bytes plain big p.encoding.format texts p)
+      (length (formats_bytes (file_formats p)) + length (uleb (length p.files)) + sum_by (entry_size p texts) p.files)
+  file_table_size =
+      let entry = file_entry_bytes plain big p.encoding.format texts p in
+      prefixed_size (formats_bytes (file_formats p)) (uleb (length p.files)) _ _
+      (size_parts _ _ one_entry_size _)
+
+  -- ---- both
+
+  -- the tables are as long as is said
+  pub tables-size : HasSize (tables_bytes plain big p texts) (tables_size p texts)
+  tables-size =
+      let format = p.encoding.format in
+      let old_directories = sum_by (text_size format) (drop 1 p.directories) + 1 in
+      let old_files = sum_by (file_size format) p.files + 1 in
+      let directories =
+      length (formats_bytes (directory_formats p)) + length (uleb (length p.directories))
+      + sum_by (text_size format) p.directories in
+      let files =
+      length (formats_bytes (file_formats p)) + length (uleb (length p.files))
+      + sum_by (entry_size p texts) p.files in
+      let directory_table = directory_table_bytes plain big format texts p in
+      let file_table = file_table_bytes plain big format texts p in
+      size_either (nat_le p.encoding.version 4) _
+      _
+      _ _
+      (size_joined _ _ _ _ (directories_size format p.directories)
+      (files_size format p.files))
+      (size_joined _ _ _ _ directory_table_size file_table_size)
+
+-- ---- how many bytes a unit is, where it is written
 
 -- ---- the version and what stands with it
 
@@ -30,14 +234,16 @@ opened_size : (old : Bool) (version : Result (List ℕ) Error) (address_size : �
 opened_size true version address_size size = size_joined _ _ 2 0 size (size_of_ok _)
 opened_size false version address_size size = size_joined _ _ 2 2 size (size_of_ok _)
 
-opening_size : (big : Bool) (encoding : Encoding) → HasSize (opening_bytes big encoding) (if nat_le encoding.version 4 then 2 else 4)
+opening_size : (big : Bool) (encoding : Encoding)
+    → HasSize (opening_bytes big encoding) (if nat_le encoding.version 4 then 2 else 4)
 opening_size big encoding =
     opened_size _ _ encoding.address_size (version_size big encoding.version)
 
 -- ---- what the header length counts
 
 operations_size : (fourth one : Bool) (operations : ℕ)
-    → HasSize (if fourth then Ok (operations ∷ []) else (if one then Ok [] else Err (NeedVersion 4))) (if fourth then 1 else 0)
+    → HasSize (if fourth then Ok (operations ∷ []) else (if one then Ok [] else Err (NeedVersion 4)))
+    (if fourth then 1 else 0)
 operations_size true one operations = size_of_ok _
 operations_size false one operations = size_tested _ _ _
 
@@ -45,7 +251,8 @@ encoding_count : (fourth : Bool) → 1 + ((if fourth then 1 else 0) + 3) ≡ (if
 encoding_count true = refl
 encoding_count false = refl
 
-line_encoding_size : (version : ℕ) (e : LineEncoding) → HasSize (line_encoding_bytes version e) (if nat_le 4 version then 5 else 4)
+line_encoding_size : (version : ℕ) (e : LineEncoding)
+    → HasSize (line_encoding_bytes version e) (if nat_le 4 version then 5 else 4)
 line_encoding_size version e =
     let fourth = nat_le 4 version in
     let operations = operations_bytes version e.maximum_operations_per_instruction in
@@ -73,17 +280,17 @@ module _ (big : Bool) (p : Built) (texts : StringTables) where
       let encoding = if nat_le 4 p.encoding.version then 5 else 4 in
       let tables = tables_bytes plain big p texts in
       let count = tables_size p texts in
-      size_as (fields_bytes plain big p texts) (encoding + (13 + count)) (header_length p texts) (three_parts encoding 13 count)
-      (size_joined (line_encoding_bytes p.encoding.version p.line_encoding) (result_append (Ok opcode_bytes) tables) encoding (13 + count)
+      size_as _ _ _ (three_parts encoding 13 count)
+      (size_joined _ _ _ _
       (line_encoding_size p.encoding.version p.line_encoding)
-      (size_joined (Ok opcode_bytes) tables 13 count (size_of_ok opcode_bytes) (tables-size big p texts)))
+      (size_joined _ _ _ _ (size_of_ok opcode_bytes) (tables-size big p texts)))
 
   -- ---- what the unit length counts
 
   header_size : HasSize (header_bytes plain big p texts) (word_size p.encoding.format + header_length p texts)
   header_size =
       let word = word_size p.encoding.format in
-      size_after (λ n. format_word big p.encoding.format n) (fields_bytes plain big p texts) word (header_length p texts)
+      size_after (λ n. format_word big p.encoding.format n) _ word _
       (λ n. format_word_size big p.encoding.format n) fields_size
 
   -- what the unit length counts is as long as it says
@@ -94,8 +301,8 @@ module _ (big : Bool) (p : Built) (texts : StringTables) where
       let program = size_of (program_bytes plain big p) in
       let header = header_bytes plain big p texts in
       let counted = header_length p texts in
-      size_as (inside_bytes plain big p texts) (opening + ((word + counted) + program)) (unit_length big p texts)
+      size_as _ _ _
       (two_and_two opening word counted program)
-      (size_joined (opening_bytes big p.encoding) (result_append header (program_bytes plain big p)) opening ((word + counted) + program)
+      (size_joined _ _ _ _
       (opening_size big p.encoding)
-      (size_joined header (program_bytes plain big p) (word + counted) program header_size (own_size (program_bytes plain big p))))
+      (size_joined _ _ _ _ header_size (own_size (program_bytes plain big p))))

@@ -1,5 +1,6 @@
 -- The bytes of the fixed fields of a unit spell them.
-use Rattle.std.proofs.Common.{◌≡◌, ℕ, ◌<◌, ◌≤◌, ◌^◌, Bool, true, false, List, [], ◌∷◌, ◌++◌, length, Ok, Err, refl, sym, ap, arith, lit<}
+use Rattle.std.proofs.Common.{◌≡◌, ℕ, ◌<◌, ◌≤◌, ◌^◌, Bool, true, false, List, [], ◌∷◌, ◌++◌, length, Ok, Err, refl, sym}
+use Rattle.std.proofs.Common.{ap, arith, lit<}
 use Rattle.std.specs.Prelude.{Result, not, nat_eq, nat_le, nat_lt, ◌&&◌, if◌then◌else◌, ℤ, FitsSigned, IsTrue}
 use Rattle.std.specs.Int.{w8, cast_signed}
 use Rattle.std.proofs.Common.{rules}
@@ -8,23 +9,30 @@ use Rattle.std.proofs.lemmas.Bool.{ltb-true, leb-true, leb-false, lt-ltb, lt-leb
 use Rattle.std.proofs.lemmas.List.{append-nil}
 use Rattle.gimli_core.specs.Notation.{Notation}
 use Rattle.gimli_core.specs.Numbers.{SpellsNumber, SpellsInitialLength, number_bytes, word_size, is_address_size}
-use Rattle.gimli_core.specs.Production.{Production, ◌>>=◌, done, check, choose, byte, offset_word, unit_length, fits_offset}
+use Rattle.gimli_core.specs.Production.{Production, ◌>>=◌, done, check, choose, byte, offset_word, unit_length}
+use Rattle.gimli_core.specs.Production.{fits_offset}
 use Rattle.gimli_core.specs.declared.common.LineEncoding.{LineEncoding}
 use Rattle.gimli_core.specs.declared.common.Format.{Format}
 use Rattle.gimli_core.specs.declared.common.Format.TheVariants.{Dwarf32, Dwarf64}
 use Rattle.gimli_core.specs.declared.error.Error.{Error as ReadError}
-use Rattle.gimli_core.specs.declared.error.Error.TheVariants.{UnsupportedAddressSize, UnsupportedSegmentSize, MinimumInstructionLengthZero}
+use Rattle.gimli_core.specs.declared.error.Error.TheVariants.{
+  UnsupportedAddressSize,
+  UnsupportedSegmentSize,
+  MinimumInstructionLengthZero,
+}
 use Rattle.gimli_core.specs.declared.error.Error.TheVariants.{MaximumOperationsPerInstructionZero, LineRangeZero}
 use Rattle.gimli_core.proofs.Written.{number_spelled}
 use Rattle.gimli_bytes.specs.Number.{length_word}
 use Rattle.gimli_bytes.specs.declared.error.Error.{Error}
-use Rattle.gimli_bytes.specs.declared.error.Error.TheVariants.{NeedVersion, UnsupportedVersion, ValueTooLarge, InitialLengthOverflow}
+use Rattle.gimli_bytes.specs.declared.error.Error.TheVariants.{NeedVersion, UnsupportedVersion, ValueTooLarge}
+use Rattle.gimli_bytes.specs.declared.error.Error.TheVariants.{InitialLengthOverflow}
 use Rattle.gimli_line.specs.header.Productions.{positive}
 use Rattle.gimli_line.specs.header.HeaderGrammar.{version_production, address_size_production, line_encoding_production}
 use Rattle.gimli_build.specs.Advance.{CanEncode}
 use Rattle.gimli_build.specs.FormatWord.{format_word}
-use Rattle.gimli_build.specs.Unit.{version_bytes, operations_bytes, flag_byte, base_byte, line_encoding_bytes, escape_bytes}
-use Rattle.gimli_build.proofs.sizes.PartSizes.{format_word_size}
+use Rattle.gimli_build.specs.Unit.{version_bytes, operations_bytes, flag_byte, base_byte, line_encoding_bytes}
+use Rattle.gimli_build.specs.Unit.{escape_bytes}
+use Rattle.gimli_build.proofs.sizes.UnitSizes.{format_word_size}
 use Rattle.gimli_build.proofs.writing.WrittenParts.{same_written, after_written, before_written}
 
 -- ---- lines
@@ -34,11 +42,13 @@ positive-spelled n d some =
     let other : nat_eq n 0 ≡ false = ne_eqb n 0 (λ e. absurd (omega (arith, some))) in
     (n, n ∷ [], [], refl, refl, (tt, [], [], refl, (refl, ap not other), (refl, refl)))
 
-pub first-chosen : {A : Type 0} (b : Bool) (l m : Production A) (bytes : List ℕ) (x : A) → b ≡ true → l.Spells bytes x → (choose b l m).Spells bytes x
+pub first-chosen : {A : Type 0} (b : Bool) (l m : Production A) (bytes : List ℕ) (x : A) → b ≡ true → l.Spells bytes x
+    → (choose b l m).Spells bytes x
 first-chosen true l m bytes x is s = s
 first-chosen false l m bytes x is s = absurd cc
 
-pub second-chosen : {A : Type 0} (b : Bool) (l m : Production A) (bytes : List ℕ) (x : A) → b ≡ false → m.Spells bytes x → (choose b l m).Spells bytes x
+pub second-chosen : {A : Type 0} (b : Bool) (l m : Production A) (bytes : List ℕ) (x : A) → b ≡ false → m.Spells bytes x
+    → (choose b l m).Spells bytes x
 second-chosen true l m bytes x is s = absurd cc
 second-chosen false l m bytes x is s = s
 
@@ -84,7 +94,7 @@ rest_spelled e can =
       minimum_instruction_length = e.minimum_instruction_length;
       maximum_operations_per_instruction = e.maximum_operations_per_instruction;
       default_is_stmt = flag_read e.default_is_stmt i;
-      line_base = base_read e.line_base fits i;
+      line_base = base_read _ fits i;
       line_range = e.line_range;
     }) in (
       flag,
@@ -105,16 +115,18 @@ rest_spelled e can =
 abbrev operations_line : ℕ → Production ℕ
 operations_line version = choose (nat_le version 3) (done 1) (positive MaximumOperationsPerInstructionZero)
 
-operations_spelled : (version n : ℕ) (bytes : List ℕ) → 0 < n → operations_bytes version n ≡ Ok bytes → (operations_line version).Spells bytes n
+operations_spelled : (version n : ℕ) (bytes : List ℕ) → 0 < n → operations_bytes version n ≡ Ok bytes
+    → (operations_line version).Spells bytes n
 operations_spelled version n bytes some is = by (nat_le 4 version) refl (nat_eq n 1) refl is
   where
     by : (b : Bool) → nat_le 4 version ≡ b → (one : Bool) → nat_eq n 1 ≡ one
-        → (let r : Result (List ℕ) Error = if b then Ok (n ∷ []) else (if one then Ok [] else Err (NeedVersion 4)) in r) ≡ Ok bytes
+        → (let r : Result (List ℕ) Error = if b then Ok (n ∷ []) else (if one then Ok [] else Err (NeedVersion 4)) in r)
+        ≡ Ok bytes
         → (operations_line version).Spells bytes n
     by true high one t is =
         let above : 4 ≤ version = leb-true 4 version high in
         let over : nat_le version 3 ≡ false = lt-leb version 3 (omega (arith, above)) in
-        rw (over, same_written (n ∷ []) bytes is) (positive-spelled n MaximumOperationsPerInstructionZero some)
+        rw (over, same_written _ _ is) (positive-spelled n MaximumOperationsPerInstructionZero some)
     by false low true t is =
         let below : version < 4 = leb-false 4 version low in
         let only : n ≡ 1 = eqb-true n 1 t in
@@ -122,7 +134,8 @@ operations_spelled version n bytes some is = by (nat_le 4 version) refl (nat_eq 
         (same_written _ _ is, only)
     by false low false t is = absurd cc
 
-pub encoding-spelled : (version : ℕ) (e : LineEncoding) (bytes : List ℕ) → CanEncode e → line_encoding_bytes version e ≡ Ok bytes
+pub encoding-spelled : (version : ℕ) (e : LineEncoding) (bytes : List ℕ) → CanEncode e
+    → line_encoding_bytes version e ≡ Ok bytes
     → (line_encoding_production version).Spells bytes e
 encoding-spelled version e bytes can is =
     let last = flag_byte e.default_is_stmt ∷ base_byte e.line_base ∷ e.line_range ∷ [] in
@@ -151,23 +164,30 @@ pub record VersionWritten (big : Bool) (version : ℕ) (bytes : List ℕ) : Type
   pub bytes_are : bytes ≡ number_bytes big 2 version
   pub known : (nat_le 2 version && nat_le version 5) ≡ true
 
-version_written : (big : Bool) (version : ℕ) (bytes : List ℕ) → version_bytes big version ≡ Ok bytes → VersionWritten big version bytes
+version_written : (big : Bool) (version : ℕ) (bytes : List ℕ) → version_bytes big version ≡ Ok bytes
+    → VersionWritten big version bytes
 version_written big version bytes is = by (nat_le 2 version && nat_le version 5) refl is
   where
     by : (b : Bool) → (nat_le 2 version && nat_le version 5) ≡ b
-        → (let r : Result (List ℕ) Error = if b then Ok (number_bytes big 2 version) else Err (UnsupportedVersion version) in r) ≡ Ok bytes
+        → (let r : Result (List ℕ) Error = if b then Ok (number_bytes big 2 version)
+        else Err (UnsupportedVersion version) in
+        r)
+        ≡ Ok bytes
         → VersionWritten big version bytes
     by true t is = record { bytes_are = same_written _ _ is; known = t }
     by false t is = absurd cc
 
 pub version-known : (big : Bool) (version : ℕ) (bytes : List ℕ) → version_bytes big version ≡ Ok bytes → version ≤ 5
-version-known big version bytes is = leb-true version 5 (both_true (nat_le 2 version) _ (version_written big version _ is).known)
+version-known big version bytes is =
+    leb-true version 5 (both_true (nat_le 2 version) _ (version_written big version _ is).known)
 
-pub version-spelled : (big : Bool) (version : ℕ) (bytes : List ℕ) → version_bytes big version ≡ Ok bytes → (version_production big).Spells bytes version
+pub version-spelled : (big : Bool) (version : ℕ) (bytes : List ℕ) → version_bytes big version ≡ Ok bytes
+    → (version_production big).Spells bytes version
 version-spelled big version bytes is =
     let w = version_written big version bytes is in
     let known = version-known big version bytes is in
-    let number : SpellsNumber big 2 bytes version = rw w.bytes_are (number_spelled big 2 version (omega (arith, known))) in
+    let number : SpellsNumber big 2 bytes version =
+    rw w.bytes_are (number_spelled big 2 version (omega (arith, known))) in
     (version, bytes, [], sym (append-nil bytes), number, (tt, [], [], refl, (refl, w.known), (refl, refl)))
 
 -- ---- the size of an address
@@ -193,29 +213,40 @@ address-spelled version handed size same known = by (nat_le version 4)
       0 ∷ [],
       refl,
       refl,
-      (tt, [], 0 ∷ [], refl, (refl, known), (0, 0 ∷ [], [], refl, refl, (tt, [], [], refl, (refl, refl), (refl, refl)))),
+      (
+        tt,
+        [],
+        0 ∷ [],
+        refl,
+        (refl, known),
+        (0, 0 ∷ [], [], refl, refl, (tt, [], [], refl, (refl, refl), (refl, refl))),
+      ),
     )
 
 -- ---- lengths
 
 -- an offset of a reader holds any word of the 32-bit format, and one of the 64-bit format that is below its limit
-held : (notation : Notation) (format : Format) (n : ℕ) → (format ≡ Dwarf64 → n < notation.limit) → fits_offset notation format n ≡ true
+held : (notation : Notation) (format : Format) (n : ℕ) → (format ≡ Dwarf64 → n < notation.limit)
+    → fits_offset notation format n ≡ true
 held notation Dwarf32 n lt = refl
 held notation Dwarf64 n lt = lt-ltb n notation.limit (lt refl)
 
 -- eight bytes hold any number of the 64-bit format, which is told by no test
-word_spelled : (big : Bool) (format : Format) (n : ℕ) (bytes : List ℕ) → n < 2 ^ 64 → format_word big format n ≡ Ok bytes
+word_spelled : (big : Bool) (format : Format) (n : ℕ) (bytes : List ℕ) → n < 2 ^ 64
+    → format_word big format n ≡ Ok bytes
     → SpellsNumber big (word_size format) bytes n
 word_spelled big Dwarf32 n bytes small is = by (nat_lt n (2 ^ 32)) refl is
   where
-    by : (b : Bool) → nat_lt n (2 ^ 32) ≡ b → (let r : Result (List ℕ) Error = if b then Ok (number_bytes big 4 n) else Err ValueTooLarge in r) ≡ Ok bytes
+    by : (b : Bool) → nat_lt n (2 ^ 32) ≡ b
+        → (let r : Result (List ℕ) Error = if b then Ok (number_bytes big 4 n) else Err ValueTooLarge in r) ≡ Ok bytes
         → SpellsNumber big 4 bytes n
-    by true t is = rw (same_written (number_bytes big 4 n) bytes is) (number_spelled _ 4 n (ltb-true n (2 ^ 32) t))
+    by true t is = rw (same_written _ _ is) (number_spelled _ 4 n (ltb-true n (2 ^ 32) t))
     by false t is = absurd cc
-word_spelled big Dwarf64 n bytes small is = rw (same_written (number_bytes big 8 n) bytes is) (number_spelled _ 8 n (omega (arith, small)))
+word_spelled big Dwarf64 n bytes small is = rw (same_written _ _ is) (number_spelled _ 8 n (omega (arith, small)))
 
 -- a word has bytes
-pub word-long : (big : Bool) (format : Format) (n : ℕ) (bytes : List ℕ) → format_word big format n ≡ Ok bytes → 0 < length bytes
+pub word-long : (big : Bool) (format : Format) (n : ℕ) (bytes : List ℕ) → format_word big format n ≡ Ok bytes
+    → 0 < length bytes
 word-long big format n bytes is =
     let size = format_word_size big format n bytes is in
     let some = word_some format in
@@ -225,7 +256,8 @@ word-long big format n bytes is =
     word_some Dwarf32 = lit< tt
     word_some Dwarf64 = lit< tt
 
-pub offset-spelled : (notation : Notation) (format : Format) (n : ℕ) (bytes : List ℕ) → (format ≡ Dwarf64 → n < notation.limit) → n < 2 ^ 64
+pub offset-spelled : (notation : Notation) (format : Format) (n : ℕ) (bytes : List ℕ)
+    → (format ≡ Dwarf64 → n < notation.limit) → n < 2 ^ 64
     → format_word notation.big format n ≡ Ok bytes
     → (offset_word notation format).Spells bytes n
 offset-spelled notation format n bytes lt small is = (
@@ -238,16 +270,20 @@ offset-spelled notation format n bytes lt small is = (
 )
 
 -- eight bytes hold any length of the 64-bit format, which is told by no test
-initial_spelled : (big : Bool) (format : Format) (n : ℕ) (word : List ℕ) → n < 2 ^ 64 → length_word big format n ≡ Ok word
+initial_spelled : (big : Bool) (format : Format) (n : ℕ) (word : List ℕ) → n < 2 ^ 64
+    → length_word big format n ≡ Ok word
     → SpellsInitialLength big (escape_bytes big format ++ word) format n
 initial_spelled big Dwarf32 n word small is = by (nat_lt n 0xffff_fff0) refl (nat_lt n (2 ^ 32)) is
   where
     by : (b : Bool) → nat_lt n 0xffff_fff0 ≡ b → (c : Bool)
-        → (let r : Result (List ℕ) Error = if b then Ok (number_bytes big 4 n) else (if c then Err InitialLengthOverflow else Err ValueTooLarge) in r) ≡ Ok word
+        → (let r : Result (List ℕ) Error = if b then Ok (number_bytes big 4 n)
+        else (if c then Err InitialLengthOverflow else Err ValueTooLarge) in
+        r)
+        ≡ Ok word
         → SpellsNumber big 4 word n × (n < 0xffff_fff0)
     by true t c is =
         let lt : n < 0xffff_fff0 = ltb-true n 0xffff_fff0 t in
-        (rw (same_written (number_bytes big 4 n) word is) (number_spelled _ 4 n (omega (arith, lt))), lt)
+        (rw (same_written _ _ is) (number_spelled _ 4 n (omega (arith, lt))), lt)
     by false t true is = absurd cc
     by false t false is = absurd cc
 initial_spelled big Dwarf64 n word small is = (
@@ -255,10 +291,11 @@ initial_spelled big Dwarf64 n word small is = (
   word,
   refl,
   number_spelled _ 4 _ (omega arith),
-  rw (same_written (number_bytes big 8 n) word is) (number_spelled _ 8 n (omega (arith, small))),
+  rw (same_written _ _ is) (number_spelled _ 8 n (omega (arith, small))),
 )
 
-pub length-spelled : (notation : Notation) (format : Format) (n : ℕ) (word : List ℕ) → (format ≡ Dwarf64 → n < notation.limit) → n < 2 ^ 64
+pub length-spelled : (notation : Notation) (format : Format) (n : ℕ) (word : List ℕ)
+    → (format ≡ Dwarf64 → n < notation.limit) → n < 2 ^ 64
     → length_word notation.big format n ≡ Ok word
     → (unit_length notation).Spells (escape_bytes notation.big format ++ word) (n, format)
 length-spelled notation format n word lt small is =

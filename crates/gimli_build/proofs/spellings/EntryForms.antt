@@ -1,5 +1,6 @@
 -- An entry of the files of version 5: its bytes spell it, and a file is read of it.
-use Rattle.std.proofs.Common.{◌≡◌, ℕ, ◌<◌, ◌^◌, Bool, true, false, List, [], ◌∷◌, ◌++◌, length, map, Some, None, refl, sym, ap, ◌∙◌, subst}
+use Rattle.std.proofs.Common.{◌≡◌, ℕ, ◌<◌, ◌^◌, Bool, true, false, List, [], ◌∷◌, ◌++◌, length, map, Some, None, refl}
+use Rattle.std.proofs.Common.{sym, ap, ◌∙◌, subst}
 use Rattle.std.proofs.Common.{append_assoc, if◌then◌else◌}
 use Rattle.std.specs.Prelude.{nat_eq, replicate}
 use Rattle.std.proofs.lemmas.List.{append-nil}
@@ -21,7 +22,8 @@ use Rattle.gimli_build.proofs.spellings.FormatForms.{read_format, formats_of, ne
 abbrev pub entry_of : (time size has_digest source : Bool) → Value → ℕ → ℕ → ℕ → List ℕ → Value → Entry
 entry_of time size has_digest source path directory timestamp bytes md5 text =
     (0x0001, path) ∷ (0x0002, Udata directory)
-    ∷ (when time (0x0003, Udata timestamp) ++ (when size (0x0004, Udata bytes) ++ (when has_digest (0x0005, Block md5) ++ when source (0x2001, text))))
+    ∷ (when time (0x0003, Udata timestamp)
+    ++ (when size (0x0004, Udata bytes) ++ (when has_digest (0x0005, Block md5) ++ when source (0x2001, text))))
 
 abbrev pub file_with : (time size has_digest source : Bool) → Value → ℕ → ℕ → ℕ → List ℕ → Value → ReadFile
 file_with time size has_digest source path directory timestamp bytes md5 text = record {
@@ -34,14 +36,16 @@ file_with time size has_digest source path directory timestamp bytes md5 text = 
 }
 
 -- a digest of sixteen bytes is read as it is
-pub file-read : (time size has_digest source : Bool) (path : Value) (directory timestamp bytes : ℕ) (md5 : List ℕ) (text : Value)
+pub file-read : (time size has_digest source : Bool) (path : Value) (directory timestamp bytes : ℕ) (md5 : List ℕ)
+    (text : Value)
     → length md5 ≡ 16
     → file_of_entry (entry_of time size has_digest source path directory timestamp bytes md5 text)
     ≡ file_with time size has_digest source path directory timestamp bytes md5 text
 file-read time size has_digest source path directory timestamp bytes md5 text whole = by time size has_digest source
   where
     digested : (t s o : Bool)
-        → file_with t s true o path directory timestamp bytes (elim (digest (Block md5)) [ Some x ↦ x | None ↦ replicate 16 0 ]) text
+        → file_with t s true o path directory timestamp bytes
+        (elim (digest (Block md5)) [ Some x ↦ x | None ↦ replicate 16 0 ]) text
         ≡ file_with t s true o path directory timestamp bytes md5 text
     digested t s o =
         ap (λ n. file_with t s true o path directory timestamp bytes
@@ -83,37 +87,49 @@ module _ (notation : Notation) (format : Format) where
   IsSpelled formats bytes entry = (entry_production notation format (map read_format formats)).Spells bytes entry
 
   -- a value, and the values after it
-  pub value-spelled : (content form : ℕ) (bytes : List ℕ) (v : Value) (formats : List (ℕ × ℕ)) (rest : List ℕ) (entry : Entry)
-      → SpellsForm notation format form bytes v → IsSpelled formats rest entry → IsSpelled ((content, form) ∷ formats) (bytes ++ rest) ((content, v) ∷ entry)
-  value-spelled content form bytes v formats rest entry own after = (v, bytes, rest, refl, own, (entry, rest, [], sym (append-nil rest), after, (refl, refl)))
+  pub value-spelled : (content form : ℕ) (bytes : List ℕ) (v : Value) (formats : List (ℕ × ℕ)) (rest : List ℕ)
+      (entry : Entry)
+      → SpellsForm notation format form bytes v → IsSpelled formats rest entry
+      → IsSpelled ((content, form) ∷ formats) (bytes ++ rest) ((content, v) ∷ entry)
+  value-spelled content form bytes v formats rest entry own after =
+      (v, bytes, rest, refl, own, (entry, rest, [], sym (append-nil rest), after, (refl, refl)))
 
   -- a value where a flag asks for it
-  when_spelled : (due : Bool) (content form : ℕ) (bytes : List ℕ) (v : Value) (formats : List (ℕ × ℕ)) (rest : List ℕ) (entry : Entry)
+  when_spelled : (due : Bool) (content form : ℕ) (bytes : List ℕ) (v : Value) (formats : List (ℕ × ℕ)) (rest : List ℕ)
+      (entry : Entry)
       → SpellsForm notation format form bytes v → IsSpelled formats rest entry
-      → IsSpelled (when due (content, form) ++ formats) ((if due then bytes else []) ++ rest) (when due (content, v) ++ entry)
+      → IsSpelled (when due (content, form) ++ formats) ((if due then bytes else []) ++ rest)
+      (when due (content, v) ++ entry)
   when_spelled true content form bytes v formats rest entry own after = value-spelled _ form _ v _ _ _ own after
   when_spelled false content form bytes v formats rest entry own after = after
 
   -- a value alone
   pub last-spelled : (content form : ℕ) (bytes : List ℕ) (v : Value) → SpellsForm notation format form bytes v
       → IsSpelled ((content, form) ∷ []) bytes ((content, v) ∷ [])
-  last-spelled content form bytes v own = (v, bytes, [], sym (append-nil bytes), own, ([], [], [], refl, (refl, refl), (refl, refl)))
+  last-spelled content form bytes v own =
+      (v, bytes, [], sym (append-nil bytes), own, ([], [], [], refl, (refl, refl), (refl, refl)))
 
-  source_spelled : (due : Bool) (form : ℕ) (bytes : List ℕ) (v : Value) → (due ≡ true → SpellsForm notation format form bytes v) → (due ≡ false → bytes ≡ [])
+  source_spelled : (due : Bool) (form : ℕ) (bytes : List ℕ) (v : Value)
+      → (due ≡ true → SpellsForm notation format form bytes v) → (due ≡ false → bytes ≡ [])
       → IsSpelled (when due (0x2001, form)) bytes (when due (0x2001, v))
   source_spelled true form bytes v own none = last-spelled _ form _ v (own refl)
   source_spelled false form bytes v own none = (none refl, refl)
 
-  pub entry-spelled : (time size has_digest source : Bool) (path_form source_form : ℕ) (path : Value) (directory timestamp count : ℕ) (md5 : List ℕ)
+  pub entry-spelled : (time size has_digest source : Bool) (path_form source_form : ℕ) (path : Value)
+      (directory timestamp count : ℕ) (md5 : List ℕ)
       (text : Value) (path_bytes source_bytes : List ℕ)
-      → SpellsForm notation format path_form path_bytes path → directory < 2 ^ 64 → timestamp < 2 ^ 64 → count < 2 ^ 64 → length md5 ≡ 16
-      → (source ≡ true → SpellsForm notation format source_form source_bytes text) → (source ≡ false → source_bytes ≡ [])
+      → SpellsForm notation format path_form path_bytes path → directory < 2 ^ 64 → timestamp < 2 ^ 64 → count < 2 ^ 64
+      → length md5 ≡ 16
+      → (source ≡ true → SpellsForm notation format source_form source_bytes text)
+      → (source ≡ false → source_bytes ≡ [])
       → IsSpelled (formats_of time size has_digest source path_form source_form)
       (path_bytes
-      ++ ((uleb directory ++ (if time then uleb timestamp else []) ++ (if size then uleb count else []) ++ (if has_digest then md5 else []))
+      ++ ((uleb directory ++ (if time then uleb timestamp else []) ++ (if size then uleb count else [])
+      ++ (if has_digest then md5 else []))
       ++ source_bytes))
       (entry_of time size has_digest source path directory timestamp count md5 text)
-  entry-spelled time size has_digest source path_form source_form path directory timestamp count md5 text path_bytes source_bytes path_own d t s m source_own
+  entry-spelled time size has_digest source path_form source_form path directory timestamp count md5 text path_bytes
+      source_bytes path_own d t s m source_own
       source_none =
       let fourth_formats = when source (0x2001, source_form) in
       let third_formats = when has_digest (0x0005, 0x1e) ++ fourth_formats in
@@ -127,16 +143,24 @@ module _ (notation : Notation) (format : Format) where
       let second_bytes = (if size then uleb count else []) ++ third_bytes in
       let first_bytes = (if time then uleb timestamp else []) ++ second_bytes in
       let fourth = source_spelled source source_form source_bytes text source_own source_none in
-      let third = when_spelled has_digest 0x0005 0x1e md5 (Block md5) fourth_formats source_bytes fourth_entry (digest_spelled md5 m) fourth in
-      let second = when_spelled size 0x0004 0x0f (uleb count) (Udata count) third_formats third_bytes third_entry (udata_spelled count s) third in
+      let third =
+      when_spelled has_digest 0x0005 0x1e md5 (Block md5) fourth_formats source_bytes fourth_entry
+      (digest_spelled md5 m) fourth in
+      let second =
+      when_spelled size 0x0004 0x0f (uleb count) (Udata count) third_formats third_bytes third_entry
+      (udata_spelled count s) third in
       let first =
-      when_spelled time 0x0003 0x0f (uleb timestamp) (Udata timestamp) second_formats second_bytes second_entry (udata_spelled timestamp t) second in
-      let index = value-spelled 0x0002 0x0f (uleb directory) (Udata directory) first_formats first_bytes first_entry (udata_spelled directory d) first in
+      when_spelled time 0x0003 0x0f (uleb timestamp) (Udata timestamp) second_formats second_bytes second_entry
+      (udata_spelled timestamp t) second in
+      let index =
+      value-spelled 0x0002 0x0f (uleb directory) (Udata directory) first_formats first_bytes first_entry
+      (udata_spelled directory d) first in
       let whole =
       value-spelled 0x0001 path_form path_bytes path ((0x0002, 0x0f) ∷ first_formats) (uleb directory ++ first_bytes)
       ((0x0002, Udata directory) ∷ first_entry) path_own index in
       subst (λ (l : List ℕ).
       IsSpelled (formats_of time size has_digest source path_form source_form) (path_bytes ++ l)
       (entry_of time size has_digest source path directory timestamp count md5 text))
-      (sym (regrouped (uleb directory) (if time then uleb timestamp else []) (if size then uleb count else []) (if has_digest then md5 else []) source_bytes))
+      (sym (regrouped (uleb directory) (if time then uleb timestamp else []) (if size then uleb count else [])
+      (if has_digest then md5 else []) source_bytes))
       whole

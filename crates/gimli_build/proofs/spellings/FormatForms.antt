@@ -1,5 +1,6 @@
 -- The formats of a table of version 5: their bytes spell them, and one of them is a path.
-use Rattle.std.proofs.Common.{◌≡◌, ℕ, ◌<◌, ◌^◌, Bool, true, false, List, [], ◌∷◌, ◌++◌, length, map, refl, sym, ap, ◌∙◌, subst, append_assoc, arith, lit<}
+use Rattle.std.proofs.Common.{◌≡◌, ℕ, ◌<◌, ◌^◌, Bool, true, false, List, [], ◌∷◌, ◌++◌, length, map, refl, sym, ap, ◌∙◌}
+use Rattle.std.proofs.Common.{subst, append_assoc, arith, lit<}
 use Rattle.std.specs.Prelude.{min}
 use Rattle.std.specs.List.{flat_map, count_by}
 use Rattle.std.proofs.lemmas.Bool.{lt-ltb}
@@ -13,7 +14,8 @@ use Rattle.gimli_line.specs.inside.header.HeaderGrammar.{SpellsFormats}
 use Rattle.gimli_line.specs.declared.header.file_entry.FileEntryFormat.{FileEntryFormat}
 use Rattle.gimli_build.specs.LineText.{LineText, Inline, InStrings, InLineStrings}
 use Rattle.gimli_build.specs.Due.{when}
-use Rattle.gimli_build.specs.Version5Tables.{text_form, first_form, path_texts, sources, formats_bytes, directory_formats, file_formats}
+use Rattle.gimli_build.specs.Version5Tables.{text_form, first_form, path_texts, sources, formats_bytes}
+use Rattle.gimli_build.specs.Version5Tables.{directory_formats, file_formats}
 use Rattle.gimli_build.specs.Built.{Built}
 
 -- a content type and a form as they are read
@@ -34,7 +36,8 @@ unfolding uleb
 small_bytes n small = rw (lt-ltb n 128 small) refl
 
 small_spelled : (n : ℕ) → n < 128 → SpellsUleb128 16 (uleb n) n
-small_spelled n small = rw (small_bytes n small) (record { groups = (small, refl); short = lit< tt; fits = omega (arith, small) })
+small_spelled n small =
+    rw (small_bytes n small) (record { groups = (small, refl); short = lit< tt; fits = omega (arith, small) })
 
 abbrev one_bytes : ℕ × ℕ → List ℕ
 one_bytes f = uleb f.0 ++ uleb f.1
@@ -45,24 +48,33 @@ one_spelled f is = (
   uleb f.0,
   uleb f.1,
   refl,
-  (uleb_shortest f.0 is.fits).spells,
+  (uleb_shortest _ is.fits).spells,
   (f.1, uleb f.1, [], sym (append-nil (uleb f.1)), small_spelled _ is.form, (refl, whole _ _ is.content)),
 )
   where
-    whole : (content least : ℕ) → least ≡ content → read_format (content, f.1) ≡ record { content_type = record { 0 = least }; form = record { 0 = f.1 } }
+    whole : (content least : ℕ) → least ≡ content
+        → read_format (content, f.1) ≡ record { content_type = record { 0 = least }; form = record { 0 = f.1 } }
     whole content least same = rw same refl
 
 -- ---- some formats
 
 abbrev AreSpelled : List (ℕ × ℕ) → Type 0
-AreSpelled formats = (times (length formats) format_production).Spells (flat_map one_bytes formats) (map read_format formats)
+AreSpelled formats =
+    (times (length formats) format_production).Spells (flat_map one_bytes formats) (map read_format formats)
 
 more_spelled : (f : ℕ × ℕ) (formats : List (ℕ × ℕ)) → IsFormat f → AreSpelled formats → AreSpelled (f ∷ formats)
 more_spelled f formats is rest =
-    let bytes = flat_map one_bytes formats in
-    (read_format f, one_bytes f, bytes, refl, one_spelled f is, (map read_format formats, bytes, [], sym (append-nil bytes), rest, (refl, refl)))
+    let bytes = flat_map one_bytes formats in (
+      read_format f,
+      one_bytes f,
+      bytes,
+      refl,
+      one_spelled f is,
+      (map read_format formats, bytes, [], sym (append-nil bytes), rest, (refl, refl)),
+    )
 
-when_spelled : (due : Bool) (f : ℕ × ℕ) (formats : List (ℕ × ℕ)) → IsFormat f → AreSpelled formats → AreSpelled (when due f ++ formats)
+when_spelled : (due : Bool) (f : ℕ × ℕ) (formats : List (ℕ × ℕ)) → IsFormat f → AreSpelled formats
+    → AreSpelled (when due f ++ formats)
 when_spelled true f formats is rest = more_spelled f _ is rest
 when_spelled false f formats is rest = rest
 
@@ -71,7 +83,8 @@ last_spelled true f is = more_spelled f [] is (refl, refl)
 last_spelled false f is = (refl, refl)
 
 -- formats one of which is a path, after their number
-formats_spelled : (formats : List (ℕ × ℕ)) → AreSpelled formats → count_by (is_content 0x0001) (map read_format formats) ≡ 1
+formats_spelled : (formats : List (ℕ × ℕ)) → AreSpelled formats
+    → count_by (is_content 0x0001) (map read_format formats) ≡ 1
     → SpellsFormats (formats_bytes formats) (map read_format formats)
 formats_spelled formats spelled one =
     let bytes = flat_map one_bytes formats in
@@ -98,7 +111,8 @@ first_form_small (t ∷ texts) = text_form_small t
 is_format : (content form : ℕ) → content < 2 ^ 64 → min content 0xffff ≡ content → form < 128 → IsFormat (content, form)
 is_format content form fits held small = record { fits = fits; content = held; form = small }
 
-pub directory-formats : (p : Built) → SpellsFormats (formats_bytes (directory_formats p)) (map read_format (directory_formats p))
+pub directory-formats : (p : Built)
+    → SpellsFormats (formats_bytes (directory_formats p)) (map read_format (directory_formats p))
 directory-formats p =
     let path = is_format 0x0001 (first_form p.directories) (lit< tt) refl (first_form_small p.directories) in
     formats_spelled (directory_formats p) (more_spelled (0x0001, first_form p.directories) [] path (refl, refl)) refl
@@ -107,7 +121,8 @@ directory-formats p =
 abbrev pub formats_of : (time size digest source : Bool) (path_form source_form : ℕ) → List (ℕ × ℕ)
 formats_of time size digest source path_form source_form =
     (0x0001, path_form) ∷ (0x0002, 0x0f)
-    ∷ (when time (0x0003, 0x0f) ++ (when size (0x0004, 0x0f) ++ (when digest (0x0005, 0x1e) ++ when source (0x2001, source_form))))
+    ∷ (when time (0x0003, 0x0f)
+    ++ (when size (0x0004, 0x0f) ++ (when digest (0x0005, 0x1e) ++ when source (0x2001, source_form))))
 
 -- four parts one after the other
 pub nested : {A : Type 0} (a b c d : List A) → a ++ b ++ c ++ d ≡ a ++ (b ++ (c ++ d))
@@ -115,10 +130,12 @@ nested a b c d = append_assoc (a ++ b) c d ∙ append_assoc a b (c ++ d)
 
 pub formats-same : (p : Built)
     → file_formats p
-    ≡ formats_of p.file_has_timestamp p.file_has_size p.file_has_md5 p.file_has_source (first_form (path_texts p.files)) (first_form (sources p.files))
+    ≡ formats_of p.file_has_timestamp p.file_has_size p.file_has_md5 p.file_has_source (first_form (path_texts p.files))
+    (first_form (sources p.files))
 formats-same p =
     let parts =
-    nested (when p.file_has_timestamp (0x0003, 0x0f)) (when p.file_has_size (0x0004, 0x0f)) (when p.file_has_md5 (0x0005, 0x1e))
+    nested (when p.file_has_timestamp (0x0003, 0x0f)) (when p.file_has_size (0x0004, 0x0f))
+    (when p.file_has_md5 (0x0005, 0x1e))
     (when p.file_has_source (0x2001, first_form (sources p.files))) in
     ap (λ l. (0x0001, first_form (path_texts p.files)) ∷ (0x0002, 0x0f) ∷ l) parts
 
@@ -153,7 +170,8 @@ of_spelled time size digest source path_form source_form path_small source_small
     let second = when_spelled size (0x0004, 0x0f) digests (is_format 0x0004 0x0f (lit< tt) refl (lit< tt)) third in
     let first = when_spelled time (0x0003, 0x0f) sizes (is_format 0x0003 0x0f (lit< tt) refl (lit< tt)) second in
     let index = more_spelled (0x0002, 0x0f) times (is_format 0x0002 0x0f (lit< tt) refl (lit< tt)) first in
-    more_spelled (0x0001, path_form) ((0x0002, 0x0f) ∷ times) (is_format 0x0001 path_form (lit< tt) refl path_small) index
+    more_spelled (0x0001, path_form) ((0x0002, 0x0f) ∷ times) (is_format 0x0001 path_form (lit< tt) refl path_small)
+    index
 
 pub file-formats : (p : Built) → SpellsFormats (formats_bytes (file_formats p)) (map read_format (file_formats p))
 file-formats p =
@@ -162,6 +180,7 @@ file-formats p =
     let list = formats_of p.file_has_timestamp p.file_has_size p.file_has_md5 p.file_has_source path_form source_form in
     subst (λ (l : List (ℕ × ℕ)). SpellsFormats (formats_bytes l) (map read_format l)) (sym (formats-same p))
     (formats_spelled list
-    (of_spelled p.file_has_timestamp p.file_has_size p.file_has_md5 p.file_has_source path_form source_form (first_form_small (path_texts p.files))
+    (of_spelled p.file_has_timestamp p.file_has_size p.file_has_md5 p.file_has_source path_form source_form
+    (first_form_small (path_texts p.files))
     (first_form_small (sources p.files)))
     (one_path p.file_has_timestamp p.file_has_size p.file_has_md5 p.file_has_source path_form source_form))

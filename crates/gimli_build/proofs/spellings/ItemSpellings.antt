@@ -1,5 +1,6 @@
 -- The bytes of built items spell their instructions.
-use Rattle.std.proofs.Common.{◌≡◌, ℕ, ◌<◌, ◌^◌, List, [], ◌∷◌, ◌++◌, Ok, Err, refl, sym, subst, ap, ◌∙◌, append_assoc, lit<}
+use Rattle.std.proofs.Common.{◌≡◌, ℕ, ◌<◌, ◌^◌, List, [], ◌∷◌, ◌++◌, Ok, Err, refl, sym, subst, ap, ◌∙◌, append_assoc}
+use Rattle.std.proofs.Common.{lit<}
 use Rattle.std.specs.Prelude.{Result, IfOk}
 use Rattle.std.proofs.lemmas.List.{append-nil}
 use Rattle.gimli_core.specs.Notation.{Notation}
@@ -32,15 +33,18 @@ joined_ok (Ok a) (Ok b) bytes e = let p : a ++ b ≡ bytes = cc in (a, b, refl, 
 joined_ok (Ok a) (Err d) bytes e = absurd cc
 joined_ok (Err d) s bytes e = absurd cc
 
-module _ (notation : Notation) (h : Header) (base : h.parameters.opcode_base ≡ 13) (wide : 11 < notation.limit) (e : LineEncoding) (can : CanEncode e) where
+module _ (notation : Notation) (h : Header) (base : h.parameters.opcode_base ≡ 13) (wide : 11 < notation.limit)
+    (e : LineEncoding) (can : CanEncode e) where
   abbrev Spelled : List ℕ → List Ins → Type 0
   Spelled bytes is = Each (SpellsInstruction notation h) bytes is
 
   each_append : (a b : List ℕ) (is js : List Ins) → Spelled a is → Spelled b js → Spelled (a ++ b) (is ++ js)
   each_append a b [] js p q = rw p q
-  each_append a b (i ∷ is) js p q = (p.0, p.1 ++ b, ap (λ l. l ++ b) p.2 ∙ append_assoc p.0 p.1 b, p.3, each_append p.1 b is js p.4 q)
+  each_append a b (i ∷ is) js p q =
+      (p.0, p.1 ++ b, ap (λ l. l ++ b) p.2 ∙ append_assoc p.0 p.1 b, p.3, each_append p.1 b is js p.4 q)
 
-  each_joined : (a b bytes : List ℕ) (is js : List Ins) → bytes ≡ a ++ b → Spelled a is → Spelled b js → Spelled bytes (is ++ js)
+  each_joined : (a b bytes : List ℕ) (is js : List Ins) → bytes ≡ a ++ b → Spelled a is → Spelled b js
+      → Spelled bytes (is ++ js)
   each_joined a b bytes is js whole p q = rw whole (each_append a b _ _ p q)
 
   same_bytes : (a b : List ℕ) → ◌≡◌ {A = Result (List ℕ) Error} (Ok a) (Ok b) → b ≡ a
@@ -56,32 +60,42 @@ module _ (notation : Notation) (h : Header) (base : h.parameters.opcode_base ≡
       let p =
       joined_ok (item_bytes plain notation.big h.parameters.encoding e previous (SetAddress (Constant a)))
       (items_bytes plain notation.big h.parameters.encoding e next items) bytes is in
-      each_joined p.0 p.1 bytes (read.SetAddress a ∷ []) (items_instructions h.parameters.encoding.version e next items) p.4
-      (p.0, [], sym (append-nil p.0), address-spelled notation h base wide a p.0 p.2, refl) (items-spelled next items p.1 line built.1 fit.1 p.3)
+      each_joined p.0 p.1 bytes (read.SetAddress a ∷ []) (items_instructions h.parameters.encoding.version e next items)
+      p.4
+      (p.0, [], sym (append-nil p.0), address-spelled notation h base wide a p.0 p.2, refl)
+      (items-spelled next items p.1 line built.1 fit.1 p.3)
   items-spelled previous (SetAddress (Symbol s d) ∷ items) bytes line built fit is = absurd cc
   items-spelled previous (Row r ∷ items) bytes line built fit is =
       let version = h.parameters.encoding.version in
       let p =
-      joined_ok (item_bytes plain notation.big h.parameters.encoding e previous (Row r)) (items_bytes plain notation.big h.parameters.encoding e r items) bytes
+      joined_ok (item_bytes plain notation.big h.parameters.encoding e previous (Row r))
+      (items_bytes plain notation.big h.parameters.encoding e r items) bytes
       is in
-      let own = each-spelled notation h base wide (row_instructions version e previous r) (all_row version e previous r can built.0.0 line fit.0) in
+      let own =
+      each-spelled notation h base wide (row_instructions version e previous r)
+      (all_row version e previous r can built.0.0 line fit.0) in
       each_joined p.0 p.1 bytes (row_instructions version e previous r) (items_instructions version e r items) p.4
-      (rw (same_bytes (instructions_bytes (row_instructions version e previous r)) p.0 p.2) own) (items-spelled r items p.1 built.0.1 built.1 fit.1 p.3)
+      (rw (same_bytes (instructions_bytes (row_instructions version e previous r)) p.0 p.2) own)
+      (items-spelled r items p.1 built.0.1 built.1 fit.1 p.3)
   items-spelled previous (End o i ∷ items) bytes line built fit is =
       let version = h.parameters.encoding.version in
       let next : LineRow = initial_row version e.default_is_stmt in
       let p =
-      joined_ok (item_bytes plain notation.big h.parameters.encoding e previous (End o i)) (items_bytes plain notation.big h.parameters.encoding e next items)
+      joined_ok (item_bytes plain notation.big h.parameters.encoding e previous (End o i))
+      (items_bytes plain notation.big h.parameters.encoding e next items)
       bytes
       is in
       let own = each-spelled notation h base wide (end_instructions e previous o i) (all_end e previous o i built.0) in
       each_joined p.0 p.1 bytes (end_instructions e previous o i) (items_instructions version e next items) p.4
-      (rw (same_bytes (instructions_bytes (end_instructions e previous o i)) p.0 p.2) own) (items-spelled next items p.1 (lit< tt) built.1 fit.1 p.3)
+      (rw (same_bytes (instructions_bytes (end_instructions e previous o i)) p.0 p.2) own)
+      (items-spelled next items p.1 (lit< tt) built.1 fit.1 p.3)
 
 -- the same where the header has this encoding
-pub items-spelled-under : (notation : Notation) (h : Header) (encoding : Encoding) (e : LineEncoding) (previous : LineRow) (items : List BuiltItem)
+pub items-spelled-under : (notation : Notation) (h : Header) (encoding : Encoding) (e : LineEncoding)
+    (previous : LineRow) (items : List BuiltItem)
     (bytes : List ℕ)
-    → h.parameters.encoding ≡ encoding → h.parameters.opcode_base ≡ 13 → 11 < notation.limit → CanEncode e → previous.line < 2 ^ 63
+    → h.parameters.encoding ≡ encoding → h.parameters.opcode_base ≡ 13 → 11 < notation.limit → CanEncode e
+    → previous.line < 2 ^ 63
     → AreBuilt e (previous.address_offset, previous.op_index) items
     → AreFit encoding.version items → items_bytes plain notation.big encoding e previous items ≡ Ok bytes
     → Each (SpellsInstruction notation h) bytes (items_instructions encoding.version e previous items)
@@ -92,6 +106,7 @@ items-spelled-under notation h encoding e previous items bytes same base wide ca
     same (items-spelled notation h base wide e can _ _ _ line built) fit written
 
 -- what is true of bytes wherever they are written
-pub if_written : (written : Result (List ℕ) Error) (Is : List ℕ → Type 0) → ((bytes : List ℕ) → written ≡ Ok bytes → Is bytes) → IfOk written Is
+pub if_written : (written : Result (List ℕ) Error) (Is : List ℕ → Type 0)
+    → ((bytes : List ℕ) → written ≡ Ok bytes → Is bytes) → IfOk written Is
 if_written (Ok bytes) Is given = given bytes refl
 if_written (Err e) Is given = tt

@@ -25,22 +25,31 @@ unsigned_spelled n lt = (uleb_shortest n lt).spells
 
 module _ (texts : StringTables) where
   -- a text in the unit itself is its bytes
-  name_spelled : (t : LineText) (bytes : List ℕ) → IsNotEmpty t → HasNoZero t → name_bytes t ≡ Ok bytes → name.Spells bytes (bytes_in texts t)
-  name_spelled (Inline text) bytes some clean is = (some, (recursion_from_All (λ b. b ≢ 0) _ clean, same_written _ _ is))
+  name_spelled : (t : LineText) (bytes : List ℕ) → IsNotEmpty t → HasNoZero t → name_bytes t ≡ Ok bytes
+      → name.Spells bytes (bytes_in texts t)
+  name_spelled (Inline text) bytes some clean is =
+      (some, (recursion_from_All (λ b. b ≢ 0) _ clean, same_written _ _ is))
   name_spelled (InStrings i) bytes some clean is = absurd cc
   name_spelled (InLineStrings i) bytes some clean is = absurd cc
 
   -- ---- directories
 
-  names_spelled : (ts : List LineText) (bytes : List ℕ) → All IsNotEmpty ts → All HasNoZero ts → result_concat name_bytes ts ≡ Ok bytes
+  names_spelled : (ts : List LineText) (bytes : List ℕ) → All IsNotEmpty ts → All HasNoZero ts
+      → result_concat name_bytes ts ≡ Ok bytes
       → Each name.Spells bytes (map (bytes_in texts) ts)
   names_spelled [] bytes some clean is = same_written _ _ is
   names_spelled (t ∷ ts) bytes some clean is =
       let b = both_written _ _ _ is in
-      let own = name_spelled t _ (All-head IsNotEmpty t _ some) (All-head HasNoZero t _ clean) b.first_is in
-      (b.first, b.rest, b.whole, own, names_spelled ts b.rest (All-tail IsNotEmpty t _ some) (All-tail HasNoZero t _ clean) b.rest_is)
+      let own = name_spelled t _ (All-head IsNotEmpty t _ some) (All-head HasNoZero t _ clean) b.first_is in (
+        b.first,
+        b.rest,
+        b.whole,
+        own,
+        names_spelled ts b.rest (All-tail IsNotEmpty t _ some) (All-tail HasNoZero t _ clean) b.rest_is,
+      )
 
-  pub directories-spelled : (ds : List LineText) (bytes : List ℕ) → All IsNotEmpty (drop 1 ds) → All HasNoZero (drop 1 ds) → directories_bytes ds ≡ Ok bytes
+  pub directories-spelled : (ds : List LineText) (bytes : List ℕ) → All IsNotEmpty (drop 1 ds)
+      → All HasNoZero (drop 1 ds) → directories_bytes ds ≡ Ok bytes
       → SpellsPaths bytes (map (bytes_in texts) (drop 1 ds))
   directories-spelled ds bytes some clean is =
       let b = before_written _ _ _ is in
@@ -79,10 +88,17 @@ module _ (texts : StringTables) where
   file_spelled f bytes some clean fits is =
       let b = before_written _ _ _ is in
       let path = bytes_in texts f.0.0 in
-      let numbers = numbers_spelled _ _ _ _ fits.directory fits.timestamp fits.size in
-      (path, b.front, uleb f.0.1 ++ uleb f.1.timestamp ++ uleb f.1.size, b.whole, name_spelled _ _ some clean b.front_is, numbers)
+      let numbers = numbers_spelled _ _ _ _ fits.directory fits.timestamp fits.size in (
+        path,
+        b.front,
+        uleb f.0.1 ++ uleb f.1.timestamp ++ uleb f.1.size,
+        b.whole,
+        name_spelled _ _ some clean b.front_is,
+        numbers,
+      )
 
-  each_file_spelled : (fs : List File) (bytes : List ℕ) → All (λ k. IsNotEmpty k.0) (keys_of fs) → All (λ k. HasNoZero k.0) (keys_of fs) → All FitsFile fs
+  each_file_spelled : (fs : List File) (bytes : List ℕ) → All (λ k. IsNotEmpty k.0) (keys_of fs)
+      → All (λ k. HasNoZero k.0) (keys_of fs) → All FitsFile fs
       → result_concat file_bytes fs ≡ Ok bytes
       → Each entry_production.Spells bytes (map read_file fs)
   each_file_spelled [] bytes some clean fits is = same_written _ _ is
@@ -96,7 +112,8 @@ module _ (texts : StringTables) where
       (All-tail FitsFile f _ fits) b.rest_is in
       (b.first, b.rest, b.whole, own, rest)
 
-  pub files-spelled : (fs : List File) (bytes : List ℕ) → All (λ k. IsNotEmpty k.0) (keys_of fs) → All (λ k. HasNoZero k.0) (keys_of fs) → All FitsFile fs
+  pub files-spelled : (fs : List File) (bytes : List ℕ) → All (λ k. IsNotEmpty k.0) (keys_of fs)
+      → All (λ k. HasNoZero k.0) (keys_of fs) → All FitsFile fs
       → files_bytes fs ≡ Ok bytes
       → SpellsFiles bytes (map read_file fs)
   files-spelled fs bytes some clean fits is =

@@ -1,5 +1,6 @@
 -- The texts of a table of version 5 as values: their bytes spell these, and these stand for the texts.
-use Rattle.std.proofs.Common.{◌≡◌, ◌≢◌, ℕ, ◌+◌, ◌<◌, ◌^◌, Bool, true, false, List, [], ◌∷◌, length, drop, get_or, Some, Ok, refl, sym, ap, ◌∙◌, subst}
+use Rattle.std.proofs.Common.{◌≡◌, ◌≢◌, ℕ, ◌+◌, ◌<◌, ◌^◌, Bool, true, false, List, [], ◌∷◌, length, drop, get_or, Some}
+use Rattle.std.proofs.Common.{Ok, refl, sym, ap, ◌∙◌, subst}
 use Rattle.std.proofs.Common.{arith, if◌then◌else◌, length-append}
 use Rattle.std.specs.Prelude.{Result, Err, nat_eq, slice_get, unwrap_or}
 use Rattle.std.proofs.lemmas.Bool.{eqb-true}
@@ -31,13 +32,14 @@ use Rattle.gimli_build.proofs.spellings.EncodingSpellings.{offset-spelled, word-
 offset_short : (texts : List (List ℕ)) (i : ℕ) → i < length texts → offset_of texts i < length (table_bytes texts)
 offset_short texts i within =
     let text = get_or texts i [] in
-    let there = ap length (table_bytes-at texts i text (slice_get-get_or texts i [] within)) in
+    let there = ap length (table_bytes-at _ i _ (slice_get-get_or texts i [] within)) in
     let more = length-append text (0 ∷ table_bytes (drop (i + 1) texts)) in
     let left = length-drop (offset_of texts i) (table_bytes texts) in
     omega (arith, there, more, left)
 
 -- a text stands in the section of its table
-text_there : (section : List ℕ) (texts : List (List ℕ)) (i : ℕ) → section ≡ table_bytes texts → AreTexts texts → i < length texts
+text_there : (section : List ℕ) (texts : List (List ℕ)) (i : ℕ) → section ≡ table_bytes texts → AreTexts texts
+    → i < length texts
     → IsTextAt section (offset_of texts i) (unwrap_or (slice_get texts i) [])
 text_there section texts i same are within =
     let text = get_or texts i [] in
@@ -62,11 +64,20 @@ pub record IsReady (texts : StringTables) (t : LineText) : Type 0 where
   pub within : IsWithin texts t
 
 module _ (notation : Notation) (format : Format) (texts : StringTables)
-    (strings_short : length (table_bytes texts.strings) < 2 ^ 64) (line_strings_short : length (table_bytes texts.line_strings) < 2 ^ 64) where
-  text_spelled : (t : LineText) (bytes : List ℕ) → HasNoZero t → IsWithin texts t → (format ≡ Dwarf64 → IsOffsetHeld notation.limit texts t)
-      → text_bytes plain notation.big format texts t ≡ Ok bytes → (form_production notation format (text_form t)).Spells bytes (read_text texts t)
-  text_spelled (Inline text) bytes clean within held is =
-      (text, bytes, [], sym (append-nil bytes), (recursion_from_All (λ b. b ≢ 0) _ clean, same_written _ _ is), (refl, refl))
+    (strings_short : length (table_bytes texts.strings) < 2 ^ 64)
+    (line_strings_short : length (table_bytes texts.line_strings) < 2 ^ 64) where
+  text_spelled : (t : LineText) (bytes : List ℕ) → HasNoZero t → IsWithin texts t
+      → (format ≡ Dwarf64 → IsOffsetHeld notation.limit texts t)
+      → text_bytes plain notation.big format texts t ≡ Ok bytes
+      → (form_production notation format (text_form t)).Spells bytes (read_text texts t)
+  text_spelled (Inline text) bytes clean within held is = (
+    text,
+    bytes,
+    [],
+    sym (append-nil bytes),
+    (recursion_from_All (λ b. b ≢ 0) _ clean, same_written _ _ is),
+    (refl, refl),
+  )
   text_spelled (InStrings i) bytes clean within held is =
       let short = offset_short _ i within in (
         offset_of texts.strings i,
@@ -87,13 +98,17 @@ module _ (notation : Notation) (format : Format) (texts : StringTables)
       )
 
   -- a text that has the form of its table
-  pub text-spelled : (form : ℕ) (t : LineText) (bytes : List ℕ) → IsReady texts t → (format ≡ Dwarf64 → IsOffsetHeld notation.limit texts t)
+  pub text-spelled : (form : ℕ) (t : LineText) (bytes : List ℕ) → IsReady texts t
+      → (format ≡ Dwarf64 → IsOffsetHeld notation.limit texts t)
       → text_in_form plain notation.big format texts form t ≡ Ok bytes
       → SpellsForm notation format form bytes (read_text texts t)
   text-spelled form t bytes ready held is = by (nat_eq (text_form t) form) refl is
     where
       by : (b : Bool) → nat_eq (text_form t) form ≡ b
-          → (let r : Result (List ℕ) Error = if b then text_bytes plain notation.big format texts t else Err LineStringFormMismatch in r) ≡ Ok bytes
+          → (let r : Result (List ℕ) Error = if b then text_bytes plain notation.big format texts t
+          else Err LineStringFormMismatch in
+          r)
+          ≡ Ok bytes
           → SpellsForm notation format form bytes (read_text texts t)
       by true same is =
           subst (λ n. SpellsForm notation format n bytes (read_text texts t)) (eqb-true (text_form t) form same)
@@ -101,7 +116,8 @@ module _ (notation : Notation) (format : Format) (texts : StringTables)
       by false same is = absurd cc
 
 -- at least one byte is written of a text
-text_long : (big : Bool) (format : Format) (texts : StringTables) (t : LineText) (bytes : List ℕ) → text_bytes plain big format texts t ≡ Ok bytes
+text_long : (big : Bool) (format : Format) (texts : StringTables) (t : LineText) (bytes : List ℕ)
+    → text_bytes plain big format texts t ≡ Ok bytes
     → 0 < length bytes
 text_long big format texts (Inline text) bytes is =
     let long = ap length (same_written _ _ is) ∙ length-append text (0 ∷ []) in
@@ -113,7 +129,11 @@ pub text-long : (big : Bool) (format : Format) (texts : StringTables) (form : �
     → text_in_form plain big format texts form t ≡ Ok bytes → 0 < length bytes
 text-long big format texts form t bytes is = by (nat_eq (text_form t) form) is
   where
-    by : (b : Bool) → (let r : Result (List ℕ) Error = if b then text_bytes plain big format texts t else Err LineStringFormMismatch in r) ≡ Ok bytes
+    by : (b : Bool)
+        → (let r : Result (List ℕ) Error = if b then text_bytes plain big format texts t
+        else Err LineStringFormMismatch in
+        r)
+        ≡ Ok bytes
         → 0 < length bytes
     by true is = text_long _ format _ t _ is
     by false is = absurd cc

@@ -1,10 +1,10 @@
 -- The bytes of a unit spell a header.
-use Rattle.std.proofs.Common.{◌≡◌, ℕ, ◌+◌, ◌-◌, ◌<◌, ◌≤◌, ◌^◌, Bool, List, [], ◌∷◌, ◌++◌, length, option_map, Ok, if◌then◌else◌, refl, sym, ap, ◌∙◌, arith}
+use Rattle.std.proofs.Common.{◌≡◌, ℕ, ◌+◌, ◌-◌, ◌<◌, ◌≤◌, ◌^◌, Bool, List, [], ◌∷◌, ◌++◌, length, option_map, Ok}
+use Rattle.std.proofs.Common.{if◌then◌else◌, refl, sym, ap, ◌∙◌, arith}
 use Rattle.std.proofs.Common.{append_assoc}
 use Rattle.std.specs.Prelude.{Result, nat_le}
 use Rattle.std.proofs.lemmas.List.{append-nil, length-append}
 use Rattle.gimli_core.specs.Notation.{Notation}
-use Rattle.gimli_core.specs.Numbers.{number_bytes}
 use Rattle.gimli_core.specs.declared.common.Format.{Format}
 use Rattle.gimli_core.specs.declared.common.Format.TheVariants.{Dwarf32, Dwarf64}
 use Rattle.gimli_core.specs.declared.error.Error.TheVariants.{OpcodeBaseZero}
@@ -13,7 +13,8 @@ use Rattle.gimli_bytes.specs.Number.{length_word}
 use Rattle.gimli_bytes.specs.declared.error.Error.{Error}
 use Rattle.gimli_bytes.specs.Texts.{StringTables}
 use Rattle.gimli_line.specs.header.Header.{Header, UnitEntry, plain_file}
-use Rattle.gimli_line.specs.header.HeaderGrammar.{Opening, handed_value, parameters_production, opening_production, fields_production, header_production}
+use Rattle.gimli_line.specs.header.HeaderGrammar.{Opening, handed_value, parameters_production, opening_production}
+use Rattle.gimli_line.specs.header.HeaderGrammar.{fields_production, header_production}
 use Rattle.gimli_build.specs.Built.{Built}
 use Rattle.gimli_build.specs.inside.Conditions.{IsBuilt}
 use Rattle.gimli_build.specs.Texts.{Sections}
@@ -21,11 +22,14 @@ use Rattle.gimli_build.specs.SameRow.{built_rules}
 use Rattle.gimli_build.specs.ReadsBack.{IsUnit}
 use Rattle.gimli_build.specs.FormatWord.{format_word}
 use Rattle.gimli_build.specs.Joined.{result_append}
-use Rattle.gimli_build.specs.Unit.{opening_bytes, line_encoding_bytes, operand_counts, opcode_bytes, tables_bytes, fields_bytes}
+use Rattle.gimli_build.specs.Unit.{opening_bytes, line_encoding_bytes, operand_counts, opcode_bytes, tables_bytes}
+use Rattle.gimli_build.specs.Unit.{fields_bytes}
 use Rattle.gimli_build.specs.Unit.{program_bytes, escape_bytes, whole_bytes}
 use Rattle.gimli_build.proofs.writing.Frames.{size_4, size_8}
-use Rattle.gimli_build.proofs.writing.WrittenParts.{same_written, both_written, after_written, before_written, counted_written}
-use Rattle.gimli_build.proofs.spellings.EncodingSpellings.{positive-spelled, encoding-spelled, version-spelled, address-spelled, offset-spelled, length-spelled}
+use Rattle.gimli_build.proofs.writing.WrittenParts.{same_written, both_written, after_written, before_written}
+use Rattle.gimli_build.proofs.writing.WrittenParts.{counted_written}
+use Rattle.gimli_build.proofs.spellings.EncodingSpellings.{positive-spelled, encoding-spelled, version-spelled}
+use Rattle.gimli_build.proofs.spellings.EncodingSpellings.{address-spelled, offset-spelled, length-spelled}
 use Rattle.gimli_build.proofs.reading.TablesBack.{TablesBack}
 
 -- ---- a unit that was written, and its parts
@@ -46,15 +50,19 @@ pub record UnitWritten (big : Bool) (p : Built) (texts : StringTables) (unit : L
   pub whole : unit ≡ (escape_bytes big p.encoding.format ++ length_bytes) ++ inside
 
 -- a front in two parts
-front_in_two : (whole front rest first second : List ℕ) → whole ≡ front ++ rest → front ≡ first ++ second → whole ≡ (first ++ second) ++ rest
+front_in_two : (whole front rest first second : List ℕ) → whole ≡ front ++ rest → front ≡ first ++ second
+    → whole ≡ (first ++ second) ++ rest
 front_in_two whole front rest first second is parts = is ∙ ap (λ l. l ++ rest) parts
 
 -- a rest in three parts
-rest_in_three : (whole first rest header size fields last : List ℕ) → whole ≡ first ++ rest → rest ≡ header ++ last → header ≡ size ++ fields
+rest_in_three : (whole first rest header size fields last : List ℕ) → whole ≡ first ++ rest → rest ≡ header ++ last
+    → header ≡ size ++ fields
     → whole ≡ first ++ ((size ++ fields) ++ last)
-rest_in_three whole first rest header size fields last is parts inner = is ∙ ap (λ l. first ++ l) (parts ∙ ap (λ l. l ++ last) inner)
+rest_in_three whole first rest header size fields last is parts inner =
+    is ∙ ap (λ l. first ++ l) (parts ∙ ap (λ l. l ++ last) inner)
 
-pub unit_written : (big : Bool) (p : Built) (texts : StringTables) (unit : List ℕ) → whole_bytes plain big p texts ≡ Ok unit → UnitWritten big p texts unit
+pub unit_written : (big : Bool) (p : Built) (texts : StringTables) (unit : List ℕ)
+    → whole_bytes plain big p texts ≡ Ok unit → UnitWritten big p texts unit
 unit_written big p texts unit is =
     let escape = escape_bytes big p.encoding.format in
     let word : ℕ → Result (List ℕ) Error = λ n. length_word big p.encoding.format n in
@@ -87,7 +95,8 @@ pub record FieldsWritten (big : Bool) (p : Built) (texts : StringTables) (fields
   pub tables_are : tables_bytes plain big p texts ≡ Ok tables
   whole : fields ≡ (encoding ++ 13 ∷ []) ++ (operand_counts ++ tables)
 
-pub fields_written : (big : Bool) (p : Built) (texts : StringTables) (fields : List ℕ) → fields_bytes plain big p texts ≡ Ok fields
+pub fields_written : (big : Bool) (p : Built) (texts : StringTables) (fields : List ℕ)
+    → fields_bytes plain big p texts ≡ Ok fields
     → FieldsWritten big p texts fields
 fields_written big p texts fields is =
     let a =
@@ -98,47 +107,65 @@ fields_written big p texts fields is =
       tables = b.rest;
       encoding_is = a.first_is;
       tables_are = b.rest_is;
-      whole = a.whole ∙ ap (λ l. a.first ++ l) b.whole ∙ sym (append_assoc a.first (13 ∷ []) (operand_counts ++ b.rest));
+      whole =
+          a.whole ∙ ap (λ l. a.first ++ l) b.whole ∙ sym (append_assoc a.first (13 ∷ []) (operand_counts ++ b.rest));
     }
 
 -- what is written of a unit is no longer than the unit
-pub inside-short : (big : Bool) (p : Built) (texts : StringTables) (unit : List ℕ) (w : UnitWritten big p texts unit) → length w.inside ≤ length unit
+pub inside-short : (big : Bool) (p : Built) (texts : StringTables) (unit : List ℕ) (w : UnitWritten big p texts unit)
+    → length w.inside ≤ length unit
 inside-short big p texts unit w =
     let whole = ap (λ l. length l) w.whole in
     omega (arith, whole, length-append (escape_bytes big p.encoding.format ++ w.length_bytes) w.inside)
 
 -- in the 64-bit format twelve bytes stand before what the unit length counts
-length_wide : (big : Bool) (format : Format) (n : ℕ) (word : List ℕ) → format ≡ Dwarf64 → length_word big format n ≡ Ok word
+length_wide : (big : Bool) (format : Format) (n : ℕ) (word : List ℕ) → format ≡ Dwarf64
+    → length_word big format n ≡ Ok word
     → length (escape_bytes big format ++ word) ≡ 12
 length_wide big Dwarf32 n word wide is = absurd cc
 length_wide big Dwarf64 n word wide is =
     let whole = length-append (escape_bytes big Dwarf64) word in
     let escape = size_4 big 0xffff_ffff in
-    let eight = ap length (same_written (number_bytes big 8 n) word is) ∙ size_8 big n in
+    let eight = ap length (same_written _ _ is) ∙ size_8 big n in
     omega (arith, whole, escape, eight)
 
-inside-wide : (big : Bool) (p : Built) (texts : StringTables) (unit : List ℕ) (w : UnitWritten big p texts unit) → p.encoding.format ≡ Dwarf64
+inside-wide : (big : Bool) (p : Built) (texts : StringTables) (unit : List ℕ) (w : UnitWritten big p texts unit)
+    → p.encoding.format ≡ Dwarf64
     → length w.inside + 12 ≡ length unit
 inside-wide big p texts unit w wide =
     let whole = ap (λ l. length l) w.whole in
     let front = length_wide _ _ _ _ wide w.length_is in
     omega (arith, whole, front, length-append (escape_bytes big p.encoding.format ++ w.length_bytes) w.inside)
 
-pub fields-short : (big : Bool) (p : Built) (texts : StringTables) (unit : List ℕ) (w : UnitWritten big p texts unit) → length w.fields ≤ length w.inside
+pub fields-short : (big : Bool) (p : Built) (texts : StringTables) (unit : List ℕ) (w : UnitWritten big p texts unit)
+    → length w.fields ≤ length w.inside
 fields-short big p texts unit w =
     let whole = ap (λ l. length l) w.inside_is in
-    omega
-    (arith, whole, length-append w.opening ((w.size ++ w.fields) ++ w.program), length-append (w.size ++ w.fields) w.program, length-append w.size w.fields)
+    omega (
+      arith,
+      whole,
+      length-append w.opening ((w.size ++ w.fields) ++ w.program),
+      length-append (w.size ++ w.fields) w.program,
+      length-append w.size w.fields,
+    )
 
 -- the tables are no longer than the fields
-pub tables-short : (big : Bool) (p : Built) (texts : StringTables) (fields : List ℕ) (w : FieldsWritten big p texts fields) → length w.tables ≤ length fields
+pub tables-short : (big : Bool) (p : Built) (texts : StringTables) (fields : List ℕ)
+    (w : FieldsWritten big p texts fields)
+    → length w.tables ≤ length fields
 tables-short big p texts fields w =
     let whole = ap (λ l. length l) w.whole in
-    omega (arith, whole, length-append (w.encoding ++ 13 ∷ []) (operand_counts ++ w.tables), length-append operand_counts w.tables)
+    omega (
+      arith,
+      whole,
+      length-append (w.encoding ++ 13 ∷ []) (operand_counts ++ w.tables),
+      length-append operand_counts w.tables,
+    )
 
 -- ---- the header
 
-module _ (notation : Notation) (unit_entry : UnitEntry) (sections : Sections) (p : Built) (texts : StringTables) (built : IsBuilt p) where
+module _ (notation : Notation) (unit_entry : UnitEntry) (sections : Sections) (p : Built) (texts : StringTables)
+    (built : IsBuilt p) where
   abbrev pub Tables : List ℕ → Type 0
   Tables bytes = TablesBack notation unit_entry sections p texts bytes
 
@@ -171,8 +198,10 @@ module _ (notation : Notation) (unit_entry : UnitEntry) (sections : Sections) (p
     (13, 13 ∷ [], [], refl, positive-spelled _ OpcodeBaseZero (omega arith), (refl, refl)),
   )
 
-  fields_spelled : (unit_size : ℕ) (fields program : List ℕ) (w : FieldsWritten notation.big p texts fields) (t : Tables w.tables)
-      → (fields_production notation unit_entry unit_size (opening_of fields) program).Spells fields (header_of w.tables t unit_size (length fields) program)
+  fields_spelled : (unit_size : ℕ) (fields program : List ℕ) (w : FieldsWritten notation.big p texts fields)
+      (t : Tables w.tables)
+      → (fields_production notation unit_entry unit_size (opening_of fields) program).Spells fields
+      (header_of w.tables t unit_size (length fields) program)
   fields_spelled unit_size fields program w t = (
     built_rules p.encoding p.line_encoding,
     w.encoding ++ 13 ∷ [],
@@ -199,8 +228,10 @@ module _ (notation : Notation) (unit_entry : UnitEntry) (sections : Sections) (p
   -- the fields in front of those, read with the address size of the program
   opening_spelled : (opening size fields : List ℕ) → unit_entry.address_size ≡ p.encoding.address_size
       → (p.encoding.format ≡ Dwarf64 → length fields < notation.limit) → length fields < 2 ^ 64
-      → opening_bytes notation.big p.encoding ≡ Ok opening → format_word notation.big p.encoding.format (length fields) ≡ Ok size
-      → (opening_production notation unit_entry.address_size p.encoding.format).Spells (opening ++ (size ++ fields)) (opening_of fields)
+      → opening_bytes notation.big p.encoding ≡ Ok opening
+      → format_word notation.big p.encoding.format (length fields) ≡ Ok size
+      → (opening_production notation unit_entry.address_size p.encoding.format).Spells (opening ++ (size ++ fields))
+      (opening_of fields)
   opening_spelled opening size fields same holds small opening_is size_is =
       let address : List ℕ = if nat_le p.encoding.version 4 then [] else p.encoding.address_size ∷ 0 ∷ [] in
       let b = before_written _ _ _ opening_is in (
@@ -226,13 +257,16 @@ module _ (notation : Notation) (unit_entry : UnitEntry) (sections : Sections) (p
         ),
       )
 
-  module _ (unit : List ℕ) (w : UnitWritten notation.big p texts unit) (v : FieldsWritten notation.big p texts w.fields) (t : Tables v.tables)
-      (same : unit_entry.address_size ≡ p.encoding.address_size) (holds : p.encoding.format ≡ Dwarf64 → length unit - 12 < notation.limit)
+  module _ (unit : List ℕ) (w : UnitWritten notation.big p texts unit) (v : FieldsWritten notation.big p texts w.fields)
+      (t : Tables v.tables)
+      (same : unit_entry.address_size ≡ p.encoding.address_size)
+      (holds : p.encoding.format ≡ Dwarf64 → length unit - 12 < notation.limit)
       (small : length unit < 2 ^ 64) where
     abbrev header : Header
     header = header_of v.tables t (length w.inside) (length w.fields) w.program
 
-    unit_fields : (fields_production notation unit_entry (length w.inside) (opening_of w.fields) w.program).Spells w.fields header
+    unit_fields : (fields_production notation unit_entry (length w.inside) (opening_of w.fields) w.program).Spells
+        w.fields header
     unit_fields = fields_spelled _ _ _ v t
 
     unit_spelled : (header_production notation unit_entry).Spells unit header
@@ -241,10 +275,12 @@ module _ (notation : Notation) (unit_entry : UnitEntry) (sections : Sections) (p
         let fields = fields-short notation.big p texts unit w in
         let inside_held : p.encoding.format ≡ Dwarf64 → length w.inside < notation.limit = λ wide.
         (let rest = inside-wide notation.big p texts _ w wide in let lt = holds wide in omega (arith, rest, lt)) in
-        let fields_held : p.encoding.format ≡ Dwarf64 → length w.fields < notation.limit = λ wide. (let lt = inside_held wide in omega (arith, fields, lt)) in
+        let fields_held : p.encoding.format ≡ Dwarf64 → length w.fields < notation.limit = λ wide.
+        (let lt = inside_held wide in omega (arith, fields, lt)) in
         let length_spelled =
         length-spelled _ _ _ _ inside_held (omega (arith, inside, small)) w.length_is in
-        let opened = opening_spelled _ _ _ same fields_held (omega (arith, inside, fields, small)) w.opening_is w.size_is in
+        let opened =
+        opening_spelled _ _ _ same fields_held (omega (arith, inside, fields, small)) w.opening_is w.size_is in
         let parted : w.inside ≡ (w.opening ++ (w.size ++ w.fields)) ++ w.program = w.inside_is
         ∙ sym (append_assoc w.opening (w.size ++ w.fields) w.program) in (
           (length w.inside, p.encoding.format),
@@ -269,7 +305,9 @@ module _ (notation : Notation) (unit_entry : UnitEntry) (sections : Sections) (p
           ),
         )
 
-    unit_parts : unit ≡ ((escape_bytes notation.big p.encoding.format ++ w.length_bytes) ++ (w.opening ++ w.size)) ++ w.fields ++ w.program
+    unit_parts : unit
+        ≡ ((escape_bytes notation.big p.encoding.format ++ w.length_bytes) ++ (w.opening ++ w.size)) ++ w.fields
+        ++ w.program
     unit_parts =
         let front = escape_bytes notation.big p.encoding.format ++ w.length_bytes in
         let inner : w.inside ≡ ((w.opening ++ w.size) ++ w.fields) ++ w.program =

@@ -1,5 +1,6 @@
 -- The bytes of the tables of version 5 spell them, and what is read of them stands for what was built.
-use Rattle.std.proofs.Common.{◌≡◌, ℕ, ◌<◌, ◌≤◌, ◌^◌, Bool, true, false, List, [], ◌∷◌, ◌++◌, length, map, Some, None, Ok, refl, sym, ap, ◌∙◌, subst}
+use Rattle.std.proofs.Common.{◌≡◌, ℕ, ◌<◌, ◌≤◌, ◌^◌, Bool, true, false, List, [], ◌∷◌, ◌++◌, length, map, Some, None}
+use Rattle.std.proofs.Common.{Ok, refl, sym, ap, ◌∙◌, subst}
 use Rattle.std.proofs.Common.{append_assoc, arith, if◌then◌else◌, length-append}
 use Rattle.std.specs.Prelude.{Result, nat_le, replicate, All}
 use Rattle.std.specs.Option.{option_map_or}
@@ -25,18 +26,22 @@ use Rattle.gimli_build.specs.Stored.{stored_details}
 use Rattle.gimli_build.specs.Joined.{result_append, result_concat}
 use Rattle.gimli_build.specs.Built.{Built}
 use Rattle.gimli_build.specs.ReadsBack.{IsDirectory, IsFile}
-use Rattle.gimli_build.specs.Version5Tables.{first_form, path_texts, sources, formats_bytes, directory_formats, file_formats, detail_bytes, text_in_form}
+use Rattle.gimli_build.specs.Version5Tables.{first_form, path_texts, sources, formats_bytes, directory_formats}
+use Rattle.gimli_build.specs.Version5Tables.{file_formats, detail_bytes, text_in_form}
 use Rattle.gimli_build.specs.Version5Tables.{directory_table_bytes, source_bytes, file_entry_bytes, file_table_bytes}
 use Rattle.gimli_build.proofs.writing.WrittenParts.{same_written, both_written, after_written}
 use Rattle.gimli_build.proofs.spellings.TextForms.{read_text, IsReady, text-spelled, text-long, text-back}
-use Rattle.gimli_build.proofs.spellings.FormatForms.{read_format, formats_of, formats-same, directory-formats, file-formats}
-use Rattle.gimli_build.proofs.spellings.EntryForms.{entry_of, file_with, file-read, IsSpelled, last-spelled, entry-spelled}
+use Rattle.gimli_build.proofs.spellings.FormatForms.{read_format, formats_of, formats-same, directory-formats}
+use Rattle.gimli_build.proofs.spellings.FormatForms.{file-formats}
+use Rattle.gimli_build.proofs.spellings.EntryForms.{entry_of, file_with, file-read, IsSpelled, last-spelled}
+use Rattle.gimli_build.proofs.spellings.EntryForms.{entry-spelled}
 use Rattle.gimli_build.proofs.reading.ReadyTexts.{source_of, IsFileReady, AreReady}
-use Rattle.gimli_build.proofs.reading.HeldOffsets.{IsHeld, IsFileHeld, AreHeld}
+use Rattle.gimli_build.proofs.reading.EmittedTexts.{IsHeld, IsFileHeld, AreHeld}
 
 -- ---- a table of entries
 
-module _ (notation : Notation) (format : Format) {X : Type 0} (formats : List (ℕ × ℕ)) (P : X → Type 0) (part : X → Result (List ℕ) Error) (entry : X → Entry)
+module _ (notation : Notation) (format : Format) {X : Type 0} (formats : List (ℕ × ℕ)) (P : X → Type 0)
+    (part : X → Result (List ℕ) Error) (entry : X → Entry)
     (spelled : (x : X) (bytes : List ℕ) → P x → part x ≡ Ok bytes → IsSpelled notation format formats bytes (entry x))
     (long : (x : X) (bytes : List ℕ) → part x ≡ Ok bytes → 0 < length bytes) where
   each_spelled : (xs : List X) (bytes : List ℕ) → All P xs → result_concat part xs ≡ Ok bytes
@@ -63,8 +68,10 @@ module _ (notation : Notation) (format : Format) {X : Type 0} (formats : List (�
       let rest = few xs b.rest b.rest_is in
       omega (arith, whole, first, rest)
 
-  table_spelled : (xs : List X) (bytes : List ℕ) → SpellsFormats (formats_bytes formats) (map read_format formats) → All P xs
-      → result_append (Ok (formats_bytes formats ++ uleb (length xs))) (result_concat part xs) ≡ Ok bytes → length bytes < 2 ^ 64
+  table_spelled : (xs : List X) (bytes : List ℕ) → SpellsFormats (formats_bytes formats) (map read_format formats)
+      → All P xs
+      → result_append (Ok (formats_bytes formats ++ uleb (length xs))) (result_concat part xs) ≡ Ok bytes
+      → length bytes < 2 ^ 64
       → (table_production notation format).Spells bytes (map read_format formats, map entry xs)
   table_spelled xs bytes formats_spelled all is small =
       let front = formats_bytes formats in
@@ -79,7 +86,14 @@ module _ (notation : Notation) (format : Format) {X : Type 0} (formats : List (�
         count ++ b.rest,
         b.whole ∙ append_assoc front count b.rest,
         formats_spelled,
-        (map entry xs, count ++ b.rest, [], sym (append-nil (count ++ b.rest)), (length xs, count, b.rest, refl, number, entries), (refl, refl)),
+        (
+          map entry xs,
+          count ++ b.rest,
+          [],
+          sym (append-nil (count ++ b.rest)),
+          (length xs, count, b.rest, refl, number, entries),
+          (refl, refl),
+        ),
       )
 
 -- ---- the tables of a program
@@ -93,7 +107,8 @@ file_entry p texts f =
     (read_text texts f.0.0) f.0.1 f.1.timestamp f.1.size f.1.md5 (read_text texts (source_of p texts f))
 
 module _ (notation : Notation) (p : Built) (texts : StringTables) (ready : AreReady p texts)
-    (strings_short : length (table_bytes texts.strings) < 2 ^ 64) (line_strings_short : length (table_bytes texts.line_strings) < 2 ^ 64)
+    (strings_short : length (table_bytes texts.strings) < 2 ^ 64)
+    (line_strings_short : length (table_bytes texts.line_strings) < 2 ^ 64)
     (held : p.encoding.format ≡ Dwarf64 → AreHeld notation.limit p texts) where
   -- a text can be read back, by this reader
   abbrev IsReadable : LineText → Type 0
@@ -105,27 +120,34 @@ module _ (notation : Notation) (p : Built) (texts : StringTables) (ready : AreRe
   abbrev text_written : ℕ → LineText → Result (List ℕ) Error
   text_written form t = text_in_form plain notation.big p.encoding.format texts form t
 
-  pub new-directories-spelled : (bytes : List ℕ) → directory_table_bytes plain notation.big p.encoding.format texts p ≡ Ok bytes → length bytes < 2 ^ 64
-      → (table_production notation p.encoding.format).Spells bytes (map read_format (directory_formats p), map (directory_entry texts) p.directories)
+  pub new-directories-spelled : (bytes : List ℕ)
+      → directory_table_bytes plain notation.big p.encoding.format texts p ≡ Ok bytes → length bytes < 2 ^ 64
+      → (table_production notation p.encoding.format).Spells bytes
+      (map read_format (directory_formats p), map (directory_entry texts) p.directories)
   new-directories-spelled bytes is small =
       let form = first_form p.directories in
-      table_spelled notation p.encoding.format (directory_formats p) IsReadable (text_written form) (directory_entry texts)
+      table_spelled notation p.encoding.format (directory_formats p) IsReadable (text_written form)
+      (directory_entry texts)
       (λ t b own written. last-spelled notation p.encoding.format 0x0001 form b (read_text texts t)
       (text-spelled notation p.encoding.format texts strings_short line_strings_short form t b own.0 own.1 written))
       (λ t b written. text-long notation.big p.encoding.format texts form t b written)
-      p.directories bytes (directory-formats p) (λ i d lt. (ready.directories i d lt, λ wide. (held wide).directories i d lt)) is small
+      p.directories bytes (directory-formats p)
+      (λ i d lt. (ready.directories i d lt, λ wide. (held wide).directories i d lt)) is small
 
   -- the bytes of a source, where it is written
   source_written : (f : File) (bytes : List ℕ) → source_bytes plain notation.big p.encoding.format texts p f ≡ Ok bytes
-      → (p.file_has_source ≡ true → text_written (first_form (sources p.files)) (source_of p texts f) ≡ Ok bytes) × (p.file_has_source ≡ false → bytes ≡ [])
+      → (p.file_has_source ≡ true → text_written (first_form (sources p.files)) (source_of p texts f) ≡ Ok bytes)
+      × (p.file_has_source ≡ false → bytes ≡ [])
   source_written f bytes is = by _ _ is
     where
-      by : (b : Bool) (r : Result (List ℕ) Error) → (let s : Result (List ℕ) Error = if b then r else Ok [] in s) ≡ Ok bytes
+      by : (b : Bool) (r : Result (List ℕ) Error)
+          → (let s : Result (List ℕ) Error = if b then r else Ok [] in s) ≡ Ok bytes
           → (b ≡ true → r ≡ Ok bytes) × (b ≡ false → bytes ≡ [])
       by true r is = (λ same. is, λ same. absurd cc)
       by false r is = (λ same. absurd cc, λ same. same_written _ _ is)
 
-  file_spelled : (f : File) (bytes : List ℕ) → IsFileReadable f → file_entry_bytes plain notation.big p.encoding.format texts p f ≡ Ok bytes
+  file_spelled : (f : File) (bytes : List ℕ) → IsFileReadable f
+      → file_entry_bytes plain notation.big p.encoding.format texts p f ≡ Ok bytes
       → IsSpelled notation p.encoding.format (file_formats p) bytes (file_entry p texts f)
   file_spelled f bytes own is =
       let path_form = first_form (path_texts p.files) in
@@ -137,37 +159,46 @@ module _ (notation : Notation) (p : Built) (texts : StringTables) (ready : AreRe
       let spell = text-spelled notation p.encoding.format texts strings_short line_strings_short in
       let whole : bytes ≡ a.first ++ (detail_bytes p f ++ b.rest) = a.whole ∙ ap (λ l. a.first ++ l) b.whole in
       let text = source_of p texts f in
-      let list = formats_of p.file_has_timestamp p.file_has_size p.file_has_md5 p.file_has_source path_form source_form in
+      let list =
+      formats_of p.file_has_timestamp p.file_has_size p.file_has_md5 p.file_has_source path_form source_form in
       let entry = file_entry p texts f in
       let spelled : IsSpelled notation p.encoding.format list (a.first ++ (detail_bytes p f ++ b.rest)) entry =
       entry-spelled notation p.encoding.format _ _ _ _ path_form _
       _ _ _ _ _ _ _ _
-      (spell path_form f.0.0 a.first own.0.path (λ wide. (own.1 wide).path) a.first_is) own.0.fits.directory own.0.fits.timestamp own.0.fits.size own.0.fits.md5
+      (spell path_form f.0.0 a.first own.0.path (λ wide. (own.1 wide).path) a.first_is) own.0.fits.directory
+      own.0.fits.timestamp own.0.fits.size own.0.fits.md5
       (λ flag. spell source_form text b.rest (own.0.source flag) (λ wide. (own.1 wide).source flag) (s.0 flag)) s.1 in
       let same : IsSpelled notation p.encoding.format list bytes entry =
       subst (λ l. IsSpelled notation p.encoding.format list l entry) (sym whole) spelled in
       subst (λ l. IsSpelled notation p.encoding.format l bytes entry) (sym (formats-same p)) same
 
-  file_long : (f : File) (bytes : List ℕ) → file_entry_bytes plain notation.big p.encoding.format texts p f ≡ Ok bytes → 0 < length bytes
+  file_long : (f : File) (bytes : List ℕ) → file_entry_bytes plain notation.big p.encoding.format texts p f ≡ Ok bytes
+      → 0 < length bytes
   file_long f bytes is =
       let form = first_form (path_texts p.files) in
       let a =
-      both_written (text_written form f.0.0) (result_append (Ok (detail_bytes p f)) (source_bytes plain notation.big p.encoding.format texts p f)) bytes
+      both_written (text_written form f.0.0)
+      (result_append (Ok (detail_bytes p f)) (source_bytes plain notation.big p.encoding.format texts p f)) bytes
       is in
       let whole = ap length a.whole ∙ length-append a.first a.rest in
       let long = text-long notation.big p.encoding.format texts form f.0.0 a.first a.first_is in
       omega (arith, whole, long)
 
-  pub new-files-spelled : (bytes : List ℕ) → file_table_bytes plain notation.big p.encoding.format texts p ≡ Ok bytes → length bytes < 2 ^ 64
-      → (table_production notation p.encoding.format).Spells bytes (map read_format (file_formats p), map (file_entry p texts) p.files)
+  pub new-files-spelled : (bytes : List ℕ) → file_table_bytes plain notation.big p.encoding.format texts p ≡ Ok bytes
+      → length bytes < 2 ^ 64
+      → (table_production notation p.encoding.format).Spells bytes
+      (map read_format (file_formats p), map (file_entry p texts) p.files)
   new-files-spelled bytes is small =
-      table_spelled notation p.encoding.format (file_formats p) IsFileReadable (file_entry_bytes plain notation.big p.encoding.format texts p)
+      table_spelled notation p.encoding.format (file_formats p) IsFileReadable
+      (file_entry_bytes plain notation.big p.encoding.format texts p)
       (file_entry p texts)
-      file_spelled file_long p.files bytes (file-formats p) (λ i d lt. (ready.files i d lt, λ wide. (held wide).files i d lt)) is small
+      file_spelled file_long p.files bytes (file-formats p)
+      (λ i d lt. (ready.files i d lt, λ wide. (held wide).files i d lt)) is small
 
 -- ---- what is read stands for what was built
 
-module _ (sections : Sections) (p : Built) (texts : StringTables) (strings_are : sections.strings ≡ table_bytes texts.strings)
+module _ (sections : Sections) (p : Built) (texts : StringTables)
+    (strings_are : sections.strings ≡ table_bytes texts.strings)
     (line_strings_are : sections.line_strings ≡ table_bytes texts.line_strings)
     (are_texts : AreTexts texts.strings) (are_line_texts : AreTexts texts.line_strings) where
   text_back : (t : LineText) → IsReady texts t → IsText sections (read_text texts t) (bytes_in texts t)
@@ -198,7 +229,8 @@ module _ (sections : Sections) (p : Built) (texts : StringTables) (strings_are :
       file_with p.file_has_timestamp p.file_has_size p.file_has_md5 p.file_has_source
       (read_text texts f.0.0) f.0.1 f.1.timestamp f.1.size f.1.md5 (read_text texts (source_of p texts f))
 
-  seen_back : (f : File) → nat_le p.encoding.version 4 ≡ false → IsFileReady p texts f → IsFile sections p texts (file_seen f) f
+  seen_back : (f : File) → nat_le p.encoding.version 4 ≡ false → IsFileReady p texts f
+      → IsFile sections p texts (file_seen f) f
   seen_back f new own =
       let same = stored_new f.1 new in
       record {
@@ -213,7 +245,8 @@ module _ (sections : Sections) (p : Built) (texts : StringTables) (strings_are :
             (λ flag. rw (← own.source_bytes flag) (text_back _ (own.source flag))));
       }
 
-  file_back : (f : File) → nat_le p.encoding.version 4 ≡ false → IsFileReady p texts f → IsFile sections p texts (file_of_entry (file_entry p texts f)) f
+  file_back : (f : File) → nat_le p.encoding.version 4 ≡ false → IsFileReady p texts f
+      → IsFile sections p texts (file_of_entry (file_entry p texts f)) f
   file_back f new own =
       subst (λ r. IsFile sections p texts r f)
       (sym (file-read _ _ _ _
@@ -223,5 +256,7 @@ module _ (sections : Sections) (p : Built) (texts : StringTables) (strings_are :
   pub new-files-back : (fs : List File) → nat_le p.encoding.version 4 ≡ false → All (IsFileReady p texts) fs
       → OneByOne (IsFile sections p texts) (map file_of_entry (map (file_entry p texts) fs)) fs
   new-files-back [] new all = tt
-  new-files-back (f ∷ fs) new all =
-      (file_back f new (All-head (IsFileReady p texts) f _ all), new-files-back fs new (All-tail (IsFileReady p texts) f _ all))
+  new-files-back (f ∷ fs) new all = (
+    file_back f new (All-head (IsFileReady p texts) f _ all),
+    new-files-back fs new (All-tail (IsFileReady p texts) f _ all),
+  )

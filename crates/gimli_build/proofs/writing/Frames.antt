@@ -1,5 +1,6 @@
 -- A length that is written once what it counts is there.
-use Rattle.std.proofs.Common.{◌≡◌, ℕ, ◌+◌, ◌-◌, ◌<◌, ◌≤◌, ◌^◌, Bool, true, false, List, [], ◌++◌, length, take, drop, refl, sym, ap, ◌∙◌, arith, append_assoc}
+use Rattle.std.proofs.Common.{◌≡◌, ℕ, ◌+◌, ◌-◌, ◌<◌, ◌≤◌, ◌^◌, Bool, true, false, List, [], ◌++◌, length, take, drop}
+use Rattle.std.proofs.Common.{refl, sym, ap, ◌∙◌, arith, append_assoc}
 use Rattle.std.proofs.Common.{length-append, nat_lt, if◌then◌else◌, Ok, Err, OnOk, IfErr, IsTrue, ◌⊎◌, inr}
 use Rattle.std.proofs.lemmas.Bool.{le-ltb, lt-ltb}
 use Rattle.std.proofs.lemmas.List.{take_at, drop_at}
@@ -21,10 +22,13 @@ use Rattle.gimli_build.proofs.writing.Joined.{on_ok, if_err, or_wanted, begins_t
 use Rattle.gimli_build.proofs.writing.Writes.{Leaves, writes_in}
 
 -- other bytes in the middle, as long as those that stand there
-patched_middle : (a b other c : List ℕ) (at : ℕ) → length other ≡ length b → length a ≡ at → overwrite_of (a ++ b ++ c) at other ≡ Ok (a ++ other ++ c)
+patched_middle : (a b other c : List ℕ) (at : ℕ) → length other ≡ length b → length a ≡ at
+    → overwrite_of (a ++ b ++ c) at other ≡ Ok (a ++ other ++ c)
 patched_middle a b other c at same position =
-    let whole : length (a ++ b ++ c) ≡ length a + length b + length c = length-append (a ++ b) c ∙ ap (λ x. x + length c) (length-append a b) in
-    let first : nat_lt (length (a ++ b ++ c)) at ≡ false = le-ltb (length (a ++ b ++ c)) at (omega (arith, whole, position)) in
+    let whole : length (a ++ b ++ c) ≡ length a + length b + length c = length-append (a ++ b) c
+    ∙ ap (λ x. x + length c) (length-append a b) in
+    let first : nat_lt (length (a ++ b ++ c)) at
+    ≡ false = le-ltb (length (a ++ b ++ c)) at (omega (arith, whole, position)) in
     let second : nat_lt (length (a ++ b ++ c)) (at + length other)
     ≡ false = le-ltb (length (a ++ b ++ c)) (at + length other) (omega (arith, whole, position, same)) in
     let front : take at (a ++ b ++ c) ≡ a = ap (take at) (append_assoc a b c) ∙ take_at a (b ++ c) at position in
@@ -36,9 +40,11 @@ same_ok : (xs ys : List ℕ) → (let r : Result (List ℕ) Error = Ok xs in r) 
 same_ok xs ys h = cc
 
 -- the word of a length, which stands after `escape` and is blank at first, once more
-module _ (full length_of : ℕ → Result (List ℕ) Error) (escape blank old c1 c2 new : List ℕ) (position n : ℕ) (body : Result (List ℕ) Error)
+module _ (full length_of : ℕ → Result (List ℕ) Error) (escape blank old c1 c2 new : List ℕ) (position n : ℕ)
+    (body : Result (List ℕ) Error)
     (is_full : (n : ℕ) → full n ≡ result_append (Ok escape) (length_of n))
-    (opened : c1 ≡ old ++ escape ++ blank) (at : position ≡ length old + length escape) (written : Appends body c1 c2) (counted : n ≡ length c2 - length c1)
+    (opened : c1 ≡ old ++ escape ++ blank) (at : position ≡ length old + length escape) (written : Appends body c1 c2)
+    (counted : n ≡ length c2 - length c1)
     (as_long : (word : List ℕ) → length_of n ≡ Ok word → length word ≡ length blank) where
   whole : (bytes : List ℕ) → body ≡ Ok bytes → c2 ≡ (old ++ escape) ++ blank ++ bytes
   whole bytes is =
@@ -51,11 +57,13 @@ module _ (full length_of : ℕ → Result (List ℕ) Error) (escape blank old c1
       let l = ap length written ∙ length-append c1 bytes in
       omega (arith, l, counted)
 
-  known : (bytes : List ℕ) → body ≡ Ok bytes → after_length full body ≡ result_append (result_append (Ok escape) (length_of n)) (Ok bytes)
+  known : (bytes : List ℕ) → body ≡ Ok bytes
+      → after_length full body ≡ result_append (result_append (Ok escape) (length_of n)) (Ok bytes)
   known bytes is =
       ap (after_length full) is ∙ ap (λ r. result_append r (Ok bytes)) (ap full (sym (count _ is)) ∙ is_full n)
 
-  put : (bytes word : List ℕ) → body ≡ Ok bytes → length_of n ≡ Ok word → overwrite_of c2 position word ≡ Ok ((old ++ escape) ++ word ++ bytes)
+  put : (bytes word : List ℕ) → body ≡ Ok bytes → length_of n ≡ Ok word
+      → overwrite_of c2 position word ≡ Ok ((old ++ escape) ++ word ++ bytes)
   put bytes word is so =
       ap (λ l. overwrite_of l position word) (whole _ is)
       ∙ patched_middle _ _ _ _ _ (as_long word so) (length-append old escape ∙ sym at)
@@ -63,7 +71,8 @@ module _ (full length_of : ℕ → Result (List ℕ) Error) (escape blank old c1
   framed : patch (length_of n) c2 position ≡ Ok new → Appends (after_length full body) old new
   framed h = by _ refl _ refl h
     where
-      by : (b : Result (List ℕ) Error) → body ≡ b → (w : Result (List ℕ) Error) → length_of n ≡ w → patch w c2 position ≡ Ok new
+      by : (b : Result (List ℕ) Error) → body ≡ b → (w : Result (List ℕ) Error) → length_of n ≡ w
+          → patch w c2 position ≡ Ok new
           → Appends (after_length full body) old new
       by (Err e) is w so h = absurd (rw is at written)
       by (Ok bytes) is (Err e) so h = cc
@@ -71,21 +80,27 @@ module _ (full length_of : ℕ → Result (List ℕ) Error) (escape blank old c1
           let shape : after_length full body ≡ Ok ((escape ++ word) ++ bytes) = known _ is
           ∙ ap (λ r. result_append (result_append (Ok escape) r) (Ok bytes)) so in
           let same : new ≡ (old ++ escape) ++ word ++ bytes = sym (same_ok _ _ (sym (put _ _ is so) ∙ h)) in
-          rw shape (same ∙ ap (λ l. l ++ bytes) (append_assoc old escape word) ∙ append_assoc old (escape ++ word) bytes)
+          rw shape
+          (same ∙ ap (λ l. l ++ bytes) (append_assoc old escape word) ∙ append_assoc old (escape ++ word) bytes)
 
   frame_refused : (e : Error) → patch (length_of n) c2 position ≡ Err e → after_length full body ≡ Err e
   frame_refused e h = by _ refl _ refl h
     where
-      by : (b : Result (List ℕ) Error) → body ≡ b → (w : Result (List ℕ) Error) → length_of n ≡ w → patch w c2 position ≡ Err e → after_length full body ≡ Err e
+      by : (b : Result (List ℕ) Error) → body ≡ b → (w : Result (List ℕ) Error) → length_of n ≡ w
+          → patch w c2 position ≡ Err e → after_length full body ≡ Err e
       by (Err d) is w so h = absurd (rw is at written)
-      by (Ok bytes) is (Err d) so h = known _ is ∙ ap (λ r. result_append (result_append (Ok escape) r) (Ok bytes)) so ∙ h
+      by (Ok bytes) is (Err d) so h =
+          known _ is ∙ ap (λ r. result_append (result_append (Ok escape) r) (Ok bytes)) so ∙ h
       by (Ok bytes) is (Ok word) so h = absurd (let never = sym (put _ _ is so) ∙ h in cc)
 
   -- so much of one view of a writer
   pub framed_leaves : {X : Type 0} {Own : Error → Type 0} {r : Result X Error}
       → OnOk r (patch (length_of n) c2 position ≡ Ok new)
       → IfErr r (λ e. Own e ⊎ (patch (length_of n) c2 position ≡ Err e)) → Leaves Own r (after_length full body) old new
-  framed_leaves {r = r} ok err = record { ok = on_ok r framed ok; err = if_err r (λ e. or_wanted (frame_refused e)) err }
+  framed_leaves {r = r} ok err = record {
+    ok = on_ok r framed ok;
+    err = if_err r (λ e. or_wanted (frame_refused e)) err;
+  }
 
 -- a blank word stands at the end, after `escape`
 pub record Blank (escape blank old new : List ℕ) (position : ℕ) : Type 0 where
@@ -93,7 +108,8 @@ pub record Blank (escape blank old new : List ℕ) (position : ℕ) : Type 0 whe
   pub at : position ≡ length old + length escape
 
 -- a blank word is written, and then what a number counts, which is due over the word
-pub record Counts {W : Type 0} (sink : Ghosts W) (escape blank : List ℕ) (position n : ℕ) (old opened filled : W) : Type 0 where
+pub record Counts {W : Type 0} (sink : Ghosts W) (escape blank : List ℕ) (position n : ℕ) (old opened filled : W)
+    : Type 0 where
   pub keeps : Begins (sink.contents old) (sink.contents opened)
   pub ordered : sink.big opened ≡ sink.big old
   pub stays : IsTrue (sink.completes old) → IsTrue (sink.completes opened)
@@ -106,20 +122,24 @@ pub record Counts {W : Type 0} (sink : Ghosts W) (escape blank : List ℕ) (posi
       → n ≡ length (sink.completed at filled) - length (sink.completed at opened)
 
 pub counted_written : {W X Y : Type 0} {sink : Ghosts W} {old opened filled closed : W} {x : X} {r : Result Y Error}
-    {escape blank : List ℕ} {position n : ℕ} {body : Hand → Result (List ℕ) Error} (full length_of : ℕ → Result (List ℕ) Error)
+    {escape blank : List ℕ} {position n : ℕ} {body : Hand → Result (List ℕ) Error}
+    (full length_of : ℕ → Result (List ℕ) Error)
     → ((k : ℕ) → full k ≡ result_append (Ok escape) (length_of k))
     → ((word : List ℕ) → length_of n ≡ Ok word → length word ≡ length blank)
     → Counts sink escape blank position n old opened filled → Writes sink opened filled (Ok x) body
     → IsOverwrite sink filled closed r position (λ hand. length_of n)
     → Writes sink old closed r (λ hand. after_length full (body hand))
-counted_written {sink = sink} {r = r} {escape = escape} {blank = blank} {position = position} {n = n} {body = body} full length_of is_full
+counted_written {sink = sink} {r = r} {escape = escape} {blank = blank} {position = position} {n = n} {body = body} full
+    length_of is_full
     as_long so inside call =
-    let leaves = λ (own : Error → Type 0) (hand : Hand) (old c1 c2 new : List ℕ) (at : Blank escape blank old c1 position)
+    let leaves =
+    λ (own : Error → Type 0) (hand : Hand) (old c1 c2 new : List ℕ) (at : Blank escape blank old c1 position)
     (written : Appends (body hand) c1 c2) (counted : n ≡ length c2 - length c1).
-    framed_leaves full length_of escape blank old c1 c2 new position n (body hand) is_full at.opened at.at written counted as_long
+    framed_leaves full length_of escape blank old c1 c2 new position n (body hand) is_full at.opened at.at written
+    counted as_long
     {Own = own} {r = r} in
     writes_in (record {
-      keeps = begins_before _ _ _ position (begins_then _ _ _ so.keeps inside.keeps) so.after call.before;
+      keeps = begins_before _ _ _ _ (begins_then _ _ _ so.keeps inside.keeps) so.after call.before;
       ordered = call.ordered ∙ inside.ordered ∙ so.ordered;
       stays = λ completes. call.stays (inside.stays (so.stays completes));
       held = λ keeps_bytes.
@@ -149,7 +169,8 @@ abbrev pub open_word : Bool → Format → List ℕ
 open_word big Dwarf32 = number_bytes big 4 0
 open_word big Dwarf64 = number_bytes big 8 0
 
-pub escape_is : (big : Bool) (format : Format) → open_length big format ≡ escape_bytes big format ++ open_word big format
+pub escape_is : (big : Bool) (format : Format)
+    → open_length big format ≡ escape_bytes big format ++ open_word big format
 escape_is big Dwarf32 = refl
 escape_is big Dwarf64 = refl
 
@@ -158,28 +179,33 @@ escape_long big Dwarf32 = refl
 escape_long true Dwarf64 = refl
 escape_long false Dwarf64 = refl
 
-ok_if : (b : Bool) (xs ys : List ℕ) (e : Error) → (let r : Result (List ℕ) Error = if b then Ok xs else Err e in r) ≡ Ok ys → ys ≡ xs
+ok_if : (b : Bool) (xs ys : List ℕ) (e : Error)
+    → (let r : Result (List ℕ) Error = if b then Ok xs else Err e in r) ≡ Ok ys → ys ≡ xs
 ok_if true xs ys e h = cc
 ok_if false xs ys e h = cc
 
-ok_if_if : (b c : Bool) (xs ys : List ℕ) (d e : Error) → (let r : Result (List ℕ) Error = if b then Ok xs else (if c then Err d else Err e) in r) ≡ Ok ys
+ok_if_if : (b c : Bool) (xs ys : List ℕ) (d e : Error)
+    → (let r : Result (List ℕ) Error = if b then Ok xs else (if c then Err d else Err e) in r) ≡ Ok ys
     → ys ≡ xs
 ok_if_if true c xs ys d e h = cc
 ok_if_if false true xs ys d e h = cc
 ok_if_if false false xs ys d e h = cc
 
-pub length_word_long : (big : Bool) (format : Format) (n : ℕ) (word : List ℕ) → length_word big format n ≡ Ok word → length word ≡ length (open_word big format)
+pub length_word_long : (big : Bool) (format : Format) (n : ℕ) (word : List ℕ) → length_word big format n ≡ Ok word
+    → length word ≡ length (open_word big format)
 length_word_long big Dwarf32 n word h =
     ap length (ok_if_if _ _ _ _ _ _ h) ∙ size_4 _ n
     ∙ sym (size_4 _ 0)
 length_word_long big Dwarf64 n word h = ap length (sym (same_ok _ _ h)) ∙ size_8 _ n ∙ sym (size_8 _ 0)
 
-pub header_word_long : (big : Bool) (format : Format) (n : ℕ) (word : List ℕ) → format_word big format n ≡ Ok word → length word ≡ length (open_word big format)
+pub header_word_long : (big : Bool) (format : Format) (n : ℕ) (word : List ℕ) → format_word big format n ≡ Ok word
+    → length word ≡ length (open_word big format)
 header_word_long big Dwarf32 n word h = ap length (ok_if _ _ _ _ h) ∙ size_4 _ n ∙ sym (size_4 _ 0)
 header_word_long big Dwarf64 n word h = ap length (sym (same_ok _ _ h)) ∙ size_8 _ n ∙ sym (size_8 _ 0)
 
 -- where 64 bits hold a number, it is written as a word of the format is
-pub word_is : (big : Bool) (format : Format) (n : ℕ) → n < 2 ^ 64 → udata big n (word_size format) ≡ format_word big format n
+pub word_is : (big : Bool) (format : Format) (n : ℕ) → n < 2 ^ 64
+    → udata big n (word_size format) ≡ format_word big format n
 word_is big Dwarf32 n small = refl
 word_is big Dwarf64 n small = rw (lt-ltb n (2 ^ 64) small) refl
 

@@ -1,5 +1,6 @@
 -- Items written one after the other.
-use Rattle.std.proofs.Common.{IsTrue, ◌≡◌, ℕ, ◌+◌, ◌<◌, ◌^◌, Bool, List, [], ◌∷◌, ◌++◌, Ok, Err, refl, sym, ap, ◌∙◌, append_assoc, lit<, length}
+use Rattle.std.proofs.Common.{IsTrue, ◌≡◌, ℕ, ◌+◌, ◌<◌, ◌^◌, Bool, List, [], ◌∷◌, ◌++◌, Ok, Err, refl, sym, ap, ◌∙◌}
+use Rattle.std.proofs.Common.{append_assoc, lit<, length}
 use Rattle.std.proofs.Common.{get_or, add-one, take}
 use Rattle.std.proofs.lemmas.List.{append-nil}
 use Rattle.std.proofs.Math.Seq.{take-suc}
@@ -22,17 +23,20 @@ use Rattle.gimli_build.proofs.reading.ItemRuns.{start_position}
 use Rattle.gimli_build.proofs.writing.Joined.{appended_bytes, joined-joined, begins_self, begins_then}
 
 -- these bytes stand for the items so far, and those are left
-pub record Standing (hand : Hand) (big : Bool) (encoding : Encoding) (e : LineEncoding) (whole : Result (List ℕ) Error) (old new : List ℕ) (previous : LineRow)
+pub record Standing (hand : Hand) (big : Bool) (encoding : Encoding) (e : LineEncoding) (whole : Result (List ℕ) Error)
+    (old new : List ℕ) (previous : LineRow)
     (left : List BuiltItem) : Type 0 where
   pub done : List ℕ
   pub written : new ≡ old ++ done
   pub parts : whole ≡ result_append (Ok done) (items_bytes hand big encoding e previous left)
 
 -- one item more
-pub standing_more : (hand : Hand) (big : Bool) (encoding : Encoding) (e : LineEncoding) (whole : Result (List ℕ) Error) (old new newer : List ℕ)
+pub standing_more : (hand : Hand) (big : Bool) (encoding : Encoding) (e : LineEncoding) (whole : Result (List ℕ) Error)
+    (old new newer : List ℕ)
     (previous : LineRow)
     (item : BuiltItem) (left : List BuiltItem)
-    → Standing hand big encoding e whole old new previous (item ∷ left) → Appends (item_bytes hand big encoding e previous item) new newer
+    → Standing hand big encoding e whole old new previous (item ∷ left)
+    → Appends (item_bytes hand big encoding e previous item) new newer
     → Standing hand big encoding e whole old newer (next_previous encoding.version e.default_is_stmt previous item) left
 standing_more hand big encoding e whole old new newer previous item left so more =
     let a = appended_bytes _ _ _ more in
@@ -43,7 +47,8 @@ standing_more hand big encoding e whole old new newer previous item left so more
       parts = so.parts ∙ ap (λ r. result_append (Ok so.done) (result_append r rest)) a.1 ∙ joined-joined _ _ _;
     }
 
-pub standing_start : (hand : Hand) (big : Bool) (encoding : Encoding) (e : LineEncoding) (old : List ℕ) (previous : LineRow) (items : List BuiltItem)
+pub standing_start : (hand : Hand) (big : Bool) (encoding : Encoding) (e : LineEncoding) (old : List ℕ)
+    (previous : LineRow) (items : List BuiltItem)
     → Standing hand big encoding e (items_bytes hand big encoding e previous items) old old previous items
 standing_start hand big encoding e old previous items = record {
   done = [];
@@ -56,31 +61,38 @@ standing_start hand big encoding e old previous items = record {
     nothing (Err d) = refl
 
 -- the items so far are written, in a call that writes these
-pub record Written {W : Type 0} (sink : Ghosts W) (big : Bool) (encoding : Encoding) (e : LineEncoding) (whole : Hand → Result (List ℕ) Error) (old new : W)
+pub record Written {W : Type 0} (sink : Ghosts W) (big : Bool) (encoding : Encoding) (e : LineEncoding)
+    (whole : Hand → Result (List ℕ) Error) (old new : W)
     (previous : LineRow) (left : List BuiltItem) : Type 0 where
   pub keeps : Begins (sink.contents old) (sink.contents new)
   pub ordered : sink.big new ≡ sink.big old
   pub stays : IsTrue (sink.completes old) → IsTrue (sink.completes new)
-  pub held : IsTrue sink.keeps_bytes → Standing plain big encoding e (whole plain) (sink.contents old) (sink.contents new) previous left
+  pub held : IsTrue sink.keeps_bytes
+      → Standing plain big encoding e (whole plain) (sink.contents old) (sink.contents new) previous left
   pub linked : (at : Placement) → IsTrue (sink.completes old)
-      → Standing (sink.hand at) big encoding e (whole (sink.hand at)) (sink.completed at old) (sink.completed at new) previous left
+      → Standing (sink.hand at) big encoding e (whole (sink.hand at)) (sink.completed at old) (sink.completed at new)
+      previous left
 
-pub written_more : {W X : Type 0} {sink : Ghosts W} {old mid new : W} {x : X} {big : Bool} {encoding : Encoding} {e : LineEncoding}
+pub written_more : {W X : Type 0} {sink : Ghosts W} {old mid new : W} {x : X} {big : Bool} {encoding : Encoding}
+    {e : LineEncoding}
     {whole : Hand → Result (List ℕ) Error} {previous : LineRow} {item : BuiltItem} {left : List BuiltItem}
-    → Written sink big encoding e whole old mid previous (item ∷ left) → Writes sink mid new (Ok x) (λ hand. item_bytes hand big encoding e previous item)
+    → Written sink big encoding e whole old mid previous (item ∷ left)
+    → Writes sink mid new (Ok x) (λ hand. item_bytes hand big encoding e previous item)
     → Written sink big encoding e whole old new (next_previous encoding.version e.default_is_stmt previous item) left
-written_more {sink = sink} {big = big} {encoding = encoding} {e = e} {whole = whole} {previous = previous} {item = item} {left = left} so more = record {
-  keeps = begins_then _ _ _ so.keeps more.keeps;
-  ordered = more.ordered ∙ so.ordered;
-  stays = λ completes. more.stays (so.stays completes);
-  held = λ keeps_bytes. standing_more _ _ _ e _ _ _ _ _ _ _ (so.held keeps_bytes) (more.ok keeps_bytes);
-  linked =
-      λ at completes.
-      standing_more _ _ _ e _ _ _ _ _ _ _ (so.linked at completes)
-      (more.completed at (so.stays completes));
-}
+written_more {sink = sink} {big = big} {encoding = encoding} {e = e} {whole = whole} {previous = previous}
+    {item = item} {left = left} so more = record {
+      keeps = begins_then _ _ _ so.keeps more.keeps;
+      ordered = more.ordered ∙ so.ordered;
+      stays = λ completes. more.stays (so.stays completes);
+      held = λ keeps_bytes. standing_more _ _ _ e _ _ _ _ _ _ _ (so.held keeps_bytes) (more.ok keeps_bytes);
+      linked =
+          λ at completes.
+          standing_more _ _ _ e _ _ _ _ _ _ _ (so.linked at completes)
+          (more.completed at (so.stays completes));
+    }
 
-pub none_standing : {W : Type 0} (sink : Ghosts W) (big : Bool) (encoding : Encoding) (e : LineEncoding) (old : W) (previous : LineRow) (items : List BuiltItem)
+pub none_standing : {W : Type 0} (sink : Ghosts W) (big : Bool) (encoding : Encoding) (e : LineEncoding) (old : W)
+    (previous : LineRow) (items : List BuiltItem)
     → Written sink big encoding e (λ hand. items_bytes hand big encoding e previous items) old old previous items
 none_standing sink big encoding e old previous items = record {
   keeps = begins_self _;
@@ -96,16 +108,31 @@ pub record OnTheWay (e : LineEncoding) (previous : LineRow) (left : List BuiltIt
   pub line : previous.line < 2 ^ 63
   pub built : AreBuilt e (previous.address_offset, previous.op_index) left
 
-pub way_on : (version : ℕ) (e : LineEncoding) (can : CanEncode e) (previous : LineRow) (item : BuiltItem) (left : List BuiltItem)
+pub way_on : (version : ℕ) (e : LineEncoding) (can : CanEncode e) (previous : LineRow) (item : BuiltItem)
+    (left : List BuiltItem)
     → OnTheWay e previous (item ∷ left) → OnTheWay e (next_previous version e.default_is_stmt previous item) left
-way_on version e can previous (SetAddress a) left way = record { position = start_position e can; line = way.line; built = way.built.1 }
-way_on version e can previous (Row r) left way = record { position = way.built.0.0.position; line = way.built.0.1; built = way.built.1 }
-way_on version e can previous (End o i) left way = record { position = start_position e can; line = lit< tt; built = way.built.1 }
+way_on version e can previous (SetAddress a) left way = record {
+  position = start_position e can;
+  line = way.line;
+  built = way.built.1;
+}
+way_on version e can previous (Row r) left way = record {
+  position = way.built.0.0.position;
+  line = way.built.0.1;
+  built = way.built.1;
+}
+way_on version e can previous (End o i) left way = record {
+  position = start_position e can;
+  line = lit< tt;
+  built = way.built.1;
+}
 
-pub taken_next : {A : Type 0} (xs : List A) (i : ℕ) (x : A) → i < length xs → x ≡ get_or xs i x → take (i + 1) xs ≡ take i xs ++ x ∷ []
+pub taken_next : {A : Type 0} (xs : List A) (i : ℕ) (x : A) → i < length xs → x ≡ get_or xs i x
+    → take (i + 1) xs ≡ take i xs ++ x ∷ []
 taken_next xs i x lt is = rw add-one (take-suc xs i x lt ∙ ap (λ y. take i xs ++ y ∷ []) (sym is))
 
 -- one item more fits
-pub fit_more : (version : ℕ) (items : List BuiltItem) (item : BuiltItem) → AreFit version items → FitsItem version item → AreFit version (items ++ item ∷ [])
+pub fit_more : (version : ℕ) (items : List BuiltItem) (item : BuiltItem) → AreFit version items → FitsItem version item
+    → AreFit version (items ++ item ∷ [])
 fit_more version [] item all one = (one, tt)
 fit_more version (first ∷ items) item all one = (all.0, fit_more version items item all.1 one)

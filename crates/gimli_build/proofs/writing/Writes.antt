@@ -15,12 +15,14 @@ use Rattle.gimli_build.proofs.writing.Joined.{SoFar, none_so_far, one_more, on_o
 use Rattle.gimli_build.proofs.writing.Joined.{first_refused, second_refused, appends_joined, begins_self, begins_then}
 
 -- what a call leaves in one view of the writer, before and after
-pub record Leaves {X : Type 0} (Own : Error → Type 0) (result : Result X Error) (wanted : Result (List ℕ) Error) (old new : List ℕ) : Type 0 where
+pub record Leaves {X : Type 0} (Own : Error → Type 0) (result : Result X Error) (wanted : Result (List ℕ) Error)
+    (old new : List ℕ) : Type 0 where
   pub ok : OnOk result (Appends wanted old new)
   pub err : IfErr result (λ e. Own e ⊎ (wanted ≡ Err e))
 
 -- in each view
-pub record InViews {W X : Type 0} (sink : Ghosts W) (old new : W) (result : Result X Error) (wanted : Hand → Result (List ℕ) Error) : Type 0 where
+pub record InViews {W X : Type 0} (sink : Ghosts W) (old new : W) (result : Result X Error)
+    (wanted : Hand → Result (List ℕ) Error) : Type 0 where
   pub keeps : Begins (sink.contents old) (sink.contents new)
   pub ordered : sink.big new ≡ sink.big old
   pub stays : IsTrue (sink.completes old) → IsTrue (sink.completes new)
@@ -30,7 +32,8 @@ pub record InViews {W X : Type 0} (sink : Ghosts W) (old new : W) (result : Resu
   pub linked : (at : Placement) → IsTrue (sink.completes old)
       → Leaves sink.refuses result (wanted (sink.hand at)) (sink.completed at old) (sink.completed at new)
 
-pub writes_in : {W X : Type 0} {sink : Ghosts W} {old new : W} {r : Result X Error} {wanted : Hand → Result (List ℕ) Error}
+pub writes_in : {W X : Type 0} {sink : Ghosts W} {old new : W} {r : Result X Error} {wanted : Hand
+    → Result (List ℕ) Error}
     → InViews sink old new r wanted → Writes sink old new r wanted
 writes_in so = record {
   keeps = so.keeps;
@@ -55,15 +58,19 @@ views_of so = record {
 }
 
 -- two calls
-leaves_joined : {X Y : Type 0} {Own : Error → Type 0} {x : X} {r : Result Y Error} (a b : Result (List ℕ) Error) (old mid new : List ℕ)
-    → Leaves Own (let s : Result X Error = Ok x in s) a old mid → Leaves Own r b mid new → Leaves Own r (result_append a b) old new
+leaves_joined : {X Y : Type 0} {Own : Error → Type 0} {x : X} {r : Result Y Error} (a b : Result (List ℕ) Error)
+    (old mid new : List ℕ)
+    → Leaves Own (let s : Result X Error = Ok x in s) a old mid → Leaves Own r b mid new
+    → Leaves Own r (result_append a b) old new
 leaves_joined {r = r} a b old mid new first second = record {
   ok = on_ok r (appends_joined a b _ _ _ first.ok) second.ok;
   err = if_err r (λ e. or_wanted (second_refused a b _ _ e first.ok)) second.err;
 }
 
-pub joins : {W X Y : Type 0} {sink : Ghosts W} {old mid new : W} {x : X} {r : Result Y Error} {a b : Hand → Result (List ℕ) Error}
-    → Writes sink old mid (Ok x) a → Writes sink mid new r b → Writes sink old new r (λ hand. result_append (a hand) (b hand))
+pub joins : {W X Y : Type 0} {sink : Ghosts W} {old mid new : W} {x : X} {r : Result Y Error} {a b : Hand
+    → Result (List ℕ) Error}
+    → Writes sink old mid (Ok x) a → Writes sink mid new r b
+    → Writes sink old new r (λ hand. result_append (a hand) (b hand))
 joins {sink = sink} {a = a} {b = b} first second =
     let one = views_of first in
     let other = views_of second in
@@ -81,19 +88,26 @@ joins {sink = sink} {a = a} {b = b} first second =
     })
 
 -- what is wanted, said otherwise
-pub wanted_alike : {W X : Type 0} {sink : Ghosts W} {old new : W} {r : Result X Error} {a b : Hand → Result (List ℕ) Error} → ((hand : Hand) → a hand ≡ b hand)
+pub wanted_alike : {W X : Type 0} {sink : Ghosts W} {old new : W} {r : Result X Error} {a b : Hand
+    → Result (List ℕ) Error}
+    → ((hand : Hand) → a hand ≡ b hand)
     → Writes sink old new r a → Writes sink old new r b
 wanted_alike {sink = sink} {old = old} {new = new} {r = r} same so =
     let views = views_of so in
-    let alike = λ (Own : Error → Type 0) (hand : Hand) (before after : List ℕ). subst (λ w. Leaves Own r w before after) (same hand) in
+    let alike =
+    λ (Own : Error → Type 0) (hand : Hand) (before after : List ℕ).
+    subst (λ w. Leaves Own r w before after) (same hand) in
     writes_in (record {
       keeps = so.keeps;
       ordered = so.ordered;
       stays = so.stays;
       held = λ keeps_bytes. alike sink.refuses plain (sink.contents old) (sink.contents new) (views.held keeps_bytes);
       memory = λ keeps_bytes memory_alone.
-          alike (λ e. e ≡ OutOfMemory) plain (sink.contents old) (sink.contents new) (views.memory keeps_bytes memory_alone);
-      linked = λ at completes. alike sink.refuses (sink.hand at) (sink.completed at old) (sink.completed at new) (views.linked at completes);
+          alike (λ e. e ≡ OutOfMemory) plain (sink.contents old) (sink.contents new)
+          (views.memory keeps_bytes memory_alone);
+      linked =
+          λ at completes.
+          alike sink.refuses (sink.hand at) (sink.completed at old) (sink.completed at new) (views.linked at completes);
     })
 
 for_it : (wanted : Result (List ℕ) Error) (e : Error) → Refuses wanted e → (e ≡ OutOfMemory) ⊎ (wanted ≡ Err e)
@@ -115,20 +129,25 @@ writes {r = r} wanted append = record {
 }
 
 -- the same bytes, said otherwise
-pub same_bytes : {W X : Type 0} {sink : Ghosts W} {old new : W} {r : Result X Error} {xs ys : List ℕ} → xs ≡ ys → Writes sink old new r (always (Ok xs))
+pub same_bytes : {W X : Type 0} {sink : Ghosts W} {old new : W} {r : Result X Error} {xs ys : List ℕ} → xs ≡ ys
+    → Writes sink old new r (always (Ok xs))
     → Writes sink old new r (always (Ok ys))
-same_bytes {sink = sink} {old = old} {new = new} {r = r} same so = subst (λ l. Writes sink old new r (always (Ok l))) same so
+same_bytes {sink = sink} {old = old} {new = new} {r = r} same so =
+    subst (λ l. Writes sink old new r (always (Ok l))) same so
 
 -- ---- refused
 
 -- at the exit of a `?`
-pub passed_on : {W X : Type 0} {sink : Ghosts W} {old new : W} {e : Error} {wanted : Hand → Result (List ℕ) Error} {r : Result X Error}
-    → IsErrAnd r (λ d. d ≡ e) → Writes {X = X} sink old new (Err e) wanted → Writes sink old new r wanted
+pub passed_on : {W X : Type 0} {sink : Ghosts W} {old new : W} {e : Error} {wanted : Hand → Result (List ℕ) Error}
+    {r : Result X Error} → IsErrAnd r (λ d. d ≡ e) → Writes {X = X} sink old new (Err e) wanted
+    → Writes sink old new r wanted
 passed_on {r = r} is refused = let p = err_from_is_err_and r is in rw (p.1, p.2) refused
 
 -- after what is written so far: what refuses it, refuses the whole
-pub later_unwritten : {W X Y : Type 0} {sink : Ghosts W} {old mid new : W} {e : Error} (part whole : Hand → Result (List ℕ) Error)
-    → Begins (sink.contents old) (sink.contents mid) → sink.big mid ≡ sink.big old → (IsTrue (sink.completes old) → IsTrue (sink.completes mid))
+pub later_unwritten : {W X Y : Type 0} {sink : Ghosts W} {old mid new : W} {e : Error}
+    (part whole : Hand → Result (List ℕ) Error)
+    → Begins (sink.contents old) (sink.contents mid) → sink.big mid ≡ sink.big old
+    → (IsTrue (sink.completes old) → IsTrue (sink.completes mid))
     → (IsTrue sink.keeps_bytes → part plain ≡ Err e → whole plain ≡ Err e)
     → ((at : Placement) → IsTrue (sink.completes old) → part (sink.hand at) ≡ Err e → whole (sink.hand at) ≡ Err e)
     → Writes {X = X} sink mid new (Err e) part → Writes {X = Y} sink old new (Err e) whole
@@ -144,7 +163,8 @@ later_unwritten part whole begins same stays held linked refused = record {
 }
 
 -- with nothing before it
-only_unwritten : {W X Y : Type 0} {sink : Ghosts W} {old new : W} {e : Error} (part whole : Hand → Result (List ℕ) Error)
+only_unwritten : {W X Y : Type 0} {sink : Ghosts W} {old new : W} {e : Error}
+    (part whole : Hand → Result (List ℕ) Error)
     → ((hand : Hand) → part hand ≡ Err e → whole hand ≡ Err e)
     → Writes {X = X} sink old new (Err e) part → Writes {X = Y} sink old new (Err e) whole
 only_unwritten {sink = sink} {old = old} part whole why refused =
@@ -152,7 +172,8 @@ only_unwritten {sink = sink} {old = old} part whole why refused =
     (λ at completes. why (sink.hand at)) refused
 
 -- before anything is known of what is wanted after it
-pub first_unwritten : {W X Y : Type 0} {sink : Ghosts W} {old new : W} {e : Error} {a : Hand → Result (List ℕ) Error} (b : Hand → Result (List ℕ) Error)
+pub first_unwritten : {W X Y : Type 0} {sink : Ghosts W} {old new : W} {e : Error} {a : Hand → Result (List ℕ) Error}
+    (b : Hand → Result (List ℕ) Error)
     → Writes {X = X} sink old new (Err e) a
     → Writes {X = Y} sink old new (Err e) (λ hand. result_append (a hand) (b hand))
 first_unwritten {e = e} {a = a} b refused =
@@ -162,17 +183,22 @@ first_unwritten {e = e} {a = a} b refused =
 never : {A : Type 0} {e : Error} {xs : List ℕ} → (let r : Result (List ℕ) Error = Ok xs in r) ≡ Err e → A
 never is = absurd cc
 
-pub bytes_unwritten : {W X Y : Type 0} {sink : Ghosts W} {old new : W} {e : Error} {xs : List ℕ} {wanted : Hand → Result (List ℕ) Error}
+pub bytes_unwritten : {W X Y : Type 0} {sink : Ghosts W} {old new : W} {e : Error} {xs : List ℕ} {wanted : Hand
+    → Result (List ℕ) Error}
     → Writes {X = X} sink old new (Err e) (always (Ok xs)) → Writes {X = Y} sink old new (Err e) wanted
 bytes_unwritten {xs = xs} {wanted = wanted} refused = only_unwritten _ _ (λ hand. never) refused
 
-pub unwritten : {W X Y Z : Type 0} {sink : Ghosts W} {old mid new : W} {x : X} {e : Error} {ys : List ℕ} {first_wanted wanted : Hand → Result (List ℕ) Error}
-    → Writes sink old mid (Ok x) first_wanted → Writes {X = Y} sink mid new (Err e) (always (Ok ys)) → Writes {X = Z} sink old new (Err e) wanted
+pub unwritten : {W X Y Z : Type 0} {sink : Ghosts W} {old mid new : W} {x : X} {e : Error} {ys : List ℕ} {first_wanted
+    wanted : Hand
+    → Result (List ℕ) Error}
+    → Writes sink old mid (Ok x) first_wanted → Writes {X = Y} sink mid new (Err e) (always (Ok ys))
+    → Writes {X = Z} sink old new (Err e) wanted
 unwritten first refused =
     later_unwritten _ _ first.keeps first.ordered first.stays (λ keeps_bytes. never) (λ at completes. never) refused
 
 -- what a length counts
-pub counted_unwritten : {W X Y : Type 0} {sink : Ghosts W} {old mid new : W} {e : Error} {body : Hand → Result (List ℕ) Error}
+pub counted_unwritten : {W X Y : Type 0} {sink : Ghosts W} {old mid new : W} {e : Error} {body : Hand
+    → Result (List ℕ) Error}
     (full : ℕ → Result (List ℕ) Error) → Begins (sink.contents old) (sink.contents mid) → sink.big mid ≡ sink.big old
     → (IsTrue (sink.completes old) → IsTrue (sink.completes mid)) → Writes {X = X} sink mid new (Err e) body
     → Writes {X = Y} sink old new (Err e) (λ hand. after_length full (body hand))
@@ -183,12 +209,14 @@ counted_unwritten {body = body} full begins same stays refused =
 -- ---- the parts of a list
 
 -- the parts so far are written, and those of `left` aren't
-pub record WritesSoFar {W A : Type 0} (sink : Ghosts W) (part : Hand → A → Result (List ℕ) Error) (all left : List A) (old new : W) : Type 0 where
+pub record WritesSoFar {W A : Type 0} (sink : Ghosts W) (part : Hand → A → Result (List ℕ) Error) (all left : List A)
+    (old new : W) : Type 0 where
   pub keeps : Begins (sink.contents old) (sink.contents new)
   pub ordered : sink.big new ≡ sink.big old
   pub stays : IsTrue (sink.completes old) → IsTrue (sink.completes new)
   pub held : IsTrue sink.keeps_bytes → SoFar (part plain) all left (sink.contents old) (sink.contents new)
-  pub linked : (at : Placement) → IsTrue (sink.completes old) → SoFar (part (sink.hand at)) all left (sink.completed at old) (sink.completed at new)
+  pub linked : (at : Placement) → IsTrue (sink.completes old)
+      → SoFar (part (sink.hand at)) all left (sink.completed at old) (sink.completed at new)
 
 pub none_written : {W A : Type 0} (sink : Ghosts W) (part : Hand → A → Result (List ℕ) Error) (all : List A) (old : W)
     → WritesSoFar sink part all all old old
@@ -200,8 +228,10 @@ none_written sink part all old = record {
   linked = λ at completes. none_so_far _ _ _;
 }
 
-pub one_written : {W A X : Type 0} {sink : Ghosts W} {part : Hand → A → Result (List ℕ) Error} {all left : List A} {x : A} {old mid new : W} {y : X}
-    → WritesSoFar sink part all (x ∷ left) old mid → Writes sink mid new (Ok y) (λ hand. part hand x) → WritesSoFar sink part all left old new
+pub one_written : {W A X : Type 0} {sink : Ghosts W} {part : Hand → A → Result (List ℕ) Error} {all left : List A}
+    {x : A} {old mid new : W} {y : X}
+    → WritesSoFar sink part all (x ∷ left) old mid → Writes sink mid new (Ok y) (λ hand. part hand x)
+    → WritesSoFar sink part all left old new
 one_written {sink = sink} {part = part} {all = all} {left = left} {x = x} so more = record {
   keeps = begins_then _ _ _ so.keeps more.keeps;
   ordered = more.ordered ∙ so.ordered;
@@ -210,7 +240,8 @@ one_written {sink = sink} {part = part} {all = all} {left = left} {x = x} so mor
   linked = λ at completes. one_more _ _ _ x _ _ _ (so.linked at completes) (more.completed at (so.stays completes));
 }
 
-pub one_unwritten : {W A X Y : Type 0} {sink : Ghosts W} {part : Hand → A → Result (List ℕ) Error} {all left : List A} {x : A} {old mid new : W} {e : Error}
+pub one_unwritten : {W A X Y : Type 0} {sink : Ghosts W} {part : Hand → A → Result (List ℕ) Error}
+    {all left : List A} {x : A} {old mid new : W} {e : Error}
     → WritesSoFar sink part all (x ∷ left) old mid → Writes {X = X} sink mid new (Err e) (λ hand. part hand x)
     → Writes {X = Y} sink old new (Err e) (λ hand. result_concat (part hand) all)
 one_unwritten {sink = sink} {part = part} {all = all} {left = left} {x = x} {e = e} so refused =
@@ -224,8 +255,10 @@ own_or_memory : {A B C : Type 0} → B ⊎ C → (A ⊎ B) ⊎ C
 own_or_memory (inl own) = inl (inr own)
 own_or_memory (inr wanted) = inr wanted
 
-pub refused_or_memory : {W X Y : Type 0} {sink : Ghosts W} {old new : W} {e : Error} {wanted : Hand → Result (List ℕ) Error}
-    → Writes {X = X} sink old new (Err e) wanted → WritesOr {X = Y} sink (OfMemoryOr sink.refuses) old new (Err e) wanted
+pub refused_or_memory : {W X Y : Type 0} {sink : Ghosts W} {old new : W} {e : Error} {wanted : Hand
+    → Result (List ℕ) Error}
+    → Writes {X = X} sink old new (Err e) wanted
+    → WritesOr {X = Y} sink (OfMemoryOr sink.refuses) old new (Err e) wanted
 refused_or_memory so = record {
   keeps = so.keeps;
   ordered = so.ordered;

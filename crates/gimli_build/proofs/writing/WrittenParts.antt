@@ -17,7 +17,8 @@ pub record Both (r s : Result (List ℕ) Error) (bytes : List ℕ) : Type 0 wher
   pub whole : bytes ≡ first ++ rest
 
 pub both_written : (r s : Result (List ℕ) Error) (bytes : List ℕ) → result_append r s ≡ Ok bytes → Both r s bytes
-both_written (Ok a) (Ok b) bytes e = let p : a ++ b ≡ bytes = cc in record { first = a; rest = b; first_is = refl; rest_is = refl; whole = sym p }
+both_written (Ok a) (Ok b) bytes e =
+    let p : a ++ b ≡ bytes = cc in record { first = a; rest = b; first_is = refl; rest_is = refl; whole = sym p }
 both_written (Ok a) (Err d) bytes e = absurd cc
 both_written (Err d) s bytes e = absurd cc
 
@@ -27,8 +28,10 @@ pub record Behind (first : List ℕ) (s : Result (List ℕ) Error) (bytes : List
   pub rest_is : s ≡ Ok rest
   pub whole : bytes ≡ first ++ rest
 
-pub after_written : (first : List ℕ) (s : Result (List ℕ) Error) (bytes : List ℕ) → result_append (Ok first) s ≡ Ok bytes → Behind first s bytes
-after_written first (Ok b) bytes e = let p : first ++ b ≡ bytes = cc in record { rest = b; rest_is = refl; whole = sym p }
+pub after_written : (first : List ℕ) (s : Result (List ℕ) Error) (bytes : List ℕ)
+    → result_append (Ok first) s ≡ Ok bytes → Behind first s bytes
+after_written first (Ok b) bytes e =
+    let p : first ++ b ≡ bytes = cc in record { rest = b; rest_is = refl; whole = sym p }
 after_written first (Err d) bytes e = absurd cc
 
 -- what was written, and bytes after it that can't be refused
@@ -37,8 +40,10 @@ pub record Before (r : Result (List ℕ) Error) (last : List ℕ) (bytes : List 
   pub front_is : r ≡ Ok front
   pub whole : bytes ≡ front ++ last
 
-pub before_written : (r : Result (List ℕ) Error) (last bytes : List ℕ) → result_append r (Ok last) ≡ Ok bytes → Before r last bytes
-before_written (Ok a) last bytes e = let p : a ++ last ≡ bytes = cc in record { front = a; front_is = refl; whole = sym p }
+pub before_written : (r : Result (List ℕ) Error) (last bytes : List ℕ) → result_append r (Ok last) ≡ Ok bytes
+    → Before r last bytes
+before_written (Ok a) last bytes e =
+    let p : a ++ last ≡ bytes = cc in record { front = a; front_is = refl; whole = sym p }
 before_written (Err d) last bytes e = absurd cc
 
 -- a length, and what it counts
@@ -49,7 +54,8 @@ pub record Counted (length_of : ℕ → Result (List ℕ) Error) (r : Result (Li
   pub size_is : length_of (length inside) ≡ Ok size
   pub whole : bytes ≡ size ++ inside
 
-pub counted_written : (length_of : ℕ → Result (List ℕ) Error) (r : Result (List ℕ) Error) (bytes : List ℕ) → after_length length_of r ≡ Ok bytes
+pub counted_written : (length_of : ℕ → Result (List ℕ) Error) (r : Result (List ℕ) Error) (bytes : List ℕ)
+    → after_length length_of r ≡ Ok bytes
     → Counted length_of r bytes
 counted_written length_of (Ok inside) bytes e =
     let b = before_written _ _ _ e in

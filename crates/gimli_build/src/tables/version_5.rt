@@ -152,10 +152,7 @@ fn directory_form(directories: &[LineString]) -> DwForm
 }
 
 /// Appends the directories and the files.
-pub(crate) fn write_version_5_tables<W: Writer>(
-    w: &mut W,
-    input: &UnitInput<'_>,
-) -> Result<()>
+pub(crate) fn write_version_5_tables<W: Writer>(w: &mut W, input: &UnitInput<'_>) -> Result<()>
     requires version { 5 ≤ input.now.program.encoding.version }
     ensures writes { Writes W.Sink w.old w.new result
         (λ hand. let program = input.now.program in let format = program.encoding.format in
@@ -168,10 +165,7 @@ pub(crate) fn write_version_5_tables<W: Writer>(
 }
 
 /// Appends the directories.
-fn write_directory_table<W: Writer>(
-    w: &mut W,
-    input: &UnitInput<'_>,
-) -> Result<()>
+fn write_directory_table<W: Writer>(w: &mut W, input: &UnitInput<'_>) -> Result<()>
     ensures { Writes W.Sink w.old w.new result
         (λ hand. directory_table_bytes hand (W.big w.old) input.now.program.encoding.format
         input.now.texts input.now.program) }
@@ -278,10 +272,7 @@ fn write_line_string<W: Writer>(
 }
 
 /// Appends the files.
-fn write_file_table<W: Writer>(
-    w: &mut W,
-    input: &UnitInput<'_>,
-) -> Result<()>
+fn write_file_table<W: Writer>(w: &mut W, input: &UnitInput<'_>) -> Result<()>
     requires version { 5 ≤ input.now.program.encoding.version }
     ensures writes { Writes W.Sink w.old w.new result
         (λ hand. file_table_bytes hand (W.big w.old) input.now.program.encoding.format
@@ -317,10 +308,18 @@ fn file_formats(program: &LineProgram, source_form: DwForm) -> [(bool, DwLnct, D
     [
         (true, constants::DW_LNCT_path, path_form),
         (true, constants::DW_LNCT_directory_index, udata),
-        (program.file_has_timestamp, constants::DW_LNCT_timestamp, udata),
+        (
+            program.file_has_timestamp,
+            constants::DW_LNCT_timestamp,
+            udata,
+        ),
         (program.file_has_size, constants::DW_LNCT_size, udata),
         (program.file_has_md5, constants::DW_LNCT_MD5, data16),
-        (program.file_has_source, constants::DW_LNCT_LLVM_source, source_form),
+        (
+            program.file_has_source,
+            constants::DW_LNCT_LLVM_source,
+            source_form,
+        ),
     ]
 }
 

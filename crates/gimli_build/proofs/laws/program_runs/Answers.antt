@@ -13,5 +13,6 @@ returns c = λ p can.
     let e = p.line_encoding in
     let first = initial_row encoding.version e.default_is_stmt in
     ap (λ r. run (built_rules encoding e) r (program_instructions p)) (start-is encoding e can.version)
-    ∙ items-run encoding e can.accepts.address_size can.accepts.lines can.version 0 _ _ (start_position e can.accepts.lines) (lit< tt) can.built
+    ∙ items-run encoding e can.accepts.address_size can.accepts.lines can.version 0 _ _
+    (start_position e can.accepts.lines) (lit< tt) can.built
     can.addresses

@@ -1,13 +1,13 @@
 use Rattle.gimli_build.specs.Rows.{initial_row}
-use Rattle.gimli_build.specs.Runs.{program_instructions}
 use Rattle.gimli_build.proofs.reading.NoFiles.{items-none, starts-none, goes-none, refused-none}
 use Rattle.gimli_build.proofs.laws.written_rows_take_no_memory.Goals as goal
 
 pub returns : goal.returns
 returns c = record {
   start = λ source h p decodes appends.
-      starts-none source h appends (program_instructions p) decodes
-      (items-none p.encoding.version p.line_encoding (initial_row p.encoding.version p.line_encoding.default_is_stmt) p.items);
+      starts-none _ h appends _ decodes
+      (items-none p.encoding.version p.line_encoding (initial_row p.encoding.version p.line_encoding.default_is_stmt)
+      p.items);
   goes = goes-none;
   refused = refused-none;
 }

@@ -14,10 +14,12 @@ returns-clause-writes g c =
     let n = c.len.result - c.len-start.result in
     let opening = rw c.format-format.ensures at c.in_ok-length.ensures in
     let inside = rw opening.appends.ordered at c.in_ok-write_inside.ensures.writes in
-    let call = rw (inside.ordered ∙ opening.appends.ordered, c.format-format.ensures) at c.write_initial_length_at.ensures in
+    let call =
+    rw (inside.ordered ∙ opening.appends.ordered, c.format-format.ensures) at c.write_initial_length_at.ensures in
     let whole = λ (k : ℕ). result_append (Ok (escape_bytes big format)) (length_word big format k) in
     let blank = λ (old new : List ℕ) (is : new ≡ old ++ open_length big format).
-    is ∙ ap (λ l. old ++ l) (escape_is big format) ∙ sym (append_assoc old (escape_bytes big format) (open_word big format)) in
+    is ∙ ap (λ l. old ++ l) (escape_is big format)
+    ∙ sym (append_assoc old (escape_bytes big format) (open_word big format)) in
     counted_written whole (length_word big format) (λ k. refl) (length_word_long big format n) (record {
       keeps = opening.appends.keeps;
       ordered = opening.appends.ordered;
@@ -41,12 +43,14 @@ pub returns-clause-completed_short : goal.returns-clause-completed_short
 returns-clause-completed_short g c = λ at completes.
     let inside = c.in_ok-write_inside.ensures.writes in
     let there = inside.stays (c.in_ok-length.ensures.appends.stays completes) in
-    let long : length (g.W.Sink.completed at c.write_inside.new.w) < 2 ^ 64 = omega (arith, c.len.ensures.completed at there) in
+    let long : length (g.W.Sink.completed at c.write_inside.new.w)
+    < 2 ^ 64 = omega (arith, c.len.ensures.completed at there) in
     on_ok c.write_initial_length_at.result
     (λ written. omega (
       arith,
       long,
-      patched_length _ (g.W.Sink.completed at c.write_inside.new.w) (g.W.Sink.completed at c.write_initial_length_at.new.self)
+      patched_length _ (g.W.Sink.completed at c.write_inside.new.w)
+          (g.W.Sink.completed at c.write_initial_length_at.new.self)
           c.in_ok-length.length.0 written,
     ))
     (c.write_initial_length_at.ensures.completed at there)

@@ -1,6 +1,7 @@
 use Rattle.std.specs.Bool.{beq}
 use Rattle.std.proofs.Common.{◌≡◌, Bool, true, false, nat_eq, not, refl}
-use Rattle.gimli_line.specs.declared.run.instruction.LineInstruction.TheVariants.{NegateStatement, SetFile, SetColumn, SetIsa}
+use Rattle.gimli_line.specs.declared.run.instruction.LineInstruction.TheVariants.{NegateStatement, SetFile, SetColumn}
+use Rattle.gimli_line.specs.declared.run.instruction.LineInstruction.TheVariants.{SetIsa}
 use Rattle.gimli_build.specs.FileNumber.{file_number}
 use Rattle.gimli_build.specs.Due.{when}
 use Rattle.gimli_build.specs.Encode.{differ}
@@ -16,15 +17,19 @@ differs false false = refl
 
 pub returns-in_err-write_if-2-clause-writes : goal.returns-in_err-write_if-2-clause-writes
 returns-in_err-write_if-2-clause-writes g c =
-    passed_on c.from_residual-in_err-write_if-2.ensures.1 (unwritten c.in_ok-write_if.ensures c.in_err-write_if-2.ensures)
+    passed_on c.from_residual-in_err-write_if-2.ensures.1
+    (unwritten c.in_ok-write_if.ensures c.in_err-write_if-2.ensures)
 
 pub returns-in_err-write_if-3-clause-writes : goal.returns-in_err-write_if-3-clause-writes
 returns-in_err-write_if-3-clause-writes g c =
-    passed_on c.from_residual-in_err-write_if-3.ensures.1 (unwritten (joins c.in_ok-write_if.ensures c.in_ok-write_if-2.ensures) c.in_err-write_if-3.ensures)
+    passed_on c.from_residual-in_err-write_if-3.ensures.1
+    (unwritten (joins c.in_ok-write_if.ensures c.in_ok-write_if-2.ensures) c.in_err-write_if-3.ensures)
 
 pub returns-in_err-write_if-4-clause-writes : goal.returns-in_err-write_if-4-clause-writes
 returns-in_err-write_if-4-clause-writes g c =
-    passed_on c.from_residual-in_err-write_if-4.ensures.1 (unwritten (joins (joins c.in_ok-write_if.ensures c.in_ok-write_if-2.ensures) c.in_ok-write_if-3.ensures) c.in_err-write_if-4.ensures)
+    passed_on c.from_residual-in_err-write_if-4.ensures.1
+    (unwritten (joins (joins c.in_ok-write_if.ensures c.in_ok-write_if-2.ensures) c.in_ok-write_if-3.ensures)
+    c.in_err-write_if-4.ensures)
 
 pub returns-clause-writes : goal.returns-clause-writes
 returns-clause-writes g c =

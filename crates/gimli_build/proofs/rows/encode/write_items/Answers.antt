@@ -11,7 +11,9 @@ loop-item-init g c =
     let e = c.args.line_encoding in
     record {
       fit = tt;
-      way = rw c.initial-initial.ensures (record { position = start_position e c.requires.can; line = lit< tt; built = c.requires.built });
+      way =
+          rw c.initial-initial.ensures
+          (record { position = start_position e c.requires.can; line = lit< tt; built = c.requires.built });
       so =
           rw c.initial-initial.ensures (none_standing _ _ _ e _
           _ _);
@@ -30,10 +32,13 @@ loop-item-preserved g c =
     let way = rw split at c.loop-item.invariant.way in
     let so = rw split at c.loop-item.invariant.so in
     let next = c.next_row-next.ensures version e.default_is_stmt c.loop-item.position c.initial-initial.ensures in
-    let moved : at_position c.position-next_position.result c.next_row-next.result.now ≡ next_previous version e.default_is_stmt previous item =
+    let moved : at_position c.position-next_position.result c.next_row-next.result.now
+    ≡ next_previous version e.default_is_stmt previous item =
     ap (λ p. at_position p c.next_row-next.result.now) c.position-next_position.ensures ∙ next in
     record {
-      fit = rw (taken_next items i item lt c.item-item.is) (fit_more _ _ _ c.loop-item.invariant.fit c.in_ok-write_item.ensures.fit);
+      fit =
+          rw (taken_next _ i _ lt c.item-item.is)
+          (fit_more _ _ _ c.loop-item.invariant.fit c.in_ok-write_item.ensures.fit);
       way = rw moved (way_on _ e c.requires.can _ _ _ way);
       so = rw moved (written_more so (rw so.ordered at c.in_ok-write_item.ensures.writes));
     }

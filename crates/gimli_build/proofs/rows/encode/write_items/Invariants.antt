@@ -15,5 +15,7 @@ invariant-loop-item g l =
       fit : AreFit l.encoding.version (take l.item-index l.items);
       way : OnTheWay e previous left;
       so : Written g.W.Sink big l.encoding e
-          (λ (hand : Hand). items_bytes hand big l.encoding e (initial_row l.encoding.version e.default_is_stmt) l.items) l.fn.w l.w previous left;
+          (λ (hand : Hand). items_bytes hand big l.encoding e (initial_row l.encoding.version e.default_is_stmt)
+          l.items)
+          l.fn.w l.w previous left;
     }

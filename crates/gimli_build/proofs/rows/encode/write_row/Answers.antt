@@ -9,15 +9,18 @@ use Rattle.gimli_build.proofs.rows.encode.write_row.Goals as goal
 
 pub returns-in_err-write_changes-clause-writes : goal.returns-in_err-write_changes-clause-writes
 returns-in_err-write_changes-clause-writes g c =
-    passed_on c.from_residual-in_err-write_changes.ensures.1 (unwritten c.in_ok-write_marks.ensures.writes c.in_err-write_changes.ensures.writes)
+    passed_on c.from_residual-in_err-write_changes.ensures.1
+    (unwritten c.in_ok-write_marks.ensures.writes c.in_err-write_changes.ensures.writes)
 
 pub returns-in_err-opcode-clause-writes : goal.returns-in_err-opcode-clause-writes
 returns-in_err-opcode-clause-writes g c =
-    passed_on c.from_residual-in_err-opcode.ensures.1 (unwritten (joins c.in_ok-write_marks.ensures.writes c.in_ok-write_changes.ensures.writes) c.in_err-opcode.ensures.writes)
+    passed_on c.from_residual-in_err-opcode.ensures.1 (unwritten
+    (joins c.in_ok-write_marks.ensures.writes c.in_ok-write_changes.ensures.writes) c.in_err-opcode.ensures.writes)
 
 pub returns-in_err-write_operation_advance-clause-writes : goal.returns-in_err-write_operation_advance-clause-writes
 returns-in_err-write_operation_advance-clause-writes g c =
-    passed_on c.from_residual-in_err-write_operation_advance.ensures.1 (unwritten (joins c.in_ok-write_marks.ensures.writes (joins c.in_ok-write_changes.ensures.writes c.in_ok-opcode.ensures.writes))
+    passed_on c.from_residual-in_err-write_operation_advance.ensures.1 (unwritten (joins
+    c.in_ok-write_marks.ensures.writes (joins c.in_ok-write_changes.ensures.writes c.in_ok-opcode.ensures.writes))
     c.in_err-write_operation_advance.ensures)
 
 pub returns-clause-writes : goal.returns-clause-writes

@@ -1,6 +1,3 @@
-use Rattle.std.proofs.Common.{◌+◌, length, Ok}
-use Rattle.gimli_bytes.specs.Number.{uleb}
-use Rattle.gimli_build.specs.inside.Writes.{always}
 use Rattle.gimli_build.proofs.writing.Writes.{passed_on, joins, unwritten, writes, bytes_unwritten}
 use Rattle.gimli_build.proofs.rows.instruction.write_discriminator.Goals as goal
 
@@ -10,8 +7,9 @@ returns-in_err-write_byte g c = passed_on c.from_residual.ensures.1 (bytes_unwri
 pub returns-in_err-write_byte-2 : goal.returns-in_err-write_byte-2
 returns-in_err-write_byte-2 g c =
     let put = c.in_ok-write_uleb128.ensures.appends in
-    let second = writes (always (Ok (uleb (length c.bytes.result.now + 1)))) put in
-    passed_on c.from_residual-in_err-write_byte-2.ensures.1 (unwritten (joins c.in_ok-write_byte.ensures second) c.in_err-write_byte-2.ensures)
+    let second = writes _ put in
+    passed_on c.from_residual-in_err-write_byte-2.ensures.1
+    (unwritten (joins c.in_ok-write_byte.ensures second) c.in_err-write_byte-2.ensures)
 
 pub returns : goal.returns
 returns g c =

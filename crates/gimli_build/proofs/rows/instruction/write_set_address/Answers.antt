@@ -1,6 +1,4 @@
-use Rattle.std.proofs.Common.{◌+◌, Ok, ◌∙◌}
-use Rattle.gimli_bytes.specs.Number.{uleb}
-use Rattle.gimli_build.specs.inside.Writes.{always}
+use Rattle.std.proofs.Common.{◌∙◌}
 use Rattle.gimli_build.proofs.writing.InstructionsWritten.{address_parts}
 use Rattle.gimli_build.proofs.writing.Writes.{bytes_unwritten, joins, unwritten, wanted_alike, writes, passed_on}
 use Rattle.gimli_build.proofs.rows.instruction.write_set_address.Goals as goal
@@ -25,5 +23,6 @@ returns-in_err-write_byte g c = passed_on c.from_residual.ensures.1 (bytes_unwri
 pub returns-in_err-write_byte-2 : goal.returns-in_err-write_byte-2
 returns-in_err-write_byte-2 g c =
     let put = c.in_ok-write_uleb128.ensures.appends in
-    let second = writes (always (Ok (uleb (c.from.result + 1)))) put in
-    passed_on c.from_residual-in_err-write_byte-2.ensures.1 (unwritten (joins c.in_ok-write_byte.ensures second) c.in_err-write_byte-2.ensures)
+    let second = writes _ put in
+    passed_on c.from_residual-in_err-write_byte-2.ensures.1
+    (unwritten (joins c.in_ok-write_byte.ensures second) c.in_err-write_byte-2.ensures)

@@ -11,7 +11,7 @@ returns-then-has_seven_bits g c =
     let one : has_seven_bits c.args.operand ≡ true = ap has_seven_bits (sym back) ∙ sym c.if-has_seven_bits.ensures in
     let low : c.low_bits.result ≡ low_bits c.args.operand = c.low_bits.ensures ∙ ap low_bits back in
     let put = c.write.ensures in
-    rw (sleb_one c.args.operand one, ← low) (writes _ put)
+    rw (sleb_one _ one, ← low) (writes _ put)
 
 pub returns : goal.returns
 returns g c =

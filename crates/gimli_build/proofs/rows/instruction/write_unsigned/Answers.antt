@@ -5,4 +5,4 @@ use Rattle.gimli_build.proofs.rows.instruction.write_unsigned.Goals as goal
 pub returns-then-operand-lt128 : goal.returns-then-operand-lt128
 returns-then-operand-lt128 g c =
     let put = c.write.ensures in
-    rw (uleb_one c.args.operand c.if-operand-lt128.true) (writes _ put)
+    rw (uleb_one _ c.if-operand-lt128.true) (writes _ put)

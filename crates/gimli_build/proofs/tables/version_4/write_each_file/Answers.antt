@@ -13,20 +13,23 @@ pub returns-in_err-write_file-clause-writes : goal.returns-in_err-write_file-cla
 returns-in_err-write_file-clause-writes g c =
     let files = c.args.tables.now.files in
     let i = c.loop-index.index in
-    let file : File = ((line_text c.file-directory.result.0.now, c.file-directory.result.1), details c.file-directory.result.2.now) in
-    let so = rw (next_at files i file c.file-directory.ensures) at c.loop-index.invariant.so in
+    let file : File =
+    ((line_text c.file-directory.result.0.now, c.file-directory.result.1), details c.file-directory.result.2.now) in
+    let so = rw (next_at _ i _ c.file-directory.ensures) at c.loop-index.invariant.so in
     passed_on c.from_residual.ensures.1 (one_unwritten so c.in_err-write_file.ensures.writes)
 
 pub loop-index-preserved : goal.loop-index-preserved
 loop-index-preserved g c =
     let files = c.args.tables.now.files in
     let i = c.loop-index.index in
-    let file : File = ((line_text c.file-directory.result.0.now, c.file-directory.result.1), details c.file-directory.result.2.now) in
-    let so = rw (next_at files i file c.file-directory.ensures) at c.loop-index.invariant.so in
+    let file : File =
+    ((line_text c.file-directory.result.0.now, c.file-directory.result.1), details c.file-directory.result.2.now) in
+    let so = rw (next_at _ i _ c.file-directory.ensures) at c.loop-index.invariant.so in
     record {
       so = one_written so c.in_ok-write_file.ensures.writes;
       fit =
-          rw (taken_at files i file c.file-directory.ensures) (All-push FitsFile _ _ c.loop-index.invariant.fit c.in_ok-write_file.ensures.fit);
+          rw (taken_at _ i _ c.file-directory.ensures)
+          (All-push FitsFile _ _ c.loop-index.invariant.fit c.in_ok-write_file.ensures.fit);
     }
 
 pub returns-clause-fit : goal.returns-clause-fit

@@ -10,7 +10,7 @@ returns-in_err-write_name g c =
     let name = c.name-item.result in
     let i = c.loop-name.name-index in
     let lt : i < length names = omega arith in
-    let so = rw (next_seen line_text names i name lt c.name-item.is) at c.loop-name.invariant.so in
+    let so = rw (next_seen line_text _ i _ lt c.name-item.is) at c.loop-name.invariant.so in
     passed_on c.from_residual.ensures.1 (one_unwritten so c.in_err-write_name.ensures)
 
 pub loop-name-preserved : goal.loop-name-preserved
@@ -19,4 +19,8 @@ loop-name-preserved g c =
     let name = c.name-item.result in
     let i = c.loop-name.name-index in
     let lt : i < length names = omega arith in
-    record { so = one_written (rw (next_seen line_text names i name lt c.name-item.is) at c.loop-name.invariant.so) c.in_ok-write_name.ensures }
+    record {
+      so =
+          one_written (rw (next_seen line_text _ i _ lt c.name-item.is) at c.loop-name.invariant.so)
+          c.in_ok-write_name.ensures;
+    }

@@ -7,6 +7,7 @@ use Rattle.gimli_build.proofs.tables.version_4.write_names.Given as goal
 
 abbrev pub invariant-loop-name : goal.invariant-loop-name
 invariant-loop-name g l = record {
-  so : WritesSoFar g.W.Sink (λ (hand : Hand). name_bytes) (map line_text l.names) (drop l.name-index (map line_text l.names))
+  so : WritesSoFar g.W.Sink (λ (hand : Hand). name_bytes) (map line_text l.names)
+      (drop l.name-index (map line_text l.names))
       l.fn.w l.w;
 }

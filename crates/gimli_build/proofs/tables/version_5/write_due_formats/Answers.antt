@@ -7,7 +7,7 @@ use Rattle.gimli_build.proofs.tables.version_5.write_due_formats.Goals as goal
 pub loop-index-preserved : goal.loop-index-preserved
 loop-index-preserved g c = record {
   so =
-      same_bytes (due_more c.args.formats.now c.loop-index.index _ c.loop-index-test.true)
+      same_bytes (due_more _ _ _ c.loop-index-test.true)
       (joins c.loop-index.invariant.so c.in_ok-write_format_if.ensures);
 }
 
@@ -17,4 +17,5 @@ returns-in_err-write_format_if g c =
 
 pub returns : goal.returns
 returns g c =
-    same_bytes (ap due_bytes (take_all c.loop-index.index c.args.formats.now c.loop-index-test.false)) c.loop-index.invariant.so
+    same_bytes (ap due_bytes (take_all c.loop-index.index c.args.formats.now c.loop-index-test.false))
+    c.loop-index.invariant.so

@@ -15,9 +15,11 @@ pub write_file_entry-requires-clause-there : goal.write_file_entry-requires-clau
 write_file_entry-requires-clause-there g c =
     let p = c.args.input.now.program in
     let file : File = ((line_text c.file-file.result.0.now, c.file-file.result.1), details c.file-file.result.2.now) in
-    let there : slice_get p.files c.loop-index.index ≡ Some file = ap (λ l. slice_get l c.loop-index.index) (sym (c.tables-tables.ensures.files ∙ ap (λ q. q.files) c.program.ensures.program))
+    let there : slice_get p.files c.loop-index.index
+    ≡ Some file = ap (λ l. slice_get l c.loop-index.index)
+    (sym (c.tables-tables.ensures.files ∙ ap (λ q. q.files) c.program.ensures.program))
     ∙ c.file-file.ensures in
-    contains-at p.files c.loop-index.index file there
+    contains-at _ _ _ there
 
 pub loop-index-init : goal.loop-index-init
 loop-index-init g c = record { so = none_written _ _ _ _; fit = All-nil FitsFile }
@@ -27,8 +29,11 @@ returns-in_err-write_file_entry-clause-writes g c =
     let p = c.args.input.now.program in
     let i = c.loop-index.index in
     let file : File = ((line_text c.file-file.result.0.now, c.file-file.result.1), details c.file-file.result.2.now) in
-    let there : slice_get p.files i ≡ Some file = ap (λ (l : List File). slice_get l i) (sym (c.tables-tables.ensures.files ∙ ap (λ q. q.files) c.program.ensures.program)) ∙ c.file-file.ensures in
-    let so = rw (next_at p.files i file there) at c.loop-index.invariant.so in
+    let there : slice_get p.files i
+    ≡ Some file = ap (λ (l : List File). slice_get l i)
+    (sym (c.tables-tables.ensures.files ∙ ap (λ q. q.files) c.program.ensures.program))
+    ∙ c.file-file.ensures in
+    let so = rw (next_at _ i _ there) at c.loop-index.invariant.so in
     let refused = rw c.loop-index.invariant.so.ordered at c.in_err-write_file_entry.ensures.writes in
     passed_on c.from_residual.ensures.1 (one_unwritten so refused)
 
@@ -37,17 +42,24 @@ loop-index-preserved g c =
     let p = c.args.input.now.program in
     let i = c.loop-index.index in
     let file : File = ((line_text c.file-file.result.0.now, c.file-file.result.1), details c.file-file.result.2.now) in
-    let there : slice_get p.files i ≡ Some file = ap (λ l. slice_get l i) (sym (c.tables-tables.ensures.files ∙ ap (λ q. q.files) c.program.ensures.program)) ∙ c.file-file.ensures in
-    let so = rw (next_at p.files i file there) at c.loop-index.invariant.so in
+    let there : slice_get p.files i
+    ≡ Some file = ap (λ l. slice_get l i)
+    (sym (c.tables-tables.ensures.files ∙ ap (λ q. q.files) c.program.ensures.program))
+    ∙ c.file-file.ensures in
+    let so = rw (next_at _ i _ there) at c.loop-index.invariant.so in
     record {
       so = one_written so (rw c.loop-index.invariant.so.ordered at c.in_ok-write_file_entry.ensures.writes);
-      fit = rw (taken_at p.files i file there) (All-push FitsFile _ _ c.loop-index.invariant.fit c.in_ok-write_file_entry.ensures.fit);
+      fit =
+          rw (taken_at _ i _ there)
+          (All-push FitsFile _ _ c.loop-index.invariant.fit c.in_ok-write_file_entry.ensures.fit);
     }
 
 pub returns-clause-fit : goal.returns-clause-fit
 returns-clause-fit g c =
     let files = c.args.input.now.program.files in
     let i = c.loop-index.index in
-    let count = c.file_count-index-end.ensures.count ∙ ap length (c.tables-tables.ensures.files ∙ ap (λ q. q.files) c.program.ensures.program) in
+    let count =
+    c.file_count-index-end.ensures.count
+    ∙ ap length (c.tables-tables.ensures.files ∙ ap (λ q. q.files) c.program.ensures.program) in
     let end : length files ≤ i = omega (arith, c.loop-index-test.false, count) in
     rw (take_all i files end) at c.loop-index.invariant.fit

@@ -2,7 +2,7 @@ use Rattle.std.proofs.Common.{ap, ◌∙◌, List}
 use Rattle.std.proofs.lemmas.List.Elements.{All-contains}
 use Rattle.gimli_build.specs.LineText.{IsWithin}
 use Rattle.std.specs.Prelude.{IfSome}
-use Rattle.gimli_build.proofs.building.EmptySource.{needs-empty}
+use Rattle.gimli_build.proofs.building.SourceLemmas.{needs-empty}
 use Rattle.gimli_build.specs.Tables.{File}
 use Rattle.gimli_build.specs.Version5Tables.{first_form, path_texts}
 use Rattle.gimli_build.proofs.writing.Writes.{first_unwritten, joins, passed_on}
@@ -14,7 +14,8 @@ write_line_string-requires g c =
 
 pub write_source-requires-clause-source : goal.write_source-requires-clause-source
 write_source-requires-clause-source g c =
-    All-contains (λ f. IfSome f.1.source (IsWithin c.args.input.now.texts)) _ _ c.program-program.ensures.can.sources c.requires.there
+    All-contains (λ f. IfSome f.1.source (IsWithin c.args.input.now.texts)) _ _ c.program-program.ensures.can.sources
+    c.requires.there
 
 pub write_source-requires-clause-none : goal.write_source-requires-clause-none
 write_source-requires-clause-none g c = needs-empty c.args.input.now.program _ c.requires.version c.requires.there
@@ -33,4 +34,5 @@ returns-in_err-write_details-clause-writes g c =
     let files = c.tables.ensures.files ∙ ap (λ q. q.files) c.program-program.ensures.program in
     let form = c.path_form.ensures ∙ ap (λ (files : List File). first_form (path_texts files)) files in
     let first = rw form at c.in_ok-write_line_string.ensures in
-    passed_on c.from_residual-in_err-write_details.ensures.1 (joins first (first_unwritten _ (rw c.program-program.ensures.program at c.in_err-write_details.ensures.writes)))
+    passed_on c.from_residual-in_err-write_details.ensures.1
+    (joins first (first_unwritten _ (rw c.program-program.ensures.program at c.in_err-write_details.ensures.writes)))

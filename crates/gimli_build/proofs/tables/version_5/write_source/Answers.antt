@@ -18,7 +18,8 @@ pub write_line_string-requires : goal.write_line_string-requires
 write_line_string-requires g c =
     let has : c.args.input.now.program.file_has_source ≡ true = search rules in
     rw c.source_or.ensures
-    (within (IsWithin c.args.input.now.texts) _ _ c.requires.source (λ none. (c.empty.ensures (c.requires.none has none)).within))
+    (within (IsWithin c.args.input.now.texts) _ _ c.requires.source (λ none.
+    (c.empty.ensures (c.requires.none has none)).within))
 
 pub returns : goal.returns
 returns g c =

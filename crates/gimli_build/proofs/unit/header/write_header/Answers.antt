@@ -3,7 +3,8 @@ use Rattle.std.specs.Prelude.{Result}
 use Rattle.std.proofs.lemmas.List.{append-nil}
 use Rattle.gimli_bytes.specs.declared.error.Error.{Error}
 use Rattle.gimli_build.specs.FormatWord.{format_word}
-use Rattle.gimli_build.proofs.writing.Frames.{counted_written, open_word, word_is, zero_word, no_escape, header_word_long}
+use Rattle.gimli_build.proofs.writing.Frames.{counted_written, open_word, word_is, zero_word, no_escape}
+use Rattle.gimli_build.proofs.writing.Frames.{header_word_long}
 use Rattle.gimli_build.proofs.writing.Writes.{counted_unwritten, passed_on}
 use Rattle.gimli_build.proofs.unit.header.write_header.Goals as goal
 
@@ -15,7 +16,8 @@ returns-clause-writes g c =
     let small : n < 2 ^ 64 = omega arith in
     let zero = rw (c.word_size-size.ensures, c.format.ensures, zero_word big format) at c.in_ok-write_udata.ensures in
     let fields = rw zero.ordered at c.in_ok-write_fields.ensures.writes in
-    let call = rw (fields.ordered ∙ zero.ordered, c.word_size-size.ensures, c.format.ensures, word_is big format n small) at
+    let call =
+    rw (fields.ordered ∙ zero.ordered, c.word_size-size.ensures, c.format.ensures, word_is big format n small) at
     c.write_udata_at.ensures in
     let word = λ (k : ℕ). format_word big format k in
     let blank = λ (old new : List ℕ) (is : new ≡ old ++ open_word big format).
@@ -42,6 +44,8 @@ returns-clause-writes g c =
 pub returns-in_err-write_fields-clause-writes : goal.returns-in_err-write_fields-clause-writes
 returns-in_err-write_fields-clause-writes g c =
     let zero = c.in_ok-write_udata.ensures in
-    let word : ℕ → Result (List ℕ) Error = λ k. format_word (g.W.Sink.big c.args.w.now) c.args.input.now.program.encoding.format k in
+    let word : ℕ → Result (List ℕ) Error = λ k.
+    format_word (g.W.Sink.big c.args.w.now) c.args.input.now.program.encoding.format k in
     let refused = rw zero.ordered at c.in_err-write_fields.ensures.writes in
-    passed_on c.from_residual-in_err-write_fields.ensures.1 (counted_unwritten word zero.keeps zero.ordered zero.stays refused)
+    passed_on c.from_residual-in_err-write_fields.ensures.1
+    (counted_unwritten word zero.keeps zero.ordered zero.stays refused)

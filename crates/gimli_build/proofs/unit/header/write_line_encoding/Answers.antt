@@ -1,6 +1,5 @@
-use Rattle.std.proofs.Common.{◌≡◌, [], ◌∷◌, Ok, rules}
+use Rattle.std.proofs.Common.{◌≡◌, [], ◌∷◌, rules}
 use Rattle.gimli_build.specs.Unit.{flag_byte, base_byte}
-use Rattle.gimli_build.specs.inside.Writes.{always}
 use Rattle.gimli_build.proofs.writing.Writes.{first_unwritten, joins, writes, passed_on}
 use Rattle.gimli_build.proofs.unit.header.write_line_encoding.Goals as goal
 
@@ -12,7 +11,7 @@ returns g c =
     let flag : c.from.result ≡ flag_byte e.default_is_stmt = search rules in
     let base : c.cast_unsigned.result ≡ base_byte e.line_base = search rules in
     let last = c.write.ensures in
-    let third = rw (flag, base) at (writes (always (Ok bytes)) last) in
+    let third = rw (flag, base) at (writes _ last) in
     joins c.in_ok-write_byte.ensures (joins c.in_ok-write_operation_count.ensures third)
 
 pub returns-in_err-write_byte : goal.returns-in_err-write_byte
@@ -20,4 +19,5 @@ returns-in_err-write_byte g c = passed_on c.from_residual.ensures.1 (first_unwri
 
 pub returns-in_err-write_operation_count : goal.returns-in_err-write_operation_count
 returns-in_err-write_operation_count g c =
-    passed_on c.from_residual-in_err-write_operation_count.ensures.1 (joins c.in_ok-write_byte.ensures (first_unwritten _ c.in_err-write_operation_count.ensures))
+    passed_on c.from_residual-in_err-write_operation_count.ensures.1
+    (joins c.in_ok-write_byte.ensures (first_unwritten _ c.in_err-write_operation_count.ensures))

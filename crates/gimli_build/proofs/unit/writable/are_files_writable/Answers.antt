@@ -5,7 +5,7 @@ use Rattle.gimli_build.specs.Tables.{File}
 use Rattle.gimli_build.specs.TableFields.{details}
 use Rattle.gimli_build.specs.inside.Writable.{IsFileWritable}
 use Rattle.gimli_build.proofs.writing.Joined.{next_at}
-use Rattle.gimli_build.proofs.building.AllLemmas.{all_passed}
+use Rattle.gimli_build.proofs.writing.Joined.{all_passed}
 use Rattle.gimli_build.proofs.unit.writable.are_files_writable.Goals as goal
 
 pub loop-index-preserved : goal.loop-index-preserved

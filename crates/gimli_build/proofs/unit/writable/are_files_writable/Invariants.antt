@@ -7,6 +7,8 @@ use Rattle.gimli_build.proofs.unit.writable.are_files_writable.Given as goal
 
 abbrev pub invariant-loop-index : goal.invariant-loop-index
 invariant-loop-index l = record {
-  left : All (λ (f : File). IsFileWritable l.writes_sources (texts_in l.strings l.line_strings) f.0.0 f.1) (drop l.index l.tables.files)
-      → All (λ (f : File). IsFileWritable l.writes_sources (texts_in l.strings l.line_strings) f.0.0 f.1) l.tables.files;
+  left : All (λ (f : File). IsFileWritable l.writes_sources (texts_in l.strings l.line_strings) f.0.0 f.1)
+      (drop l.index l.tables.files)
+      → All (λ (f : File). IsFileWritable l.writes_sources (texts_in l.strings l.line_strings) f.0.0 f.1)
+      l.tables.files;
 }

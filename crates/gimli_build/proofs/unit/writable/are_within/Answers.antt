@@ -2,7 +2,7 @@ use Rattle.std.proofs.Common.{◌<◌, length, map, refl, arith}
 use Rattle.gimli_bytes.specs.Texts.{texts_in}
 use Rattle.gimli_build.specs.LineText.{line_text, IsWithin}
 use Rattle.gimli_build.proofs.writing.Joined.{next_seen, all_seen}
-use Rattle.gimli_build.proofs.building.AllLemmas.{all_passed}
+use Rattle.gimli_build.proofs.writing.Joined.{all_passed}
 use Rattle.gimli_build.proofs.unit.writable.are_within.Goals as goal
 
 pub returns-then-not-is_within : goal.returns-then-not-is_within
@@ -22,6 +22,7 @@ loop-text-preserved c =
     let lt : i < length texts = omega arith in
     record {
       left =
-          all_passed (IsWithin (texts_in c.args.strings.now c.args.line_strings.now)) (map line_text texts) i (line_text c.text-item.result)
+          all_passed (IsWithin (texts_in c.args.strings.now c.args.line_strings.now)) (map line_text texts) i
+          (line_text c.text-item.result)
           (next_seen _ _ i _ lt c.text-item.is) (c.if-not-is_within.ensures.0 refl) c.loop-text.invariant.left;
     }

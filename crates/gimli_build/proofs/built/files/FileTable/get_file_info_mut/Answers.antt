@@ -12,7 +12,8 @@ returns c = (
   (
     refl,
     λ w.
-        rw (← c.self.view_is, ← c.id.view_is) (ap (λ fs. record { directories = directories_of c.self.inside.directories.keys; files = fs })
+        rw (← c.self.view_is, ← c.id.view_is) (ap (λ fs.
+        record { directories = directories_of c.self.inside.directories.keys; files = fs })
         (files_with _ _ w)),
   ),
   record {

@@ -4,8 +4,8 @@ use Rattle.gimli_build.proofs.built.files.FileTableClone.clone.Goals as goal
 pub invariant_of-result : goal.invariant_of-result
 invariant_of-result c =
     rw (
-      directories_cloned c.self.inside.directories.keys c.in_ok-clone.field-0.keys c.in_ok-clone.ensures.cases,
-      files_cloned c.self.inside.files.entries c.in_ok-clone-2.field-0.entries c.in_ok-clone-2.ensures.cases,
+      directories_cloned _ _ c.in_ok-clone.ensures.cases,
+      files_cloned _ _ c.in_ok-clone-2.ensures.cases,
     )
     c.self.invariant
 

@@ -10,8 +10,12 @@ use Rattle.gimli_build.proofs.built.line_program.LineProgram.add_file.Goals as g
 
 pub invariant_of-self-2 : goal.invariant_of-self-2
 invariant_of-self-2 c =
-    let not_empty = subst (λ p. p.encoding.version ≤ 4 → IsNotEmpty (line_text c.args.file)) (sym c.self.view_is) c.requires.not_empty in
-    subst (λ t. IsProgram c.self.inside.none c.self.inside.encoding c.self.inside.line_encoding t.directories (keys_of t.files) c.self.inside.items)
+    let not_empty =
+    subst (λ p. p.encoding.version ≤ 4 → IsNotEmpty (line_text c.args.file)) (sym c.self.view_is)
+    c.requires.not_empty in
+    subst (λ t.
+    IsProgram c.self.inside.none c.self.inside.encoding c.self.inside.line_encoding t.directories (keys_of t.files)
+    c.self.inside.items)
     (sym c.in_ok-id.ensures.ok)
     (file_added _ _ _ c.self.invariant not_empty)
 
@@ -31,7 +35,8 @@ returns-clause-within c =
 
 pub returns-clause-keeps : goal.returns-clause-keeps
 returns-clause-keeps c =
-    rw (← c.self.view_is) (subst (λ t. Keeps (keys_of c.self.inside.tables.files) (keys_of t.files)) (sym c.in_ok-id.ensures.ok)
+    rw (← c.self.view_is)
+    (subst (λ t. Keeps (keys_of c.self.inside.tables.files) (keys_of t.files)) (sym c.in_ok-id.ensures.ok)
     (file_keeps _ _ _))
 
 pub returns-clause-others : goal.returns-clause-others

@@ -1,4 +1,5 @@
-use Rattle.std.proofs.Common.{◌≡◌, ℕ, ◌+◌, ◌<◌, ◌≤◌, Bool, None, List, [], ◌∷◌, length, get_or, take, drop, reverse, sym, ◌∙◌, arith, below_more}
+use Rattle.std.proofs.Common.{◌≡◌, ℕ, ◌+◌, ◌<◌, ◌≤◌, Bool, None, List, [], ◌∷◌, length, get_or, take, drop, reverse}
+use Rattle.std.proofs.Common.{sym, ◌∙◌, arith, below_more}
 use Rattle.std.proofs.lemmas.List.{reverse-append, take_rest}
 use Rattle.gimli_build.specs.Built.{Built, base_of}
 use Rattle.gimli_build.specs.Traps.{begins_unset, item_trap, trap_at, HaveNoTrap}
@@ -10,15 +11,18 @@ use Rattle.gimli_build.proofs.built.line_program.LineProgram.next_trap.Goals.{in
 
 past_more : (items : List BuiltItem) (i : ℕ) (item : BuiltItem) → i < length items → item ≡ get_or items i item
     → reverse (take (i + 1) items) ≡ item ∷ reverse (take i items)
-past_more items i item lt is = rw (taken_next items i item lt is) (reverse-append (take i items) (item ∷ []))
+past_more items i item lt is = rw (taken_next _ i _ lt is) (reverse-append (take i items) (item ∷ []))
 
-at_item : (p : Built) (items : List BuiltItem) (i : ℕ) (item : BuiltItem) (base : ℕ) (begins : Bool) → items ≡ p.items → i < length items
-    → item ≡ get_or items i item → base ≡ base_of (reverse (take i items)) → begins ≡ begins_unset (reverse (take i items))
+at_item : (p : Built) (items : List BuiltItem) (i : ℕ) (item : BuiltItem) (base : ℕ) (begins : Bool) → items ≡ p.items
+    → i < length items
+    → item ≡ get_or items i item → base ≡ base_of (reverse (take i items))
+    → begins ≡ begins_unset (reverse (take i items))
     → trap_at p i ≡ item_trap p base begins item (drop (i + 1) items)
-at_item p items i item base begins same lt is base_is begins_is = rw (← same, next_left items i item lt is, base_is, begins_is)
+at_item p items i item base begins same lt is base_is begins_is = rw (← same, next_left _ i _ lt is, base_is, begins_is)
 
 none_more : (p : Built) (from i : ℕ) → HaveNoTrap p from i → (from ≤ i → trap_at p i ≡ None) → HaveNoTrap p from (i + 1)
-none_more p from i before here k low high = below_more (λ n. from ≤ n → trap_at p n ≡ None) i (λ n lt l. before n l lt) here k high low
+none_more p from i before here k low high =
+    below_more (λ n. from ≤ n → trap_at p n ≡ None) i (λ n lt l. before n l lt) here k high low
 
 pub loop-index-preserved : goal.loop-index-preserved
 loop-index-preserved c =
@@ -35,5 +39,6 @@ loop-index-preserved c =
       base = rw more (c.base_after-base.ensures (reverse (take i items)) c.loop-index.invariant.base);
       begins = rw more (c.begins_after-begins.ensures (reverse (take i items)));
       none = none_more p _ i c.loop-index.invariant.none (λ low.
-          elim c.match-trap.branch [ in-Some+else-index-from w ↦ absurd (omega arith) | in_default w ↦ at ∙ sym told ∙ w.in_default.is ]);
+          elim c.match-trap.branch
+          [ in-Some+else-index-from w ↦ absurd (omega arith) | in_default w ↦ at ∙ sym told ∙ w.in_default.is ]);
     }

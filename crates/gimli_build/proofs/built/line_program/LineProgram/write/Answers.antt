@@ -6,7 +6,7 @@ use Rattle.gimli_build.specs.Version5Tables.{texts_after}
 use Rattle.gimli_bytes.specs.Relocations.{placed}
 use Rattle.gimli_build.specs.Linked.{placed_program, SumsFit}
 use Rattle.gimli_build.specs.Unit.{unit_bytes, is_incompatible}
-use Rattle.gimli_build.proofs.building.EmptySource.{can-write-after}
+use Rattle.gimli_build.proofs.building.SourceLemmas.{can-write-after}
 use Rattle.gimli_build.proofs.reading.ReadBack.{appended-back}
 use Rattle.gimli_build.proofs.linking.PlacedUnits.{placed-plain, is-built, can-write}
 use Rattle.std.proofs.lemmas.Result.{err_from_is_err_and}
@@ -30,9 +30,13 @@ returns-clause-reads_back g c = λ keeps_bytes.
     let same = empty.tables.strings in
     let line_same = empty.tables.line_strings in
     let compatible : is_incompatible c.args.encoding p.encoding ≡ false = search rules in
-    let written = rw (c.new-input.ensures.program, c.new-input.ensures.texts, same, line_same) at (whole.writes.ok keeps_bytes) in
-    let appended : Appends (unit_bytes plain big c.args.encoding p texts) (contents c.args.w.now.0) (contents c.write_whole.new.w) = rw compatible written in
-    rw (same, line_same) (appended-back big c.args.encoding p texts _ _ whole.short (rw c.new-input.ensures.program at whole.built) c.requires (rw same at empty.texts)
+    let written =
+    rw (c.new-input.ensures.program, c.new-input.ensures.texts, same, line_same) at (whole.writes.ok keeps_bytes) in
+    let appended : Appends (unit_bytes plain big c.args.encoding p texts) (contents c.args.w.now.0)
+    (contents c.write_whole.new.w) =
+    rw compatible written in
+    rw (same, line_same) (appended-back big c.args.encoding p texts _ _ whole.short
+    (rw c.new-input.ensures.program at whole.built) c.requires (rw same at empty.texts)
     (rw line_same at empty.line_texts) (rw same at empty.short) (rw line_same at empty.line_short) appended)
 
 pub returns-clause-linked : goal.returns-clause-linked
@@ -48,21 +52,27 @@ returns-clause-linked g c = λ at completes is_placed fit zero.
     let line_same = empty.tables.line_strings in
     let compatible : is_incompatible c.args.encoding p.encoding ≡ false = search rules in
     let sums : SumsFit at p (texts_after p texts) = rw (same, line_same) at fit in
-    let written = rw (c.new-input.ensures.program, c.new-input.ensures.texts, same, line_same, is_placed) at (whole.writes.completed at completes) in
+    let written =
+    rw (c.new-input.ensures.program, c.new-input.ensures.texts, same, line_same, is_placed) at
+    (whole.writes.completed at completes) in
     let by_hand : Appends (unit_bytes (placed at) big c.args.encoding p texts) old new = rw compatible written in
     let appended : Appends (unit_bytes plain big c.args.encoding (placed_program at p) texts) old new =
     subst (λ r. Appends r old new) (placed-plain at big c.args.encoding p texts sums zero) by_hand in
-    rw (same, line_same) (appended-back big c.args.encoding (placed_program at p) texts old new (whole.completed_short at completes)
-    (is-built at p (rw c.new-input.ensures.program at whole.built)) (can-write at p texts c.requires) (rw same at empty.texts) (rw line_same at empty.line_texts) (rw same at empty.short)
+    rw (same, line_same)
+    (appended-back big c.args.encoding (placed_program at p) texts old new (whole.completed_short at completes)
+    (is-built at p (rw c.new-input.ensures.program at whole.built)) (can-write at p texts c.requires)
+    (rw same at empty.texts) (rw line_same at empty.line_texts) (rw same at empty.short)
     (rw line_same at empty.line_short) appended)
 
 pub returns-in_err-write_whole-clause-writes : goal.returns-in_err-write_whole-clause-writes
 returns-in_err-write_whole-clause-writes g c =
     let compatible : is_incompatible c.args.encoding c.args.self.now.encoding ≡ false = search rules in
-    let q = err_from_is_err_and c.from_residual-in_err-write_whole.result c.from_residual-in_err-write_whole.ensures.1 in
+    let q =
+    err_from_is_err_and c.from_residual-in_err-write_whole.result c.from_residual-in_err-write_whole.ensures.1 in
     let input = c.new-input.ensures in
     let tables = c.in_ok-empty.ensures.tables in
-    let refused = rw (input.program, input.texts, tables.strings, tables.line_strings) at c.in_err-write_whole.ensures.writes in
+    let refused =
+    rw (input.program, input.texts, tables.strings, tables.line_strings) at c.in_err-write_whole.ensures.writes in
     rw (q.1, q.2, compatible) (refused_or_memory refused)
 
 pub returns-clause-cause : goal.returns-clause-cause
