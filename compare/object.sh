@@ -1,6 +1,7 @@
 #!/usr/bin/env bash
-# Links the object file that `uses make_object` builds with a C program, and asks addr2line, llvm-symbolizer and
-# `lines where` for the lines of its two functions, which are of two files. All three have to answer what the object was built with.
+# Links the object file that `uses make_object` builds with a C program that has lines too, by ld and by lld, which may not warn, and
+# asks addr2line, gdb, llvm-symbolizer and `lines where` for the lines of its two functions, which are of two files. All have to answer
+# what the object was built with; the linkers merge the texts of both objects.
 #
 #     compare/object.sh
 #
@@ -27,7 +28,6 @@ int first(void);
 int second(void);
 int main(void) { return first() * 10 + second() == 12 ? 0 : 1; }
 C
-gcc -z noexecstack -o program main.c two.o && ./program || { echo "object: the program isn't linked, or fails"; exit 1; }
 
 good=0
 bad=0
@@ -39,18 +39,32 @@ wants() {
         echo "object: $1 says '$2', wanted '$3'"
     fi
 }
+linkers=(bfd)
+command -v ld.lld >/dev/null && linkers+=(lld) || echo "object: passed over: without ld.lld"
+command -v gdb >/dev/null || echo "object: passed over: without gdb"
 # The address of a symbol, and an offset.
 place() { printf '%x' $((0x$(nm program | awk -v name="$1" '$3 == name { print $1 }') + $2)); }
-for row in "first 0 a.c:3" "first 4 a.c:3" "first 5 a.c:4" "second 0 inc/a.h:8" "second 5 inc/a.h:9"; do
-    read -r symbol offset source <<<"$row"
-    address=$(place "$symbol" "$offset")
-    wanted=/w/$source
-    # addr2line (GNU Binutils 2.40) numbers the files of version 5 from 1, so it is asked for lines alone.
-    wants "addr2line of $symbol + $offset" "$(addr2line -e program "$address" | sed 's/ .*//; s/.*://')" "${source##*:}"
-    found=$(llvm-symbolizer --obj=program --no-inlines --functions=none "0x$address" | head -1)
-    wants "llvm-symbolizer of $symbol + $offset" "${found%:*}" "$wanted"
-    found=$("$lines" where program "$address")
-    wants "lines of $symbol + $offset" "${found%:*}" "$wanted"
+for linker in "${linkers[@]}"; do
+    if ! gcc -g -gdwarf-5 -fuse-ld="$linker" -Wl,--fatal-warnings -o program main.c two.o || ! ./program; then
+        bad=$((bad + 1))
+        echo "object: the program isn't linked by $linker, or fails"
+        continue
+    fi
+    for row in "first 0 a.c:3" "first 4 a.c:3" "first 5 a.c:4" "second 0 inc/a.h:8" "second 5 inc/a.h:9"; do
+        read -r symbol offset source <<<"$row"
+        address=$(place "$symbol" "$offset")
+        wanted=/w/$source
+        # addr2line (GNU Binutils 2.40) numbers the files of version 5 from 1, so it is asked for lines alone.
+        wants "addr2line of $symbol + $offset" "$(addr2line -e program "$address" | sed 's/ .*//; s/.*://')" "${source##*:}"
+        found=$(llvm-symbolizer --obj=program --no-inlines --functions=none "0x$address" | head -1)
+        wants "llvm-symbolizer of $symbol + $offset" "${found%:*}" "$wanted"
+        if command -v gdb >/dev/null; then
+            found=$(timeout 60 gdb -nx -batch -ex "info line *0x$address" program 2>/dev/null | grep '^Line' | sed 's/^Line \([0-9]*\) of "\([^"]*\)".*/\2:\1/')
+            wants "gdb of $symbol + $offset" "$found" "$source"
+        fi
+        found=$("$lines" where program "$address")
+        wants "lines of $symbol + $offset" "${found%:*}" "$wanted"
+    done
 done
 echo "object: $good as wanted, $bad not"
 [ "$bad" = 0 ]

@@ -246,11 +246,11 @@ declared! {
     );
     gimli_line_proved_write(
         encoding: *const Encoding, big: bool, details: u64, [texts: u8], [directories: Name], [files: FileName],
-        [rows: Row], [mut unit: u8], size: *mut usize
+        [rows: Row], [mut unit: u8], size: *mut usize, [mut numbers: u64]
     );
     gimli_line_proved_write_relocatable(
         encoding: *const Encoding, big: bool, details: u64, in_place: bool, [texts: u8], [directories: Name],
         [files: FileName], [rows: Row], [symbols: Symbol], [mut unit: u8], size: *mut usize,
-        [mut relocations: Relocation], count: *mut usize
+        [mut relocations: Relocation], count: *mut usize, [mut numbers: u64]
     );
 }

@@ -160,15 +160,32 @@ impl Contents {
     /// [`Error::NO_SOURCE_FILE`], [`Error::NO_SUCH_FILE`], [`Error::NO_SUCH_DIRECTORY`], [`Error::ROW_OUT_OF_ORDER`] and the like; or
     /// [`Error::OUT_OF_MEMORY`].
     pub fn write(&self) -> Result<Vec<u8>, Error> {
-        whole(self.size(), |unit, size| {
+        Ok(self.written()?.0)
+    }
+
+    /// The number that each file has in the unit, in the order in which they were added: what `DW_AT_decl_file` needs. A file that was
+    /// added twice has its first number.
+    ///
+    /// # Errors
+    ///
+    /// Those of [`Contents::write`].
+    pub fn file_numbers(&self) -> Result<Vec<u64>, Error> {
+        Ok(self.written()?.1)
+    }
+
+    /// The unit, and the number of each file in it.
+    fn written(&self) -> Result<(Vec<u8>, Vec<u64>), Error> {
+        let mut numbers = vec![0; self.files.len()];
+        let unit = whole(self.size(), |unit, size| {
             // The pointers are those of slices and of locals.
             Error::of(unsafe {
                 call!(gimli_line_proved_write(
                     &self.encoding, self.big_endian, self.details, [self.texts], [self.directories], [self.files], [self.rows],
-                    [mut unit], size
+                    [mut unit], size, [mut numbers]
                 ))
             })
-        })
+        })?;
+        Ok((unit, numbers))
     }
 
     /// The bytes of the unit where the first sequences begin at symbols: the first at `symbols[0]`, the next at `symbols[1]`, and so
@@ -183,13 +200,14 @@ impl Contents {
             symbols.iter().map(|it| calls::Symbol { symbol: it.symbol, addend: it.addend }).collect();
         let in_place = addends == Addends::InPlace;
         let mut relocations = vec![calls::Relocation::default(); symbols.len()];
+        let mut numbers: [u64; 0] = [];
         let unit = whole(self.size(), |unit, size| {
             let mut count = 0;
             // The pointers are those of slices and of locals.
             let answer = Error::of(unsafe {
                 call!(gimli_line_proved_write_relocatable(
                     &self.encoding, self.big_endian, self.details, in_place, [self.texts], [self.directories], [self.files], [self.rows],
-                    [symbols], [mut unit], size, [mut relocations], &mut count
+                    [symbols], [mut unit], size, [mut relocations], &mut count, [mut numbers]
                 ))
             });
             relocations.resize(count, calls::Relocation::default());

@@ -86,6 +86,22 @@ fn details_of_files_are_read_back() {
     assert_eq!((file.timestamp, file.size, file.md5), (Some(11), None, None));
 }
 
+#[test]
+fn files_have_numbers() {
+    for version in 2..=5 {
+        let first = u64::from(version < 5);
+        let mut contents = contents(version);
+        // The second one is the first file again, so the third one has its number.
+        contents.file(b"two.c", 0);
+        contents.file(b"three.h", 0);
+        let numbers = contents.file_numbers().expect("it is written");
+        assert_eq!(numbers, [first, first, first + 1]);
+        let unit = contents.write().expect("it is written");
+        let sections = Sections { debug_line: &unit, debug_line_str: &[], debug_str: &[], big_endian: false, address_size: 8 };
+        assert_eq!(sections.path(0, numbers[2], b"/made"), Ok(b"/made/three.h".to_vec()));
+    }
+}
+
 /// Does what a linker does: the symbol of a number `n` is at `0x40_0000 + 0x100 * n`.
 fn link(unit: &mut [u8], places: &[Relocation]) {
     for place in places {

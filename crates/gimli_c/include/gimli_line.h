@@ -452,6 +452,8 @@ typedef struct gimli_line_contents {
     size_t row_count;
     const gimli_line_symbol *symbols; /* those that the first sequences begin at: for gimli_line_write_relocatable alone */
     size_t symbol_count;
+    uint64_t *numbers; /* where a call puts the number that each file has in the unit; may stay null */
+    size_t number_room;
 } gimli_line_contents;
 
 /* Writes a unit with these directories, files and rows to the front of `unit`, and its number of bytes to *size.
@@ -462,8 +464,9 @@ typedef struct gimli_line_contents {
  * The names of directories and files stand among the `text_length` bytes of `texts`. Both have the indices that gimli_line_file and
  * gimli_line_row have: up to version 4 from 1 on, in version 5 from 0 on. A directory or a file (the same path in the same directory: the
  * last details count) that comes twice is there once, and
- * in version 5 the directory of the first file comes right after directory 0; so indices in the unit may be others:
- * gimli_line_read_directory and gimli_line_read_file read them back. The numbers that are handed over are those of the arrays.
+ * in version 5 the directory of the first file comes right after directory 0; so indices in the unit may be others. Where 0 is answered,
+ * the number in the unit of files[0] stands in contents->numbers[0], and so on, as far as there is room: it is what DW_AT_decl_file
+ * needs. gimli_line_read_directory reads a directory back. The numbers that are handed over are those of the arrays.
  * `details` is the sum of GIMLI_LINE_HAS_TIMESTAMP, GIMLI_LINE_HAS_SIZE and GIMLI_LINE_HAS_MD5, for what version 5 has of files; up to
  * version 4 it is always the first two. Sources of files aren't written, and other bits of `details` are ignored.
  *

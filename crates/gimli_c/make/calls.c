@@ -223,7 +223,7 @@ gimli_line_status gimli_line_write(const gimli_line_contents *in, uint8_t *unit,
     if (in->struct_size != sizeof *in) return GIMLI_LINE_UNKNOWN_OPTIONS;
     return status_of(gimli_line_proved_write(&in->encoding, in->big, in->details, READ(in->texts), in->text_length, READ(in->directories),
                                              in->directory_count, READ(in->files), in->file_count, READ(in->rows), in->row_count,
-                                             AT((void *)unit), room, size));
+                                             AT((void *)unit), room, size, AT(in->numbers), in->number_room));
 }
 
 gimli_line_status gimli_line_write_relocatable(const gimli_line_contents *in, uint8_t *unit, size_t room, size_t *size,
@@ -233,5 +233,6 @@ gimli_line_status gimli_line_write_relocatable(const gimli_line_contents *in, ui
     return status_of(gimli_line_proved_write_relocatable(&in->encoding, in->big, in->details, in->in_place, READ(in->texts),
                                                          in->text_length, READ(in->directories), in->directory_count, READ(in->files),
                                                          in->file_count, READ(in->rows), in->row_count, READ(in->symbols), in->symbol_count,
-                                                         AT((void *)unit), room, size, AT(relocations), relocation_room, count));
+                                                         AT((void *)unit), room, size, AT(relocations), relocation_room, count,
+                                                         AT(in->numbers), in->number_room));
 }

@@ -7,6 +7,7 @@ use Rattle.gimli_bytes.specs.declared.error.Error.TheVariants.{ValueTooLarge, In
 use Rattle.gimli_bytes.specs.Texts.{no_texts}
 use Rattle.gimli_build.specs.Built.{Built}
 use Rattle.gimli_build.specs.Conditions.{CanWrite}
+use Rattle.gimli_build.specs.FileNumber.{file_number}
 use Rattle.gimli_build.specs.ReadsBack.{ReadsBackAs}
 use Rattle.gimli_build.specs.Unit.{unit_bytes}
 use Rattle.gimli_c.specs.declared.encoding.GimliEncoding.{GimliEncoding}
@@ -84,13 +85,23 @@ pub record IsBuiltOf (h : Handed) (p : Built) : Type 0 where
   pub others : p ≡ record after { items = p.items; row = p.row; in_sequence = p.in_sequence }
   pub can : CanWrite p no_texts
 
+-- the same, where the files that are handed over have these ids in order
+pub record IsBuiltWith (h : Handed) (p : Built) (file_ids : List ℕ) : Type 0 where
+  pub built : IsBuiltOf h p
+  pub ids_are : built.file_ids ≡ file_ids
+
+-- the numbers of files in a unit of a version, by their ids
+abbrev pub numbers_of : ℕ → List ℕ → List ℕ
+numbers_of version file_ids = map (file_number version) file_ids
+
 -- bytes are the unit of a program whose texts all stand in it, and read back as it
 pub record IsUnitOf (big : Bool) (p : Built) (bytes : List ℕ) : Type 0 where
   pub unit : unit_bytes plain big p.encoding p no_texts ≡ Ok bytes
   pub reads_back : ReadsBackAs big p no_texts bytes
 
--- the unit stands at the front of the room
-pub record GivesUnitOf (h : Handed) (old new : List ℕ) (size : ℕ) : Type 0 where
+-- the unit stands at the front of the room, and the numbers of the files at the front of another
+pub record GivesUnitOf (h : Handed) (old new : List ℕ) (size : ℕ)
+    (numbers_old numbers_new : List ℕ) : Type 0 where
   pub program : Built
   pub built : IsBuiltOf h program
   pub bytes : List ℕ
@@ -98,6 +109,7 @@ pub record GivesUnitOf (h : Handed) (old new : List ℕ) (size : ℕ) : Type 0 w
   pub fits : length bytes ≤ length old
   pub written_is : new ≡ slots_with bytes old
   pub size_is : size ≡ length bytes
+  pub numbers_are : numbers_new ≡ slots_with (numbers_of h.encoding.version built.file_ids) numbers_old
 
 -- the unit is longer than the room
 pub record NeedsRoom (h : Handed) (old : List ℕ) (size : ℕ) : Type 0 where

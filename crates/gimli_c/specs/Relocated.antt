@@ -18,7 +18,7 @@ use Rattle.gimli_bytes.specs.declared.relocation.RelocationTarget.TheVariants.{O
 use Rattle.gimli_build.specs.Built.{Built}
 use Rattle.gimli_build.specs.Unit.{unit_bytes}
 use Rattle.gimli_c.specs.declared.relocatable.GimliRelocation.{GimliRelocation}
-use Rattle.gimli_c.specs.Handing.{Handed, IsBuiltOf, write_status}
+use Rattle.gimli_c.specs.Handing.{Handed, IsBuiltOf, numbers_of, write_status}
 use Rattle.gimli_c.specs.Written.{slots_with}
 
 -- ---- what C sees of a relocation
@@ -60,9 +60,10 @@ IsUnitOnceLinked big program section =
     (at : Placement) → Appends (unit_bytes (placed at) big program.encoding program no_texts) []
     (applied at section)
 
--- the unit and its relocations stand at the front of the two arrays
+-- the unit, its relocations and the numbers of its files stand at the front of the three arrays
 pub record GivesRelocatable (h : Handed) (old new : List ℕ) (size : ℕ)
-    (slots_old slots_new : List GimliRelocation) (count : ℕ) : Type 0 where
+    (slots_old slots_new : List GimliRelocation) (count : ℕ)
+    (numbers_old numbers_new : List ℕ) : Type 0 where
   pub program : Built
   pub built : IsBuiltOf h program
   pub section : Relocatable
@@ -75,6 +76,7 @@ pub record GivesRelocatable (h : Handed) (old new : List ℕ) (size : ℕ)
   pub few : length section.relocations ≤ length slots_old
   pub relocations_are : slots_new ≡ slots_with (map relocation_seen section.relocations) slots_old
   pub count_is : count ≡ length section.relocations
+  pub numbers_are : numbers_new ≡ slots_with (numbers_of h.encoding.version built.file_ids) numbers_old
 
 -- the unit or its relocations are more than the room
 pub record NeedsRelocatableRoom (h : Handed) (old : List ℕ) (size : ℕ)

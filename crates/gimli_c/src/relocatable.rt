@@ -22,7 +22,7 @@ use crate::row::GimliRow;
 use crate::status::{NO_ROOM, OK, OUT_OF_MEMORY, UNSUPPORTED_LINE_ENCODING};
 use crate::tables::GimliFileName;
 use crate::text::GimliName;
-use crate::write::{built, write_status};
+use crate::write::{built, copy_numbers, write_status};
 use gimli_build::LineProgram;
 use gimli_bytes::{
     Addends, DebugLine, LineStringTable, RelocatableVec, Relocation, RelocationTarget, StringTable,
@@ -163,10 +163,11 @@ pub extern "C" fn gimli_line_proved_write_relocatable(
     size: &mut usize,
     relocations: &mut [GimliRelocation],
     count: &mut usize,
+    numbers: &mut [u64],
 ) -> u32
     ensures ok { result ≡ OK → GivesRelocatable (handed_of encoding.now big details texts.now
         directories.now files.now rows.now symbols.now) unit.old unit.new size.new relocations.old
-        relocations.new count.new }
+        relocations.new count.new numbers.old numbers.new }
     ensures room { result ≡ NO_ROOM → NeedsRelocatableRoom (handed_of encoding.now big details
         texts.now directories.now files.now rows.now symbols.now) unit.old size.new
         relocations.old count.new }
@@ -178,12 +179,13 @@ pub extern "C" fn gimli_line_proved_write_relocatable(
         symbols.now) result ⊎ IsWriterRefusal result }
     ensures refused { (s : ℕ) → HasHandedFault (handed_of encoding.now big details texts.now
         directories.now files.now rows.now symbols.now) s → IsRefusal result }
-    ensures err { result ≢ OK → (unit.new ≡ unit.old) × (relocations.new ≡ relocations.old) }
+    ensures err { result ≢ OK → (unit.new ≡ unit.old) × (relocations.new ≡ relocations.old)
+        × (numbers.new ≡ numbers.old) }
     ensures none { result ≢ OK → result ≢ NO_ROOM → (size.new ≡ 0) × (count.new ≡ 0) }
 {
     *size = 0;
     *count = 0;
-    let program = match built(
+    let made = match built(
         alloc,
         encoding,
         details,
@@ -193,10 +195,10 @@ pub extern "C" fn gimli_line_proved_write_relocatable(
         rows,
         symbols,
     ) {
-        Ok(program) => program,
+        Ok(made) => made,
         Err(status) => return status,
     };
-    let section = match relocatable_of(alloc, &program, big, addends_of(in_place)) {
+    let section = match relocatable_of(alloc, &made.0, big, addends_of(in_place)) {
         Ok(section) => section,
         Err(e) => return write_status(e),
     };
@@ -209,5 +211,6 @@ pub extern "C" fn gimli_line_proved_write_relocatable(
     }
     copy_bytes(bytes, unit);
     copy_relocations(places, relocations);
+    copy_numbers(encoding.version, made.1.as_slice(), numbers);
     OK
 }

@@ -13,8 +13,9 @@ ghost use Rattle.gimli_c.specs.Causes.{HasCause, HasHandedFault};
 ghost use Rattle.gimli_c.specs.inside.Causes.{HasNone};
 ghost use Rattle.gimli_c.specs.Handed.{IsRefusal};
 ghost use Rattle.gimli_c.specs.Refused.{encoding_fault, HasBadLines};
-ghost use Rattle.gimli_c.specs.Handing.{GivesUnitOf, IsBuiltOf, NeedsRoom, handed_of, program_with};
-ghost use Rattle.gimli_c.specs.Handing.{write_status};
+ghost use Rattle.gimli_c.specs.Handing.{GivesUnitOf, IsBuiltWith, NeedsRoom, handed_of};
+ghost use Rattle.gimli_c.specs.Handing.{numbers_of, program_with, write_status};
+ghost use Rattle.gimli_c.specs.Written.{slots_with};
 
 use crate::encoding::{GimliEncoding, encodings};
 use crate::file::{HAS_MD5, HAS_SIZE, HAS_TIMESTAMP, copy_bytes};
@@ -27,7 +28,7 @@ use crate::status::{
 };
 use crate::tables::{GimliFileName, add_directories, add_files, empty_built};
 use crate::text::GimliName;
-use gimli_build::LineProgram;
+use gimli_build::{FileId, LineProgram};
 use gimli_bytes::{DebugLine, EndianVec, Error, LineStringTable, StringTable};
 use gimli_core::RunTimeEndian;
 use std::alloc::Global;
@@ -36,8 +37,9 @@ use std::alloc::Global;
 /// bytes it has. `NO_ROOM` where there are fewer in `unit`: then `size` says how many it takes, and
 /// nothing is written. Where another number than these is answered, `size` is 0; each but
 /// `OUT_OF_MEMORY` has its cause in what is handed over. Texts stand among the bytes of `texts`. A
-/// directory or a file that comes twice is there once; rows have its number then. `details` is the
-/// sum of `HAS_TIMESTAMP`, `HAS_SIZE` and `HAS_MD5`, each where version 5 is to have that detail;
+/// directory or a file that comes twice is there once; rows have its number then. `numbers` gets
+/// that of each file, as far as there is room, where the unit is written. `details` is the sum of
+///  `HAS_TIMESTAMP`, `HAS_SIZE` and `HAS_MD5`, each where version 5 is to have that detail;
 /// other bits are ignored. Only the first address of a sequence is tested against the size of
 /// addresses.
 #[unsafe(no_mangle)]
@@ -52,9 +54,10 @@ pub extern "C" fn gimli_line_proved_write(
     rows: &[GimliRow],
     unit: &mut [u8],
     size: &mut usize,
+    numbers: &mut [u64],
 ) -> u32
     ensures ok { result ≡ OK → GivesUnitOf (handed_of encoding.now big details texts.now
-        directories.now files.now rows.now []) unit.old unit.new size.new }
+        directories.now files.now rows.now []) unit.old unit.new size.new numbers.old numbers.new }
     ensures room { result ≡ NO_ROOM → NeedsRoom (handed_of encoding.now big details texts.now
         directories.now files.now rows.now []) unit.old size.new }
     ensures fault { (s : ℕ) → encoding_fault encoding.now ≡ Some s → result ≡ s }
@@ -65,11 +68,11 @@ pub extern "C" fn gimli_line_proved_write(
         result }
     ensures refused { (s : ℕ) → HasCause (handed_of encoding.now big details texts.now
         directories.now files.now rows.now []) s → IsRefusal result }
-    ensures err { result ≢ OK → unit.new ≡ unit.old }
+    ensures err { result ≢ OK → (unit.new ≡ unit.old) × (numbers.new ≡ numbers.old) }
     ensures none { result ≢ OK → result ≢ NO_ROOM → size.new ≡ 0 }
 {
     *size = 0;
-    let program = match built(
+    let made = match built(
         alloc,
         encoding,
         details,
@@ -79,10 +82,10 @@ pub extern "C" fn gimli_line_proved_write(
         rows,
         &[],
     ) {
-        Ok(program) => program,
+        Ok(made) => made,
         Err(status) => return status,
     };
-    let section = match section_of(alloc, &program, big) {
+    let section = match section_of(alloc, &made.0, big) {
         Ok(section) => section,
         Err(e) => return write_status(e),
     };
@@ -92,10 +95,23 @@ pub extern "C" fn gimli_line_proved_write(
         return NO_ROOM;
     }
     copy_bytes(bytes, unit);
+    copy_numbers(encoding.version, made.1.as_slice(), numbers);
     OK
 }
 
-/// The program that is built of what is handed over.
+/// Puts the number of each file into an array, as far as there is room.
+pub(crate) fn copy_numbers(version: u16, files: &[FileId], room: &mut [u64])
+    ensures { room.new ≡ slots_with (numbers_of version files.now) room.old }
+{
+    for (slot, file) in files.iter().enumerate() {
+        if slot >= room.len() {
+            return;
+        }
+        room[slot] = file.raw(version);
+    }
+}
+
+/// The program that is built of what is handed over, and the ids of its files.
 pub(crate) fn built(
     alloc: Global,
     encoding: &GimliEncoding,
@@ -105,11 +121,11 @@ pub(crate) fn built(
     files: &[GimliFileName],
     rows: &[GimliRow],
     symbols: &[GimliSymbol],
-) -> Result<LineProgram, u32>
-    ensures ok { (big : Bool) → IfOk result (λ program. IsBuiltOf
+) -> Result<(LineProgram, Vec<FileId>), u32>
+    ensures ok { (big : Bool) → IfOk result (λ made. IsBuiltWith
         (handed_of encoding.now big details texts.now directories.now files.now rows.now
         symbols.now)
-        program) }
+        made.0 made.1.items) }
     ensures fault { (s : ℕ) → encoding_fault encoding.now ≡ Some s → result ≡ Err s }
     ensures bad_lines { HasBadLines encoding.now → result ≡ Err UNSUPPORTED_LINE_ENCODING }
     ensures err { IfErr result IsRefusal }
@@ -127,7 +143,7 @@ pub(crate) fn built(
     let ids = add_directories(alloc, &mut program, texts, directories)?;
     let file_ids = add_files(alloc, &mut program, texts, ids.as_slice(), files)?;
     add_rows(&mut program, file_ids.as_slice(), symbols, rows)?;
-    Ok(program)
+    Ok((program, file_ids))
 }
 
 /// The program, which writes these details of files from version 5 on.

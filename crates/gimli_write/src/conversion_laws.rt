@@ -1,7 +1,7 @@
 //! Laws of conversions: a converted program meets what `write` asks; it says what its source says;
 //! and so do the rows that are read back of it. And laws of equality and of clones.
 
-ghost use Rattle.std.specs.Prelude.{◌≡◌, ℕ, List};
+ghost use Rattle.std.specs.Prelude.{◌≡◌, ℕ, List, Some};
 ghost use Rattle.std.specs.Bool.{Decides};
 ghost use Rattle.gimli_core.specs.Equality.{ClonesGiveSame, IsExact};
 ghost use Rattle.gimli_core.specs.declared.common.LineEncoding.{LineEncoding};
@@ -9,11 +9,13 @@ ghost use Rattle.gimli_bytes.specs.Texts.{texts_in};
 ghost use Rattle.gimli_line.specs.header.File.{File};
 ghost use Rattle.gimli_line.specs.declared.run.row.LineRow.{LineRow as ReadRow};
 ghost use Rattle.gimli_build.specs.Conditions.{CanBuild, CanWrite};
+ghost use Rattle.gimli_build.specs.FileNumber.{file_number};
 ghost use Rattle.gimli_build.specs.declared.built.items.BuiltItem.{BuiltItem};
 ghost use Rattle.gimli_write.specs.RoundTrip.{AreBuiltRows};
 ghost use Rattle.gimli_write.specs.convert.Outcome.{can_build};
 ghost use Rattle.gimli_write.specs.convert.Sequences.{sequence_read};
-ghost use Rattle.gimli_write.specs.convert.Mapped.{IsFaithful};
+ghost use Rattle.gimli_write.specs.convert.FileNumbers.{written_number};
+ghost use Rattle.gimli_write.specs.convert.Mapped.{IsFaithful, IsFileId};
 ghost use Rattle.gimli_write.specs.convert.Preparation.{encoding_of};
 ghost use Rattle.gimli_write.specs.convert.DoneConversions.{DoneConversion, IsToBeFaithful};
 ghost use Rattle.gimli_write.specs.convert.DoneConversions.{SourceGives, AreReadAs, UnitReadBack};
@@ -67,6 +69,15 @@ pub fn converted_rows_are_read_back()
 pub fn converted_files_are_read_back()
     ensures { (d : DoneConversion) (strings : List (List ℕ)) (files : List File)
         → SourceFilesAre d files → AreFilesReadBack d strings files }
+{}
+
+/// A number of the source is written as that of its id, and no other has one.
+pub fn written_numbers_are_of_ids()
+    ensures there { (source version n id : ℕ) (file_ids : List ℕ) → IsFileId source file_ids n id
+        → written_number source version file_ids n ≡ Some (file_number version id) }
+    ensures only { (source version n m : ℕ) (file_ids : List ℕ)
+        → written_number source version file_ids n ≡ Some m
+        → (id : ℕ) × IsFileId source file_ids n id × (m ≡ file_number version id) }
 {}
 
 /// `==` holds of what `read_row` gives, and of the ends of sequences, exactly where both are of one

@@ -2,6 +2,7 @@
 
 pub(crate) mod conversion;
 pub(crate) mod header;
+pub(crate) mod numbers;
 pub(crate) mod program;
 pub(crate) mod rows;
 pub(crate) mod run;

@@ -10,6 +10,7 @@ mod convert_error;
 mod read_back;
 mod text;
 
+pub use convert::numbers::{keeps_numbers, written_number};
 pub use convert::program::{ConvertLineHeader, ConvertLineProgram, convert_program};
 pub use convert::rows::{ConvertLineRow, ConvertLineSequence, ConvertLineSequenceEnd};
 pub use convert_error::{ConvertError, ConvertResult};

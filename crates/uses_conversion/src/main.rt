@@ -1,6 +1,8 @@
-//! A unit up to version 4, written in version 5. After the word `then` another conversion may
-//! follow; it is run where one is refused too.
+//! A unit up to version 4, written in version 5; or a section whose rows are written anew. After the
+//! word `then` another command may follow; it is run where one is refused too.
 #![tactic(auto)]
+
+mod rewrite;
 
 use anyhow::{Result, bail};
 use gimli_core::{DebugLineOffset, Encoding, EndianSlice, LittleEndian, Reader};
@@ -22,12 +24,29 @@ fn main(rt: HostRuntime) -> Result<()> {
 fn start(rt: &HostRuntime, words: &[String]) -> Result<()> {
     for words in words.split(|word| word.as_str() == "then") {
         let mut text = String::new(rt.alloc());
-        match print_unit(rt, words, &mut text) {
+        match run(rt, words, &mut text) {
             Ok(()) => print!(rt; "{text}")?,
             Err(refusal) => println!(rt; "refused: {refusal}")?,
         }
     }
     Ok(())
+}
+
+/// Adds what a command prints.
+fn run(rt: &HostRuntime, words: &[String], text: &mut String) -> Result<()> {
+    let [word, lines] = words else {
+        return print_unit(rt, words, text);
+    };
+    if word.as_str() != "rewrite" {
+        return print_unit(rt, words, text);
+    }
+    let section = fs::read(rt, lines.as_str())?;
+    let mut lines = Vec::new(rt.alloc());
+    rewrite::rewrite(rt.alloc(), &section, &mut lines)?;
+    for byte in &lines {
+        write!(text, "{byte:02x}")?;
+    }
+    Ok(writeln!(text)?)
 }
 
 /// Reads a section from a file, and prints the rows that are read of a unit after it was converted.

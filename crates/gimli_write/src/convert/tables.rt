@@ -357,7 +357,7 @@ fn directory_id(ids: &[DirectoryId], index: u64) -> Option<DirectoryId>
 }
 
 /// The id of the file of a number in the source. No number wraps.
-fn file_at(ids: &[FileId], number: u64) -> Option<FileId>
+pub(crate) fn file_at(ids: &[FileId], number: u64) -> Option<FileId>
     ensures { result ≡ slice_get ids.now number }
 {
     let number = usize::try_from(number).ok()?;

@@ -1,11 +1,12 @@
-use Rattle.std.proofs.Common.{List, ℕ, length, map, subst, ap, ◌<◌, ◌≤◌, ◌⊎◌, ◌∙◌, inl, inr}
+use Rattle.std.proofs.Common.{List, ℕ, length, map, subst, sym, ap, ◌<◌, ◌≤◌, ◌⊎◌, ◌∙◌, inl, inr}
 use Rattle.gimli_bytes.specs.declared.relocation.Relocation.{Relocation}
 use Rattle.gimli_c.specs.Relocated.{relocation_seen}
+use Rattle.gimli_c.specs.Handing.{numbers_of}
 use Rattle.gimli_c.specs.Written.{slots_with}
 use Rattle.gimli_c.proofs.relocatable.gimli_line_proved_write_relocatable.Goals as goal
 
 pub relocatable_of-requires : goal.relocatable_of-requires
-relocatable_of-requires c = (c.in-Ok.ensures.ok c.args.big).can
+relocatable_of-requires c = (c.in-Ok.ensures.ok c.args.big).built.can
 
 pub returns-then-passes-clause-room : goal.returns-then-passes-clause-room
 returns-then-passes-clause-room c = λ _.
@@ -13,8 +14,8 @@ returns-then-passes-clause-room c = λ _.
     let places = ap (λ (xs : List Relocation). length xs) c.relocations-places.ensures in
     let more = c.passes.ensures.more c.if-passes.true in
     record {
-      program = c.in-Ok.program;
-      built = c.in-Ok.ensures.ok c.args.big;
+      program = c.in-Ok.made.0;
+      built = (c.in-Ok.ensures.ok c.args.big).built;
       section = c.in-Ok-relocatable_of.section;
       order = c.in-Ok-relocatable_of.ensures.order;
       is_unit = c.in-Ok-relocatable_of.ensures.unit;
@@ -32,8 +33,8 @@ returns-clause-ok c = λ _.
     let places = ap (λ (xs : List Relocation). length xs) c.relocations-places.ensures in
     let fits = c.passes.ensures.fits c.if-passes.false in
     record {
-      program = c.in-Ok.program;
-      built = c.in-Ok.ensures.ok c.args.big;
+      program = c.in-Ok.made.0;
+      built = (c.in-Ok.ensures.ok c.args.big).built;
       section = c.in-Ok-relocatable_of.section;
       order = c.in-Ok-relocatable_of.ensures.order;
       is_unit = c.in-Ok-relocatable_of.ensures.unit;
@@ -46,6 +47,10 @@ returns-clause-ok c = λ _.
           c.copy_relocations.ensures
           ∙ ap (λ (xs : List Relocation). slots_with (map relocation_seen xs) c.args.relocations.now) c.relocations-places.ensures;
       count_is = places;
+      numbers_are =
+          c.copy_numbers.ensures
+          ∙ ap (λ (xs : List ℕ). slots_with (numbers_of c.args.encoding.now.version xs) c.args.numbers.now)
+          (c.as_slice.ensures.value ∙ sym (c.in-Ok.ensures.ok c.args.big).ids_are);
     }
 
 pub returns-in-Err-clause-cause : goal.returns-in-Err-clause-cause

@@ -1,0 +1,21 @@
+-- The numbers that the files of a source have once it is converted.
+use Rattle.std.specs.Prelude.{◌≡◌, ℕ, Bool, ◌&&◌, ◌||◌, nat_eq, nat_le, if◌then◌else◌, List, Option}
+use Rattle.std.specs.Prelude.{None, option_map, slice_get, IfSome}
+use Rattle.gimli_build.specs.FileNumber.{file_number}
+
+-- the number in a program of a version that a file of a source has, by the ids of the source's
+-- files; up to version 4 of the source none has number 0
+abbrev pub written_number : ℕ → ℕ → List ℕ → ℕ → Option ℕ
+written_number source_version version file_ids number =
+    if nat_le source_version 4 && nat_eq number 0 then None
+    else option_map (file_number version) (slice_get file_ids number)
+
+-- each file of the source has its own number
+abbrev pub AreNumbersKept : ℕ → ℕ → List ℕ → Type 0
+AreNumbersKept source_version version file_ids =
+    (n : ℕ) → IfSome (written_number source_version version file_ids n) (λ m. m ≡ n)
+
+-- the file with this id has this number, or it is the one that stands at number 0 up to version 4
+abbrev pub is_kept : ℕ → ℕ → ℕ → ℕ → Bool
+is_kept source_version version number id =
+    (nat_le source_version 4 && nat_eq number 0) || nat_eq (file_number version id) number

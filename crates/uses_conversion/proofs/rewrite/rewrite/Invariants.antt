@@ -1,0 +1,6 @@
+-- There are fewer units to come after each.
+use Rattle.std.proofs.Common.{length}
+use Rattle.uses_conversion.proofs.rewrite.rewrite.Given as goal
+
+abbrev pub decreases-units : goal.decreases-units
+decreases-units l = length l.units.offsets

@@ -1,0 +1,190 @@
+//! A rewriter of the rows of a linked program, after which nothing else in it has to change. Each
+//! unit keeps its place and its header: so files keep their numbers, also those that come twice,
+//! which a builder's table can't hold, and texts keep their offsets.
+#![tactic(auto)]
+
+use gimli_core::{DebugLineOffset, EndianSlice, Format, LittleEndian, Reader, ReaderOffset};
+use gimli_line::{ColumnType, IncompleteLineProgram, LineProgramHeader, LineRow, OneShotLineRows};
+use gimli_write::{
+    Address, ConvertError, ConvertResult, DebugLine, EndianVec, FileId, LineProgram, LineString,
+    LineStringTable, StringTable,
+};
+use std::alloc::Global;
+
+/// The operands of the opcodes that a builder writes with (DWARF 5, section 6.2.5.2).
+const OPERANDS: &[u8] = &[0, 1, 1, 1, 1, 0, 0, 0, 1, 0, 0, 1];
+
+/// DW_LNS_set_basic_block. Without a row after it, it says nothing, so it fills a unit.
+const FILLER: u8 = 7;
+
+/// Appends each unit of a section, with its rows written anew.
+pub fn rewrite(alloc: Global, section: &[u8], lines: &mut Vec<u8>) -> ConvertResult<()> {
+    let reader = gimli_line::DebugLine::new(section, LittleEndian);
+    let mut units = reader.units(alloc, 8);
+    'units: while let Some(unit) = units.next().map_err(ConvertError::Read)? {
+        let source = unit.program.map_err(ConvertError::Read)?;
+        let Some(end) = source.header().next_unit_offset() else {
+            return Err(ConvertError::InvalidLineRef);
+        };
+        let rows = source.header().raw_program_buf().len();
+        let rows_begin = end.0.saturating_sub(rows);
+        let Some(header) = section.get(lines.len()..rows_begin) else {
+            return Err(ConvertError::InvalidLineRef);
+        };
+        lines.extend_from_slice(header)?;
+        add_rows_anew(alloc, source, lines)?;
+        if lines.len() > end.0 {
+            return Err(ConvertError::UnsupportedUnitType);
+        }
+        lines.resize(end.0, FILLER)?;
+    }
+    Ok(())
+}
+
+/// Appends the instructions of the rows of a source, as they are written with its encodings.
+fn add_rows_anew<R: Reader>(
+    alloc: Global,
+    source: IncompleteLineProgram<R>,
+    lines: &mut Vec<u8>,
+) -> ConvertResult<()> {
+    let header = source.header();
+    let operands = header.standard_opcode_lengths().to_slice();
+    if operands.map_err(ConvertError::Read)?.as_slice() != OPERANDS {
+        return Err(ConvertError::UnsupportedLineInstruction);
+    }
+    let mut program = started(alloc, header)?;
+    let files = add_files(alloc, &mut program, header.file_names().len())?;
+    add_rows(&mut program, &files, source.rows())?;
+    let unit = written(alloc, &program)?;
+    let unit = gimli_line::DebugLine::new(unit.0.slice(), LittleEndian);
+    let unit = unit.program(alloc, DebugLineOffset(0), 8, None, None);
+    let rows = unit.map_err(ConvertError::Read)?.header().raw_program_buf();
+    lines.extend_from_slice(rows.slice())?;
+    Ok(())
+}
+
+/// A program without rows, by the encodings of a source. Its texts are thrown away.
+fn started<R: Reader>(alloc: Global, header: &LineProgramHeader<R>) -> ConvertResult<LineProgram> {
+    let encoding = header.encoding();
+    let line_encoding = header.line_encoding();
+    if encoding.format != Format::Dwarf32 || !LineProgram::accepts(encoding, line_encoding) {
+        return Err(ConvertError::UnsupportedUnitType);
+    }
+    let directory = LineString::String(Vec::new(alloc));
+    let path = LineString::String(Vec::new(alloc));
+    LineProgram::new(alloc, encoding, line_encoding, directory, None, path, None)
+        .map_err(ConvertError::Write)
+}
+
+/// Adds so many files, with names of their own, so that each has the number that it has in the
+/// source.
+fn add_files(alloc: Global, program: &mut LineProgram, count: usize) -> ConvertResult<Vec<FileId>> {
+    let mut files = Vec::new(alloc);
+    let mut name = Vec::new(alloc);
+    name.resize(usize::from(program.version() <= 4), b'f')?;
+    for _number in 0..count {
+        let path = LineString::String(name.clone()?);
+        let is_empty = program.version() <= 4 && name.is_empty();
+        if program.is_none() || is_empty || !path.has_no_zero() {
+            return Err(ConvertError::InvalidFileIndex);
+        }
+        let id = program.add_file(path, program.default_directory(), None);
+        files.push(id.map_err(ConvertError::Write)?)?;
+        name.push(b'f')?;
+    }
+    Ok(files)
+}
+
+/// Adds the rows of a source, whose files have these ids.
+fn add_rows<R: Reader>(
+    program: &mut LineProgram,
+    files: &[FileId],
+    rows: OneShotLineRows<R>,
+) -> ConvertResult<()> {
+    let mut rows = rows;
+    let mut base = 0;
+    'rows: loop {
+        let row = match rows.next_row().map_err(ConvertError::Read)? {
+            Some((_header, row)) => *row,
+            None => return Ok(()),
+        };
+        if !program.in_sequence() {
+            base = row.address();
+            begin(program, base)?;
+        }
+        add_row(program, files, row.address().saturating_sub(base), &row)?;
+    }
+}
+
+/// Begins a sequence at an address.
+fn begin(program: &mut LineProgram, address: u64) -> ConvertResult<()> {
+    if program.is_none() || program.in_sequence() {
+        return Err(ConvertError::UnsupportedLineInstruction);
+    }
+    let start = Some(Address::Constant(address));
+    program.begin_sequence(start).map_err(ConvertError::Write)
+}
+
+/// Adds a row or an end, so many bytes after the start of its sequence.
+fn add_row(
+    program: &mut LineProgram,
+    files: &[FileId],
+    offset: u64,
+    row: &LineRow,
+) -> ConvertResult<()> {
+    if row.end_sequence() {
+        program.row().op_index = row.op_index();
+        if program.is_none() || !program.can_end_sequence(offset) {
+            return Err(ConvertError::UnsupportedLineInstruction);
+        }
+        return program.end_sequence(offset).map_err(ConvertError::Write);
+    }
+    let first = u64::from(program.version() <= 4);
+    let index = usize::try_from(row.file_index().wrapping_sub(first));
+    let Some(file) = index.ok().and_then(|index| files.get(index)) else {
+        return Err(ConvertError::InvalidFileIndex);
+    };
+    *program.row() = built_row(row, *file, offset);
+    if program.is_none() || !program.can_generate_row() {
+        return Err(ConvertError::UnsupportedLineInstruction);
+    }
+    program.generate_row().map_err(ConvertError::Write)
+}
+
+/// A row of a source as it is built.
+fn built_row(row: &LineRow, file: FileId, address_offset: u64) -> gimli_write::LineRow {
+    gimli_write::LineRow {
+        address_offset,
+        op_index: row.op_index(),
+        file,
+        line: row.line().map_or(0, |line| line.get()),
+        column: match row.column() {
+            ColumnType::LeftEdge => 0,
+            ColumnType::Column(column) => column.get(),
+        },
+        discriminator: row.discriminator(),
+        is_statement: row.is_stmt(),
+        basic_block: row.basic_block(),
+        prologue_end: row.prologue_end(),
+        epilogue_begin: row.epilogue_begin(),
+        isa: row.isa(),
+    }
+}
+
+/// The unit of a program whose texts all stand in it.
+fn written(
+    alloc: Global,
+    program: &LineProgram,
+) -> ConvertResult<DebugLine<EndianVec<LittleEndian>>> {
+    let mut lines = DebugLine::from(EndianVec::new(alloc, LittleEndian));
+    let mut line_strings = LineStringTable::default(alloc);
+    let mut strings = StringTable::default(alloc);
+    if !program.can_write(&line_strings, &strings) {
+        return Err(ConvertError::UnsupportedUnitType);
+    }
+    let of = program.encoding();
+    match program.write(&mut lines, of, &mut line_strings, &mut strings) {
+        Ok(_) => Ok(lines),
+        Err(e) => Err(ConvertError::Write(e)),
+    }
+}
