@@ -25,9 +25,6 @@ put-requires c =
     let same = ap (λ l. length l) c.index_mut-piece.ensures.value in
     omega (arith, size, same, c.split_at.ensures.front_len, c.min.ensures, mod_below c.loop-rest.at c.args.size c.requires.size)
 
-pub overflow_add-at : goal.overflow_add-at
-overflow_add-at c = omega (arith, c.loop-rest.invariant.end, c.requires.end, c.split_at.ensures.front_len, c.min.ensures)
-
 pub loop-rest-preserved : goal.loop-rest-preserved
 loop-rest-preserved c =
     let n = c.args.size in
