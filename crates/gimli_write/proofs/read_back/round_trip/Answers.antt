@@ -53,21 +53,6 @@ returns-in-Err-clause-refusal g c =
     _ _ _ _ why c.from_write.ensures.memory
     c.from_write.ensures.other
 
-pub returns-in-Ok-clause-never_read : goal.returns-in-Ok-clause-never_read
-returns-in-Ok-clause-never_read g c held =
-    memory_refused
-    _
-    _ (c.read_unit.ensures.never_read held)
-
-pub returns-in-Err-clause-never_read : goal.returns-in-Err-clause-never_read
-returns-in-Err-clause-never_read g c held =
-    let unit = unit_bytes plain (g.E.Endianity.big c.args.w.now.0.endian) c.args.encoding c.args.program.now
-    (texts_in c.args.strings.now c.args.line_strings.now) in
-    unwritten_refused
-    _ _
-    _
-    (refused-for _ _ _ c.in-Err.ensures.cause (c.in-Err.ensures.writes.err refl refl)) c.from_write.ensures.memory c.from_write.ensures.other
-
 pub read_unit-requires-clause-within : goal.read_unit-requires-clause-within
 read_unit-requires-clause-within g c =
     let can = can-write-after _ _ c.requires in

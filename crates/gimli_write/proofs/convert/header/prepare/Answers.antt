@@ -34,16 +34,6 @@ returns-in_err-add_directories_and_files-clause-stays g c =
     kept_then _ _ _
     c.in_ok-tables.ensures.stays c.in_err-add_directories_and_files.ensures.stays
 
-pub returns-clause-ok : goal.returns-clause-ok
-returns-clause-ok g c =
-    let s = c.args.sections.now in
-    let h = c.args.header.now.meaning in
-    let given = handed_of c.args.encoding c.args.line_encoding (option_map g.R.Reader.bytes c.args.from_comp_name) in
-    let target = c.unwrap_or-encoding.ensures ∙ ap (λ own. unwrap_or c.args.encoding own) c.encoding.ensures.encoding in
-    sym (at_listed s h given c.args.line_strings.now c.unwrap_or-encoding.result target
-    _ c.in_ok-tables.ensures.ok)
-    ∙ c.in_ok-add_directories_and_files.ensures.ok
-
 pub returns-clause-stays : goal.returns-clause-stays
 returns-clause-stays g c =
     kept_then _ _ _

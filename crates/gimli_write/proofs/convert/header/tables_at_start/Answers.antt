@@ -23,21 +23,3 @@ returns-clause-ok g c =
     IfOk-weaker c.tables_with_texts.result _ _
     (λ tables is. at_third first second next c.in_ok-directory.directory.items c.in_ok-file.file c.in_ok-directory.ensures.ok c.in_ok-file.ensures.ok ∙ is)
     (rw c.as_slice.ensures.value at c.tables_with_texts.ensures.ok)
-
-pub returns-clause-err : goal.returns-clause-err
-returns-clause-err g c =
-    let s = c.args.sections.now in
-    let h = c.args.header.now.meaning in
-    let encoding = c.args.encoding in
-    let directory = c.in_ok-directory.directory.items in
-    let file = c.in_ok-file.file in
-    let first = working_directory encoding.version s h in
-    let second = source_file encoding.version s h (option_map g.R.Reader.bytes c.args.from_comp_name) in
-    let lines = line_encoding_of h.parameters.line_encoding c.args.line_encoding in
-    let next : List ℕ → SourceFile → Result TablesAndTexts ConvertError =
-    λ directory file. lines >>= λ (e : LineEncoding). Ok (start_of_tables encoding e h (first_texts encoding.version c.args.line_strings.now directory file)) in
-    IfErr-weaker _ _ _
-    (λ e refused. refused_at_third first second next directory file c.in_ok-directory.ensures.ok c.in_ok-file.ensures.ok e
-    (refused_first _ _ e
-    refused))
-    c.tables_with_texts.ensures.err

@@ -73,27 +73,6 @@ returns-in-Done-clause-last g c =
     let over = rw c.in-Done.is at c.in_ok-step.ensures.shorter in
     none_last a.sections tables c.step.new.self over ∙ sym (leaves a.sections tables) ∙ c.steps.invariant.last
 
-pub returns-in-Done-clause-ended : goal.returns-in-Done-clause-ended
-returns-in-Done-clause-ended g c = λ none.
-    let a = c.steps.self-inside in
-    let leaves = rw c.in-Done.is at c.in_ok-step.ensures.tables in
-    sym (leaves a.sections (tables_with c.steps.line_strings a.tables)) ∙ c.steps.invariant.last
-
-pub returns-in_err-add_file-in-Defines-clause-stopped : goal.returns-in_err-add_file-in-Defines-clause-stopped
-returns-in_err-add_file-in-Defines-clause-stopped g c =
-    let a = c.steps.self-inside in
-    let f = file_seen g.R.Reader.bytes g.R.Offset.ReaderOffset.number c.in-Defines.file in
-    let before = tables_with c.steps.line_strings a.tables in
-    let leaves = rw c.in-Defines.is at c.in_ok-step.ensures.tables in
-    let p = err_from_is_err_and c.from_residual-in_err-add_file-in-Defines.result c.from_residual-in_err-add_file-in-Defines.ensures.1 in
-    rw (p.1, p.2) (λ other.
-    file_stopped before (tables_with c.add_file.new.line_strings c.add_file.new.self) (final_tables_of_source c.args.self.now c.args.line_strings.now)
-    (file_added a.sections before f)
-    (λ next. tables_at_end a.sections c.step.new.self next) c.in_err-add_file-in-Defines.field-0.0 c.in_err-add_file-in-Defines.ensures.err other
-    (ap (λ (l : List (List ℕ)). tables_with l c.add_file.new.self) (c.in_err-add_file-in-Defines.ensures.texts other)
-    ∙ ap (λ (x : SourceTables). tables_with c.steps.line_strings x) (c.in_err-add_file-in-Defines.ensures.kept other))
-    (sym (leaves a.sections before) ∙ c.steps.invariant.last))
-
 pub returns-in_err-add_file-in-Defines-clause-reads_on : goal.returns-in_err-add_file-in-Defines-clause-reads_on
 returns-in_err-add_file-in-Defines-clause-reads_on g c =
     reads_then c.steps.invariant.reads_on (record {

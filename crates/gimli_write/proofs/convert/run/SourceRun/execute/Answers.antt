@@ -46,10 +46,6 @@ returns-then-not-made-clause-step g c =
     c.requires.address c.requires.file c.in-Ok.ensures.fits c.in-Ok.ensures.files c.in-Ok.ensures.step
     (sym c.in-Ok.ensures.made ∙ c.if-not-made.true))
 
-pub invariant_of-self-2 : goal.invariant_of-self-2
-invariant_of-self-2 g c =
-    ready_after_row c.header.result.now.meaning.parameters c.execute.new.self c.reset.new.self c.reset.ensures
-
 pub returns-clause-fits : goal.returns-clause-fits
 returns-clause-fits g c =
     subst (λ s. is_refused s.header.parameters (ins_seen g.R.Reader.bytes g.R.Offset.ReaderOffset.number c.args.instruction) s.row ≡ false)
@@ -82,6 +78,3 @@ returns-clause-header g c =
     ∙ header_kept (ins_seen g.R.Reader.bytes g.R.Offset.ReaderOffset.number c.args.instruction) c.self.inside.program.meaning c.execute.new.program.meaning
     c.self.inside.row c.execute.new.self c.self.inside.base c.self.inside.pending c.self.inside.instructions
     c.requires.address c.requires.file c.in-Ok.ensures.fits c.in-Ok.ensures.files c.in-Ok.ensures.step)
-
-pub returns-clause-unread : goal.returns-clause-unread
-returns-clause-unread g c = subst (λ s. c.made.new.self.unread ≡ s.unread) c.self.view_is (ap (λ q. q.unread) c.made.ensures.new)

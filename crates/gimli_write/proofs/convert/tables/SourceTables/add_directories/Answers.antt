@@ -6,9 +6,6 @@ use Rattle.gimli_write.specs.convert.SourceTables.{TablesAndTexts, tables_with, 
 use Rattle.gimli_write.proofs.ConvertSteps.{done_first, refused_first, refused_same, next_added, kept_self, kept_then}
 use Rattle.gimli_write.proofs.convert.tables.SourceTables.add_directories.Goals as goal
 
-pub loop-directory-init : goal.loop-directory-init
-loop-directory-init g c = record { left = refl; stays = kept_self _ }
-
 pub loop-directory-preserved : goal.loop-directory-preserved
 loop-directory-preserved g c =
     let lt : c.loop-directory.directory-index < length c.args.directories.now = omega arith in
@@ -26,23 +23,6 @@ loop-directory-preserved g c =
       stays = kept_then c.args.line_strings.now c.loop-directory.line_strings c.add_directory.new.line_strings
           c.loop-directory.invariant.stays c.in_ok-add_directory.ensures.stays;
     }
-
-pub returns-in_err-add_directory-clause-err : goal.returns-in_err-add_directory-clause-err
-returns-in_err-add_directory-clause-err g c =
-    let lt : c.loop-directory.directory-index < length c.args.directories.now = omega arith in
-    let seen = value_seen g.R.Reader.bytes g.R.Offset.ReaderOffset.number in
-    let xs = c.args.directories.now in
-    let i = c.loop-directory.directory-index in
-    let x = c.directory-item.result in
-    let add = directory_added c.args.sections.now in
-    let here = tables_with c.loop-directory.line_strings c.loop-directory.self in
-    let e = c.in_err-add_directory.field-0.0 in
-    let p = err_from_is_err_and c.from_residual.result c.from_residual.ensures.1 in
-    rw (p.1, p.2)
-    (refused_same (add here (seen x) >>= λ l. all_added add (map seen (drop (i + 1) xs)) l)
-    (all_added add (map seen xs) (tables_with c.args.line_strings.now c.args.self.now)) e
-    (sym (next_added add seen xs i x here lt c.directory-item.is) ∙ c.loop-directory.invariant.left)
-    (refused_first (add here (seen x)) (λ l. all_added add (map seen (drop (i + 1) xs)) l) e c.in_err-add_directory.ensures.err))
 
 pub returns-in_err-add_directory-clause-stays : goal.returns-in_err-add_directory-clause-stays
 returns-in_err-add_directory-clause-stays g c =

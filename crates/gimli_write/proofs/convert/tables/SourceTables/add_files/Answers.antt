@@ -6,9 +6,6 @@ use Rattle.gimli_write.specs.convert.SourceTables.{TablesAndTexts, tables_with, 
 use Rattle.gimli_write.proofs.ConvertSteps.{done_first, refused_first, refused_same, next_added, kept_self, kept_then}
 use Rattle.gimli_write.proofs.convert.tables.SourceTables.add_files.Goals as goal
 
-pub loop-file-init : goal.loop-file-init
-loop-file-init g c = record { left = refl; stays = kept_self _ }
-
 pub loop-file-preserved : goal.loop-file-preserved
 loop-file-preserved g c =
     let lt : c.loop-file.file-index < length c.args.files.now = omega arith in

@@ -8,11 +8,6 @@ use Rattle.gimli_write.proofs.KeptFiles.{keeps_more}
 use Rattle.gimli_write.proofs.Writable.{written_later, written_with_parts}
 use Rattle.gimli_write.proofs.convert.tables.SourceTables.add_parts.Goals as goal
 
-pub returns-in_err-push-in-Ok-clause-stays : goal.returns-in_err-push-in-Ok-clause-stays
-returns-in_err-push-in-Ok-clause-stays g c =
-    kept_then _ _ _ c.in_ok-path.ensures.stays
-    c.in_ok-source.ensures.stays
-
 pub returns-in_ok-push-in-Ok-clause-ok : goal.returns-in_ok-push-in-Ok-clause-ok
 returns-in_ok-push-in-Ok-clause-ok g c =
     let f = file_seen g.R.Reader.bytes g.R.Offset.ReaderOffset.number c.args.file.now in
