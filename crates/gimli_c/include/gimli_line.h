@@ -14,7 +14,7 @@
  *   gimli_line_status status = gimli_line_index_of_elf(file, length, &index, &size);     (of a file that was read or mapped)
  *   if (status == GIMLI_LINE_OK) status = gimli_line_index_find(index, size, address, &place);
  *   if (status != GIMLI_LINE_OK) puts(gimli_line_status_sentence(status));
- *   else printf("%.*s:%u\n", (int)place.path_size, (const char *)index + place.path, place.line);
+ *   else if (place.path != 0) printf("%s:%u\n", gimli_line_place_path(index, &place), place.line);
  *   free(index);
  *
  * gimli_line_index_find and its kin ask from any thread and from a signal handler, also after the index was written to a file and
@@ -297,8 +297,8 @@ typedef struct gimli_line_index {
 gimli_line_status gimli_line_index_open(const void *index, size_t length, gimli_line_index *found) GIMLI_LINE_CALL GIMLI_LINE_NONNULL;
 
 /* Checks an index that nobody vouches for: that its ranges ascend (GIMLI_LINE_INDEX_DISORDERED), and that each path is inside it
- * (GIMLI_LINE_INDEX_PATH_OUTSIDE), and that its statements are in order (GIMLI_LINE_INDEX_DISORDERED). Looks at each range, each path
- * and the order. */
+ * with a zero byte after it (GIMLI_LINE_INDEX_PATH_OUTSIDE), and that its statements are in order (GIMLI_LINE_INDEX_DISORDERED). Looks at
+ * each range, each path and the order. */
 gimli_line_status gimli_line_index_check(const void *index, size_t length) GIMLI_LINE_CALL GIMLI_LINE_NONNULL;
 
 /* Where code comes from, by an index. */
@@ -308,7 +308,7 @@ typedef struct gimli_line_place {
     uint64_t first;   /* the first address of those around it of which all this holds: who asks for them needn't ask again */
     uint64_t end;     /* the address after the last one of them; 0 where they go on up to the greatest address */
     size_t path;      /* where the whole path begins, from the index's first byte on; 0 where there is none */
-    size_t path_size; /* in bytes: no zero byte follows */
+    size_t path_size; /* in bytes, without the zero byte that follows */
     uint32_t line;    /* from 1 on; 0 where none is known */
     uint32_t column;  /* from 1 on; 0 for the left edge of the line */
     uint32_t no_path; /* 0 where the path is there, else why not: a number of docs/INDEX.md, or GIMLI_LINE_NO_PATH_OUTSIDE */
@@ -316,7 +316,7 @@ typedef struct gimli_line_place {
     bool is_stmt;     /* a good place for a breakpoint */
 } gimli_line_place;
 
-/* The path isn't inside the index, which is damaged. */
+/* The path isn't inside the index, or no zero byte follows it: the index is damaged. */
 #define GIMLI_LINE_NO_PATH_OUTSIDE UINT32_C(0xffffffff)
 
 /* Tells where the code at an address comes from. GIMLI_LINE_NO_ROW where the index says nothing of it; one of GIMLI_LINE_NO_INDEX to
@@ -348,7 +348,7 @@ gimli_line_status gimli_line_index_range(const void *index, size_t length, size_
 gimli_line_status gimli_line_index_addresses_of(const void *index, size_t length, const char *path, size_t path_length, uint64_t line,
                                                 uint64_t *found_line, uint64_t *addresses, size_t room, size_t *count) GIMLI_LINE_CALL;
 
-/* The bytes of the path of a place, of which there are place->path_size; null where it has none. */
+/* The path of a place, with a zero byte after it, whatever the index is; null where it has none. */
 static inline const char *gimli_line_place_path(const void *index, const gimli_line_place *place) {
     return place->path != 0 ? (const char *)index + place->path : NULL;
 }
@@ -358,8 +358,9 @@ static inline const char *gimli_line_place_path(const void *index, const gimli_l
  * of the compilation; of a path that can't be told it has the reason. A unit that can't be read has no rows; of one whose run has a fault
  * the sequences that end before that count. Rows that no end row follows are in no sequence, and that is no fault. So it is
  * GIMLI_LINE_OK for any bytes of these sections but for GIMLI_LINE_UNSUPPORTED_ADDRESS_SIZE, GIMLI_LINE_OUT_OF_MEMORY,
- * GIMLI_LINE_INDEX_TOO_LARGE and GIMLI_LINE_PLACE_TOO_LARGE. A directory stands in the path of each of its files, so a few sections may
- * have long paths: GIMLI_LINE_INDEX_TOO_LARGE where all of them, each once, have more bytes than 256 times those of the sections and
+ * GIMLI_LINE_INDEX_TOO_LARGE and GIMLI_LINE_PLACE_TOO_LARGE. Beside its identity and its paths it has at most 48 bytes, and 24 for each
+ * byte of .debug_line. A directory stands in the path of each of its files, so a few sections may have long paths:
+ * GIMLI_LINE_INDEX_TOO_LARGE where all of them, each once with its zero byte, have more bytes than 256 times those of the sections and
  * 64 MiB. Where another number than 0 is answered, *index is null and *size is 0. */
 gimli_line_status gimli_line_index_of_sections(const gimli_line_sections *sections, const void *identity, size_t identity_length,
                                                uint8_t **index, size_t *size) GIMLI_LINE_CALL;

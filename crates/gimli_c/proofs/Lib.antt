@@ -12,3 +12,4 @@ pub mod PathsOfFiles
 pub mod Indexes
 pub mod MadeIndexes
 pub mod TakenOne
+pub mod PathEnds

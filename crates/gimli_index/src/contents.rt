@@ -34,7 +34,7 @@ pub struct Source {
     pub unit: u64,
     /// Where the whole path of the file begins among the bytes of all paths.
     pub first: u32,
-    /// The bytes of the path.
+    /// The bytes of the path, without the zero byte that follows it.
     pub size: u32,
     /// 0 where the path is known, else the number of why not (`docs/INDEX.md`, "Sources").
     pub reason: u32,
@@ -72,7 +72,7 @@ pub struct Contents<'a> {
     /// The entries, none with a lower address than the one before it. Where several have one
     /// address, the last of them holds from there on.
     pub entries: &'a [Entry],
-    /// The bytes of all paths, one path after the other.
+    /// The bytes of all paths, one path after the other, each with a zero byte after it.
     pub paths: &'a [u8],
     /// What the index is made of, by a name of the caller's choice: a build id or a checksum.
     pub identity: &'a [u8],
@@ -136,9 +136,10 @@ fn put_line(out: &mut Vec<u8>, line: SourceLine) -> Result<(), AllocError>
     ensures bytes { OnOk result (out.new.items ≡ out.old.items ++ line_bytes line) }
     ensures fits { FitsLine line }
 {
-    put_word(out, line.source)?;
-    put_word(out, line.line)?;
-    put_word(out, column_word(line))
+    let [a, b, c, d] = line.source.to_le_bytes();
+    let [e, f, g, h] = line.line.to_le_bytes();
+    let [i, j, k, l] = column_word(line).to_le_bytes();
+    out.extend_from_slice(&[a, b, c, d, e, f, g, h, i, j, k, l])
 }
 
 /// Appends a line, or a gap.

@@ -318,9 +318,10 @@ fn write_entries<R: Reader>(
 /// fails only with `OutOfMemory`, where a part of the bytes may be appended. Requires an address
 /// size of 1, 2, 4 or 8 bytes.
 ///
-/// `limit` is the most bytes that all paths may have, of which each counts once: more are refused
-/// (`PathsTooLarge`) before there is memory for them. A directory stands in the path of each of its
-/// files, so the paths of a small section may be long. `usize::MAX` leaves the limit of 32 bits.
+/// `limit` is the most bytes that all paths may have, each once with its zero byte: more are
+/// refused (`PathsTooLarge`) before there is memory for them. A directory stands in the path of
+/// each of its files, so the paths of a small section may be long. `usize::MAX` leaves the limit of
+/// 32 bits.
 pub fn write_index<R: Reader>(
     alloc: Global,
     lookup: &SectionLookup<R>,

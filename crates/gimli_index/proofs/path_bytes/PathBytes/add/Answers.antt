@@ -1,4 +1,4 @@
-use Rattle.std.proofs.Common.{◌≡◌, ◌≢◌, length, sym, subst, arith}
+use Rattle.std.proofs.Common.{◌≡◌, ◌≢◌, ◌∙◌, ◌∷◌, [], length, sym, subst, append_assoc, arith}
 use Rattle.std.specs.Prelude.{All}
 use Rattle.gimli_index.specs.inside.Paths.{ArePaths, PathList}
 use Rattle.gimli_index.proofs.PathLists.{placed_last}
@@ -17,6 +17,6 @@ returns-clause-placed c =
     let counted : c.len-first.result ≡ length old.bytes = omega (arith, c.len-first.ensures, c.self.inside.bytes.ok.0) in
     rw (← c.self.view_is)
     (placed_last old
-    (record { bytes = c.extend_from_slice.new.self.items; known = c.add.new.self; firsts = c.push.new.self.items })
+    (record { bytes = c.push.new.self.items; known = c.add.new.self; firsts = c.push.new.self.items })
     c.args.path.now c.len-first.result are absent counted (omega (arith, are.few, are.within, counted, c.min.ensures, c.if-min-first.false))
     c.in_ok-extend_from_slice.ensures.items c.in_ok-add.ensures c.in_ok-push.ensures.items)
