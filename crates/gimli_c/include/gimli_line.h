@@ -6,6 +6,8 @@
  *
  *   cc program.c $(pkg-config --cflags --libs gimli_line)
  *
+ * The pages and examples that are named here are installed in share/doc/gimli_line.
+ *
  * For the path, line and column of addresses, an index, which is bytes:
  *
  *   uint8_t *index;
