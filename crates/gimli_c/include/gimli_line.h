@@ -303,6 +303,26 @@ gimli_line_status gimli_line_index_open(const void *index, size_t length, gimli_
  * each range, each path and the order. */
 gimli_line_status gimli_line_index_check(const void *index, size_t length) GIMLI_LINE_CALL GIMLI_LINE_NONNULL;
 
+/* Why a place has no path: GIMLI_LINE_NO_PATH_STRING_INDEX and so on, each with its number and what it says, as docs/INDEX.md has them. */
+#define GIMLI_LINE_NO_PATHS(X) \
+    X(STRING_INDEX, 1, "a string is given by an index into the string offsets") \
+    X(STRING_ELSEWHERE, 2, "a string stands in the supplementary file") \
+    X(STRING_OUTSIDE, 3, "the offset of a string is past the end of its section") \
+    X(STRING_CUT, 4, "a string has no zero byte at its end") \
+    X(NO_STRING, 5, "the value is no string") \
+    X(NO_DIRECTORY, 6, "the header has no such directory") \
+    X(NO_FILE, 7, "the header has no such file") \
+    X(NO_HEADER, 8, "the header of the unit isn't known")
+
+typedef enum gimli_line_no_path {
+#define GIMLI_LINE_NO_PATH(name, number, sentence) GIMLI_LINE_NO_PATH_##name = number,
+    GIMLI_LINE_NO_PATHS(GIMLI_LINE_NO_PATH)
+#undef GIMLI_LINE_NO_PATH
+} gimli_line_no_path;
+
+/* The path isn't inside the index, or no zero byte follows it: the index is damaged. */
+#define GIMLI_LINE_NO_PATH_OUTSIDE UINT32_C(0xffffffff)
+
 /* Where code comes from, by an index. */
 typedef struct gimli_line_place {
     uint64_t address; /* the address that is asked for */
@@ -313,13 +333,10 @@ typedef struct gimli_line_place {
     size_t path_size; /* in bytes, without the zero byte that follows */
     uint32_t line;    /* from 1 on; 0 where none is known */
     uint32_t column;  /* from 1 on; 0 for the left edge of the line */
-    uint32_t no_path; /* 0 where the path is there, else why not: a number of docs/INDEX.md, or GIMLI_LINE_NO_PATH_OUTSIDE */
+    uint32_t no_path; /* 0 where the path is there, else why not: a gimli_line_no_path, or GIMLI_LINE_NO_PATH_OUTSIDE */
     bool known;       /* the index says something of the address */
     bool is_stmt;     /* a good place for a breakpoint */
 } gimli_line_place;
-
-/* The path isn't inside the index, or no zero byte follows it: the index is damaged. */
-#define GIMLI_LINE_NO_PATH_OUTSIDE UINT32_C(0xffffffff)
 
 /* Tells where the code at an address comes from. GIMLI_LINE_NO_ROW where the index says nothing of it; one of GIMLI_LINE_NO_INDEX to
  * GIMLI_LINE_INDEX_HEADER where the bytes begin with no index. Where another number than 0 is answered, nothing is written. Looks at no
@@ -345,8 +362,8 @@ gimli_line_status gimli_line_index_range(const void *index, size_t length, size_
  * has; *found_line is that line. They go into addresses[0] and so on, ascending; *count is how many there are. GIMLI_LINE_NO_ROOM where
  * `room` is less: *count is written then, and nothing else. GIMLI_LINE_NO_CODE where no line from it on has any; one of
  * GIMLI_LINE_NO_INDEX to GIMLI_LINE_INDEX_HEADER where the bytes begin with no index. Where another number than these is answered, nothing
- * is written. Searches the order of the statements by halves, and looks at those of the line. In an index that this library made these are the
- * addresses that the rows of the program give, if no two of its sequences overlap (docs/INDEX.md). */
+ * is written. Searches the order of the statements by halves, and looks at those of the line. In an index that this library made these are
+ * the addresses that the rows of the program give, if no two of its sequences overlap (docs/INDEX.md). */
 gimli_line_status gimli_line_index_addresses_of(const void *index, size_t length, const char *path, size_t path_length, uint64_t line,
                                                 uint64_t *found_line, uint64_t *addresses, size_t room, size_t *count) GIMLI_LINE_CALL;
 

@@ -248,10 +248,11 @@ static void long_paths(size_t length, bool own, uint32_t wanted) {
     }
     *at++ = 0;
     for (int i = 0; i < FILES; i++) {
-        const int in = own ? i + 1 : 1;
-        const uint8_t file[] = {
-            (uint8_t)('a' + i / 676), (uint8_t)('a' + i / 26 % 26), (uint8_t)('a' + i % 26), 0, (uint8_t)(in | 0x80), (uint8_t)(in >> 7), 0, 0};
+        const int from = own ? i + 1 : 1;
+        const uint8_t file[] = {(uint8_t)('a' + i / 676), (uint8_t)('a' + i / 26 % 26), (uint8_t)('a' + i % 26), 0},
+                      more[] = {(uint8_t)(from | 0x80), (uint8_t)(from >> 7), 0, 0};
         at = (uint8_t *)memcpy(at, file, sizeof file) + sizeof file;
+        at = (uint8_t *)memcpy(at, more, sizeof more) + sizeof more;
     }
     *at++ = 0;
     uint32_t header = (uint32_t)(at - lines - 10), whole;
@@ -276,8 +277,9 @@ static void long_paths(size_t length, bool own, uint32_t wanted) {
     is(gimli_line_read_unit(&in, 0, &unit) == GIMLI_LINE_OK && unit.rows == FILES + 1 && unit.files == FILES && unit.fault == 0,
        "many files");
     is(gimli_line_index_of_sections(&in, NULL, 0, &index, &size) == wanted, "long paths");
-    is(wanted == GIMLI_LINE_OK ? size > FILES * length && size <= 280 * in.line_size + 256 * (in.info_size + sizeof declaration) + (64 << 20) + 48
-                               : index == NULL && size == 0,
+    is(wanted == GIMLI_LINE_OK
+           ? size > FILES * length && size <= 280 * in.line_size + 256 * (in.info_size + sizeof declaration) + (64 << 20) + 48
+           : index == NULL && size == 0,
        "the size of an index");
     free(lines);
     free(info);

@@ -113,7 +113,7 @@ static bool is_right(bytes index, size_t ranges, size_t sources, const gimli_lin
         return memcmp(place, &none, sizeof none) == 0;
     }
     const char *path = gimli_line_place_path(index.at, place), *wanted = paths[i % sources];
-    bool path_is = *wanted == 0 ? path == NULL && place->no_path == 4
+    bool path_is = *wanted == 0 ? path == NULL && place->no_path == GIMLI_LINE_NO_PATH_STRING_CUT
                                 : place->no_path == 0 && place->path_size == strlen(wanted) && strcmp(path, wanted) == 0;
     return path_is && place->known && place->line == i + 1 && place->column == i % 7 && place->unit == i % sources * 1000 &&
            place->is_stmt == (i % 2 == 0) && place->first == base + i * 16 && place->end == (i + 1 < ranges ? base + i * 16 + 16 : 0);
