@@ -12,4 +12,3 @@ pub mod PathsOfFiles
 pub mod Indexes
 pub mod MadeIndexes
 pub mod TakenOne
-pub mod PathEnds
