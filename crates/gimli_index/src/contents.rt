@@ -15,7 +15,8 @@ ghost use Rattle.gimli_index.specs.declared.error.MakeError.TheVariants.{OutOfMe
 ghost use Rattle.gimli_index.specs.declared.header.StartSize.TheVariants.{Four};
 
 use crate::error::MakeError;
-use crate::header::{MAGIC, StartSize, VERSION};
+use crate::header::{HEADER_SIZE, MAGIC, StartSize, VERSION};
+use crate::line_index::{ENTRY_SIZE, NUMBER_SIZE, SOURCE_SIZE};
 use std::alloc::{AllocError, Global};
 
 /// The number of a source that none has: that of a gap.
@@ -364,6 +365,7 @@ impl Contents<'_> {
         let base = base_for(size, first);
         let order = self.order(alloc)?;
         let numbers = order.as_slice();
+        out.reserve_exact(self.size(size, numbers.len()))?;
         self.put_header(out, size, base, numbers.len())?;
         put_sources(out, self.sources)?;
         put_starts(out, size, base, self.entries)?;
@@ -392,6 +394,16 @@ impl Contents<'_> {
             return Err(MakeError::IdentityTooLarge);
         }
         Ok(())
+    }
+
+    /// How many bytes the index has, with so many numbers in order. Nothing rests on it.
+    fn size(&self, size: StartSize, ordered: usize) -> usize
+        requires counts { FitsCounts (contents_of self.now []) }
+        requires ordered { ordered < 2 ^ 32 }
+    {
+        let starts = size.bytes_of(self.entries.len() as u32) + ENTRY_SIZE * self.entries.len();
+        let others = SOURCE_SIZE * self.sources.len() + NUMBER_SIZE * ordered;
+        HEADER_SIZE + starts + others + self.paths.len() + self.identity.len()
     }
 
     /// Appends the header, with so many numbers in order.

@@ -23,10 +23,10 @@ use crate::place::{NoPath, Place, Start};
 pub(crate) const ENTRY_SIZE: usize = 12;
 
 /// The bytes of a source: the offset of its unit, where its path is, and why there is none.
-const SOURCE_SIZE: usize = 24;
+pub(crate) const SOURCE_SIZE: usize = 24;
 
 /// The bytes of a number of the order.
-const NUMBER_SIZE: usize = 4;
+pub(crate) const NUMBER_SIZE: usize = 4;
 
 /// A search looks at a guess first, and then at a start that is this part of all starts away.
 const NEAR: usize = 512;

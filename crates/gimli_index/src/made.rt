@@ -25,7 +25,7 @@ use crate::turns::{Turn, are_in_turn, turns_of};
 use gimli_compilation::Compilations;
 use gimli_core::Reader;
 use gimli_lookup::{CoveringRows, Ranges, SectionLookup, SequenceRows, StringSections};
-use std::alloc::Global;
+use std::alloc::{AllocError, Global};
 
 /// Whether two numbers are of sources that are the same.
 #[inline(always)]
@@ -237,6 +237,17 @@ fn take_turns<R: Reader>(
     Ok(())
 }
 
+/// No entries, with room for one for each row of these sequences.
+fn entries_for(alloc: Global, turns: &[Turn<'_>]) -> Result<Vec<Entry>, AllocError>
+    ensures { IfOk result (λ entries. entries.items ≡ []) }
+{
+    let mut count: usize = 0;
+    for turn in turns {
+        count = count.saturating_add(turn.rows.len());
+    }
+    Vec::with_capacity(alloc, count)
+}
+
 /// The entries of a lookup, whose sources the table takes in.
 fn entries_of<R: Reader>(
     origin: &Origin<'_, R>,
@@ -254,8 +265,8 @@ fn entries_of<R: Reader>(
         (texts_of R.bytes origin.now.strings.now origin.now.compilations.now)
         origin.now.lookup.now origin.now.limit) }
 {
-    let mut entries = Vec::new(origin.alloc);
     let turns = turns_of(origin.alloc, origin.lookup)?;
+    let mut entries = entries_for(origin.alloc, &turns)?;
     if are_in_turn(&turns) {
         take_turns(origin, &turns, table, &mut entries)?;
         return Ok(entries);
