@@ -8,7 +8,7 @@ fn small_index() -> Vec<u8> {
     index.extend(1u32.to_le_bytes());
     index.extend([8, 0, 4, 0]);
     index.extend(0x1000u64.to_le_bytes());
-    for size in [3u32, 2, 4, 2, 1, 0] {
+    for size in [3u32, 2, 5, 2, 1, 0] {
         index.extend(size.to_le_bytes());
     }
     for (unit, size, reason) in [(7u64, 4u32, 0u32), (9, 0, 4)] {
@@ -25,7 +25,7 @@ fn small_index() -> Vec<u8> {
         entry.iter().for_each(|number| index.extend(number.to_le_bytes()));
     }
     index.extend(0u32.to_le_bytes()); // the order: the first start alone is a statement
-    index.extend(b"/a.cid");
+    index.extend(b"/a.c\0id");
     index
 }
 
@@ -109,12 +109,14 @@ fn what_is_no_index_is_refused() {
     bytes[12] = 3;
     assert_eq!(Index::open(&bytes).map(|_| ()), Err(Error::INDEX_HEADER));
     bytes[12] = 8;
-    // The third start is below the second; then a path that ends behind the part of paths.
+    // The third start is below the second; then a path that ends behind the part of paths, and one that no zero byte follows.
     bytes[48 + 48 + 8] = 8;
     assert_eq!(Index::open(&bytes).expect("it is an index").check(), Err(Error::INDEX_DISORDERED));
     bytes[48 + 48 + 8] = 0x20;
-    bytes[48 + 12] = 5;
-    let index = Index::open(&bytes).expect("it is an index");
-    assert_eq!(index.check(), Err(Error::INDEX_PATH_OUTSIDE));
-    assert_eq!(index.find(0x1000).map(|place| place.path), Some(Err(NoPath::Outside)));
+    for size in [5, 3] {
+        bytes[48 + 12] = size;
+        let index = Index::open(&bytes).expect("it is an index");
+        assert_eq!(index.check(), Err(Error::INDEX_PATH_OUTSIDE));
+        assert_eq!(index.find(0x1000).map(|place| place.path), Some(Err(NoPath::Outside)));
+    }
 }

@@ -25,6 +25,11 @@ sed 's/@.*//' "$work/versions" >"$work/shared"
 nm --defined-only -g "$installed/lib/libgimli_line.a" | awk '$2 == "T" {print $3}' | sort -u >"$work/static"
 declared | cmp - "$work/shared"
 declared | cmp - "$work/static"
+# The page of man names each call of the header, and the pages and examples that the header names are there.
+for call in $(declared | grep -v _proved_); do grep -qw "$call" "$installed/share/man/man3/gimli_line.3" || { echo "man: no $call"; exit 1; }; done
+for page in INDEX.md CALLING.md $(grep -oE 'examples/[a-z]+/[a-z_0-9]+\.c' "$installed/include/gimli_line.h" | sort -u); do
+    [ -s "$installed/share/doc/gimli_line/$page" ] || { echo "share/doc/gimli_line: no $page"; exit 1; }
+done
 
 # The header, alone, without a warning.
 printf '#include <gimli_line.h>\nconst char *name(void);\nconst char *name(void) { return gimli_line_status_sentence(GIMLI_LINE_OK); }\n' >"$work/header.c"
@@ -56,14 +61,21 @@ if have pkg-config "a program built by it"; then
     [ "$(LD_LIBRARY_PATH=$installed/lib "$work/by_shared" "$work/by_static" "$main")" = "$place" ]
 fi
 
-# The same by CMake.
+# The same by CMake, static and shared, and with the libraries in a folder of another name.
 if have cmake "a program built by it"; then
+    make -C "$crate" -s install DESTDIR="$work/far" PREFIX=/opt/gimli LIBDIR=/opt/gimli/libraries/here
     mkdir -p "$work/cmake"
     printf '%s\n' 'cmake_minimum_required(VERSION 3.10)' 'project(where_is C)' 'find_package(gimli_line 0.1 REQUIRED)' \
-        "add_executable(where_is \"$here/c/where_is.c\")" 'target_link_libraries(where_is gimli_line::gimli_line_static)' >"$work/cmake/CMakeLists.txt"
-    cmake -S "$work/cmake" -B "$work/cmake/build" -DCMAKE_PREFIX_PATH="$installed" >"$work/said" && cmake --build "$work/cmake/build" >>"$work/said" ||
-        { cat "$work/said"; exit 1; }
-    [ ! -x "$work/by_static" ] || [ "$("$work/cmake/build/where_is" "$work/by_static" "$main")" = "$place" ]
+        "add_executable(where_is \"$here/c/where_is.c\")" 'target_link_libraries(where_is gimli_line::gimli_line_static)' \
+        "add_executable(where_is_shared \"$here/c/where_is.c\")" 'target_link_libraries(where_is_shared gimli_line::gimli_line)' >"$work/cmake/CMakeLists.txt"
+    for words in "-DCMAKE_PREFIX_PATH=$installed" "-Dgimli_line_DIR=$work/far/opt/gimli/libraries/here/cmake/gimli_line"; do
+        rm -rf "$work/cmake/build"
+        cmake -S "$work/cmake" -B "$work/cmake/build" "$words" >"$work/said" && cmake --build "$work/cmake/build" >>"$work/said" ||
+            { cat "$work/said"; exit 1; }
+        for name in where_is where_is_shared; do
+            [ ! -x "$work/by_static" ] || [ "$("$work/cmake/build/$name" "$work/by_static" "$main")" = "$place" ]
+        done
+    done
 fi
 
 # What `make dist` makes, unpacked into an empty folder on a machine without the kit: it is installed, and each example is built.

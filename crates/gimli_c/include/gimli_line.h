@@ -6,6 +6,8 @@
  *
  *   cc program.c $(pkg-config --cflags --libs gimli_line)
  *
+ * The pages and examples that are named here are installed in share/doc/gimli_line.
+ *
  * For the path, line and column of addresses, an index, which is bytes:
  *
  *   uint8_t *index;
@@ -14,7 +16,7 @@
  *   gimli_line_status status = gimli_line_index_of_elf(file, length, &index, &size);     (of a file that was read or mapped)
  *   if (status == GIMLI_LINE_OK) status = gimli_line_index_find(index, size, address, &place);
  *   if (status != GIMLI_LINE_OK) puts(gimli_line_status_sentence(status));
- *   else printf("%.*s:%u\n", (int)place.path_size, (const char *)index + place.path, place.line);
+ *   else if (place.path != 0) printf("%s:%u\n", gimli_line_place_path(index, &place), place.line);
  *   free(index);
  *
  * gimli_line_index_find and its kin ask from any thread and from a signal handler, also after the index was written to a file and
@@ -297,9 +299,29 @@ typedef struct gimli_line_index {
 gimli_line_status gimli_line_index_open(const void *index, size_t length, gimli_line_index *found) GIMLI_LINE_CALL GIMLI_LINE_NONNULL;
 
 /* Checks an index that nobody vouches for: that its ranges ascend (GIMLI_LINE_INDEX_DISORDERED), and that each path is inside it
- * (GIMLI_LINE_INDEX_PATH_OUTSIDE), and that its statements are in order (GIMLI_LINE_INDEX_DISORDERED). Looks at each range, each path
- * and the order. */
+ * with a zero byte after it (GIMLI_LINE_INDEX_PATH_OUTSIDE), and that its statements are in order (GIMLI_LINE_INDEX_DISORDERED). Looks at
+ * each range, each path and the order. */
 gimli_line_status gimli_line_index_check(const void *index, size_t length) GIMLI_LINE_CALL GIMLI_LINE_NONNULL;
+
+/* Why a place has no path: GIMLI_LINE_NO_PATH_STRING_INDEX and so on, each with its number and what it says, as docs/INDEX.md has them. */
+#define GIMLI_LINE_NO_PATHS(X) \
+    X(STRING_INDEX, 1, "a string is given by an index into the string offsets") \
+    X(STRING_ELSEWHERE, 2, "a string stands in the supplementary file") \
+    X(STRING_OUTSIDE, 3, "the offset of a string is past the end of its section") \
+    X(STRING_CUT, 4, "a string has no zero byte at its end") \
+    X(NO_STRING, 5, "the value is no string") \
+    X(NO_DIRECTORY, 6, "the header has no such directory") \
+    X(NO_FILE, 7, "the header has no such file") \
+    X(NO_HEADER, 8, "the header of the unit isn't known")
+
+typedef enum gimli_line_no_path {
+#define GIMLI_LINE_NO_PATH(name, number, sentence) GIMLI_LINE_NO_PATH_##name = number,
+    GIMLI_LINE_NO_PATHS(GIMLI_LINE_NO_PATH)
+#undef GIMLI_LINE_NO_PATH
+} gimli_line_no_path;
+
+/* The path isn't inside the index, or no zero byte follows it: the index is damaged. */
+#define GIMLI_LINE_NO_PATH_OUTSIDE UINT32_C(0xffffffff)
 
 /* Where code comes from, by an index. */
 typedef struct gimli_line_place {
@@ -308,16 +330,13 @@ typedef struct gimli_line_place {
     uint64_t first;   /* the first address of those around it of which all this holds: who asks for them needn't ask again */
     uint64_t end;     /* the address after the last one of them; 0 where they go on up to the greatest address */
     size_t path;      /* where the whole path begins, from the index's first byte on; 0 where there is none */
-    size_t path_size; /* in bytes: no zero byte follows */
+    size_t path_size; /* in bytes, without the zero byte that follows */
     uint32_t line;    /* from 1 on; 0 where none is known */
     uint32_t column;  /* from 1 on; 0 for the left edge of the line */
-    uint32_t no_path; /* 0 where the path is there, else why not: a number of docs/INDEX.md, or GIMLI_LINE_NO_PATH_OUTSIDE */
+    uint32_t no_path; /* 0 where the path is there, else why not: a gimli_line_no_path, or GIMLI_LINE_NO_PATH_OUTSIDE */
     bool known;       /* the index says something of the address */
     bool is_stmt;     /* a good place for a breakpoint */
 } gimli_line_place;
-
-/* The path isn't inside the index, which is damaged. */
-#define GIMLI_LINE_NO_PATH_OUTSIDE UINT32_C(0xffffffff)
 
 /* Tells where the code at an address comes from. GIMLI_LINE_NO_ROW where the index says nothing of it; one of GIMLI_LINE_NO_INDEX to
  * GIMLI_LINE_INDEX_HEADER where the bytes begin with no index. Where another number than 0 is answered, nothing is written. Looks at no
@@ -343,12 +362,12 @@ gimli_line_status gimli_line_index_range(const void *index, size_t length, size_
  * has; *found_line is that line. They go into addresses[0] and so on, ascending; *count is how many there are. GIMLI_LINE_NO_ROOM where
  * `room` is less: *count is written then, and nothing else. GIMLI_LINE_NO_CODE where no line from it on has any; one of
  * GIMLI_LINE_NO_INDEX to GIMLI_LINE_INDEX_HEADER where the bytes begin with no index. Where another number than these is answered, nothing
- * is written. Searches the order of the statements by halves, and looks at those of the line. In an index that this library made these are the
- * addresses that the rows of the program give, if no two of its sequences overlap (docs/INDEX.md). */
+ * is written. Searches the order of the statements by halves, and looks at those of the line. In an index that this library made these are
+ * the addresses that the rows of the program give, if no two of its sequences overlap (docs/INDEX.md). */
 gimli_line_status gimli_line_index_addresses_of(const void *index, size_t length, const char *path, size_t path_length, uint64_t line,
                                                 uint64_t *found_line, uint64_t *addresses, size_t room, size_t *count) GIMLI_LINE_CALL;
 
-/* The bytes of the path of a place, of which there are place->path_size; null where it has none. */
+/* The path of a place, with a zero byte after it, whatever the index is; null where it has none. */
 static inline const char *gimli_line_place_path(const void *index, const gimli_line_place *place) {
     return place->path != 0 ? (const char *)index + place->path : NULL;
 }
@@ -358,8 +377,9 @@ static inline const char *gimli_line_place_path(const void *index, const gimli_l
  * of the compilation; of a path that can't be told it has the reason. A unit that can't be read has no rows; of one whose run has a fault
  * the sequences that end before that count. Rows that no end row follows are in no sequence, and that is no fault. So it is
  * GIMLI_LINE_OK for any bytes of these sections but for GIMLI_LINE_UNSUPPORTED_ADDRESS_SIZE, GIMLI_LINE_OUT_OF_MEMORY,
- * GIMLI_LINE_INDEX_TOO_LARGE and GIMLI_LINE_PLACE_TOO_LARGE. A directory stands in the path of each of its files, so a few sections may
- * have long paths: GIMLI_LINE_INDEX_TOO_LARGE where all of them, each once, have more bytes than 256 times those of the sections and
+ * GIMLI_LINE_INDEX_TOO_LARGE and GIMLI_LINE_PLACE_TOO_LARGE. Beside its identity and its paths it has at most 48 bytes, and 24 for each
+ * byte of .debug_line. A directory stands in the path of each of its files, so a few sections may have long paths:
+ * GIMLI_LINE_INDEX_TOO_LARGE where all of them, each once with its zero byte, have more bytes than 256 times those of the sections and
  * 64 MiB. Where another number than 0 is answered, *index is null and *size is 0. */
 gimli_line_status gimli_line_index_of_sections(const gimli_line_sections *sections, const void *identity, size_t identity_length,
                                                uint8_t **index, size_t *size) GIMLI_LINE_CALL;

@@ -73,10 +73,11 @@ pub record SeesIndex (bytes : List ℕ) (seen : GimliIndex) : Type 0 where
 
 -- ---- what it says of an address
 
--- the path of a place is these bytes of the index, or there is none for the reason of a number
+-- the path of a place is these bytes of the index, with a zero byte after them, or there is none
+-- for the reason of a number
 abbrev pub SeesPath : List ℕ → Result (List ℕ) NoPath → ℕ → ℕ → ℕ → Type 0
 SeesPath bytes (Ok path) first size no_path =
-    (no_path ≡ 0) × (first + size ≤ length bytes)
+    (no_path ≡ 0) × (slice_get bytes (first + size) ≡ Some 0)
     × (slice_range bytes first (first + size) ≡ path)
 SeesPath bytes (Err (Reason n)) first size no_path = (no_path ≡ n) × (first ≡ 0) × (size ≡ 0)
 SeesPath bytes (Err Outside) first size no_path =

@@ -39,7 +39,7 @@ program section big address_size lowest line_strings strings = record {
 }
 
 -- a program, the sections that tell the directories of its compilations, and the name of what the
--- map is made of
+-- index is made of
 pub record IndexSource : Type 0 where
   pub program : Program
   pub compilations : Sections

@@ -1,9 +1,11 @@
 -- Lists that go on, and paths in bytes that do.
-use Rattle.std.proofs.Common.{◌≡◌, ◌⊎◌, ℕ, zero, suc, ◌+◌, ◌-◌, ◌<◌, ◌≤◌, Bool, true, false, cond, ltb, List, [], ◌∷◌, ◌++◌, length, take, drop, Ok}
-use Rattle.std.proofs.Common.{Err}
-use Rattle.std.proofs.Common.{Some, refl, sym, ap, ◌∙◌, inl, inr, arith, length-append}
+use Rattle.std.proofs.Common.{◌≡◌, ◌⊎◌, ℕ, zero, suc, ◌+◌, ◌-◌, ◌<◌, ◌≤◌, Bool, true, false, cond, if◌then◌else◌, List, [], ◌∷◌, ◌++◌, length, take, drop}
+use Rattle.std.proofs.Common.{Ok, Err, Option, None, Some, refl, sym, ap, ◌∙◌, inl, inr, arith, append_assoc, length-append}
+use Rattle.std.specs.Option.{option_map_or}
 use Rattle.std.specs.Prelude.{slice_get, slice_range, nat_eq}
-use Rattle.std.proofs.lemmas.Bool.{cases_lt, cond-true, cond-false, lt-ltb, le-ltb}
+use Rattle.std.proofs.lemmas.Bool.{cases_lt}
+use Rattle.std.proofs.lemmas.Bool.Decides.{nat_tests}
+use Rattle.std.proofs.lemmas.Option.{slice_get_within}
 use Rattle.gimli_index.specs.Contents.{source_path}
 use Rattle.gimli_index.specs.Meaning.{path_in}
 use Rattle.gimli_index.specs.declared.contents.Source.{Source}
@@ -42,17 +44,21 @@ get_pushed (z ∷ xs) y (suc k) x there = elim (get_pushed xs y k x there) [
 
 -- ---- paths
 
-path_fits : (paths : List ℕ) (first size : ℕ) → (path_in paths first size ≡ Err Outside → ⊥) → first + size ≤ length paths
-path_fits paths first size inside = elim (cases_lt (length paths) (first + size)) [
-  | inl short ↦
-      absurd (inside
-      (cond-true (ltb (length paths) (first + size)) (Err Outside) (Ok (slice_range paths first (first + size))) (lt-ltb (length paths) (first + size) short)))
-  | inr fits ↦ fits
-]
+path_ended : (paths : List ℕ) (first size : ℕ) → (path_in paths first size ≡ Err Outside → ⊥) → slice_get paths (first + size) ≡ Some 0
+path_ended paths first size inside = by_byte (slice_get paths (first + size)) inside
+  where
+    by_byte : (o : Option ℕ) → (cond (option_map_or (nat_eq 0) o false) (Ok (slice_range paths first (first + size))) (Err Outside) ≡ Err Outside → ⊥)
+        → o ≡ Some 0
+    by_byte None h = absurd (h refl)
+    by_byte (Some zero) h = refl
+    by_byte (Some (suc n)) h =
+        let other : nat_eq 0 (suc n) ≡ false = grind (arith, nat_tests) in
+        absurd (h (ap (λ (b : Bool). cond b (Ok (slice_range paths first (first + size))) (Err Outside)) other))
 
-pub path_there : (paths : List ℕ) (first size : ℕ) → first + size ≤ length paths → path_in paths first size ≡ Ok (slice_range paths first (first + size))
-path_there paths first size fits =
-    cond-false (ltb (length paths) (first + size)) (Err Outside) (Ok (slice_range paths first (first + size))) (le-ltb (length paths) (first + size) fits)
+pub path_there : (paths : List ℕ) (first size : ℕ) → slice_get paths (first + size) ≡ Some 0
+    → path_in paths first size ≡ Ok (slice_range paths first (first + size))
+path_there paths first size ended =
+    ap (λ (o : Option ℕ). if option_map_or (nat_eq 0) o false then Ok (slice_range paths first (first + size)) else Err Outside) ended
 
 take_none : (xs : List ℕ) → take 0 xs ≡ []
 take_none [] = refl
@@ -82,15 +88,16 @@ pub append_none : {X : Type 0} (xs : List X) → xs ++ [] ≡ xs
 append_none [] = refl
 append_none {X} (x ∷ xs) = ap (λ (ys : List X). x ∷ ys) (append_none xs)
 
-pub path_goes_on_at : (paths more : List ℕ) (first size : ℕ) → first + size ≤ length paths → path_in (paths ++ more) first size ≡ path_in paths first size
-path_goes_on_at paths more first size fits =
-    path_there (paths ++ more) first size (omega (arith, fits, length-append paths more))
-    ∙ ap (λ (p : List ℕ). Ok p) (range_before paths more first (first + size) fits)
-    ∙ sym (path_there paths first size fits)
+pub path_goes_on_at : (paths more : List ℕ) (first size : ℕ) → slice_get paths (first + size) ≡ Some 0
+    → path_in (paths ++ more) first size ≡ path_in paths first size
+path_goes_on_at paths more first size ended =
+    path_there (paths ++ more) first size (get_before paths more (first + size) 0 ended)
+    ∙ ap (λ (p : List ℕ). Ok p) (range_before paths more first (first + size) (omega (arith, slice_get_within paths (first + size) 0 ended)))
+    ∙ sym (path_there paths first size ended)
 
 path_goes_on : (paths more : List ℕ) (first size : ℕ) → (path_in paths first size ≡ Err Outside → ⊥)
     → path_in (paths ++ more) first size ≡ path_in paths first size
-path_goes_on paths more first size inside = path_goes_on_at paths more first size (path_fits paths first size inside)
+path_goes_on paths more first size inside = path_goes_on_at paths more first size (path_ended paths first size inside)
 
 pub source_goes_on : (paths more : List ℕ) (s : Source) → (source_path paths s ≡ Err Outside → ⊥) → source_path (paths ++ more) s ≡ source_path paths s
 source_goes_on paths more s inside = by_reason (nat_eq s.reason 0) inside
@@ -100,11 +107,15 @@ source_goes_on paths more s inside = by_reason (nat_eq s.reason 0) inside
     by_reason true h = path_goes_on paths more s.first s.size h
     by_reason false h = refl
 
--- a path that was appended
-pub path_appended : (paths path : List ℕ) → path_in (paths ++ path) (length paths) (length path) ≡ Ok path
+-- a path that was appended, with a zero byte after it
+pub zero_appended : (paths path : List ℕ) → slice_get (paths ++ (path ++ 0 ∷ [])) (length paths + length path) ≡ Some 0
+zero_appended paths path =
+    sym (ap (λ (xs : List ℕ). slice_get xs (length paths + length path)) (append_assoc paths path (0 ∷ [])))
+    ∙ ap (λ (n : ℕ). slice_get ((paths ++ path) ++ 0 ∷ []) n) (sym (length-append paths path)) ∙ get_last (paths ++ path) 0
+
+pub path_appended : (paths path : List ℕ) → path_in (paths ++ (path ++ 0 ∷ [])) (length paths) (length path) ≡ Ok path
 path_appended paths path =
-    path_there (paths ++ path) (length paths) (length path) (omega (arith, length-append paths path))
-    ∙ ap (λ (p : List ℕ). Ok p) (after_bytes paths path (length paths) (length paths + length path) 0 (length path) (omega arith) refl ∙ whole path)
-  where
-    whole : (xs : List ℕ) → slice_range xs 0 (length xs) ≡ xs
-    whole xs = ap (λ (ys : List ℕ). slice_range ys 0 (length xs)) (sym (append_none xs)) ∙ first_bytes xs [] (length xs) refl
+    path_there (paths ++ (path ++ 0 ∷ [])) (length paths) (length path) (zero_appended paths path)
+    ∙ ap (λ (p : List ℕ). Ok p)
+    (after_bytes paths (path ++ 0 ∷ []) (length paths) (length paths + length path) 0 (length path) (omega arith) refl
+    ∙ first_bytes path (0 ∷ []) (length path) refl)

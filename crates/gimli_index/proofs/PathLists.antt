@@ -11,7 +11,7 @@ use Rattle.std.proofs.lemmas.Option.{slice_get_within, get_or_from_slice_get}
 use Rattle.gimli_index.specs.Meaning.{path_in}
 use Rattle.gimli_index.specs.Short.{joined, IsSpanOf}
 use Rattle.gimli_index.specs.inside.Paths.{ArePaths, IsPlaced, PathList, no_paths}
-use Rattle.gimli_index.proofs.Lists.{get_before, get_last, get_pushed, path_appended, path_goes_on_at}
+use Rattle.gimli_index.proofs.Lists.{get_before, get_last, get_pushed, path_appended, path_goes_on_at, zero_appended}
 
 pub none_are : {limit : ℕ} → ArePaths limit no_paths
 none_are = record {
@@ -23,21 +23,21 @@ none_are = record {
   distinct = λ i j d lt within. absurd (omega (arith, within));
 }
 
-pub joined_push : (known : List (List ℕ)) (path : List ℕ) → joined (known ++ path ∷ []) ≡ joined known ++ path
-joined_push known path = flat_map-append (λ p. p) known (path ∷ []) ∙ ap (λ xs. joined known ++ xs) (append-nil path)
+pub joined_push : (known : List (List ℕ)) (path : List ℕ) → joined (known ++ path ∷ []) ≡ joined known ++ (path ++ 0 ∷ [])
+joined_push known path = flat_map-append (λ p. p ++ 0 ∷ []) known (path ∷ []) ∙ ap (λ xs. joined known ++ xs) (append-nil (path ++ 0 ∷ []))
 
 -- the bytes before a path, the path, and those after it
 around : (known : List (List ℕ)) (k : ℕ) (path : List ℕ) → slice_get known k ≡ Some path
-    → (more : List ℕ) × (joined known ≡ (joined (take k known) ++ path) ++ more)
+    → (more : List ℕ) × (joined known ≡ (joined (take k known) ++ (path ++ 0 ∷ [])) ++ more)
 around [] k path there = absurd cc
 around (p ∷ known) zero path there =
     let same : p ≡ path = cc in
-    (joined known, ap (λ (x : List ℕ). x ++ joined known) same)
+    (joined known, ap (λ (x : List ℕ). (x ++ 0 ∷ []) ++ joined known) same)
 around (p ∷ known) (suc k) path there =
     let rest = around known k path there in (
       rest.0,
-      ap (λ xs. p ++ xs) rest.1 ∙ sym (append_assoc p (joined (take k known) ++ path) rest.0)
-          ∙ ap (λ xs. xs ++ rest.0) (sym (append_assoc p (joined (take k known)) path)),
+      ap (λ xs. (p ++ 0 ∷ []) ++ xs) rest.1 ∙ sym (append_assoc (p ++ 0 ∷ []) (joined (take k known) ++ (path ++ 0 ∷ [])) rest.0)
+          ∙ ap (λ xs. xs ++ rest.0) (sym (append_assoc (p ++ 0 ∷ []) (joined (take k known)) (path ++ 0 ∷ []))),
     )
 
 -- a path that stands there is read, and isn't longer than all of them
@@ -47,15 +47,22 @@ span_read p first path are span =
     let parts = around p.known span.0 path span.1 in
     let before = joined (take span.0 p.known) in
     ap (λ bs. path_in bs first (length path)) (are.bytes ∙ parts.1)
-    ∙ ap (λ n. path_in ((before ++ path) ++ parts.0) n (length path)) span.2
-    ∙ path_goes_on_at (before ++ path) parts.0 (length before) (length path) (omega (arith, length-append before path))
+    ∙ ap (λ n. path_in ((before ++ (path ++ 0 ∷ [])) ++ parts.0) n (length path)) span.2
+    ∙ path_goes_on_at (before ++ (path ++ 0 ∷ [])) parts.0 (length before) (length path) (zero_appended before path)
     ∙ path_appended before path
 
 pub span_short : {limit : ℕ} (p : PathList) (first : ℕ) (path : List ℕ) → ArePaths limit p → IsSpanOf p.known first path → length path < 2 ^ 32
 span_short p first path are span =
     let parts = around p.known span.0 path span.1 in
     let before = joined (take span.0 p.known) in
-    omega (arith, are.few, ap (λ (bs : List ℕ). length bs) (are.bytes ∙ parts.1), length-append (before ++ path) parts.0, length-append before path)
+    omega (
+      arith,
+      are.few,
+      ap (λ (bs : List ℕ). length bs) (are.bytes ∙ parts.1),
+      length-append (before ++ (path ++ 0 ∷ [])) parts.0,
+      length-append before (path ++ 0 ∷ []),
+      length-append path (0 ∷ []),
+    )
 
 -- a path stays where it is, where one more comes last
 pub span_stays : (known more : List (List ℕ)) (first : ℕ) (path : List ℕ) → IsSpanOf known first path → IsSpanOf (known ++ more) first path
@@ -68,15 +75,15 @@ span_stays known more first path span = (
 -- ---- a path that comes last
 
 pub placed_last : {limit : ℕ} (old new : PathList) (path : List ℕ) (first : ℕ) → ArePaths limit old → All (λ x. x ≢ path) old.known → first ≡ length old.bytes
-    → length old.bytes + length path ≤ min limit 0xffff_ffff
-    → new.bytes ≡ old.bytes ++ path → new.known ≡ old.known ++ path ∷ [] → new.firsts ≡ old.firsts ++ first ∷ [] → IsPlaced limit old new path first
+    → length old.bytes + length path + 1 ≤ min limit 0xffff_ffff
+    → new.bytes ≡ old.bytes ++ (path ++ 0 ∷ []) → new.known ≡ old.known ++ path ∷ [] → new.firsts ≡ old.firsts ++ first ∷ [] → IsPlaced limit old new path first
 placed_last old new path first are absent first_is fits bytes known firsts = record {
   are = record {
     bytes =
-        bytes ∙ ap (λ bs. bs ++ path) are.bytes ∙ sym (joined_push old.known path)
+        bytes ∙ ap (λ bs. bs ++ (path ++ 0 ∷ [])) are.bytes ∙ sym (joined_push old.known path)
         ∙ ap joined (sym known);
-    within = omega (arith, fits, ap (λ (bs : List ℕ). length bs) bytes, length-append old.bytes path);
-    few = omega (arith, fits, ap (λ (bs : List ℕ). length bs) bytes, length-append old.bytes path);
+    within = omega (arith, fits, ap (λ (bs : List ℕ). length bs) bytes, length-append old.bytes (path ++ 0 ∷ []), length-append path (0 ∷ []));
+    few = omega (arith, fits, ap (λ (bs : List ℕ). length bs) bytes, length-append old.bytes (path ++ 0 ∷ []), length-append path (0 ∷ []));
     count = omega (
       arith,
       are.count,
@@ -88,7 +95,7 @@ placed_last old new path first are absent first_is fits bytes known firsts = rec
     firsts = λ k n there. ap_known k n (get_pushed old.firsts first k n (ap (λ xs. slice_get xs k) (sym firsts) ∙ there));
     distinct = subst (AllPairs (λ x y. x ≢ y)) (sym known) (all_pairs_push (λ x y. x ≢ y) old.known path are.distinct absent);
   };
-  bytes = (path, bytes);
+  bytes = (path ++ 0 ∷ [], bytes);
   known = inr known;
   span = (length old.known, ap (λ xs. slice_get xs (length old.known)) known ∙ get_last old.known path, at_end first first_is);
 }

@@ -124,7 +124,7 @@ module _ (t : Texts) (units : List KeptUnit) {limit : ℕ} (old : Table) (f : Co
     path_found path is = (f, is_found, row_place t u.unit f.row, place_is, is)
 
     pub long_paths : (path : List ℕ) → unit_path t u.unit f.row ≡ Ok path → All (λ x. x ≢ path) old.paths.known
-        → min limit 0xffff_ffff < length old.paths.bytes + length path → HasLongPaths t units limit
+        → min limit 0xffff_ffff < length old.paths.bytes + length path + 1 → HasLongPaths t units limit
     long_paths path is absent long = record {
       paths = old.paths.known ++ path ∷ [];
       found = All-push (IsFoundPath t units) old.paths.known path are.found (path_found path is);
@@ -133,7 +133,8 @@ module _ (t : Texts) (units : List KeptUnit) {limit : ℕ} (old : Table) (f : Co
         arith,
         long,
         ap (λ (bs : List ℕ). length bs) (joined_push old.paths.known path),
-        length-append (joined old.paths.known) path,
+        length-append (joined old.paths.known) (path ++ 0 ∷ []),
+        length-append path (0 ∷ []),
         ap (λ (bs : List ℕ). length bs) are.paths.bytes,
       );
     }

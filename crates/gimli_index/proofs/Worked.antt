@@ -23,12 +23,12 @@ starts_in bytes = result_map starts_of (index_at bytes)
 abbrev place_in : ℕ → List ℕ → Result (Option Place) IndexError
 place_in a bytes = result_map (place_at a) (starts_in bytes)
 
--- ---- starts of 4 bytes above 0x401000: three starts, two sources, paths of 4 bytes, an identity of 2
+-- ---- starts of 4 bytes above 0x401000: three starts, two sources, paths of 5 bytes, an identity of 2
 
 abbrev header_4 : List ℕ
 header_4 =
     0x4c ∷ 0x49 ∷ 0x4e ∷ 0x45 ∷ 0x49 ∷ 0x44 ∷ 0x58 ∷ 0 ∷ 1 ∷ 0 ∷ 0 ∷ 0 ∷ 8 ∷ 0 ∷ 4 ∷ 0
-    ∷ 0 ∷ 0x10 ∷ 0x40 ∷ 0 ∷ 0 ∷ 0 ∷ 0 ∷ 0 ∷ 3 ∷ 0 ∷ 0 ∷ 0 ∷ 2 ∷ 0 ∷ 0 ∷ 0 ∷ 4 ∷ 0 ∷ 0 ∷ 0 ∷ 2 ∷ 0 ∷ 0 ∷ 0
+    ∷ 0 ∷ 0x10 ∷ 0x40 ∷ 0 ∷ 0 ∷ 0 ∷ 0 ∷ 0 ∷ 3 ∷ 0 ∷ 0 ∷ 0 ∷ 2 ∷ 0 ∷ 0 ∷ 0 ∷ 5 ∷ 0 ∷ 0 ∷ 0 ∷ 2 ∷ 0 ∷ 0 ∷ 0
     ∷ 1 ∷ 0 ∷ 0 ∷ 0 ∷ 0 ∷ 0 ∷ 0 ∷ 0 ∷ []
 
 -- /a.c of the unit at 0, and a file of the unit at 0x123 whose header has no such file
@@ -51,14 +51,17 @@ entries_4 =
 abbrev order_4 : List ℕ
 order_4 = 2 ∷ 0 ∷ 0 ∷ 0 ∷ []
 
+abbrev path_4 : List ℕ
+path_4 = 0x2f ∷ 0x61 ∷ 0x2e ∷ 0x63 ∷ []
+
 abbrev paths_4 : List ℕ
-paths_4 = 0x2f ∷ 0x61 ∷ 0x2e ∷ 0x63 ∷ []
+paths_4 = path_4 ++ 0 ∷ []
 
 abbrev index_4 : List ℕ
 index_4 = header_4 ++ sources_4 ++ starts_4 ++ entries_4 ++ order_4 ++ paths_4 ++ 0xab ∷ 0xcd ∷ []
 
 abbrev first_place : Place
-first_place = record { path = Ok paths_4; line = 3; column = 5; is_stmt = false; unit = 0 }
+first_place = record { path = Ok path_4; line = 3; column = 5; is_stmt = false; unit = 0 }
 
 abbrev second_place : Place
 second_place = record { path = Err (Reason 7); line = 258; column = 0; is_stmt = true; unit = 0x123 }
@@ -78,7 +81,7 @@ pub number_in_order : result_map (λ index. ordered_number index 0) (index_at in
 number_in_order = refl
 
 -- the number of a.c: 97, 46 and 99
-pub number_of_name : path_number (Ok paths_4) ≡ (97 * 31 + 46) * 31 + 99
+pub number_of_name : path_number (Ok path_4) ≡ (97 * 31 + 46) * 31 + 99
 number_of_name = refl
 
 -- an address is of the last start that isn't above it
@@ -101,14 +104,14 @@ below_all = refl
 pub above_all : place_in 0xffff_ffff_ffff_ffff index_4 ≡ Ok (Some second_place)
 above_all = refl
 
--- ---- starts of 8 bytes: one, whose source has a path of 5 bytes where there are 4
+-- ---- starts of 8 bytes: one, whose source has a path of 4 bytes, which no zero byte follows
 
 abbrev index_8 : List ℕ
 index_8 =
     take 14 header_4 ++ 8 ∷ 0 ∷ replicate 8 0 ++ 1 ∷ 0 ∷ 0 ∷ 0 ∷ 1 ∷ 0 ∷ 0 ∷ 0 ∷ 4 ∷ 0 ∷ 0 ∷ 0 ∷ 0 ∷ 0 ∷ 0 ∷ 0
-    ∷ replicate 16 0 ++ 0 ∷ 0 ∷ 0 ∷ 0 ∷ 5 ∷ 0 ∷ 0 ∷ 0 ∷ replicate 8 0
+    ∷ replicate 16 0 ++ 0 ∷ 0 ∷ 0 ∷ 0 ∷ 4 ∷ 0 ∷ 0 ∷ 0 ∷ replicate 8 0
     ++ 1 ∷ 0 ∷ 0 ∷ 0 ∷ 0 ∷ 0 ∷ 0 ∷ 0x80
-    ∷ 0 ∷ 0 ∷ 0 ∷ 0 ∷ 1 ∷ 0 ∷ 0 ∷ 0 ∷ 0 ∷ 0 ∷ 0 ∷ 0 ∷ paths_4
+    ∷ 0 ∷ 0 ∷ 0 ∷ 0 ∷ 1 ∷ 0 ∷ 0 ∷ 0 ∷ 0 ∷ 0 ∷ 0 ∷ 0 ∷ path_4
 
 pub high_start : starts_in index_8 ≡ Ok (
     record { address = 0x8000_0000_0000_0001; place = Some (record { path = Err Outside; line = 1; column = 0; is_stmt = false; unit = 0 }) } ∷ [])
@@ -145,10 +148,10 @@ highest = refl
 pub above_highest : starts_in (take 16 header_4 ++ 1 ∷ 0 ∷ 0 ∷ 0 ∷ 0xff ∷ 0xff ∷ 0xff ∷ 0xff ∷ replicate 24 0) ≡ Err (Base 0xffff_ffff_0000_0001)
 above_highest = refl
 
-pub cut : starts_in (take 153 index_4) ≡ Err Cut
+pub cut : starts_in (take 154 index_4) ≡ Err Cut
 cut = refl
 
-pub whole : result_map (λ index. index.starts) (index_at (take 154 index_4)) ≡ Ok 3
+pub whole : result_map (λ index. index.starts) (index_at (take 155 index_4)) ≡ Ok 3
 whole = refl
 
 -- ---- optimised code: lines 10 and 11 at 0x1000, line 12 at 0x1004, and an end at 0x1008. No code is between the first two rows, and
@@ -192,7 +195,7 @@ starts_of_optimised t = refl
 
 -- the same of /a.c
 abbrev of_line : ℕ → Option Place
-of_line line = Some (record { path = Ok paths_4; line = line; column = 0; is_stmt = true; unit = 0 })
+of_line line = Some (record { path = Ok path_4; line = line; column = 0; is_stmt = true; unit = 0 })
 
 abbrev optimised : List Start
 optimised =
@@ -202,13 +205,13 @@ optimised =
     ∷ record { address = 0x1008; place = None }
     ∷ []
 
-pub line_10 : addresses_of paths_4 optimised 10 ≡ 0x1000 ∷ []
+pub line_10 : addresses_of path_4 optimised 10 ≡ 0x1000 ∷ []
 line_10 = refl
 
-pub line_11 : addresses_of paths_4 optimised 11 ≡ 0x1000 ∷ []
+pub line_11 : addresses_of path_4 optimised 11 ≡ 0x1000 ∷ []
 line_11 = refl
 
-pub line_12 : addresses_of paths_4 optimised 12 ≡ 0x1004 ∷ []
+pub line_12 : addresses_of path_4 optimised 12 ≡ 0x1004 ∷ []
 line_12 = refl
 
 -- the last start of an address holds there
@@ -233,7 +236,7 @@ overlapped =
     ∷ record { address = 0x1010; place = None }
     ∷ []
 
-pub begins_anew : addresses_of paths_4 overlapped 10 ≡ 0x1000 ∷ 0x1008 ∷ []
+pub begins_anew : addresses_of path_4 overlapped 10 ≡ 0x1000 ∷ 0x1008 ∷ []
 begins_anew = refl
 
 pub begins_once : addresses_in (λ file. true) 10 (row_at 0x1000 10 false ∷ row_at 0x1010 10 true ∷ []) ≡ 0x1000 ∷ []

@@ -1,9 +1,10 @@
 -- What an index says: from some addresses on a place holds, or nothing (docs/INDEX.md, "Starts").
-use Rattle.std.specs.Prelude.{◌≡◌, ℕ, ◌+◌, ◌-◌, ◌*◌, ◌^◌, ◌<◌, ◌≤◌, Bool, List, map, fold, length}
+use Rattle.std.specs.Prelude.{◌≡◌, ℕ, ◌+◌, ◌-◌, ◌*◌, ◌^◌, ◌<◌, ◌≤◌, Bool, false, List, map, fold}
 use Rattle.std.specs.Prelude.{drop, slice_get}
 use Rattle.std.specs.Prelude.{slice_range, nat_eq, nat_le, nat_lt, if◌then◌else◌, Option, Some}
 use Rattle.std.specs.Prelude.{None, Result, Ok, Err}
 use Rattle.std.specs.List.{range_with_len}
+use Rattle.std.specs.Option.{option_map_or}
 use Rattle.gimli_index.specs.Numbers.{number_at}
 use Rattle.gimli_index.specs.Header.{size_of}
 use Rattle.gimli_index.specs.Parts.{Index}
@@ -42,11 +43,15 @@ AreAscending starts =
 
 -- ---- the starts of an index
 
--- the path in these bytes of the part of paths, where it has them
+-- whether a zero byte stands at an offset
+abbrev pub is_zero_at : List ℕ → ℕ → Bool
+is_zero_at bytes offset = option_map_or (nat_eq 0) (slice_get bytes offset) false
+
+-- the path in these bytes of the part of paths, where it has them and a zero byte after them
 abbrev pub path_in : List ℕ → ℕ → ℕ → Result (List ℕ) NoPath
 path_in paths first size =
-    if nat_lt (length paths) (first + size) then Err Outside
-    else Ok (slice_range paths first (first + size))
+    if is_zero_at paths (first + size) then Ok (slice_range paths first (first + size))
+    else Err Outside
 
 -- the path of a source, unless it has the number of a reason
 abbrev pub path_of : List ℕ → List ℕ → Result (List ℕ) NoPath

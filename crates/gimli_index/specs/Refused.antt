@@ -47,7 +47,7 @@ pub record HasManyFiles (units : List KeptUnit) : Type 0 where
   pub many : 2 ^ 32 ≤ length files
 
 -- there are paths of rows, no two of them the same, of more bytes than a limit, or than 32 bits
--- count
+-- count, each with its zero byte
 pub record HasLongPaths (t : Texts) (units : List KeptUnit) (limit : ℕ) : Type 0 where
   pub paths : List (List ℕ)
   pub found : All (IsFoundPath t units) paths

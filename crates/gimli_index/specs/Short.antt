@@ -1,6 +1,7 @@
 -- What keeps an index short: no two starts side by side say the same, and each path stands once.
-use Rattle.std.specs.Prelude.{◌≡◌, ◌≢◌, ◌+◌, ℕ, List, flat_map, length, take, slice_get, None, Some}
-use Rattle.std.specs.Prelude.{AllPairs}
+use Rattle.std.specs.Prelude.{◌≡◌, ◌≢◌, ◌+◌, ◌++◌, ◌∷◌, [], ℕ, List, flat_map, length, take}
+use Rattle.std.specs.Prelude.{slice_get}
+use Rattle.std.specs.Prelude.{None, Some, AllPairs}
 use Rattle.gimli_index.specs.Contents.{Contents}
 use Rattle.gimli_index.specs.Meaning.{Start}
 use Rattle.gimli_index.specs.declared.contents.Source.{Source}
@@ -11,9 +12,9 @@ pub record IsShort (starts : List Start) : Type 0 where
   pub merged : (k : ℕ) (s t : Start) → slice_get starts k ≡ Some s
       → slice_get starts (k + 1) ≡ Some t → s.place ≢ t.place
 
--- paths, one after the other
+-- paths, one after the other, each with a zero byte after it
 abbrev pub joined : List (List ℕ) → List ℕ
-joined paths = flat_map (λ path. path) paths
+joined paths = flat_map (λ path. path ++ 0 ∷ []) paths
 
 -- a path is one of these, and begins at an offset among their bytes
 abbrev pub IsSpanOf : List (List ℕ) → ℕ → List ℕ → Type 0

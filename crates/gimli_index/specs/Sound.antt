@@ -9,7 +9,7 @@ use Rattle.gimli_index.specs.declared.error.IndexError.TheVariants.{NotAscending
 use Rattle.gimli_index.specs.declared.error.IndexError.TheVariants.{PathOutside}
 use Rattle.gimli_index.specs.declared.place.NoPath.TheVariants.{Outside}
 
--- the path of each source is one of the bytes of paths, or has a reason
+-- the path of each source is in the bytes of paths, with a zero byte after it, or has a reason
 abbrev pub ArePathsInside : Index → Type 0
 ArePathsInside index =
     (k : ℕ) → k < index.sources → path_of index.path_bytes (source_at index k) ≡ Err Outside → ⊥

@@ -39,7 +39,8 @@ impl<'a> LineIndex<'a> {
         true
     }
 
-    /// Whether the path of each source is inside the part of paths, or has a reason.
+    /// Whether the path of each source is inside the part of paths with a zero byte after it, or
+    /// has a reason.
     fn paths_are_inside(&self) -> bool
         ensures yes { result ≡ true → ArePathsInside (index_of self.now) }
         ensures no { result ≡ false → ArePathsInside (index_of self.now) → ⊥ }
@@ -105,11 +106,12 @@ impl<'a> LineIndex<'a> {
     }
 
     /// Checks what [`find`](LineIndex::find) and [`addresses_of`](LineIndex::addresses_of) rest on,
-    /// and that each path is inside the index: for bytes that nobody vouches for. It takes no
-    /// memory, and looks at each start, each source and each number of the order.
+    /// and that each path is inside the index with a zero byte after it: for bytes that nobody
+    /// vouches for. It takes no memory, and looks at each start, each source and each number of the
+    /// order.
     ///
-    /// Refuses an index whose starts don't ascend (`NotAscending`), one with a path outside of its
-    /// part (`PathOutside`), and one whose order isn't that of its statements (`NotInOrder`).
+    /// Refuses an index whose starts don't ascend (`NotAscending`), one with a path that isn't so
+    /// (`PathOutside`), and one whose order isn't that of its statements (`NotInOrder`).
     pub fn check(&self) -> Result<(), IndexError>
         ensures ok { OnOk result (IsSound (index_of self.now)) }
         ensures err { IfErr result (IsFaultOf (index_of self.now)) }

@@ -15,7 +15,8 @@ ghost use Rattle.gimli_index.specs.declared.error.MakeError.TheVariants.{OutOfMe
 ghost use Rattle.gimli_index.specs.declared.header.StartSize.TheVariants.{Four};
 
 use crate::error::MakeError;
-use crate::header::{MAGIC, StartSize, VERSION};
+use crate::header::{HEADER_SIZE, MAGIC, StartSize, VERSION};
+use crate::line_index::{ENTRY_SIZE, NUMBER_SIZE, SOURCE_SIZE};
 use std::alloc::{AllocError, Global};
 
 /// The number of a source that none has: that of a gap.
@@ -34,7 +35,7 @@ pub struct Source {
     pub unit: u64,
     /// Where the whole path of the file begins among the bytes of all paths.
     pub first: u32,
-    /// The bytes of the path.
+    /// The bytes of the path, without the zero byte that follows it.
     pub size: u32,
     /// 0 where the path is known, else the number of why not (`docs/INDEX.md`, "Sources").
     pub reason: u32,
@@ -72,7 +73,7 @@ pub struct Contents<'a> {
     /// The entries, none with a lower address than the one before it. Where several have one
     /// address, the last of them holds from there on.
     pub entries: &'a [Entry],
-    /// The bytes of all paths, one path after the other.
+    /// The bytes of all paths, one path after the other, each with a zero byte after it.
     pub paths: &'a [u8],
     /// What the index is made of, by a name of the caller's choice: a build id or a checksum.
     pub identity: &'a [u8],
@@ -136,9 +137,10 @@ fn put_line(out: &mut Vec<u8>, line: SourceLine) -> Result<(), AllocError>
     ensures bytes { OnOk result (out.new.items ≡ out.old.items ++ line_bytes line) }
     ensures fits { FitsLine line }
 {
-    put_word(out, line.source)?;
-    put_word(out, line.line)?;
-    put_word(out, column_word(line))
+    let [a, b, c, d] = line.source.to_le_bytes();
+    let [e, f, g, h] = line.line.to_le_bytes();
+    let [i, j, k, l] = column_word(line).to_le_bytes();
+    out.extend_from_slice(&[a, b, c, d, e, f, g, h, i, j, k, l])
 }
 
 /// Appends a line, or a gap.
@@ -363,6 +365,7 @@ impl Contents<'_> {
         let base = base_for(size, first);
         let order = self.order(alloc)?;
         let numbers = order.as_slice();
+        out.reserve_exact(self.size(size, numbers.len()))?;
         self.put_header(out, size, base, numbers.len())?;
         put_sources(out, self.sources)?;
         put_starts(out, size, base, self.entries)?;
@@ -391,6 +394,16 @@ impl Contents<'_> {
             return Err(MakeError::IdentityTooLarge);
         }
         Ok(())
+    }
+
+    /// How many bytes the index has, with so many numbers in order. Nothing rests on it.
+    fn size(&self, size: StartSize, ordered: usize) -> usize
+        requires counts { FitsCounts (contents_of self.now []) }
+        requires ordered { ordered < 2 ^ 32 }
+    {
+        let starts = size.bytes_of(self.entries.len() as u32) + ENTRY_SIZE * self.entries.len();
+        let others = SOURCE_SIZE * self.sources.len() + NUMBER_SIZE * ordered;
+        HEADER_SIZE + starts + others + self.paths.len() + self.identity.len()
     }
 
     /// Appends the header, with so many numbers in order.

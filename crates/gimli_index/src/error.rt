@@ -25,7 +25,7 @@ pub enum IndexError {
     Cut,
     /// The starts don't ascend.
     NotAscending,
-    /// The path of a source isn't inside the part of paths.
+    /// The path of a source isn't inside the part of paths, or no zero byte follows it.
     PathOutside,
     /// The order isn't that of the statements.
     NotInOrder,
@@ -61,7 +61,8 @@ pub enum MakeError {
     TooManyEntries,
     /// There are `2^32` sources or more.
     TooManySources,
-    /// The paths have more bytes than the limit for them, or `2^32` or more.
+    /// The paths have more bytes than the limit for them, or `2^32` or more, each with its zero
+    /// byte.
     PathsTooLarge,
     /// The identity has `2^32` bytes or more.
     IdentityTooLarge,

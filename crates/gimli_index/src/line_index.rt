@@ -2,13 +2,13 @@
 
 ghost use Rattle.std.specs.Prelude.{◌≡◌, ◌*◌, ◌<◌, ◌≤◌, ◌+◌, ◌^◌, ◌↔◌, []};
 ghost use Rattle.std.specs.Prelude.{ℕ, length, drop, slice_get};
-ghost use Rattle.std.specs.Prelude.{option_map, IfOk, IsTrue};
+ghost use Rattle.std.specs.Prelude.{option_map, IfOk, IsTrue, Some, true};
 ghost use Rattle.gimli_core.specs.Reading.{result_map};
 ghost use Rattle.gimli_index.specs.Header.{size_of, highest_base};
 ghost use Rattle.gimli_index.specs.Parts.{index_at, parts_at};
 ghost use Rattle.gimli_index.specs.Meaning.{entry_place, path_in, path_of, place_at, place_from};
 ghost use Rattle.gimli_index.specs.Meaning.{source_at, start_at, start_number, starts_of};
-ghost use Rattle.gimli_index.specs.Meaning.{AreAscending, column_in, is_statement_in};
+ghost use Rattle.gimli_index.specs.Meaning.{AreAscending, column_in, is_statement_in, is_zero_at};
 ghost use Rattle.gimli_index.specs.Order.{ordered_number};
 ghost use Rattle.gimli_index.specs.Spans.{StandsIn};
 ghost use Rattle.gimli_index.specs.inside.Numbers.{CountIsBetween};
@@ -23,10 +23,10 @@ use crate::place::{NoPath, Place, Start};
 pub(crate) const ENTRY_SIZE: usize = 12;
 
 /// The bytes of a source: the offset of its unit, where its path is, and why there is none.
-const SOURCE_SIZE: usize = 24;
+pub(crate) const SOURCE_SIZE: usize = 24;
 
 /// The bytes of a number of the order.
-const NUMBER_SIZE: usize = 4;
+pub(crate) const NUMBER_SIZE: usize = 4;
 
 /// A search looks at a guess first, and then at a start that is this part of all starts away.
 const NEAR: usize = 512;
@@ -95,13 +95,25 @@ fn even_share(part: u64, whole: u64, count: usize) -> usize
     (share as usize).min(count - 1)
 }
 
-/// The path in these bytes of the part of paths.
+/// Whether a zero byte stands at an offset.
+#[inline(always)]
+pub(crate) fn is_zero_at(bytes: &[u8], offset: usize) -> bool
+    ensures zero { result ≡ is_zero_at bytes.now offset }
+    ensures there { result ≡ true → slice_get bytes.now offset ≡ Some 0 }
+{
+    match bytes.get(offset) {
+        Some(byte) => *byte == 0,
+        None => false,
+    }
+}
+
+/// The path in these bytes of the part of paths, which a zero byte follows.
 pub(crate) fn path_in(paths: &[u8], first: u32, size: u32) -> Result<&[u8], NoPath>
     ensures { result_map (λ path. path.now) result ≡ path_in paths.now first size }
 {
     let first = first as usize;
     let end = first + size as usize;
-    if paths.len() < end {
+    if !is_zero_at(paths, end) {
         return Err(NoPath::Outside);
     }
     Ok(&paths[first..end])

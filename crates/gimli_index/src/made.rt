@@ -25,7 +25,7 @@ use crate::turns::{Turn, are_in_turn, turns_of};
 use gimli_compilation::Compilations;
 use gimli_core::Reader;
 use gimli_lookup::{CoveringRows, Ranges, SectionLookup, SequenceRows, StringSections};
-use std::alloc::Global;
+use std::alloc::{AllocError, Global};
 
 /// Whether two numbers are of sources that are the same.
 #[inline(always)]
@@ -237,6 +237,17 @@ fn take_turns<R: Reader>(
     Ok(())
 }
 
+/// No entries, with room for one for each row of these sequences.
+fn entries_for(alloc: Global, turns: &[Turn<'_>]) -> Result<Vec<Entry>, AllocError>
+    ensures { IfOk result (λ entries. entries.items ≡ []) }
+{
+    let mut count: usize = 0;
+    for turn in turns {
+        count = count.saturating_add(turn.rows.len());
+    }
+    Vec::with_capacity(alloc, count)
+}
+
 /// The entries of a lookup, whose sources the table takes in.
 fn entries_of<R: Reader>(
     origin: &Origin<'_, R>,
@@ -254,8 +265,8 @@ fn entries_of<R: Reader>(
         (texts_of R.bytes origin.now.strings.now origin.now.compilations.now)
         origin.now.lookup.now origin.now.limit) }
 {
-    let mut entries = Vec::new(origin.alloc);
     let turns = turns_of(origin.alloc, origin.lookup)?;
+    let mut entries = entries_for(origin.alloc, &turns)?;
     if are_in_turn(&turns) {
         take_turns(origin, &turns, table, &mut entries)?;
         return Ok(entries);
@@ -318,9 +329,10 @@ fn write_entries<R: Reader>(
 /// fails only with `OutOfMemory`, where a part of the bytes may be appended. Requires an address
 /// size of 1, 2, 4 or 8 bytes.
 ///
-/// `limit` is the most bytes that all paths may have, of which each counts once: more are refused
-/// (`PathsTooLarge`) before there is memory for them. A directory stands in the path of each of its
-/// files, so the paths of a small section may be long. `usize::MAX` leaves the limit of 32 bits.
+/// `limit` is the most bytes that all paths may have, each once with its zero byte: more are
+/// refused (`PathsTooLarge`) before there is memory for them. A directory stands in the path of
+/// each of its files, so the paths of a small section may be long. `usize::MAX` leaves the limit of
+/// 32 bits.
 pub fn write_index<R: Reader>(
     alloc: Global,
     lookup: &SectionLookup<R>,

@@ -21,7 +21,7 @@ const INDICES: u128 = 0x1_0000_0000;
 fn indices_of(alloc: Global, ranks: &[u128]) -> Result<Vec<u32>, AllocError>
     ensures { IfOk result (λ indices. indices.items ≡ map (λ r. r % 2 ^ 32) ranks.now) }
 {
-    let mut indices = Vec::new(alloc);
+    let mut indices = Vec::with_capacity(alloc, ranks.len())?;
     for rank in ranks {
         indices.push((*rank % INDICES) as u32)?;
     }

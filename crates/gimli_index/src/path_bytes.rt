@@ -11,7 +11,7 @@ use crate::path_set::PathSet;
 use std::alloc::Global;
 use std::marker::Model;
 
-/// The bytes of all paths, one path after the other.
+/// The bytes of all paths, one path after the other, each with a zero byte after it.
 #[derive(Drop)]
 pub(crate) struct PathBytes {
     bytes: Vec<u8>,
@@ -53,7 +53,7 @@ impl PathBytes {
     }
 
     /// Appends a path that isn't known, and returns where it begins. The limit is the most bytes of
-    /// all paths.
+    /// all paths, each with its zero byte.
     fn add(&mut self, alloc: Global, limit: usize, path: &[u8]) -> Result<u32, MakeError>
         requires are { ArePaths limit self.old }
         requires absent { All (λ p. p ≢ path.now) self.old.known }
@@ -62,10 +62,11 @@ impl PathBytes {
         ensures kept { IfErr result (λ e. e ≡ PathsTooLarge → self.new ≡ self.old) }
     {
         let first = self.bytes.len();
-        if limit.min(MOST) - first < path.len() {
+        if limit.min(MOST) - first <= path.len() {
             return Err(MakeError::PathsTooLarge);
         }
         self.bytes.extend_from_slice(path)?;
+        self.bytes.push(0)?;
         self.paths.add(alloc, path)?;
         self.firsts.push(first as u32)?;
         Ok(first as u32)

@@ -5,7 +5,7 @@
 pub enum NoPath {
     /// It couldn't be told when the index was made, for the reason of this number, which isn't 0.
     Reason(u32),
-    /// It isn't inside the part of paths: the index is damaged.
+    /// It isn't inside the part of paths, or no zero byte follows it: the index is damaged.
     Outside,
 }
 

@@ -1,7 +1,7 @@
 //! Where code comes from, with its path as a part of the bytes.
 
 ghost use Rattle.std.specs.Prelude.{◌≡◌, ◌+◌, ◌*◌, ◌<◌, ◌≤◌, drop, length, option_map, IfOk};
-ghost use Rattle.std.specs.Prelude.{IfSome, slice_get};
+ghost use Rattle.std.specs.Prelude.{IfSome, Some, slice_get};
 ghost use Rattle.gimli_core.specs.Reading.{result_map};
 ghost use Rattle.gimli_index.specs.Meaning.{entry_place, path_of, place_at, starts_of};
 ghost use Rattle.gimli_index.specs.Meaning.{AreAscending};
@@ -9,7 +9,7 @@ ghost use Rattle.gimli_index.specs.Ranges.{first_start};
 ghost use Rattle.gimli_index.specs.Spans.{identity_begin, paths_begin, path_at, place_among};
 ghost use Rattle.gimli_index.specs.Spans.{start_among, HoldsAround, IsRangeOf};
 
-use crate::line_index::{ENTRY_SIZE, LineIndex, column_in, is_statement_in};
+use crate::line_index::{ENTRY_SIZE, LineIndex, column_in, is_statement_in, is_zero_at};
 use crate::number::{long, word};
 use crate::place::NoPath;
 
@@ -76,7 +76,8 @@ impl<'a> LineIndex<'a> {
         requires { 24 ≤ length source.now }
         ensures path { result_map (path_at self.now.path_bytes.now) result
             ≡ path_of self.now.path_bytes.now source.now }
-        ensures inside { IfOk result (λ s. s.first + s.size ≤ length self.now.path_bytes.now) }
+        ensures ended { IfOk result
+            (λ s. slice_get self.now.path_bytes.now (s.first + s.size) ≡ Some 0) }
     {
         let reason = word(source, 16);
         if reason != 0 {
@@ -84,7 +85,7 @@ impl<'a> LineIndex<'a> {
         }
         let first = word(source, 8) as usize;
         let size = word(source, 12) as usize;
-        if self.path_bytes.len() < first + size {
+        if !is_zero_at(self.path_bytes, first + size) {
             return Err(NoPath::Outside);
         }
         Ok(Span { first, size })
@@ -111,8 +112,8 @@ impl<'a> LineIndex<'a> {
         ensures place { option_map (place_among self.now.path_bytes.now) result
             ≡ entry_place (index_of self.now) (drop (12 * index) self.now.entry_bytes.now) }
         ensures range { IfSome result (λ p. IsRangeOf (index_of self.now) index p.first p.end) }
-        ensures inside { IfSome result (λ p. IfOk p.path
-            (λ s. s.first + s.size ≤ length self.now.path_bytes.now)) }
+        ensures ended { IfSome result (λ p. IfOk p.path
+            (λ s. slice_get self.now.path_bytes.now (s.first + s.size) ≡ Some 0)) }
     {
         let entry = &self.entry_bytes[ENTRY_SIZE * index..];
         let number = word(entry, 0) as usize;
@@ -142,8 +143,8 @@ impl<'a> LineIndex<'a> {
             option_map (place_among self.now.path_bytes.now) result ≡ place_at address starts }
         ensures range { let starts = starts_of (index_of self.now) in AreAscending starts →
             IfSome result (λ p. HoldsAround starts address p.first p.end) }
-        ensures inside { IfSome result (λ p. IfOk p.path
-            (λ s. s.first + s.size ≤ length self.now.path_bytes.now)) }
+        ensures ended { IfSome result (λ p. IfOk p.path
+            (λ s. slice_get self.now.path_bytes.now (s.first + s.size) ≡ Some 0)) }
     {
         let number = address.checked_sub(self.base)?;
         let index = self.starts_up_to(number).checked_sub(1)?;
@@ -157,8 +158,8 @@ impl<'a> LineIndex<'a> {
             ≡ slice_get (starts_of (index_of self.now)) index }
         ensures end { IfSome result
             (λ s. s.end ≡ first_start (drop (index + 1) (starts_of (index_of self.now)))) }
-        ensures inside { IfSome result (λ s. IfSome s.place (λ p. IfOk p.path
-            (λ s. s.first + s.size ≤ length self.now.path_bytes.now))) }
+        ensures ended { IfSome result (λ s. IfSome s.place (λ p. IfOk p.path
+            (λ s. slice_get self.now.path_bytes.now (s.first + s.size) ≡ Some 0))) }
     {
         if index >= self.starts {
             return None;

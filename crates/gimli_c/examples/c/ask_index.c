@@ -54,8 +54,7 @@ int main(int argc, char **argv) {
         }
         stop_if(status);
         const char *path = gimli_line_place_path(index, &place);
-        printf("%.*s:%" PRIu32 ":%" PRIu32 "\n", path != NULL ? (int)place.path_size : 2, path != NULL ? path : "??", place.line,
-               place.column);
+        printf("%s:%" PRIu32 ":%" PRIu32 "\n", path != NULL ? path : "??", place.line, place.column);
     }
     return munmap((void *)index, length) == 0 ? 0 : 2;
 }

@@ -23,9 +23,8 @@ int main(int argc, char **argv) {
             continue;
         }
         stop_if(status);
-        const char *path = gimli_line_place_path(index, &place); /* no zero byte follows it */
-        printf("%.*s:%" PRIu32 ":%" PRIu32 "\n", path != NULL ? (int)place.path_size : 2, path != NULL ? path : "??", place.line,
-               place.column);
+        const char *path = gimli_line_place_path(index, &place);
+        printf("%s:%" PRIu32 ":%" PRIu32 "\n", path != NULL ? path : "??", place.line, place.column);
     }
     free(index);
     return 0;

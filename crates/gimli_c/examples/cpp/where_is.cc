@@ -38,7 +38,7 @@ class Index {
     // The whole path of a place.
     std::string path(const gimli_line_place &place) const {
         const char *path = gimli_line_place_path(bytes.get(), &place);
-        return path == nullptr ? "??" : std::string(path, place.path_size);
+        return path == nullptr ? "??" : path;
     }
 
   private:

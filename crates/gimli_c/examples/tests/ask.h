@@ -217,7 +217,9 @@ static inline uint32_t ask_index(const uint8_t *index, size_t length, uint64_t a
         is(memcmp(&place, &places[i], sizeof place) == 0, "a place");
         is(checked != GIMLI_LINE_OK || (place.first <= place.address && (place.end == 0 || place.address < place.end)),
            "the addresses around it");
-        is(place.path == 0 || (place.path <= length && place.path_size <= length - place.path && place.no_path == 0), "a path");
+        is(place.path == 0 || (place.path < length && place.path_size < length - place.path && index[place.path + place.path_size] == 0 &&
+                               place.no_path == 0),
+           "a path, and a zero byte");
         is(checked != GIMLI_LINE_OK || place.no_path != GIMLI_LINE_NO_PATH_OUTSIDE, "a path of an index that was checked");
     }
     for (uint64_t i = 0; i < 4; i++) {

@@ -230,18 +230,29 @@ static void limit_of_paths(void) {
     }
 }
 
-/* A directory of 60,000 bytes, and 8,000 files in it, each with a row: their paths have 480 MB, and the section 148 KB. */
-static void long_paths(void) {
-    enum { DIRECTORY = 60000, FILES = 8000, SIZE = 200000 };
+/* 8,000 files, each with a row: all in one directory of so many bytes, or each in one of its own that goes on from there. With 60,000 bytes
+ * the paths have 480 MB and the sections at most 200 KB: no index. One that is made has at most 256 times their bytes and 64 MiB of paths,
+ * and 48 bytes and 24 for each byte of the lines. */
+static void long_paths(size_t length, bool own, uint32_t wanted) {
+    enum { FILES = 8000, SIZE = 300000 };
     static const uint8_t head[] = {4, 0, 0, 0, 0, 0, 1, 1, 1, 0xfb, 14, 13, 0, 1, 1, 1, 1, 0, 0, 0, 1, 0, 0, 1},
                          start[] = {0, 9, 2, 0, 0x10, 0, 0, 0, 0, 0, 0}, end[] = {2, 1, 0, 1, 1};
-    uint8_t *lines = malloc(SIZE), *at = memcpy(lines + 4, head, sizeof head), *index;
-    at = (uint8_t *)memset(at + sizeof head, 'd', DIRECTORY) + DIRECTORY;
-    *at++ = 0;
+    uint8_t *lines = malloc(SIZE), *info = malloc(length + 17), *at = memcpy(lines + 4, head, sizeof head), *index;
+    memset(memcpy(info, info_4, 16) + 16, 'd', length);
+    info[16 + length] = 0;
+    memcpy(info, &(uint32_t){(uint32_t)length + 13}, 4);
+    at += sizeof head;
+    for (int i = 0; i < (own ? FILES : 1); i++) {
+        at = (uint8_t *)memcpy(at, info + 16, own ? 1 : length) + (own ? 1 : length);
+        *at++ = 0;
+    }
     *at++ = 0;
     for (int i = 0; i < FILES; i++) {
-        const uint8_t file[] = {(uint8_t)('a' + i / 676), (uint8_t)('a' + i / 26 % 26), (uint8_t)('a' + i % 26), 0, 1, 0, 0};
+        const int from = own ? i + 1 : 1;
+        const uint8_t file[] = {(uint8_t)('a' + i / 676), (uint8_t)('a' + i / 26 % 26), (uint8_t)('a' + i % 26), 0},
+                      more[] = {(uint8_t)(from | 0x80), (uint8_t)(from >> 7), 0, 0};
         at = (uint8_t *)memcpy(at, file, sizeof file) + sizeof file;
+        at = (uint8_t *)memcpy(at, more, sizeof more) + sizeof more;
     }
     *at++ = 0;
     uint32_t header = (uint32_t)(at - lines - 10), whole;
@@ -257,12 +268,22 @@ static void long_paths(void) {
     in = (gimli_line_sections)GIMLI_LINE_SECTIONS;
     in.line = lines;
     in.line_size = (size_t)(at - lines);
+    in.info = info;
+    in.info_size = own ? length + 17 : 0;
+    in.abbreviations = declaration;
+    in.abbreviations_size = sizeof declaration;
     gimli_line_unit unit;
     size_t size;
     is(gimli_line_read_unit(&in, 0, &unit) == GIMLI_LINE_OK && unit.rows == FILES + 1 && unit.files == FILES && unit.fault == 0,
        "many files");
-    is(gimli_line_index_of_sections(&in, NULL, 0, &index, &size) == GIMLI_LINE_INDEX_TOO_LARGE && index == NULL && size == 0, "long paths");
+    is(gimli_line_index_of_sections(&in, NULL, 0, &index, &size) == wanted, "long paths");
+    is(wanted == GIMLI_LINE_OK
+           ? size > FILES * length && size <= 280 * in.line_size + 256 * (in.info_size + sizeof declaration) + (64 << 20) + 48
+           : index == NULL && size == 0,
+       "the size of an index");
     free(lines);
+    free(info);
+    free(index);
 }
 
 /* The directory of a compilation; none of another line program, nor where a section is cut, a unit can't be read, or a text has no end. */
@@ -332,7 +353,10 @@ static void *all(void *nothing) {
 
 int main(void) {
     all(NULL);
-    long_paths();
+    long_paths(60000, false, GIMLI_LINE_INDEX_TOO_LARGE);
+    long_paths(60000, true, GIMLI_LINE_INDEX_TOO_LARGE);
+    long_paths(5000, false, GIMLI_LINE_OK);
+    long_paths(5000, true, GIMLI_LINE_OK);
     printf("%lu\n", atomic_load(&answers));
     pthread_t threads[THREADS];
     for (int i = 0; i < THREADS; i++) is(pthread_create(&threads[i], NULL, all, NULL) == 0, "a thread");

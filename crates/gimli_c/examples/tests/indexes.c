@@ -42,6 +42,9 @@ static void put_text(bytes *index, const char *text, size_t size) {
 
 static char paths[SOURCES][32]; /* /source/K.c, but for source 1, which has the reason 4 */
 
+/* The bytes of a path in the part of paths, with its zero byte. */
+static size_t stored(size_t source) { return source == 1 ? 0 : strlen(paths[source]) + 1; }
+
 static int by_number(const void *one, const void *other) {
     uint64_t a = *(const uint64_t *)one, b = *(const uint64_t *)other;
     return (a > b) - (a < b);
@@ -61,7 +64,10 @@ static bytes made(size_t ranges, size_t sources, size_t size) {
     bytes index = {malloc(64 + sources * 64 + ranges * 24), 0};
     is(index.at != NULL, "memory for an index");
     size_t paths_size = 0;
-    for (size_t i = 0; i < sources; i++) paths_size += i == 1 ? 0 : (size_t)snprintf(paths[i], sizeof paths[i], "/source/%zu.c", i);
+    for (size_t i = 0; i < sources; i++) {
+        if (i != 1) snprintf(paths[i], sizeof paths[i], "/source/%zu.c", i);
+        paths_size += stored(i);
+    }
     put_text(&index, "LINEIDX", 8);
     put(&index, 1, 4);
     put(&index, 8, 2);
@@ -79,7 +85,7 @@ static bytes made(size_t ranges, size_t sources, size_t size) {
     qsort(keys, statements, sizeof *keys, by_number);
     put(&index, statements, 4);
     put(&index, 0, 4);
-    for (size_t i = 0, at = 0; i < sources; at += strlen(paths[i++])) {
+    for (size_t i = 0, at = 0; i < sources; at += stored(i++)) {
         put(&index, i * 1000, 8);
         put(&index, i == 1 ? 0 : at, 4);
         put(&index, strlen(paths[i]), 4);
@@ -93,7 +99,7 @@ static bytes made(size_t ranges, size_t sources, size_t size) {
     }
     for (size_t i = 0; i < statements; i++) put(&index, (uint32_t)keys[i] - 1, 4); /* the line of range i is i + 1 */
     free(keys);
-    for (size_t i = 0; i < sources; i++) put_text(&index, paths[i], strlen(paths[i]));
+    for (size_t i = 0; i < sources; i++) put_text(&index, paths[i], stored(i));
     put_text(&index, "build", 5);
     return index;
 }
@@ -107,8 +113,8 @@ static bool is_right(bytes index, size_t ranges, size_t sources, const gimli_lin
         return memcmp(place, &none, sizeof none) == 0;
     }
     const char *path = gimli_line_place_path(index.at, place), *wanted = paths[i % sources];
-    bool path_is = *wanted == 0 ? path == NULL && place->no_path == 4
-                                : place->no_path == 0 && place->path_size == strlen(wanted) && memcmp(path, wanted, place->path_size) == 0;
+    bool path_is = *wanted == 0 ? path == NULL && place->no_path == GIMLI_LINE_NO_PATH_STRING_CUT
+                                : place->no_path == 0 && place->path_size == strlen(wanted) && strcmp(path, wanted) == 0;
     return path_is && place->known && place->line == i + 1 && place->column == i % 7 && place->unit == i % sources * 1000 &&
            place->is_stmt == (i % 2 == 0) && place->first == base + i * 16 && place->end == (i + 1 < ranges ? base + i * 16 + 16 : 0);
 }

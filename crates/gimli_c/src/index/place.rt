@@ -1,6 +1,6 @@
 //! What an index says of an address.
 
-ghost use Rattle.std.specs.Prelude.{◌≡◌, ◌+◌, ◌≤◌, ◌<◌, ◌^◌, ℕ, List, length, IfOk};
+ghost use Rattle.std.specs.Prelude.{◌≡◌, ◌+◌, ◌<◌, ◌^◌, ℕ, List, Some, slice_get, IfOk};
 ghost use Rattle.gimli_core.specs.Reading.{result_map};
 ghost use Rattle.gimli_index.specs.Spans.{identity_begin, path_at, place_among, StandsIn};
 ghost use Rattle.gimli_index.specs.Views.{index_of};
@@ -23,7 +23,7 @@ pub struct GimliPlace {
     pub end: u64,
     /// Where the path begins, from the first byte of the index on; 0 where there is none.
     pub path: usize,
-    /// How many bytes the path has.
+    /// How many bytes the path has, without the zero byte that follows it.
     pub path_size: usize,
     /// The line, from 1 on; 0 where none is known.
     pub line: u32,
@@ -62,8 +62,8 @@ pub(crate) fn unknown_place(address: u64, first: u64, end: u64) -> GimliPlace
 /// Where the path of a place begins in the bytes that an index stands in, its size, and 0; or zeros
 /// and the number of why there is none.
 fn path_seen(index: &LineIndex<'_>, path: Result<Span, NoPath>) -> (usize, usize, u32)
-    requires inside { IfOk path
-        (λ s. s.first + s.size ≤ length (index_of index.now).path_bytes) }
+    requires ended { IfOk path
+        (λ s. slice_get (index_of index.now).path_bytes (s.first + s.size) ≡ Some 0) }
     requires fits { identity_begin (index_of index.now) < 2 ^ 64 }
     ensures { (bytes : List ℕ) → StandsIn bytes (index_of index.now) → SeesPath bytes
         (result_map (path_at (index_of index.now).path_bytes) path) result.0 result.1 result.2 }
@@ -77,8 +77,8 @@ fn path_seen(index: &LineIndex<'_>, path: Result<Span, NoPath>) -> (usize, usize
 
 /// A place of an index that stands in some bytes, as C sees it.
 pub(crate) fn place_seen(index: &LineIndex<'_>, address: u64, place: PlaceSpan) -> GimliPlace
-    requires inside { IfOk place.path
-        (λ s. s.first + s.size ≤ length (index_of index.now).path_bytes) }
+    requires ended { IfOk place.path
+        (λ s. slice_get (index_of index.now).path_bytes (s.first + s.size) ≡ Some 0) }
     requires fits { identity_begin (index_of index.now) < 2 ^ 64 }
     ensures range { (result.first ≡ place.first) × (result.end ≡ end_seen place.end) }
     ensures seen { (bytes : List ℕ) → StandsIn bytes (index_of index.now) → SeesPlace bytes address

@@ -56,7 +56,7 @@ pub record IsPlaced (limit : ℕ) (old new : PathList) (path : List ℕ) (first 
 -- why no path is placed: it isn't there, and the bytes of all paths would be too many
 abbrev pub IsPathFault : ℕ → PathList → List ℕ → MakeError → Type 0
 IsPathFault limit p path PathsTooLarge =
-    All (λ x. x ≢ path) p.known × (min limit 0xffff_ffff < length p.bytes + length path)
+    All (λ x. x ≢ path) p.known × (min limit 0xffff_ffff < length p.bytes + length path + 1)
 IsPathFault limit p path OutOfMemory = Unit {0}
 IsPathFault limit p path NotAscending = ⊥
 IsPathFault limit p path TooManyEntries = ⊥

@@ -15,7 +15,7 @@ use Rattle.gimli_index.proofs.made.entries_of.Goals as goal
 pub take_ranges-requires-clause-entered : goal.take_ranges-requires-clause-entered
 take_ranges-requires-clause-entered g c =
     let t = texts_of g.R.Reader.bytes c.args.origin.now.strings.now c.args.origin.now.compilations.now in
-    rw (c.new-entries.ensures.items, c.ranges-ranges.ensures) (none_entered t c.args.origin.now.lookup.now c.args.table.now c.requires)
+    rw (c.in_ok-entries.ensures, c.ranges-ranges.ensures) (none_entered t c.args.origin.now.lookup.now c.args.table.now c.requires)
 
 pub returns-then-are_in_turn-clause-entered : goal.returns-then-are_in_turn-clause-entered
 returns-then-are_in_turn-clause-entered g c =
@@ -24,8 +24,8 @@ returns-then-are_in_turn-clause-entered g c =
     let limit = c.args.origin.now.limit in
     let turns : List Turn = c.in_ok-turns.turns.items in
     let down : never_go_down (rows_of_turns turns) ≡ true =
-    ap (λ (ts : List Turn). never_go_down (rows_of_turns ts)) (sym c.deref.ensures.value) ∙ sym c.are_in_turn.ensures ∙ c.if-are_in_turn.true in
-    let start = subst (λ (es : List Entry). Walked t units limit c.args.table.now es [] 0) (sym c.new-entries.ensures.items)
+    ap (λ (ts : List Turn). never_go_down (rows_of_turns ts)) (sym c.deref-2.ensures.value) ∙ sym c.are_in_turn.ensures ∙ c.if-are_in_turn.true in
+    let start = subst (λ (es : List Entry). Walked t units limit c.args.table.now es [] 0) (sym c.in_ok-entries.ensures)
     (none_walked t units c.args.table.now c.requires) in
     let lent = c.deref-then-are_in_turn.ensures.value in
     let walked = subst (λ (ts : List Turn). never_go_down (rows_of_turns ts) ≡ true → Walked t units limit c.take_turns.new.table c.take_turns.new.entries.items
@@ -41,8 +41,8 @@ returns-then-are_in_turn-clause-lines g c =
     let limit = c.args.origin.now.limit in
     let turns : List Turn = c.in_ok-turns.turns.items in
     let down : never_go_down (rows_of_turns turns) ≡ true =
-    ap (λ (ts : List Turn). never_go_down (rows_of_turns ts)) (sym c.deref.ensures.value) ∙ sym c.are_in_turn.ensures ∙ c.if-are_in_turn.true in
-    let start = subst (λ (es : List Entry). Walked t units limit c.args.table.now es [] 0) (sym c.new-entries.ensures.items)
+    ap (λ (ts : List Turn). never_go_down (rows_of_turns ts)) (sym c.deref-2.ensures.value) ∙ sym c.are_in_turn.ensures ∙ c.if-are_in_turn.true in
+    let start = subst (λ (es : List Entry). Walked t units limit c.args.table.now es [] 0) (sym c.in_ok-entries.ensures)
     (none_walked t units c.args.table.now c.requires) in
     let lent = c.deref-then-are_in_turn.ensures.value in
     let walked = subst (λ (ts : List Turn). never_go_down (rows_of_turns ts) ≡ true → Walked t units limit c.take_turns.new.table c.take_turns.new.entries.items
@@ -58,5 +58,5 @@ returns-clause-lines g c =
     let turns : List Turn = c.in_ok-turns.turns.items in
     λ apart path line a.
     absurd (false≢true (sym c.if-are_in_turn.false ∙ c.are_in_turn.ensures
-    ∙ ap (λ (ts : List Turn). never_go_down (rows_of_turns ts)) c.deref.ensures.value
+    ∙ ap (λ (ts : List Turn). never_go_down (rows_of_turns ts)) c.deref-2.ensures.value
     ∙ never_down t units turns c.in_ok-turns.ensures.turns c.in_ok-turns.ensures.order apart))

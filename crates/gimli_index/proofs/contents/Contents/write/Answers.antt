@@ -42,7 +42,9 @@ returns-clause-written c =
     let numbers = flat_map (le_bytes 4) order in
     let put_numbers : x5 ≡ x4 ++ numbers = c.in_ok-put_order.ensures.bytes
     ∙ ap (λ (ns : List ℕ). x4 ++ flat_map (le_bytes 4) ns) c.as_slice-numbers.ensures.value in
-    let put_header : x1 ≡ old ++ header = c.in_ok-put_header.ensures order (ap (λ (ns : List ℕ). length ns) c.as_slice-numbers.ensures.value) in
+    let put_header : x1 ≡ old ++ header =
+    c.in_ok-put_header.ensures order (ap (λ (ns : List ℕ). length ns) c.as_slice-numbers.ensures.value)
+    ∙ ap (λ (bs : List ℕ). bs ++ header) c.reserve_exact.ensures.items in
     let counts = c.in_ok-check_sizes.ensures.ok in
     let few = count_by-le-length is_statement (map (entry_start contents) entries) in
     record {
