@@ -54,7 +54,7 @@ class Code:
 
     def __init__(self, program):
         header = ran(["readelf", "-hSW", program]).stdout
-        self.has_old_ranges = ".zdebug_rnglists" in header
+        self.has_old_ranges, self.has_old_lines = ".zdebug_rnglists" in header, ".zdebug_line" in header
         self.is_object = "REL (Relocatable" in header
         self.parts, self.starts, self.count = [], [], 0
         for name, low, size in re.findall(r"\] (\S+) +(?:PROGBITS|NOBITS) +(\w+) \w+ (\w+) \w+ +\w*X", header):
@@ -106,7 +106,7 @@ class Table:
     """What llvm-dwarfdump prints of a file: rows, ranges of units, and ranges of .debug_aranges."""
 
     def __init__(self, program, code):
-        self.lowest, self.has_old_ranges = code.lowest, code.has_old_ranges
+        self.lowest, self.has_old_ranges, self.has_old_lines = code.lowest, code.has_old_ranges, code.has_old_lines
         self.folders, self.paths, self.known = {}, {}, {}
         self.at_ends = collections.defaultdict(set)
         self.rows, self.unit_ranges, self.listed = Ranges(), Ranges(), Ranges()
@@ -207,6 +207,8 @@ class Table:
             return "no place outside .debug_aranges"
         if peer == "eu-addr2line" and not rows and answer[:2] in self.at_ends[self.rows.end_before(address)]:
             return "a row at the end of its sequence covers the gap after it"
+        if peer == "llvm-symbolizer" and answer == NOWHERE and self.has_old_lines:
+            return "no place by .zdebug_line"
         if peer == "llvm-symbolizer" and answer == NOWHERE and not self.unit_ranges.at(address):
             return "no place outside the units' ranges"
         return None

@@ -27,6 +27,8 @@
 #     clang and Go write none.
 #   eu-addr2line, a row at the end of its sequence covers the gap after it: no row covers the
 #     address, and it says a row that has the address of the end of the sequence before.
+#   llvm-symbolizer, no place by .zdebug_line: the file has this section, which LLVM reads up to
+#     version 15, and it says `??`.
 #   llvm-symbolizer, no place outside the units' ranges: no unit's ranges in .debug_info have the
 #     address, and it says `??`.
 #   directory 0 of version 5 joined to itself: it is relative, as DW_AT_comp_dir is, and the path begins

@@ -168,12 +168,17 @@ impl<R: Reader> Search<'_, R> {
         Ok(files)
     }
 
-    /// Prints the addresses in the files of one path, and returns whether there is any.
+    /// Prints the addresses in the files of one path, or those of the rows of the line where none is
+    /// a statement, and returns whether there is any.
     fn print_of_path(&self, of: &PathFiles, line: u64, output: &mut Output<'_>) -> Result<bool> {
         let found = self.addresses_of(&of.files, line)?;
         let next = found.as_ref().map(|found| found.line);
         if next != Some(line) {
-            if self.print_others(of, line, output)? {
+            let others = self.columns_of(&of.files, line, false)?;
+            for (address, column) in &others {
+                self.print_address(&of.path, line, false, *address, Some(*column), output);
+            }
+            if !others.is_empty() {
                 return Ok(true);
             }
             let (asked, path) = (Piece::Number(line), Piece::Path(Some(&of.path)));
@@ -189,15 +194,6 @@ impl<R: Reader> Search<'_, R> {
             Some(found) => self.print_statements(of, found, output),
             None => Ok(false),
         }
-    }
-
-    /// Prints the rows of a line that are no statements, and returns whether there is any.
-    fn print_others(&self, of: &PathFiles, line: u64, output: &mut Output<'_>) -> Result<bool> {
-        let others = self.columns_of(&of.files, line, false)?;
-        for (address, column) in &others {
-            self.print_address(&of.path, line, false, *address, Some(*column), output);
-        }
-        Ok(!others.is_empty())
     }
 
     /// Prints the statements of a line, each address once, and returns true.

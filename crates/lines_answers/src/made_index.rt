@@ -81,7 +81,7 @@ fn index_of_input<R: Reader>(
     let sources = PathSources::new(alloc, input)?;
     let lookup = look_up(alloc, input, output)?;
     let mut bytes = Vec::new(alloc);
-    let size = u16::from(input.address_size.bytes());
+    let size = u16::from(input.notation.address_size.bytes());
     let strings = sources.strings();
     let compilations = sources.compilations();
     let out = &mut bytes;

@@ -15,7 +15,7 @@ use gimli_compilation::CompilationSections;
 use gimli_core::{EndianSlice, Endianity, Reader, ReaderOffset, Section};
 use gimli_line::DebugLine;
 use gimli_lookup::StringSections;
-use line_text::{AddressSize, Slice};
+use line_text::Slice;
 use lines_words::{Files, Kind, Notation, Output};
 use std::alloc::{AllocError, Global};
 use std::fmt;
@@ -37,12 +37,8 @@ pub struct Input<R> {
     pub strings: StringSections<R>,
     /// The sections that say where compilations ran.
     pub compilations: CompilationSections<R>,
-    /// How wide an address is, where the unit doesn't say.
-    pub address_size: AddressSize,
-    /// An address below which there is no code, 0 where none is known.
-    pub lowest: u64,
-    /// An address from which on there is no code, the greatest one where none is known.
-    pub code_end: u64,
+    /// How they are read, and where code is.
+    pub notation: Notation,
     /// Whether code has its addresses. In an object file each section stands at 0.
     pub is_linked: bool,
     /// Whether it is a file of split DWARF, which names files and has no rows.
@@ -246,9 +242,7 @@ impl<'i> Program<'i> {
                 debug_line_str,
                 debug_str_offsets: EndianSlice::new(others.string_offsets.as_slice(), order),
             },
-            address_size: self.notation.address_size,
-            lowest: self.notation.lowest,
-            code_end: self.notation.code_end,
+            notation: self.notation,
             is_linked: self.is_linked,
             is_split: self.is_split,
         }
@@ -333,13 +327,9 @@ impl InputError {
     /// Why a file has no section of line programs, by its other sections, and by its first bytes
     /// (System V ABI, chapter 4: `ET_CORE` is 4).
     fn no_lines(elf: Elf<'_>, file: &[u8]) -> InputError {
-        let kind = match file.get(5) {
-            Some(2) => [0, 4],
-            _ => [4, 0],
-        };
-        match file.get(16..18) {
+        match (elf.is_big_endian(), file.get(16..18)) {
             _ if elf.section_index(b".debug_abbrev.dwo").is_some() => InputError::Split,
-            Some(found) if found == kind.as_slice() => InputError::Core,
+            (true, Some([0, 4])) | (false, Some([4, 0])) => InputError::Core,
             _ => InputError::NoLines,
         }
     }
