@@ -168,8 +168,8 @@ impl<R: Reader> Search<'_, R> {
         Ok(files)
     }
 
-    /// Prints the addresses in the files of one path, or those of the rows of the line where none is
-    /// a statement, and returns whether there is any.
+    /// Prints the addresses in the files of one path, those of the rows of the line where none is a
+    /// statement, and returns whether there is any.
     fn print_of_path(&self, of: &PathFiles, line: u64, output: &mut Output<'_>) -> Result<bool> {
         let found = self.addresses_of(&of.files, line)?;
         let next = found.as_ref().map(|found| found.line);
