@@ -5,7 +5,7 @@ use Rattle.elf_sections.specs.Relocating.{relocated_at}
 use Rattle.elf_sections.specs.declared.place.SectionPlace.TheVariants.{AllAtZero}
 
 -- the section of line programs, of a program or of a file of split DWARF (DWARF 5, section 7.3.2)
-pub lines_name : (is_split : Bool) → List ℕ
+abbrev pub lines_name : (is_split : Bool) → List ℕ
 lines_name false = codes ".debug_line"
 lines_name true = codes ".debug_line.dwo"
 
