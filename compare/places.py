@@ -352,4 +352,5 @@ def main():
     sys.exit(bool(comparison.causes))
 
 
-main()
+if __name__ == "__main__":
+    main()

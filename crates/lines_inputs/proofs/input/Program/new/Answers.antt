@@ -8,7 +8,7 @@ returns-in_ok-program-in-Elf c = record {
     file = file_of c.in_ok-elf-in-Elf.elf;
     is_file = sym c.in_ok-elf-in-Elf.ensures;
     is_split = c.in_ok-program-in-Elf.ensures.0;
-    section = c.in_ok-program-in-Elf.ensures.1.0;
-    is_section = c.in_ok-program-in-Elf.ensures.1.1;
+    section = c.in_ok-program-in-Elf.ensures.1;
+    is_section = c.in_ok-program-in-Elf.ensures.2;
   };
 }
