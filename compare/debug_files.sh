@@ -1,6 +1,6 @@
 #!/usr/bin/env bash
 # Asks `lines` for programs that gcc and objcopy make here: stripped ones, whose debug file lies in each of the places where it
-# is looked for; compressed ones; object files; and files that have to be refused. What `where` answers is compared with
+# is looked for; compressed ones; object files; split DWARF; and files that have to be refused. What `where` answers is compared with
 # addr2line's answers for the program before it was stripped, and what the other commands print with what they print for it.
 #
 #     compare/debug_files.sh
