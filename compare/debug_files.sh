@@ -1,6 +1,6 @@
 #!/usr/bin/env bash
 # Asks `lines` for programs that gcc and objcopy make here: stripped ones, whose debug file lies in each of the places where it
-# is looked for; compressed ones; object files; and files that have to be refused. What `where` answers is compared with
+# is looked for; compressed ones; object files; split DWARF; and files that have to be refused. What `where` answers is compared with
 # addr2line's answers for the program before it was stripped, and what the other commands print with what they print for it.
 #
 #     compare/debug_files.sh
@@ -306,6 +306,24 @@ for way in none zlib; do
         told=$(addr2line -e "$way.o" -j .text.twice "$at" | sed 's/ (discriminator .*//')
         if [ "$found" = "$told" ]; then right; else wrong "$way.o: .text.twice+0x$at is $found, and addr2line says $told"; fi
     done
+done
+
+# ---- split DWARF, by itself and packed: it names the files that readelf prints, and has no rows
+
+printf '#include "pair.h"\nint sum(struct pair p) { return p.one + p.other; }\n' >split.c
+printf 'struct pair { int one, other; };\n' >pair.h
+for way in 4 5 packed; do
+    if [ "$way" = packed ]; then
+        dwp split.dwo -o packed.dwo 2>/dev/null || { passed_over "no dwp"; continue; }
+        mv packed.dwo split.dwo
+    else
+        gcc -g "-gdwarf-$way" -gsplit-dwarf -fdebug-types-section -c "$work/split.c" -o split.o
+    fi
+    found=$(ask files split.dwo | sed -n 's/^file [0-9]*  //p' | sed 's|.*/||')
+    told=$(readelf --debug-dump=rawline split.dwo 2>/dev/null | sed -n '/File Name Table/,$p' | awk '$1 ~ /^[0-9]+$/ { print $NF }' | sed 's|.*/||')
+    if [ -n "$told" ] && [ "$found" = "$told" ]; then right; else wrong "split DWARF, $way: files are $found, and readelf says $told"; fi
+    if ask check split.dwo >/dev/null; then right; else wrong "split DWARF, $way: the check has status $?"; fi
+    refused "split DWARF, $way" split.dwo "a file of split DWARF (.dwo, .dwp), which has no rows of code; name the program"
 done
 
 # ---- what isn't read, and what isn't there

@@ -19,10 +19,19 @@ import tempfile
 
 # Of an object file its section .text is asked; `lines` gets such addresses as .text+0x10.
 OBJECT_SECTION = ".text"
+
+
+def newest(tool):
+    """The name of the newest version of an LLVM tool that is there: its own, or with a number after it."""
+    names = (it for at in filter(os.path.isdir, os.get_exec_path()) for it in os.listdir(at))
+    numbers = {int(it.rpartition("-")[2]) for it in names if re.fullmatch(rf"{tool}-\d+", it)}
+    return f"{tool}-{max(numbers)}" if numbers else tool
+
+
 PEERS = {
     "addr2line": lambda program, flags: ["addr2line", *flags, "-e", program],
     "eu-addr2line": lambda program, flags: ["eu-addr2line", "-A", *flags, "-e", program],
-    "llvm-symbolizer": lambda program, _: ["llvm-symbolizer", f"--obj={program}", "--no-inlines", "--functions=none"],
+    "llvm-symbolizer": lambda program, _: [newest("llvm-symbolizer"), f"--obj={program}", "--no-inlines", "--functions=none"],
 }
 SHORT = {"lines": "l", "addr2line": "a", "eu-addr2line": "e", "llvm-symbolizer": "s"}
 PAIRS = list(itertools.combinations(SHORT, 2))
@@ -30,9 +39,10 @@ ANSWER = re.compile(r"(.*?):(\d+|\?)(?::(\d+))?(?: \(discriminator \d+\))?$")
 NOWHERE = (None, 0, 0)
 NO_LINE = -1
 NO_RULE = "no rule explains it"
-# A row, with the path of file 0 where its unit is of version 5 and its sequence has named no file but 1 so far, and whether
-# the sequence before, in its unit, was dropped and has addresses that go down.
-Row = collections.namedtuple("Row", "path line column file_zero follows_dropped")
+# A row, with the path of its file where directory 0 of version 5 is joined to DW_AT_comp_dir, both paths of file 0 where its unit
+# is of version 5 and its sequence has named no file but 1 so far, and whether the sequence before, in its unit, was dropped and
+# has addresses that go down.
+Row = collections.namedtuple("Row", "path line column joined file_zero follows_dropped")
 
 
 def ran(command, **how):
@@ -44,7 +54,7 @@ class Code:
 
     def __init__(self, program):
         header = ran(["readelf", "-hSW", program]).stdout
-        self.has_old_ranges = ".zdebug_rnglists" in header
+        self.has_old_ranges, self.has_old_lines = ".zdebug_rnglists" in header, ".zdebug_line" in header
         self.is_object = "REL (Relocatable" in header
         self.parts, self.starts, self.count = [], [], 0
         for name, low, size in re.findall(r"\] (\S+) +(?:PROGBITS|NOBITS) +(\w+) \w+ (\w+) \w+ +\w*X", header):
@@ -96,7 +106,7 @@ class Table:
     """What llvm-dwarfdump prints of a file: rows, ranges of units, and ranges of .debug_aranges."""
 
     def __init__(self, program, code):
-        self.lowest, self.has_old_ranges = code.lowest, code.has_old_ranges
+        self.lowest, self.has_old_ranges, self.has_old_lines = code.lowest, code.has_old_ranges, code.has_old_lines
         self.folders, self.paths, self.known = {}, {}, {}
         self.at_ends = collections.defaultdict(set)
         self.rows, self.unit_ranges, self.listed = Ranges(), Ranges(), Ranges()
@@ -151,19 +161,28 @@ class Table:
             if self.lowest <= low:
                 key = (unit["at"], *row[1:4], is_first, follows_dropped)
                 if key not in self.known:
-                    zero = self.path(unit, 0) if is_first else None
-                    self.known[key] = Row(self.path(unit, int(row[3])), int(row[1]), int(row[2]), zero, follows_dropped)
+                    zero = self.path(unit, 0) if is_first else ()
+                    path, joined = self.path(unit, int(row[3]))
+                    self.known[key] = Row(path, int(row[1]), int(row[2]), joined, zero, follows_dropped)
                 if low < high:
                     self.rows.add(low, high, self.known[key])
                 elif low == places[-1]:
                     self.at_ends[low].add(self.known[key][:2])
 
     def path(self, unit, number):
+        """The path of a file (DWARF 5, section 6.2.4), and by the rule of older tools. Directory 0 of version 5 is that of the
+        compilation: where it isn't absolute and DW_AT_comp_dir is, it goes on from there; another directory goes on from
+        DW_AT_comp_dir, or where there is none from directory 0."""
         key = (unit["at"], number)
         if key not in self.paths:
             name, directory = unit["files"].get(number, ("", 0))
-            folders = (self.folders.get(unit["at"], ""), unit["dirs"].get(directory, ""))
-            self.paths[key] = os.path.normpath(os.path.join(*folders, name))
+            folder, own = self.folders.get(unit["at"], ""), unit["dirs"].get(directory, "")
+            joined = start = folder
+            if unit["version"] == 5 and directory == 0 and not folder.startswith("/"):
+                start = ""
+            elif unit["version"] == 5 and not folder:
+                start = unit["dirs"].get(0, "")
+            self.paths[key] = tuple(os.path.normpath(os.path.join(it, own, name)) for it in (start, joined))
         return self.paths[key]
 
     def says(self, answer, rows):
@@ -174,18 +193,22 @@ class Table:
         if self.says(answer, rows):
             return "another of the rows that cover the address" if len(rows) > 1 else None
         lines = {row.line for row in rows}
+        if any(answer[:2] == (row.joined, row.line) for row in rows):
+            return "directory 0 of version 5 joined to itself"
         if peer == "addr2line" and answer[1] == NO_LINE and not rows:
             return "a file without a line where no row is"
         if peer == "addr2line" and answer[1] == NO_LINE and 0 in lines:
             return "`?` for a row of line 0"
         if peer == "addr2line" and (answer == NOWHERE or answer[1] == NO_LINE) and self.has_old_ranges:
             return "no line where the ranges stand in .zdebug_rnglists"
-        if peer == "addr2line" and any(answer[:2] == (row.file_zero, row.line) for row in rows):
+        if peer == "addr2line" and any(answer[0] in row.file_zero and answer[1] == row.line for row in rows):
             return "file 0 for file 1 of version 5"
         if peer == "eu-addr2line" and answer == NOWHERE and not self.listed.at(address):
             return "no place outside .debug_aranges"
         if peer == "eu-addr2line" and not rows and answer[:2] in self.at_ends[self.rows.end_before(address)]:
             return "a row at the end of its sequence covers the gap after it"
+        if peer == "llvm-symbolizer" and answer == NOWHERE and self.has_old_lines:
+            return "no place by .zdebug_line"
         if peer == "llvm-symbolizer" and answer == NOWHERE and not self.unit_ranges.at(address):
             return "no place outside the units' ranges"
         return None
@@ -329,4 +352,5 @@ def main():
     sys.exit(bool(comparison.causes))
 
 
-main()
+if __name__ == "__main__":
+    main()

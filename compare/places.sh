@@ -9,7 +9,8 @@
 # that are named. --columns compares columns too, --each prints each difference, PLACES=N asks N
 # addresses of each program in place of a million, and LINES_PROGRAM=FILE is asked in place of
 # crates/lines. It needs python3, gcc or clang, and on Debian: apt-get install binutils elfutils
-# llvm. A build that a compiler can't do is passed over, and counted.
+# llvm. Of llvm-symbolizer the newest version that is there is asked (llvm-symbolizer-19). A build that
+# a compiler can't do is passed over, and counted. Whole paths are compared, without `.` and `..`.
 #
 # The rows that llvm-dwarfdump prints decide. A row covers the addresses from its own up to the next
 # row's, in its sequence; a sequence below the lowest section of code was dropped. Where `lines`
@@ -26,8 +27,12 @@
 #     clang and Go write none.
 #   eu-addr2line, a row at the end of its sequence covers the gap after it: no row covers the
 #     address, and it says a row that has the address of the end of the sequence before.
+#   llvm-symbolizer, no place by .zdebug_line: the file has this section, which LLVM reads up to
+#     version 15, and it says `??`.
 #   llvm-symbolizer, no place outside the units' ranges: no unit's ranges in .debug_info have the
 #     address, and it says `??`.
+#   directory 0 of version 5 joined to itself: it is relative, as DW_AT_comp_dir is, and the path begins
+#     with both, as addr2line 2.40, eu-addr2line 0.188 and llvm-symbolizer 14 have it.
 #   another of the rows that cover the address: two sequences do, and it says a row of the other
 #     one.
 # Where `lines` does not say what the rows say, the difference is printed with its cause, if that is

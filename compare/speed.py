@@ -1,13 +1,14 @@
 #!/usr/bin/env python3
 """Measures `lines` beside its peers: processor time and peak memory, over programs. Outside the gate.
 
-    compare/speed.py PROGRAM..
+    compare/speed.py [--one] PROGRAM..
 
-Prints one table: of each program 1, 1,000 and 100,000 addresses of its code, all rows printed, and a check. Each command is run
-three times, and the least processor time counts; a peer that isn't there has empty cells. The addresses are those of rows, drawn
-with a fixed seed. LINES_PROGRAM=FILE is asked in place of crates/lines.
+Prints one table: of each program 1, 1,000 and 100,000 addresses of its code, all rows printed, and a check; with --one 1 address
+alone. Each command is run three times, and the least processor time counts; a peer that isn't there has empty cells. The
+addresses are those of rows, drawn with a fixed seed. Of llvm-symbolizer the newest version that is there is asked.
+LINES_PROGRAM=FILE is asked in place of crates/lines.
 """
-import json
+import array
 import os
 import random
 import shutil
@@ -15,7 +16,10 @@ import subprocess
 import sys
 import tempfile
 
+from places import newest
+
 TOP = os.path.dirname(os.path.dirname(os.path.realpath(__file__)))
+IS_ONE = sys.argv[1:2] == ["--one"]
 LINES = os.environ.get("LINES_PROGRAM", f"{TOP}/crates/lines/out/lines")
 
 
@@ -34,10 +38,11 @@ def run(words, given):
 
 def print_addresses(program):
     """Prints how many rows there are, and the addresses of up to 50,000 of them."""
-    rows = subprocess.run([LINES, "rows", "--json", program], stdout=subprocess.PIPE).stdout.splitlines()
+    with subprocess.Popen([LINES, "rows", program], stdout=subprocess.PIPE) as listing:
+        rows = array.array("Q", (int(it.split(None, 1)[0], 16) for it in listing.stdout if it.startswith(b"0x")))
     print(len(rows))
     for it in rows[:: max(1, len(rows) // 50000)]:
-        print(json.loads(it)["address"])
+        print(hex(it))
 
 
 def cell(command, given=None):
@@ -55,7 +60,7 @@ def measure(program):
     count, *addresses = subprocess.run(asked, stdout=subprocess.PIPE, text=True).stdout.split()
     name = f"{os.path.basename(program)}, {int(count):,} rows"
     draw = random.Random(1)
-    for count in (1, 1000, 100000):
+    for count in (1,) if IS_ONE else (1, 1000, 100000):
         with tempfile.NamedTemporaryFile("w", delete=False) as file:
             file.write("\n".join(draw.choices(addresses, k=count)) + "\n")
         with open(file.name) as asked:
@@ -66,11 +71,13 @@ def measure(program):
             [LINES, "where", program, *words],
             ["addr2line", "-e", program, *words],
             ["eu-addr2line", "-e", program, *words],
-            ["llvm-symbolizer", "--no-inlines", "--functions=none", f"--obj={program}", *words],
+            [newest("llvm-symbolizer"), "--no-inlines", "--functions=none", f"--obj={program}", *words],
         )
         work = "1 address" if count == 1 else f"{count:,} addresses"
         tell(name, work, *(cell(it, given) for it in commands), "", "")
         os.unlink(file.name)
+    if IS_ONE:
+        return
     rows = ["llvm-dwarfdump", "--debug-line", program], ["readelf", "--debug-dump=decodedline", program]
     tell(name, "all rows", cell([LINES, "rows", program]), "", "", "", *map(cell, rows))
     tell(name, "all rows in JSON", cell([LINES, "rows", "--json", program]), "", "", "", "", "")
@@ -87,5 +94,5 @@ if sys.argv[1:2] == ["--addresses"]:
 else:
     tell("Program", "Work", "`lines`", "addr2line", "eu-addr2line", "llvm-symbolizer", "llvm-dwarfdump", "readelf")
     tell(*["---"] * 8)
-    for it in sys.argv[1:]:
+    for it in sys.argv[1 + IS_ONE :]:
         measure(it)

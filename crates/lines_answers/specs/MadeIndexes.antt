@@ -21,6 +21,6 @@ pub record IsMade {R : Type 0} (bytes : R → List ℕ) (big : R → Bool) (limi
   pub is_index : IsIndexAppended (record {
     texts = texts_of bytes input.strings directories;
     units = kept;
-    size = size_number input.address_size;
+    size = size_number input.notation.address_size;
     name = name;
   }) [] made

@@ -8,7 +8,7 @@ use lines_inputs::{Functions, Input, PathSources, column_of, line_of, look_up};
 use lines_pieces::{Piece, Result, add, note, path_or_fault};
 use lines_words::{Json, Output, Request, SourcePlace, bytes_of_word};
 use std::alloc::{AllocError, Global};
-use std::collections::BTreeMap;
+use std::collections::{BTreeMap, HashSet};
 
 /// Prints the addresses to break at for a line in each file whose whole path ends with the
 /// components that are asked for, each path once. Where none of its rows is a statement, these are
@@ -168,12 +168,17 @@ impl<R: Reader> Search<'_, R> {
         Ok(files)
     }
 
-    /// Prints the addresses in the files of one path, and returns whether there is any.
+    /// Prints the addresses in the files of one path, those of the rows of the line where none is a
+    /// statement, and returns whether there is any.
     fn print_of_path(&self, of: &PathFiles, line: u64, output: &mut Output<'_>) -> Result<bool> {
         let found = self.addresses_of(&of.files, line)?;
         let next = found.as_ref().map(|found| found.line);
         if next != Some(line) {
-            if self.print_others(of, line, output)? {
+            let others = self.columns_of(&of.files, line, false)?;
+            for (address, column) in &others {
+                self.print_address(&of.path, line, false, *address, Some(*column), output);
+            }
+            if !others.is_empty() {
                 return Ok(true);
             }
             let (asked, path) = (Piece::Number(line), Piece::Path(Some(&of.path)));
@@ -191,16 +196,7 @@ impl<R: Reader> Search<'_, R> {
         }
     }
 
-    /// Prints the rows of a line that are no statements, and returns whether there is any.
-    fn print_others(&self, of: &PathFiles, line: u64, output: &mut Output<'_>) -> Result<bool> {
-        let others = self.columns_of(&of.files, line, false)?;
-        for (address, column) in &others {
-            self.print_address(&of.path, line, false, *address, Some(*column), output);
-        }
-        Ok(!others.is_empty())
-    }
-
-    /// Prints the statements of a line, and returns true.
+    /// Prints the statements of a line, each address once, and returns true.
     fn print_statements(
         &self,
         of: &PathFiles,
@@ -210,8 +206,12 @@ impl<R: Reader> Search<'_, R> {
         let has_column = self.request.has_column || output.is_json();
         let files = if has_column { of.files.as_slice() } else { &[] };
         let columns = self.columns_of(files, found.line, true)?;
+        let mut printed = HashSet::new(self.alloc);
         for address in &found.addresses {
             let breakpoint = self.breakpoint(*address);
+            if !printed.insert(breakpoint)? {
+                continue;
+            }
             if breakpoint == *address || !self.print_row(breakpoint, output)? {
                 let column = columns.get(address).copied();
                 self.print_address(&of.path, found.line, true, *address, column, output);

@@ -7,7 +7,7 @@ use crate::opened_index::identity_of;
 use elf_sections::{Elf, ElfError, usual_limit};
 use gimli_core::Reader;
 use gimli_index::{MakeError, write_index};
-use lines_inputs::{Input, InputError, NOT_LINKED, PathSources, Program, look_up};
+use lines_inputs::{Input, InputError, PathSources, Program, look_up};
 use lines_pieces::Result;
 use lines_words::{Files, Kind, Output};
 use std::alloc::{AllocError, Global};
@@ -57,7 +57,7 @@ pub fn index_of_program(
 ) -> Result<Option<Vec<u8>>> {
     let input = program.input();
     if !input.is_linked {
-        output.tell(NOT_LINKED);
+        output.tell(input.refusal());
         return Ok(None);
     }
     let build_id = own_build_id(kind, files, build_id);
@@ -81,7 +81,7 @@ fn index_of_input<R: Reader>(
     let sources = PathSources::new(alloc, input)?;
     let lookup = look_up(alloc, input, output)?;
     let mut bytes = Vec::new(alloc);
-    let size = u16::from(input.address_size.bytes());
+    let size = u16::from(input.notation.address_size.bytes());
     let strings = sources.strings();
     let compilations = sources.compilations();
     let out = &mut bytes;

@@ -61,7 +61,7 @@ impl<'w, R: Reader> SourceRows<'w, R> {
             context,
             end,
             code,
-            lowest: input.lowest,
+            lowest: input.notation.lowest,
             walk: Walk::new(alloc, input, UnitChoice::All, Printing::Rare, output),
             sources,
             paths: IndexSet::new(alloc),
@@ -147,14 +147,12 @@ impl<'w, R: Reader> SourceRows<'w, R> {
     /// Puts the rows in order, each address of a line once: a statement where one of its rows is.
     fn sort(&mut self) -> Result<()> {
         self.rows.sort()?;
-        let mut distinct: Vec<SourceRow> = Vec::new(self.alloc);
-        for row in &self.rows {
-            match distinct.last_mut() {
-                Some(before) if is_beside(before, row) => before.is_stmt |= row.is_stmt,
-                _ => distinct.push(*row)?,
-            }
-        }
-        self.rows = distinct;
+        self.rows.dedup_by(|row, before| {
+            let place = (before.path, before.line, before.address);
+            let is_beside = (row.path, row.line, row.address) == place;
+            before.is_stmt |= is_beside && row.is_stmt;
+            is_beside
+        });
         Ok(())
     }
 
@@ -180,9 +178,4 @@ impl<'w, R: Reader> SourceRows<'w, R> {
         }
         Ok(false)
     }
-}
-
-/// Whether two rows have one address and one line.
-fn is_beside(one: &SourceRow, other: &SourceRow) -> bool {
-    one.path == other.path && one.line == other.line && one.address == other.address
 }

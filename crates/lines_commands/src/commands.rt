@@ -8,7 +8,7 @@ use crate::session::{Questions, REFUSED, Run, Session};
 use elf_sections::ElfError;
 use gimli_core::Reader;
 use lines_answers::{SourceRows, print_addresses};
-use lines_inputs::{Input, InputError, NOT_LINKED, Program, tell_refusal};
+use lines_inputs::{Input, InputError, Program, tell_refusal};
 use lines_places::{Answered, Asked, PlacePrinter, Places, print_below, print_lines};
 use lines_reports::{Diff, Report};
 use lines_words::{CodeAddress, Command, Files, Kind, PathText, SourcePlace};
@@ -60,17 +60,19 @@ impl<'r> Session<'r> {
         let alloc = rt.alloc();
         let output = &mut self.output;
         match request.command {
-            Command::Where { .. } if !input.is_linked => self.locate_in_sections(files),
+            Command::Where { .. } if !input.is_linked && !input.is_split => {
+                self.locate_in_sections(files)
+            }
+            Command::Where { .. } | Command::At(_) | Command::Source(_) if !input.is_linked => {
+                output.tell(input.refusal());
+                Ok(())
+            }
             Command::Where { .. } => {
                 if !self.begin_lookup(input.length(), files.limit)? {
                     return Ok(());
                 }
                 let mut questions = Questions::new(rt, &request.addresses)?;
                 self.locate(program, input, None, &mut questions)
-            }
-            Command::At(_) | Command::Source(_) if !input.is_linked => {
-                output.tell(NOT_LINKED);
-                Ok(())
             }
             Command::At(place) => {
                 if self.begin_lookup(input.length(), files.limit)? {

@@ -15,7 +15,8 @@ abbrev pub AreUnitsIn : {R : Type 0} → (R → List ℕ) → (R → Bool) → �
     → Type 0
 AreUnitsIn bytes big limit input units =
     AreUnitsOf (unread_of bytes big limit input.lines)
-    (unit_entry bytes (size_number input.address_size) None None) input.lowest units
+    (unit_entry bytes (size_number input.notation.address_size) None None)
+    input.notation.lowest units
 
 -- what was read for a command: all units, or what is found in them at some addresses
 abbrev pub IsReadFrom : {R E O : Type 0} → (R → List ℕ) → (R → Bool) → ℕ → Input R
@@ -23,8 +24,8 @@ abbrev pub IsReadFrom : {R E O : Type 0} → (R → List ℕ) → (R → Bool) �
 IsReadFrom bytes big limit input (Kept units) = AreUnitsIn bytes big limit input units
 IsReadFrom bytes big limit input (Found addresses found) =
     AreFoundInSection (unread_of bytes big limit input.lines)
-    (unit_entry bytes (size_number input.address_size) None None) input.lowest addresses.items
-    found.units.items found.rows.items
+    (unit_entry bytes (size_number input.notation.address_size) None None)
+    input.notation.lowest addresses.items found.units.items found.rows.items
 
 -- what was read tells of an address
 abbrev pub Knows : {R E O : Type 0} → Covering R E O → ℕ → Type 0

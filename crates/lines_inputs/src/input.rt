@@ -1,13 +1,13 @@
 //! The sections of a program, lent by its file or made anew, and why they can't be read.
 
-ghost use Rattle.std.specs.Prelude.{◌≡◌, ℕ, List, IfErr, IfOk, Ok, OnOk, Some, codes, true};
+ghost use Rattle.std.specs.Prelude.{◌≡◌, Bool, ℕ, List, IfErr, IfOk, Ok, OnOk, Some, true};
 ghost use Rattle.std.specs.Option.{option_map};
 ghost use Rattle.elf_sections.specs.Elf.{file_of};
 ghost use Rattle.elf_sections.specs.Gives.{Gives};
 ghost use Rattle.elf_sections.specs.Relocating.{relocated_at};
 ghost use Rattle.elf_sections.specs.SectionBytes.{bytes_of};
 ghost use Rattle.elf_sections.specs.Fault.{is_for_memory};
-ghost use Rattle.lines_inputs.specs.Lines.{HasLines};
+ghost use Rattle.lines_inputs.specs.Lines.{HasLines, lines_name};
 
 use crate::functions::Functions;
 use elf_sections::{Elf, ElfError, SectionBytes, SectionPlace, SymbolTable};
@@ -15,14 +15,18 @@ use gimli_compilation::CompilationSections;
 use gimli_core::{EndianSlice, Endianity, Reader, ReaderOffset, Section};
 use gimli_line::DebugLine;
 use gimli_lookup::StringSections;
-use line_text::{AddressSize, Slice};
+use line_text::Slice;
 use lines_words::{Files, Kind, Notation, Output};
 use std::alloc::{AllocError, Global};
 use std::fmt;
 
 /// Why an object file is refused by a command that needs addresses.
-pub const NOT_LINKED: &str = "an object file, whose addresses are not known before it is linked; \
+const NOT_LINKED: &str = "an object file, whose addresses are not known before it is linked; \
     the command where takes a section and an offset in it";
+
+/// Why a file of split DWARF is refused by a command that needs rows (DWARF 5, section 7.3.2).
+const SPLIT: &str = "a file of split DWARF (.dwo, .dwp), which has no rows of code; name the \
+    program that it was split from";
 
 /// The sections of a program that a command reads.
 #[derive(Clone, Copy)]
@@ -33,20 +37,23 @@ pub struct Input<R> {
     pub strings: StringSections<R>,
     /// The sections that say where compilations ran.
     pub compilations: CompilationSections<R>,
-    /// How wide an address is, where the unit doesn't say.
-    pub address_size: AddressSize,
-    /// An address below which there is no code, 0 where none is known.
-    pub lowest: u64,
-    /// An address from which on there is no code, the greatest one where none is known.
-    pub code_end: u64,
+    /// How they are read, and where code is.
+    pub notation: Notation,
     /// Whether code has its addresses. In an object file each section stands at 0.
     pub is_linked: bool,
+    /// Whether it is a file of split DWARF, which names files and has no rows.
+    pub is_split: bool,
 }
 
 impl<R: Reader> Input<R> {
     /// The length of the section of line programs in bytes.
     pub fn length(&self) -> u64 {
         self.lines.reader().len().into_u64()
+    }
+
+    /// Why a command that needs addresses refuses it, where it isn't linked.
+    pub fn refusal(&self) -> &'static str {
+        if self.is_split { SPLIT } else { NOT_LINKED }
     }
 }
 
@@ -61,6 +68,8 @@ pub struct Program<'i> {
     others: OtherSections<'i>,
     /// Whether it is no object file.
     is_linked: bool,
+    /// Whether it is a file of split DWARF.
+    is_split: bool,
     /// Which addresses count in an object file.
     place: SectionPlace,
 }
@@ -134,6 +143,7 @@ impl<'i> Program<'i> {
                 lines: SectionBytes::Lent(files.file),
                 others: OtherSections::lent(alloc, files)?,
                 is_linked: true,
+                is_split: false,
                 place: SectionPlace::AllAtZero,
             }),
         }
@@ -161,8 +171,9 @@ impl<'i> Program<'i> {
         elf: Elf<'i>,
         place: SectionPlace,
     ) -> Result<Program<'i>, InputError>
-        ensures { OnOk result ((section : List ℕ) × (relocated_at (file_of elf.entry) place
-            files.entry.limit (codes ".debug_line") ≡ Ok (Some section))) }
+        ensures { OnOk result ((is_split : Bool) × (section : List ℕ)
+            × (relocated_at (file_of elf.entry) place files.entry.limit (lines_name is_split)
+            ≡ Ok (Some section))) }
     {
         let source = SectionSource {
             alloc,
@@ -170,7 +181,7 @@ impl<'i> Program<'i> {
             elf,
             place,
         };
-        let lines = source.lines()?;
+        let (lines, is_split) = source.lines()?;
         let is_linked = !elf.is_relocatable();
         let lowest = elf.lowest_code_address().filter(|_| is_linked);
         let lowest = lowest.unwrap_or(0);
@@ -181,6 +192,7 @@ impl<'i> Program<'i> {
             lines,
             others: OtherSections::of_elf(source)?,
             is_linked,
+            is_split,
             place,
         })
     }
@@ -230,10 +242,9 @@ impl<'i> Program<'i> {
                 debug_line_str,
                 debug_str_offsets: EndianSlice::new(others.string_offsets.as_slice(), order),
             },
-            address_size: self.notation.address_size,
-            lowest: self.notation.lowest,
-            code_end: self.notation.code_end,
+            notation: self.notation,
             is_linked: self.is_linked,
+            is_split: self.is_split,
         }
     }
 }
@@ -252,15 +263,18 @@ struct SectionSource<'i> {
 }
 
 impl<'i> SectionSource<'i> {
-    /// The section `.debug_line`. Refused where there is none.
-    fn lines(self) -> Result<SectionBytes<'i>, InputError>
-        ensures { IfOk result (λ section. relocated_at (file_of self.entry.elf) self.entry.place
-            self.entry.files.limit (codes ".debug_line") ≡ Ok (Some (bytes_of section))) }
+    /// The section of line programs, and whether it is that of a file of split DWARF, which counts
+    /// where there is no other. Refused where there is none.
+    fn lines(self) -> Result<(SectionBytes<'i>, bool), InputError>
+        ensures { IfOk result (λ found. relocated_at (file_of self.entry.elf) self.entry.place
+            self.entry.files.limit (lines_name found.1) ≡ Ok (Some (bytes_of found.0))) }
     {
-        match self.section(b".debug_line") {
-            Ok(Some(section)) => Ok(section),
-            Ok(None) => Err(InputError::no_lines(self.files.file)),
-            Err(e) => Err(InputError::Elf(e)),
+        if let Some(section) = self.section(b".debug_line")? {
+            return Ok((section, false));
+        }
+        match self.section(b".debug_line.dwo")? {
+            Some(section) => Ok((section, true)),
+            None => Err(InputError::no_lines(self.elf, self.files.file)),
         }
     }
 
@@ -303,20 +317,19 @@ pub enum InputError {
     Elf(ElfError),
     /// The file has no section `.debug_line`.
     NoLines,
+    /// The file is one of split DWARF, without names of files either.
+    Split,
     /// The file is the memory of a program that ended.
     Core,
 }
 
 impl InputError {
-    /// Why a file has no section `.debug_line`, by its first bytes (System V ABI, chapter 4:
-    /// `ET_CORE` is 4).
-    pub fn no_lines(file: &[u8]) -> InputError {
-        let kind = match file.get(5) {
-            Some(2) => [0, 4],
-            _ => [4, 0],
-        };
-        match file.get(16..18) {
-            Some(found) if found == kind.as_slice() => InputError::Core,
+    /// Why a file has no section of line programs, by its other sections, and by its first bytes
+    /// (System V ABI, chapter 4: `ET_CORE` is 4).
+    fn no_lines(elf: Elf<'_>, file: &[u8]) -> InputError {
+        match (elf.is_big_endian(), file.get(16..18)) {
+            _ if elf.section_index(b".debug_abbrev.dwo").is_some() => InputError::Split,
+            (true, Some([0, 4])) | (false, Some([4, 0])) => InputError::Core,
             _ => InputError::NoLines,
         }
     }
@@ -340,6 +353,7 @@ impl fmt::Display for InputError {
                 "there is no section .debug_line; compile and link with -g, and of a stripped \
                  program name the file with its debug information",
             ),
+            InputError::Split => f.write_str(SPLIT),
             InputError::Core => f.write_str(
                 "a core file, which has no line programs; name the program that it is of",
             ),

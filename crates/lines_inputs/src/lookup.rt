@@ -75,8 +75,8 @@ pub fn look_up_each<R: Reader>(
     if addresses.len() > FEW {
         return look_up_any(alloc, input, output);
     }
-    let size = input.address_size.bytes();
-    match find_in_section(&input.lines, alloc, size, input.lowest, &addresses) {
+    let (size, lowest) = (input.notation.address_size.bytes(), input.notation.lowest);
+    match find_in_section(&input.lines, alloc, size, lowest, &addresses) {
         Ok(found) => {
             tell_faults(&found.units, output);
             Ok(Covering::Found { addresses, found })
@@ -94,8 +94,8 @@ pub fn look_up<R: Reader>(
 ) -> Result<SectionLookup<R>, AllocError>
     ensures { IfOk result (AreUnitsIn R.bytes R.big R.Offset.limit input.now) }
 {
-    let size = input.address_size.bytes();
-    match SectionLookup::new(&input.lines, alloc, size, input.lowest) {
+    let (size, lowest) = (input.notation.address_size.bytes(), input.notation.lowest);
+    match SectionLookup::new(&input.lines, alloc, size, lowest) {
         Ok(lookup) => {
             tell_faults(lookup.units(), output);
             Ok(lookup)

@@ -66,8 +66,9 @@ impl<R: Reader> Walk<R> {
         let screen = output.screen;
         let is_seen = matches!(printing, Printing::Steady) && screen.is_out;
         let length = input.length();
+        let size = input.notation.address_size.bytes();
         let mut walk = Walk {
-            units: input.lines.units(alloc, input.address_size.bytes()),
+            units: input.lines.units(alloc, size),
             choice,
             is_found: matches!(choice, UnitChoice::All),
             length,

@@ -52,7 +52,7 @@ impl<R: Reader> Check<R> {
             return Ok(true);
         }
         // In an object file each section stands at 0, and so do its sequences.
-        if reading.is_linked {
+        if reading.input.is_linked {
             self.print_overlaps(output)?;
         }
         self.findings.print_counts(self.units, output);

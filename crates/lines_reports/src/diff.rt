@@ -156,7 +156,7 @@ impl<R: Reader> Side<R> {
         end: u64,
         paths: &mut PathNumbers,
     ) -> Result<()> {
-        if row.address() < self.reading.lowest || end <= row.address() {
+        if row.address() < self.reading.input.notation.lowest || end <= row.address() {
             return Ok(());
         }
         let place = Place {

@@ -16,14 +16,7 @@ pub(crate) struct Reading<R: Reader> {
     pub(crate) alloc: Global,
     pub(crate) walk: Walk<R>,
     pub(crate) sources: PathSources<R>,
-    /// The length of the section in bytes.
-    pub(crate) length: u64,
-    /// An address below which there is no code.
-    pub(crate) lowest: u64,
-    /// An address from which on there is no code.
-    pub(crate) code_end: u64,
-    /// Whether code has its addresses.
-    pub(crate) is_linked: bool,
+    pub(crate) input: Input<R>,
 }
 
 impl<R: Reader> Reading<R> {
@@ -40,10 +33,7 @@ impl<R: Reader> Reading<R> {
             alloc,
             walk: Walk::new(alloc, input, units, printing, output),
             sources,
-            length: input.length(),
-            lowest: input.lowest,
-            code_end: input.code_end,
-            is_linked: input.is_linked,
+            input: *input,
         })
     }
 }
@@ -115,7 +105,7 @@ impl<R: Reader> Report<R> {
                 Ok(true)
             }
             (None, Task::Stat(stat)) => {
-                stat.finish(self.reading.length, output)?;
+                stat.finish(self.reading.input.length(), output)?;
                 Ok(false)
             }
             (None, _) => Ok(false),

@@ -5,7 +5,7 @@ use crate::report::Reading;
 use gimli_core::{Error, Reader};
 use gimli_line::LineRow;
 use lines_pieces::Piece;
-use lines_words::{FindingKind, Output};
+use lines_words::{FindingKind, Notation, Output};
 
 /// The addresses of a sequence, by its rows that are not left out.
 #[derive(Clone, Copy, PartialEq, Eq, PartialOrd, Ord)]
@@ -23,10 +23,8 @@ pub(crate) struct Sequence {
 pub(crate) struct RowCheck {
     /// What was found, in units before this one too.
     pub(crate) findings: Findings,
-    /// An address below which there is no code.
-    lowest: u64,
-    /// An address from which on there is no code.
-    code_end: u64,
+    /// Where code is.
+    notation: Notation,
     /// Whether code has its addresses.
     is_linked: bool,
     /// How many rows there were.
@@ -42,9 +40,8 @@ impl RowCheck {
     pub(crate) fn new<R: Reader>(findings: Findings, reading: &Reading<R>) -> RowCheck {
         RowCheck {
             findings,
-            lowest: reading.lowest,
-            code_end: reading.code_end,
-            is_linked: reading.is_linked,
+            notation: reading.input.notation,
+            is_linked: reading.input.is_linked,
             rows: 0,
             rows_since_end: 0,
             start: None,
@@ -65,7 +62,7 @@ impl RowCheck {
     pub(crate) fn look_at_address(&mut self, address: u64, before: u64, output: &mut Output<'_>) {
         let rows = Piece::Rows(self.rows);
         let (from, to) = (Piece::Address(before), Piece::Address(address));
-        if address >= before || address == 0 && self.lowest > 0 {
+        if address >= before || address == 0 && self.notation.lowest > 0 {
             let text =
                 "after %: the address % stands for dropped code, and what follows is left out";
             self.findings
@@ -83,7 +80,7 @@ impl RowCheck {
         self.rows_since_end = self.rows_since_end.saturating_add(1);
         let number = Piece::Number(self.rows);
         let address = row.address();
-        let lowest = self.lowest;
+        let lowest = self.notation.lowest;
         if self.start.is_none() && address < lowest {
             // Code that is dropped is at address 0 too.
             let kind = if address == 0 {
@@ -117,12 +114,12 @@ impl RowCheck {
         self.rows = self.rows.saturating_add(u64::from(!is_left_out));
         self.rows_since_end = 0;
         let start = self.start.take()?;
-        if is_left_out || start >= end || start < self.lowest {
+        if is_left_out || start >= end || start < self.notation.lowest {
             return None;
         }
-        if start >= self.code_end {
+        if start >= self.notation.code_end {
             let text = "the sequence from % to % begins past the end of code, %";
-            let last = Piece::Address(self.code_end);
+            let last = Piece::Address(self.notation.code_end);
             let pieces = [Piece::Address(start), Piece::Address(end), last];
             self.findings
                 .find(FindingKind::PastCode, None, text, &pieces, output);

@@ -7,7 +7,8 @@ returns-in_ok-program-in-Elf c = record {
   elf = λ k. record {
     file = file_of c.in_ok-elf-in-Elf.elf;
     is_file = sym c.in_ok-elf-in-Elf.ensures;
-    section = c.in_ok-program-in-Elf.ensures.0;
-    is_section = c.in_ok-program-in-Elf.ensures.1;
+    is_split = c.in_ok-program-in-Elf.ensures.0;
+    section = c.in_ok-program-in-Elf.ensures.1;
+    is_section = c.in_ok-program-in-Elf.ensures.2;
   };
 }
