@@ -1,4 +1,3 @@
-pub mod Pointers
 pub mod AddressSizes
 pub mod Backwards
 pub mod ShortLeb
@@ -11,8 +10,6 @@ pub mod InstructionRefusals
 pub mod Bounds
 pub mod RowBounds
 pub mod RowsAlone
-pub mod Programs
-pub mod Headers
 pub mod HeaderParts
 pub mod Loops
 pub mod Entries
