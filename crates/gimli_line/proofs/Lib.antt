@@ -1,4 +1,3 @@
-pub mod AddressSizes
 pub mod Backwards
 pub mod ShortLeb
 pub mod Steps
@@ -20,7 +19,6 @@ pub mod Runs
 pub mod RunLists
 pub mod GivenRows
 pub mod Executions
-pub mod OtherExecutions
 pub mod EventsWithFilesLaws
 pub mod SequenceLaws
 pub mod ResumedRuns
