@@ -18,7 +18,7 @@ ghost use Rattle.gimli_line.specs.declared.run.instruction.LineInstruction.TheVa
 ghost use Rattle.gimli_line.specs.header.File.{file_seen, FileHasOrder};
 ghost use Rattle.gimli_line.specs.header.FormReading.{offset_at};
 ghost use Rattle.gimli_line.specs.header.Header.{Header};
-ghost use Rattle.gimli_line.specs.run.Execution.{ExecutesNext, RefusesNext};
+ghost use Rattle.gimli_line.specs.run.Execution.{told_of, ExecutesNext, RefusesNext};
 ghost use Rattle.gimli_line.specs.run.Instruction.{ins_seen, defines_file};
 ghost use Rattle.gimli_line.specs.run.InstructionReading.{extended_at, extended_operands_at, ins_at};
 ghost use Rattle.gimli_line.specs.run.Machine.{IsAllowed};
@@ -172,40 +172,78 @@ impl<R: Reader> LineInstructions<R> {
             return Ok(Executed::No);
         };
         if opcode >= header.parameters.opcode_base {
-            return self.go_past(LineInstruction::Special(opcode), input, header, row);
+            return self.go_past(
+                LineInstruction::Special(opcode),
+                Executed::Row,
+                input,
+                header,
+                row,
+            );
         }
         match DwLns(opcode) {
-            constants::DW_LNS_copy => self.go_past(LineInstruction::Copy, input, header, row),
+            constants::DW_LNS_copy => self.go_past(
+                LineInstruction::Copy,
+                Executed::Row,
+                input,
+                header,
+                row,
+            ),
             constants::DW_LNS_advance_line => {
                 let Some(advance) = read_short_sleb128(&mut input) else {
                     return Ok(Executed::No);
                 };
-                self.go_past(LineInstruction::AdvanceLine(advance), input, header, row)
+                self.go_past(
+                    LineInstruction::AdvanceLine(advance),
+                    Executed::Quiet,
+                    input,
+                    header,
+                    row,
+                )
             }
             constants::DW_LNS_set_file => {
                 let Some(file) = read_short_uleb128(&mut input) else {
                     return Ok(Executed::No);
                 };
-                self.go_past(LineInstruction::SetFile(file), input, header, row)
+                self.go_past(
+                    LineInstruction::SetFile(file),
+                    Executed::Quiet,
+                    input,
+                    header,
+                    row,
+                )
             }
             constants::DW_LNS_set_column => {
                 let Some(column) = read_short_uleb128(&mut input) else {
                     return Ok(Executed::No);
                 };
-                self.go_past(LineInstruction::SetColumn(column), input, header, row)
+                self.go_past(
+                    LineInstruction::SetColumn(column),
+                    Executed::Quiet,
+                    input,
+                    header,
+                    row,
+                )
             }
             constants::DW_LNS_negate_stmt => {
-                self.go_past(LineInstruction::NegateStatement, input, header, row)
+                self.go_past(
+                    LineInstruction::NegateStatement,
+                    Executed::Quiet,
+                    input,
+                    header,
+                    row,
+                )
             }
             _ => Ok(Executed::No),
         }
     }
 
-    /// Executes the instruction that the program begins with, and goes on behind its bytes.
+    /// Executes the instruction that the program begins with, of which this is told, and goes on
+    /// behind its bytes.
     #[inline(always)]
     fn go_past(
         &mut self,
         instruction: LineInstruction<R>,
+        told: Executed,
         rest: R,
         header: &LineProgramHeader<R>,
         row: &mut LineRow,
@@ -216,6 +254,7 @@ impl<R: Reader> LineInstructions<R> {
         requires allowed { IsAllowed header.now.meaning.parameters
             (ins_seen R.bytes R.Offset.number instruction) }
         requires file { defines_file (ins_seen R.bytes R.Offset.number instruction) ≡ false }
+        requires told { told ≡ told_of (ins_seen R.bytes R.Offset.number instruction) }
         ensures ok { IfOk result
             (ExecutesNext header.now.meaning self.old self.new row.old row.new) }
         ensures err { IfErr result
@@ -225,7 +264,7 @@ impl<R: Reader> LineInstructions<R> {
         self.input = rest;
         match row.step(instruction, &header.parameters) {
             Err(e) => Err(e),
-            Ok(()) => Ok(instruction.told()),
+            Ok(()) => Ok(told),
         }
     }
 
@@ -289,10 +328,22 @@ impl<R: Reader> LineInstructions<R> {
                 let Some(advance) = read_short_uleb128(&mut input) else {
                     return Ok(Executed::No);
                 };
-                self.go_past(LineInstruction::AdvancePc(advance), input, header, row)
+                self.go_past(
+                    LineInstruction::AdvancePc(advance),
+                    Executed::Quiet,
+                    input,
+                    header,
+                    row,
+                )
             }
             constants::DW_LNS_const_add_pc => {
-                self.go_past(LineInstruction::ConstAddPc, input, header, row)
+                self.go_past(
+                    LineInstruction::ConstAddPc,
+                    Executed::Quiet,
+                    input,
+                    header,
+                    row,
+                )
             }
             _ => Ok(Executed::No),
         }
@@ -323,14 +374,26 @@ impl<R: Reader> LineInstructions<R> {
         let mut inside = opened.1;
         match opened.0 {
             constants::DW_LNE_end_sequence => {
-                self.go_past(LineInstruction::EndSequence, input, header, row)
+                self.go_past(
+                    LineInstruction::EndSequence,
+                    Executed::Row,
+                    input,
+                    header,
+                    row,
+                )
             }
             constants::DW_LNE_set_address => {
                 let Ok(address) = inside.read_address(header.parameters.encoding.address_size)
                 else {
                     return Ok(Executed::No);
                 };
-                self.go_past(LineInstruction::SetAddress(address), input, header, row)
+                self.go_past(
+                    LineInstruction::SetAddress(address),
+                    Executed::Address(address),
+                    input,
+                    header,
+                    row,
+                )
             }
             constants::DW_LNE_set_discriminator => {
                 let Some(discriminator) = read_short_uleb128(&mut inside) else {
@@ -338,6 +401,7 @@ impl<R: Reader> LineInstructions<R> {
                 };
                 self.go_past(
                     LineInstruction::SetDiscriminator(discriminator),
+                    Executed::Quiet,
                     input,
                     header,
                     row,

@@ -8,7 +8,6 @@ ghost use Rattle.gimli_line.specs.inside.run.InstructionReading.{without_value};
 use crate::header::file_entry::FileEntry;
 use crate::header::forms::parse_offset;
 use crate::header::program_header::LineProgramHeader;
-use crate::run::from_bytes::Executed;
 use gimli_core::{DwLne, DwLns, Reader, ReaderOffset, Result, constants};
 use std::alloc::AllocError;
 use std::marker::Model;
@@ -100,7 +99,6 @@ where
       unknown_at,
     };
     ghost use Rattle.gimli_line.specs.run.Machine.{IsAllowed};
-    ghost use Rattle.gimli_line.specs.run.Execution.{told_of};
 
     /// Whether it makes a row, under a tombstone or not.
     #[inline(always)]
@@ -112,20 +110,6 @@ where
                 true
             }
             _ => false,
-        }
-    }
-
-    /// What is told of it where it is executed from its bytes.
-    #[inline(always)]
-    pub(super) fn told(&self) -> Executed
-        ensures { result ≡ told_of (ins_seen R.bytes Offset.number self.now) }
-    {
-        match self {
-            LineInstruction::Special(_) | LineInstruction::Copy | LineInstruction::EndSequence => {
-                Executed::Row
-            }
-            LineInstruction::SetAddress(address) => Executed::Address(*address),
-            _ => Executed::Quiet,
         }
     }
 

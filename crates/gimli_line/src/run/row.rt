@@ -404,11 +404,10 @@ impl LineRow {
             × (self.new ≡ self.old)) }
     {
         let size = parameters.encoding.address_size;
-        if size == 8 {
-            if let Some(sum) = self.address.checked_add(length) {
-                self.address = sum;
-                return Ok(());
-            }
+        let sum = self.address.wrapping_add(length);
+        if size == 8 && self.address <= sum {
+            self.address = sum;
+            return Ok(());
         }
         self.address = self.address.add_sized(length, size)?;
         Ok(())

@@ -13,7 +13,7 @@ returns-clause-ok g c = elim c.match-step.branch [
   | in-Ok w ↦
       let i = ins_seen g.R.Reader.bytes g.R.Offset.ReaderOffset.number c.args.instruction in
       let same = ap (λ (m : Header). m.parameters) (ap (λ v. v.meaning) c.header.view_is) in
-      rw (w.result-is, w.told.ensures) (executes _ _ _ _ _ i c.requires.read c.requires.file
+      rw (w.result-is, c.requires.told) (executes _ _ _ _ _ i c.requires.read c.requires.file
       (subst (λ (k : Parameters). c.step.new.self ≡ step_of k i c.args.row.now) same c.step.ensures.0)
       (subst (λ (k : Parameters). is_refused k i c.args.row.now ≡ false) same w.in-Ok.ensures.1))
 ]
