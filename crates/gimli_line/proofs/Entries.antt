@@ -13,7 +13,7 @@ use Rattle.gimli_line.specs.header.Header.{plain_file}
 use Rattle.gimli_line.specs.header.HeaderGrammar.{Entry, last_value, digest, path_of, file_of_entry}
 use Rattle.gimli_line.specs.inside.header.FormReading.{form_at}
 use Rattle.gimli_line.specs.inside.header.HeaderReading.{entry_at}
-use Rattle.gimli_line.specs.inside.header.EntryReading.{value_after, path_with, file_with, fold_of, folded_at}
+use Rattle.gimli_line.specs.inside.header.EntryReading.{value_after, file_with, fold_of, folded_at}
 use Rattle.gimli_line.specs.declared.header.file_entry.FileEntryFormat.{FileEntryFormat}
 
 -- the last value of an entry, from its first value on
@@ -26,10 +26,6 @@ last_of {A} wanted pick first content value entry = at_pick (if nat_eq content w
         ≡ last_value wanted pick (elim picked [ Some x ↦ x | None ↦ first ]) entry
     at_pick (Some x) = refl
     at_pick None = refl
-
-path_folded : (first : Value) (entry : Entry) → fold_of path_with first entry ≡ last_value 0x0001 Some first entry
-path_folded first [] = refl
-path_folded first (v ∷ entry) = path_folded (path_with first v.0 v.1) entry ∙ sym (last_of 0x0001 Some first v.0 v.1 entry)
 
 -- the parts of a file, from what stands at first
 abbrev parts_from : File → Entry → File
@@ -81,13 +77,6 @@ viewed_by {A} {B} f g same (Ok x, rest) = ap (λ (y : B). let r : Read B = (Ok y
 viewed_by f g same (Err e, rest) = refl
 
 module _ (notation : Notation) (format : Format) where
-  -- from an empty path the directory is that of the entry
-  pub directory_is : (formats : List FileEntryFormat) (bytes : List ℕ)
-      → folded_at notation format path_with (String []) formats bytes ≡ read_map path_of (entry_at notation format formats bytes)
-  directory_is formats bytes =
-      folded_is notation format path_with (String []) formats bytes
-      ∙ viewed_by (fold_of path_with (String [])) path_of (path_folded (String [])) (entry_at notation format formats bytes)
-
   -- from a file of an empty path the file is that of the entry
   pub file_is : (formats : List FileEntryFormat) (bytes : List ℕ)
       → folded_at notation format file_with (plain_file [] 0 0 0) formats bytes ≡ read_map file_of_entry (entry_at notation format formats bytes)
@@ -95,20 +84,7 @@ module _ (notation : Notation) (format : Format) where
       folded_is notation format file_with (plain_file [] 0 0 0) formats bytes
       ∙ viewed_by (fold_of file_with (plain_file [] 0 0 0)) file_of_entry (file_folded (plain_file [] 0 0 0)) (entry_at notation format formats bytes)
 
--- one more value of an entry that is taken from where its format stands, as a loop does
-module _ (format : Format) (now first : Bool) (limit : ℕ) where
-  pub file_goes_on : (formats : List FileEntryFormat) (i : ℕ) (d : FileEntryFormat) (file next : File) (value : Value) (bytes rest : List ℕ) (total : Read File)
-      → i < length formats → now ≡ first
-      → (Ok value, rest) ≡ form_at (record { big = now; limit = limit }) format (get_or formats i d).form.0 bytes
-      → next ≡ file_with file (get_or formats i d).content_type.0 value
-      → folded_at (record { big = first; limit = limit }) format file_with file (drop i formats) bytes ≡ total
-      → folded_at (record { big = first; limit = limit }) format file_with next (drop (i + 1) formats) rest ≡ total
-  file_goes_on formats i d file next value bytes rest total lt same read is so_far =
-      let notation : Notation = record { big = first; limit = limit } in
-      let f = get_or formats i d in
-      let again : (Ok value, rest) ≡ form_at notation format f.form.0 bytes = read
-      ∙ ap (λ (b : Bool). form_at (record { big = b; limit = limit }) format f.form.0 bytes) same in
-      let here = ap (λ (fs : List FileEntryFormat). folded_at notation format file_with file fs bytes) (drop_more formats i d lt) in
-      let one : folded_at notation format file_with file (f ∷ drop (i + 1) formats) bytes
-      ≡ folded_at notation format file_with next (drop (i + 1) formats) rest = rw (← again, is) refl in
-      sym one ∙ sym here ∙ so_far
+-- a directory is the path of such a file
+pub path_is : (r : Read Entry) → read_map (λ (f : File). f.path_name) (read_map file_of_entry r) ≡ read_map path_of r
+path_is (Ok entry, rest) = refl
+path_is (Err e, rest) = refl

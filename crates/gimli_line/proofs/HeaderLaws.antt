@@ -1,5 +1,5 @@
 -- Reading a header, production by production.
-use Rattle.std.proofs.Common.{◌≡◌, ℕ, ◌-◌, Bool, true, false, not, if◌then◌else◌, List, [], ◌∷◌, Option, Some, None, Ok, Err, refl, sym, ap, ◌∙◌, ◌⊎◌, inl, inr}
+use Rattle.std.proofs.Common.{◌≡◌, ℕ, ◌-◌, Bool, true, false, not, if◌then◌else◌, List, [], ◌∷◌, map, Option, Some, None, Ok, Err, refl, sym, ap, ◌∙◌, ◌⊎◌, inl, inr}
 use Rattle.std.specs.Prelude.{nat_eq, nat_le, count_by, ◌&&◌}
 use Rattle.gimli_core.specs.Notation.{Notation}
 use Rattle.gimli_core.specs.Numbers.{is_address_size}
@@ -24,14 +24,15 @@ use Rattle.gimli_line.specs.header.File.{File}
 use Rattle.gimli_line.specs.header.Header.{Header, UnitEntry, plain_file}
 use Rattle.gimli_line.specs.header.Productions.{name, positive}
 use Rattle.gimli_line.specs.inside.header.FormReading.{block_at, shape_at, form_at}
-use Rattle.gimli_line.specs.header.HeaderGrammar.{is_content, Opening, paths_production, file_production, files_production, format_production}
+use Rattle.gimli_line.specs.header.HeaderGrammar.{is_content, Entry, path_of, file_of_entry, Opening, paths_production, file_production, files_production, format_production}
 use Rattle.gimli_line.specs.header.HeaderGrammar.{formats_production, entry_production, entries_production, table_production, version_production}
 use Rattle.gimli_line.specs.header.HeaderGrammar.{address_size_production, opening_production, line_encoding_production, parameters_production, directory_table}
 use Rattle.gimli_line.specs.header.HeaderGrammar.{file_table, fields_production, header_production, SpellsUnit, HasHeaderFault}
 use Rattle.gimli_line.specs.header.HeaderReading.{plain_file_at}
 use Rattle.gimli_line.specs.inside.header.HeaderReading.{positive_at, paths_at, named_file_at, files_at, format_at, formats_at, entry_at, entries_at, table_at}
 use Rattle.gimli_line.specs.inside.header.HeaderReading.{version_at, own_address_size_at, size_at, opening_at, operations_at, line_encoding_at, parameters_at}
-use Rattle.gimli_line.specs.inside.header.HeaderReading.{directories_at, file_names_at, fields_at, header_at}
+use Rattle.gimli_line.specs.inside.header.HeaderReading.{table_of, directories_at, file_names_at, fields_at, header_at}
+use Rattle.gimli_line.specs.inside.header.Outcome.{read_map}
 use Rattle.gimli_line.specs.declared.header.file_entry.FileEntryFormat.{FileEntryFormat}
 use Rattle.gimli_line.proofs.Closed.{ReadsOpen, reads_name, reads_open_both, reads_closed}
 
@@ -181,19 +182,49 @@ reads_parameters encoding =
     reads_both (line_encoding_production encoding.version) _ _ _ (reads_line_encoding encoding.version)
     (λ line_encoding. reads_both (positive OpcodeBaseZero) _ _ _ (reads_positive OpcodeBaseZero) (λ opcode_base. reads_done _))
 
+module _ {A B : Type 0} (f : A → B) where
+  paired : (none : List FileEntryFormat) (r : Read A)
+      → (r >>= λ x rest. (let s : Read (List FileEntryFormat × B) = (Ok (none, f x), rest) in s))
+      ≡ (read_map f r >>= λ y rest. (Ok (none, y), rest))
+  paired none (Ok x, rest) = refl
+  paired none (Err e, rest) = refl
+
+table_viewed : {B : Type 0} (view : Entry → B) (read : List FileEntryFormat → List ℕ → Read (List Entry)) (r : Read (List FileEntryFormat))
+    → ((r >>= λ formats rest. read formats rest >>= λ xs end. (let s : Read (List FileEntryFormat × List Entry) = (Ok (formats, xs), end) in s))
+    >>= λ table rest. (let t : Read (List FileEntryFormat × List B) = (Ok (table.0, map view table.1), rest) in t))
+    ≡ (r >>= λ formats rest. read_map (map view) (read formats rest) >>= λ ys end. (Ok (formats, ys), end))
+table_viewed {B} view read (Ok formats, rest) = inner (read formats rest)
+  where
+    inner : (r : Read (List Entry))
+        → ((r >>= λ xs rest. (let s : Read (List FileEntryFormat × List Entry) = (Ok (formats, xs), rest) in s)) >>= λ table rest.
+        (let t : Read (List FileEntryFormat × List B) = (Ok (table.0, map view table.1), rest) in t))
+        ≡ (read_map (map view) r >>= λ ys rest. (Ok (formats, ys), rest))
+    inner (Ok xs, rest) = refl
+    inner (Err e, rest) = refl
+table_viewed view read (Err e, rest) = refl
+
+reads_entries_seen : {B : Type 0} (view : Entry → B) (notation : Notation) (format : Format)
+    → Reads {A = List FileEntryFormat × List B} (table_production notation format >>> λ table. done (table.0, map view table.1))
+    (λ bytes. formats_at bytes >>= λ formats rest. read_map (map view) (entries_at notation format formats rest) >>= λ items rest.
+    (Ok (formats, items), rest))
+unfolding table_at
+reads_entries_seen view notation format =
+    reads_same _ _ _ (λ bytes. table_viewed view (entries_at notation format) (formats_at bytes))
+    (reads_both (table_production notation format) _ _ _ (reads_table notation format) (λ table. reads_done _))
+
 pub reads_directories : (notation : Notation) (encoding : Encoding) → Reads (directory_table notation encoding) (directories_at notation encoding)
-unfolding directories_at
+unfolding table_of
 reads_directories notation encoding =
     reads_if (nat_le encoding.version 4) _ _ _ _
-    (reads_both paths_production _ _ _ reads_paths (λ paths. reads_done _))
-    (reads_both (table_production notation encoding.format) _ _ _ (reads_table notation encoding.format) (λ table. reads_done _))
+    (reads_same _ _ _ (λ bytes. paired (map String) [] (paths_at bytes))
+    (reads_both paths_production _ _ _ reads_paths (λ paths. reads_done _)))
+    (reads_entries_seen path_of notation encoding.format)
 
 pub reads_file_names : (notation : Notation) (encoding : Encoding) → Reads (file_table notation encoding) (file_names_at notation encoding)
-unfolding file_names_at
+unfolding table_of
 reads_file_names notation encoding =
-    reads_if (nat_le encoding.version 4) _ _ _ _
-    (reads_both files_production _ _ _ reads_files (λ files. reads_done _))
-    (reads_both (table_production notation encoding.format) _ _ _ (reads_table notation encoding.format) (λ table. reads_done _))
+    reads_if (nat_le encoding.version 4) _ _ _ _ (reads_both files_production _ _ _ reads_files (λ files. reads_done _))
+    (reads_entries_seen file_of_entry notation encoding.format)
 
 pub reads_fields : (notation : Notation) (unit_entry : UnitEntry) (unit : ℕ) (opening : Opening) (program : List ℕ)
     → Reads (fields_production notation unit_entry unit opening program) (fields_at notation unit_entry unit opening program)

@@ -1,5 +1,3 @@
-pub mod Pointers
-pub mod AddressSizes
 pub mod Backwards
 pub mod ShortLeb
 pub mod Steps
@@ -11,8 +9,6 @@ pub mod InstructionRefusals
 pub mod Bounds
 pub mod RowBounds
 pub mod RowsAlone
-pub mod Programs
-pub mod Headers
 pub mod HeaderParts
 pub mod Loops
 pub mod Entries
@@ -23,7 +19,6 @@ pub mod Runs
 pub mod RunLists
 pub mod GivenRows
 pub mod Executions
-pub mod OtherExecutions
 pub mod EventsWithFilesLaws
 pub mod SequenceLaws
 pub mod ResumedRuns

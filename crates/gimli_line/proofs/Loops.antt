@@ -222,24 +222,3 @@ pub entry_kept : (format : Format) {B : Type 0} (f : Entry → B) (formats : Lis
     → answer ≡ read_map f (entry_at (record { big = first; limit = limit }) format formats bytes)
 entry_kept format f formats now first limit bytes answer same is =
     is ∙ ap (λ (b : Bool). read_map f (entry_at (record { big = b; limit = limit }) format formats bytes)) same
-
--- ---- the files of a version
-
-pub files_up_to_4 : (notation : Notation) (encoding : Encoding) (bytes : List ℕ) (files : List File) (left : List ℕ) (none : List FileEntryFormat)
-    → encoding.version ≤ 4 → none ≡ []
-    → files_at bytes ≡ (Ok files, left) → file_names_at notation encoding bytes ≡ (Ok (none, files), left)
-unfolding file_names_at
-files_up_to_4 notation encoding bytes files left none old empty is = rw (le-leb encoding.version 4 old, is, empty) refl
-
-pub files_from_5 : (now first : Bool) (limit : ℕ) (encoding : Encoding) (bytes mid : List ℕ) (formats lent : List FileEntryFormat) (files : List File)
-    (left : List ℕ)
-    → 4 < encoding.version
-    → formats_at bytes ≡ (Ok formats, mid) → now ≡ first → lent ≡ formats
-    → read_map (map file_of_entry) (entries_at (record { big = now; limit = limit }) encoding.format lent mid) ≡ (Ok files, left)
-    → file_names_at (record { big = first; limit = limit }) encoding bytes ≡ (Ok (formats, files), left)
-unfolding file_names_at table_at
-files_from_5 now first limit encoding bytes mid formats lent files left new head kept same tail =
-    let notation : Notation = record { big = first; limit = limit } in
-    let again : read_map (map file_of_entry) (entries_at notation encoding.format formats mid) ≡ (Ok files, left) = rw (← kept, ← same) tail in
-    let a = seen_item (map file_of_entry) (entries_at notation encoding.format formats mid) files left (sym again) in
-    rw (lt-leb encoding.version 4 new, head, a.1, a.2) refl

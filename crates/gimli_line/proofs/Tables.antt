@@ -16,10 +16,9 @@ use Rattle.gimli_core.proofs.Productions.{bind_refused}
 use Rattle.gimli_line.specs.header.File.{File}
 use Rattle.gimli_line.specs.inside.header.FormReading.{form_at}
 use Rattle.gimli_line.specs.inside.header.Outcome.{read_map}
-use Rattle.gimli_line.specs.header.HeaderGrammar.{path_of, file_of_entry}
-use Rattle.gimli_line.specs.inside.header.HeaderReading.{paths_at, files_at, format_at, formats_at, entries_at, directory_entries_at, file_entries_at, table_at}
-use Rattle.gimli_line.specs.inside.header.HeaderReading.{directories_at, file_names_at}
-use Rattle.gimli_line.specs.inside.header.EntryReading.{path_with, folded_at}
+use Rattle.gimli_line.specs.header.HeaderGrammar.{Entry}
+use Rattle.gimli_line.specs.inside.header.HeaderReading.{format_at, formats_at, entries_at, table_of}
+use Rattle.gimli_line.specs.inside.header.EntryReading.{folded_at}
 use Rattle.gimli_line.specs.header.Productions.{name}
 use Rattle.gimli_line.specs.declared.header.file_entry.FileEntryFormat.{FileEntryFormat}
 use Rattle.gimli_line.proofs.Closed.{reads_name}
@@ -80,120 +79,47 @@ entry_done notation format step formats i last bytes total le so_far =
     let one : folded_at notation format step last (drop i formats) bytes ≡ (Ok last, bytes) = rw (drop_all i formats le) refl in
     sym one ∙ so_far
 
--- a path is replaced by a value of its content type, and by no other
-abbrev picked : Value → Value → Bool → Value
-picked before value test = elim (if test then Some value else None) [ Some x ↦ x | None ↦ before ]
-
-module _ {X : Type 0} (see : X → Value) (content : ℕ) (test : Bool) (told : test ≡ nat_eq content 1) (before value next : X) where
-  pub path_replaced : test ≡ true → next ≡ value → see next ≡ path_with (see before) content (see value)
-  path_replaced is same = ap see same ∙ ap (picked (see before) (see value)) (sym is ∙ told)
-
-  pub path_left : test ≡ false → next ≡ before → see next ≡ path_with (see before) content (see value)
-  path_left is same = ap see same ∙ ap (picked (see before) (see value)) (sym is ∙ told)
-
 -- ---- the tables of a version
 
-paired : {A B F : Type 0} (f : A → B) (none : List F) (r : Read A)
-    → (r >>= λ x rest. (let s : Read (List F × B) = (Ok (none, f x), rest) in s)) ≡ (read_map f r >>= λ y rest. (Ok (none, y), rest))
-paired f none (Ok x, rest) = refl
-paired f none (Err e, rest) = refl
+module _ {B : Type 0} (plain : List ℕ → Read (List B)) (view : Entry → B) where
+  abbrev Table : Type 0
+  Table = List FileEntryFormat × List B
 
-module _ {F A B : Type 0} (f : A → B) (read : List F → List ℕ → Read (List A)) where
-  inner_viewed : (formats : List F) (r : Read (List A))
-      → ((r >>= λ xs rest. (let s : Read (List F × List A) = (Ok (formats, xs), rest) in s)) >>= λ table rest.
-      (let t : Read (List F × List B) = (Ok (table.0, map f table.1), rest) in t))
-      ≡ (read_map (map f) r >>= λ ys rest. (Ok (formats, ys), rest))
-  inner_viewed formats (Ok xs, rest) = refl
-  inner_viewed formats (Err e, rest) = refl
+  module _ (notation : Notation) (encoding : Encoding) (bytes : List ℕ) where
+    abbrev here : Read Table
+    here = table_of plain view notation encoding bytes
 
-  table_viewed : (r : Read (List F))
-      → ((r >>= λ formats rest. read formats rest >>= λ xs end. (let s : Read (List F × List A) = (Ok (formats, xs), end) in s)) >>= λ table rest.
-      (let t : Read (List F × List B) = (Ok (table.0, map f table.1), rest) in t))
-      ≡ (r >>= λ formats rest. read_map (map f) (read formats rest) >>= λ ys end. (Ok (formats, ys), end))
-  table_viewed (Ok formats, rest) = inner_viewed formats (read formats rest)
-  table_viewed (Err e, rest) = refl
+    pub table_up_to_4 : (none : List FileEntryFormat) (items : List B) (left : List ℕ) → encoding.version ≤ 4 → none ≡ [] → plain bytes ≡ (Ok items, left)
+        → here ≡ (Ok (none, items), left)
+    unfolding table_of
+    table_up_to_4 none items left old empty is = rw (le-leb encoding.version 4 old, is, empty) refl
 
-module _ {F B : Type 0} (r : Read (List F)) (read : List F → List ℕ → Read (List B)) where
-  abbrev together : Read (List F × List B)
-  together = r >>= λ formats rest. read formats rest >>= λ ys end. (Ok (formats, ys), end)
+    pub table_4_end : (e : Error) → encoding.version ≤ 4 → (plain bytes).0 ≡ Err e → here.0 ≡ Err e
+    unfolding table_of
+    table_4_end e old is =
+        rw (le-leb encoding.version 4 old) (bind_refused (plain bytes) (λ items rest. (let s : Read Table = (Ok ([], items), rest) in s)) e is)
 
-  together_is : (formats : List F) (mid : List ℕ) (ys : List B) (left : List ℕ) → r ≡ (Ok formats, mid) → read formats mid ≡ (Ok ys, left)
-      → together ≡ (Ok (formats, ys), left)
-  together_is formats mid ys left a b = rw (a, b) refl
+    pub formats_end : (e : Error) → 4 < encoding.version → (formats_at bytes).0 ≡ Err e → here.0 ≡ Err e
+    unfolding table_of
+    formats_end e new is = rw (lt-leb encoding.version 4 new) (bind_refused (formats_at bytes) _ e is)
 
-  together_ends : (formats : List F) (mid : List ℕ) (e : Error) → r ≡ (Ok formats, mid) → (read formats mid).0 ≡ Err e → together.0 ≡ Err e
-  together_ends formats mid e a b = rw a (bind_refused (read formats mid) (λ ys end. (let s : Read (List F × List B) = (Ok (formats, ys), end) in s)) e b)
+  module _ (now first : Bool) (limit : ℕ) (encoding : Encoding) (bytes mid : List ℕ) (formats lent : List FileEntryFormat) (new : 4 < encoding.version)
+      (head : formats_at bytes ≡ (Ok formats, mid)) (kept : now ≡ first) (same : lent ≡ formats) where
+    abbrev items_at : Bool → List FileEntryFormat → Read (List B)
+    items_at big formats = read_map (map view) (entries_at (record { big = big; limit = limit }) encoding.format formats mid)
 
-  together_none : (e : Error) → r.0 ≡ Err e → together.0 ≡ Err e
-  together_none e is = bind_refused r (λ formats rest. read formats rest >>= λ ys end. (let s : Read (List F × List B) = (Ok (formats, ys), end) in s)) e is
+    abbrev before : Read Table
+    before = table_of plain view (record { big = first; limit = limit }) encoding bytes
 
--- directories up to an empty one
-abbrev strings_at : List ℕ → Read (List Value)
-strings_at bytes = read_map (map String) (paths_at bytes)
+    pub table_from_5 : (items : List B) (left : List ℕ) → items_at now lent ≡ (Ok items, left) → before ≡ (Ok (formats, items), left)
+    unfolding table_of
+    table_from_5 items left tail =
+        let again : items_at first formats ≡ (Ok items, left) = rw (← kept, ← same) tail in
+        rw (lt-leb encoding.version 4 new, head, again) refl
 
-module _ (notation : Notation) (encoding : Encoding) (bytes : List ℕ) where
-  directories_4 : encoding.version ≤ 4 → directories_at notation encoding bytes ≡ (strings_at bytes >>= λ ys rest. (Ok ([], ys), rest))
-  unfolding directories_at
-  directories_4 old = rw (le-leb encoding.version 4 old) (paired (map String) [] (paths_at bytes))
-
-  files_4 : encoding.version ≤ 4 → file_names_at notation encoding bytes ≡ (files_at bytes >>= λ ys rest. (Ok ([], ys), rest))
-  unfolding file_names_at
-  files_4 old = rw (le-leb encoding.version 4 old) refl
-
-  directories_5 : 4 < encoding.version → directories_at notation encoding bytes ≡ together (formats_at bytes) (directory_entries_at notation encoding.format)
-  unfolding directories_at table_at
-  directories_5 new = rw (lt-leb encoding.version 4 new) (table_viewed path_of (entries_at notation encoding.format) (formats_at bytes))
-
-  files_5 : 4 < encoding.version → file_names_at notation encoding bytes ≡ together (formats_at bytes) (file_entries_at notation encoding.format)
-  unfolding file_names_at table_at
-  files_5 new = rw (lt-leb encoding.version 4 new) (table_viewed file_of_entry (entries_at notation encoding.format) (formats_at bytes))
-
-  pub directories_up_to_4 : (none : List FileEntryFormat) (values : List Value) (left : List ℕ) → encoding.version ≤ 4 → none ≡ []
-      → strings_at bytes ≡ (Ok values, left)
-      → directories_at notation encoding bytes ≡ (Ok (none, values), left)
-  directories_up_to_4 none values left old empty is = directories_4 old ∙ rw (is, empty) refl
-
-  pub directories_4_end : (e : Error) → encoding.version ≤ 4 → (strings_at bytes).0 ≡ Err e → (directories_at notation encoding bytes).0 ≡ Err e
-  directories_4_end e old is =
-      ap (λ (r : Read (List FileEntryFormat × List Value)). r.0) (directories_4 old)
-      ∙ bind_refused (strings_at bytes) (λ ys rest. (let s : Read (List FileEntryFormat × List Value) = (Ok ([], ys), rest) in s)) e is
-
-  pub files_4_end : (e : Error) → encoding.version ≤ 4 → (files_at bytes).0 ≡ Err e → (file_names_at notation encoding bytes).0 ≡ Err e
-  files_4_end e old is =
-      ap (λ (r : Read (List FileEntryFormat × List File)). r.0) (files_4 old)
-      ∙ bind_refused (files_at bytes) (λ ys rest. (let s : Read (List FileEntryFormat × List File) = (Ok ([], ys), rest) in s)) e is
-
-  pub directory_formats_end : (e : Error) → 4 < encoding.version → (formats_at bytes).0 ≡ Err e → (directories_at notation encoding bytes).0 ≡ Err e
-  directory_formats_end e new is =
-      ap (λ (r : Read (List FileEntryFormat × List Value)). r.0) (directories_5 new)
-      ∙ together_none (formats_at bytes) (directory_entries_at notation encoding.format) e is
-
-  pub file_formats_end : (e : Error) → 4 < encoding.version → (formats_at bytes).0 ≡ Err e → (file_names_at notation encoding bytes).0 ≡ Err e
-  file_formats_end e new is =
-      ap (λ (r : Read (List FileEntryFormat × List File)). r.0) (files_5 new) ∙ together_none (formats_at bytes) (file_entries_at notation encoding.format) e is
-
-module _ (now first : Bool) (limit : ℕ) (encoding : Encoding) (bytes mid : List ℕ) (formats lent : List FileEntryFormat) (new : 4 < encoding.version)
-    (head : formats_at bytes ≡ (Ok formats, mid)) (kept : now ≡ first) (same : lent ≡ formats) where
-  abbrev later : Notation
-  later = record { big = now; limit = limit }
-
-  abbrev before : Notation
-  before = record { big = first; limit = limit }
-
-  pub directories_from_5 : (values : List Value) (left : List ℕ) → directory_entries_at later encoding.format lent mid ≡ (Ok values, left)
-      → directories_at before encoding bytes ≡ (Ok (formats, values), left)
-  directories_from_5 values left tail =
-      let again : directory_entries_at before encoding.format formats mid ≡ (Ok values, left) = rw (← kept, ← same) tail in
-      directories_5 before encoding bytes new ∙ together_is (formats_at bytes) (directory_entries_at before encoding.format) formats mid values left head again
-
-  pub directories_5_end : (e : Error) → (directory_entries_at later encoding.format lent mid).0 ≡ Err e → (directories_at before encoding bytes).0 ≡ Err e
-  directories_5_end e tail =
-      let again : (directory_entries_at before encoding.format formats mid).0 ≡ Err e = rw (← kept, ← same) tail in
-      ap (λ (r : Read (List FileEntryFormat × List Value)). r.0) (directories_5 before encoding bytes new)
-      ∙ together_ends (formats_at bytes) (directory_entries_at before encoding.format) formats mid e head again
-
-  pub files_5_end : (e : Error) → (file_entries_at later encoding.format lent mid).0 ≡ Err e → (file_names_at before encoding bytes).0 ≡ Err e
-  files_5_end e tail =
-      let again : (file_entries_at before encoding.format formats mid).0 ≡ Err e = rw (← kept, ← same) tail in
-      ap (λ (r : Read (List FileEntryFormat × List File)). r.0) (files_5 before encoding bytes new)
-      ∙ together_ends (formats_at bytes) (file_entries_at before encoding.format) formats mid e head again
+    pub table_5_end : (e : Error) → (items_at now lent).0 ≡ Err e → before.0 ≡ Err e
+    unfolding table_of
+    table_5_end e tail =
+        let again : (items_at first formats).0 ≡ Err e = rw (← kept, ← same) tail in
+        rw (lt-leb encoding.version 4 new, head)
+        (bind_refused (items_at first formats) (λ items end. (let s : Read Table = (Ok (formats, items), end) in s)) e again)

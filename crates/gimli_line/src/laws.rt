@@ -28,7 +28,6 @@ ghost use Rattle.gimli_line.specs.run.InstructionGrammar.{
   IsInstructionRefusal,
 };
 ghost use Rattle.gimli_line.specs.run.InstructionReading.{decoded_at};
-ghost use Rattle.gimli_line.specs.run.OperationPointer.{OperationPointer, IsPointerList, pointers};
 ghost use Rattle.gimli_line.specs.run.OperationPointer.{is_under_tombstone, overflows};
 ghost use Rattle.gimli_line.specs.run.RunState.{RunState};
 ghost use Rattle.gimli_line.specs.run.Rows.{events_left, start_of_run};
@@ -158,14 +157,6 @@ pub fn columns_are_ordered()
 pub fn instruction_refusals()
     ensures { (notation : Notation) (h : Header) (bytes : List ℕ) (e : Error) →
         (instruction_production notation h).Fault bytes e → IsInstructionRefusal notation e }
-{}
-
-/// The pointers that are found by looking back are a pointer list, and there is no other.
-pub fn one_pointer_list()
-    ensures some { (parameters : Parameters) (past : List Ins) →
-        IsPointerList parameters past (pointers parameters past) }
-    ensures one { (parameters : Parameters) (past : List Ins) (list : List OperationPointer) →
-        IsPointerList parameters past list → list ≡ pointers parameters past }
 {}
 
 /// `==` of the formats of tables, and of rows, holds exactly where all parts of the two agree.

@@ -2,8 +2,8 @@
 -- of a program are under a tombstone. DWARF has no rule for these. Ours is that of gimli and LLVM:
 -- a linker that drops code leaves its rows in the program, at an address that stands for nothing.
 -- The past of a point is the list of the instructions before it, the nearest first.
-use Rattle.std.specs.Prelude.{◌≡◌, ℕ, ◌+◌, ◌-◌, ◌*◌, ◌/◌, ◌%◌, ◌^◌, Bool, false, not, ◌||◌, ◌&&◌}
-use Rattle.std.specs.Prelude.{nat_lt, nat_le, nat_eq, if◌then◌else◌, List, [], ◌∷◌, zip, Option}
+use Rattle.std.specs.Prelude.{ℕ, ◌+◌, ◌-◌, ◌*◌, ◌/◌, ◌%◌, ◌^◌, Bool, false, not, ◌||◌, ◌&&◌}
+use Rattle.std.specs.Prelude.{nat_lt, nat_le, nat_eq, if◌then◌else◌, List, [], ◌∷◌, Option}
 use Rattle.std.specs.Prelude.{Some, None, option_map}
 use Rattle.gimli_line.specs.declared.run.instruction.LineInstruction.TheVariants.{
   Special,
@@ -119,30 +119,3 @@ abbrev pub since_last_row : Parameters → List Ins → List Ins
 since_last_row parameters [] = []
 since_last_row parameters (i ∷ past) =
     if makes_row i || overflows parameters past i then [] else i ∷ since_last_row parameters past
-
--- ---- the pointer list
-
--- the pointers after each of these instructions, the nearest first, and the start
-abbrev pub pointers : Parameters → List Ins → List OperationPointer
-pointers parameters [] = start ∷ []
-pointers parameters (i ∷ past) = pointer_at parameters (i ∷ past) ∷ pointers parameters past
-
--- whether the last set address of the sequence is a tombstone, where the pointer before each
--- instruction stands beside it
-abbrev pub is_trail_under_tombstone : Parameters → List (Ins × OperationPointer) → Bool
-is_trail_under_tombstone parameters [] = false
-is_trail_under_tombstone parameters ((SetAddress a, before) ∷ trail) =
-    is_tombstone parameters a before
-is_trail_under_tombstone parameters ((EndSequence, before) ∷ trail) = false
-is_trail_under_tombstone parameters ((i, before) ∷ trail) =
-    is_trail_under_tombstone parameters trail
-
--- pointers, one at the end of these instructions and one before each, the nearest first: the
--- farthest is the start, so is each after an end, and each other follows from the one before it
-abbrev pub IsPointerList : Parameters → List Ins → List OperationPointer → Type 0
-IsPointerList parameters [] (p ∷ []) = p ≡ start
-IsPointerList parameters (i ∷ past) (after ∷ before ∷ pointers) =
-    (after
-    ≡ next_pointer parameters (is_trail_under_tombstone parameters (zip past pointers)) i before)
-    × IsPointerList parameters past (before ∷ pointers)
-IsPointerList parameters past pointers = ⊥

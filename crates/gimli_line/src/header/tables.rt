@@ -139,7 +139,7 @@ fn nothing<R: Reader>(input: &R) -> R
     nothing
 }
 
-/// Takes an entry of a directory, and gives its path. Where no format is a path, that is empty.
+/// Takes an entry of a directory, and gives its path, as of a file.
 fn parse_directory_v5<R: Reader>(
     input: &mut R,
     format: Format,
@@ -151,14 +151,8 @@ fn parse_directory_v5<R: Reader>(
     ensures order { R.big input.new ≡ R.big input.old }
     ensures part { IfOk result (ValueHasOrder R.big (R.big input.old)) }
 {
-    let mut path_name = AttributeValue::String(nothing(input));
-    for entry_format in formats {
-        let value = parse_attribute(input, format, entry_format.form)?;
-        if entry_format.content_type == constants::DW_LNCT_path {
-            path_name = value;
-        }
-    }
-    Ok(path_name)
+    let file = parse_file_v5(input, format, formats)?;
+    Ok(file.path_name)
 }
 
 /// Takes an entry of a file. Where no format is a path, its path is empty.
@@ -231,7 +225,6 @@ fn parse_files_v5<R: Reader>(
 // ---- tables of a version
 
 /// Takes the directories, with their formats.
-#[tactic(auto, unfolding(crate::specs::inside::header::HeaderReading::directories_at, crate::specs::inside::header::HeaderReading::table_at))]
 pub(crate) fn parse_directory_table<R: Reader>(
     alloc: Global,
     input: &mut R,
@@ -254,7 +247,6 @@ pub(crate) fn parse_directory_table<R: Reader>(
 }
 
 /// Takes the files, with their formats.
-#[tactic(auto, unfolding(crate::specs::inside::header::HeaderReading::file_names_at, crate::specs::inside::header::HeaderReading::table_at))]
 pub(crate) fn parse_file_table<R: Reader>(
     alloc: Global,
     input: &mut R,

@@ -16,10 +16,6 @@ abbrev pub value_after : {A : Type 0} → ℕ → (Value → Option A) → ℕ �
 value_after wanted pick content value before =
     elim (if nat_eq content wanted then pick value else None) [ Some x ↦ x | None ↦ before ]
 
--- the path of a directory
-abbrev pub path_with : Value → ℕ → Value → Value
-path_with path content value = value_after DW_LNCT_path Some content value path
-
 -- a file with one more value
 abbrev pub file_with : File → ℕ → Value → File
 file_with file content value = record {

@@ -151,21 +151,20 @@ parameters_at encoding bytes =
       rest,
     )
 
-unfoldable pub directories_at : Notation → Encoding → List ℕ
-    → Read (List FileEntryFormat × List Value)
-directories_at notation encoding bytes =
-    if nat_le encoding.version 4
-    then (paths_at bytes >>= λ paths rest. (Ok ([], map String paths), rest))
-    else (table_at notation encoding.format bytes >>= λ table rest.
-    (Ok (table.0, map path_of table.1), rest))
+-- the items of a table of a version: plain ones up to version 4, else seen of its entries
+unfoldable pub table_of : {B : Type 0} → (List ℕ → Read (List B)) → (Entry → B) → Notation → Encoding
+    → List ℕ → Read (List FileEntryFormat × List B)
+table_of plain view notation encoding bytes =
+    if nat_le encoding.version 4 then (plain bytes >>= λ items rest. (Ok ([], items), rest))
+    else (formats_at bytes >>= λ formats rest.
+    read_map (map view) (entries_at notation encoding.format formats rest) >>= λ items rest.
+    (Ok (formats, items), rest))
 
-unfoldable pub file_names_at : Notation → Encoding → List ℕ
-    → Read (List FileEntryFormat × List File)
-file_names_at notation encoding bytes =
-    if nat_le encoding.version 4
-    then (files_at bytes >>= λ files rest. (Ok ([], files), rest))
-    else (table_at notation encoding.format bytes >>= λ table rest.
-    (Ok (table.0, map file_of_entry table.1), rest))
+abbrev pub directories_at : Notation → Encoding → List ℕ → Read (List FileEntryFormat × List Value)
+directories_at = table_of (λ bytes. read_map (map String) (paths_at bytes)) path_of
+
+abbrev pub file_names_at : Notation → Encoding → List ℕ → Read (List FileEntryFormat × List File)
+file_names_at = table_of files_at file_of_entry
 
 unfoldable pub fields_at : Notation → UnitEntry → ℕ → Opening → List ℕ → List ℕ → Read Header
 fields_at notation unit_entry unit opening program bytes =

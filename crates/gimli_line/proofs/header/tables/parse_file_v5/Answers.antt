@@ -2,8 +2,8 @@ use Rattle.std.proofs.Common.{refl, ◌∙◌}
 use Rattle.std.proofs.lemmas.Result.{err_from_is_err_and}
 use Rattle.gimli_line.specs.inside.header.EntryReading.{file_with}
 use Rattle.gimli_line.proofs.Order.{value_kept, file_kept}
-use Rattle.gimli_line.proofs.Entries.{file_is, file_goes_on}
-use Rattle.gimli_line.proofs.Tables.{entry_ends, entry_done}
+use Rattle.gimli_line.proofs.Entries.{file_is}
+use Rattle.gimli_line.proofs.Tables.{entry_goes_on, entry_ends, entry_done}
 use Rattle.gimli_line.proofs.header.tables.parse_file_v5.Goals as goal
 
 pub loop-entry_format-init : goal.loop-entry_format-init
@@ -16,7 +16,7 @@ loop-entry_format-init g c = record {
 pub loop-entry_format-preserved : goal.loop-entry_format-preserved
 loop-entry_format-preserved g c = record {
   so_far =
-      file_goes_on _ _ _ _ _ _ _ _ _ _ _ _ _ c.loop-entry_format-test.true c.loop-entry_format.invariant.order c.in_ok-value.ensures.read c.update.ensures.file
+      entry_goes_on _ _ _ _ file_with _ _ _ _ _ _ _ _ _ c.loop-entry_format-test.true c.loop-entry_format.invariant.order c.in_ok-value.ensures.read c.update.ensures.file
       c.loop-entry_format.invariant.so_far;
   order = c.parse_attribute.ensures.order ∙ c.loop-entry_format.invariant.order;
   part =
