@@ -13,15 +13,3 @@ use Rattle.gimli_write.proofs.Writable.{writable_built}
 
 module _ {R Endian Offset A : Type 0} (result : Result A ConvertError) (built : Built) (old : ConvertLineProgram R Conversion Endian Offset)
     (tables : SourceTables) where
-  abbrev with_tables : SourceTables → Conversion
-  with_tables t = record old.conversion { tables = t }
-
-  pub builds : without_items built ≡ without_items old.conversion.tables.program
-      → OnOk result (tables ≡ record old.conversion.tables { program = built }) → OnErr result (tables ≡ old.conversion.tables)
-      → Builds built old result (record old { conversion = with_tables tables })
-  builds same is kept = record {
-    ok = on_ok_weaker result (ap with_tables) is;
-    kept = on_err_weaker result (ap with_tables) kept;
-    writable = writable_built _ _ _ _ _ same is kept;
-    string_tables = record { line_strings = refl; strings = refl; lent_line_strings = refl; lent_strings = refl };
-  }

@@ -10,25 +10,12 @@ use Rattle.gimli_write.specs.convert.SourceTables.{SourceTables, TablesAndTexts,
 use Rattle.gimli_write.specs.convert.Preparation.{Handed, encoding_of, tables_at_start, lists_added, tables_of_header}
 use Rattle.gimli_write.proofs.ConvertSteps.{done_first, refused_first, refused_same}
 
--- tables whose parts are these
-pub tables_are : (c : SourceTables) (line_strings : List (List ℕ)) (want : TablesAndTexts) → c.program ≡ want.program → c.directory_ids ≡ want.directory_ids
-    → c.file_ids ≡ want.file_ids → line_strings ≡ want.line_strings → tables_with line_strings c ≡ want
-tables_are c line_strings want program directories files texts = rw (program, directories, files, texts) refl
-
--- what three things say of a result that is there
-pub ok_by_three : {A E : Type 0} (r : Result A E) (P Q R S : A → Type 0) → ((x : A) → P x → Q x → R x → S x) → IfOk r P → IfOk r Q → IfOk r R → IfOk r S
-ok_by_three (Ok x) P Q R S f p q r = f x p q r
-ok_by_three (Err e) P Q R S f p q r = tt
-
 -- ---- two steps that don't ask for each other, and what follows them
 
 module _ {A B C : Type 0} (a : Result A ConvertError) (b : Result B ConvertError) (f : A → B → Result C ConvertError) (x : A) (y : B) (first : a ≡ Ok x)
     (second : b ≡ Ok y) where
   pub at_third : (a >>= λ x. b >>= λ y. f x y) ≡ f x y
   at_third = done_first a _ x first ∙ done_first b _ y second
-
-  pub refused_at_third : (e : ConvertError) → IsRefusedBy (f x y) e → IsRefusedBy (a >>= λ x. b >>= λ y. f x y) e
-  refused_at_third e refused = refused_same _ _ e (sym at_third) refused
 
 -- ---- the preparation
 

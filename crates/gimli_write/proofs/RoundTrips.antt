@@ -27,19 +27,6 @@ write_refused big wanted unit_entry old new e r why named other = elim (is_memor
   | inr not_memory ↦ rw (other not_memory) (elim why [ inl memory ↦ absurd (not_memory memory) | inr is ↦ is ])
 ]
 
--- the same without what may be refused of reading
-pub unwritten_refused : (cause : Option Error) (e : Error) (r : ConvertError)
-    → (e ≡ OutOfMemory) ⊎ (cause ≡ Some e) → (e ≡ OutOfMemory → r ≡ NoMemory) → (e ≢ OutOfMemory → r ≡ Write e)
-    → IsCausedRefusal cause r
-unwritten_refused cause e r why named other = elim (is_memory e) [
-  | inl memory ↦ rw (named memory) tt
-  | inr not_memory ↦ rw (other not_memory) (elim why [ inl memory ↦ absurd (not_memory memory) | inr is ↦ is ])
-]
-
--- a written unit is refused for `OutOfMemory` alone
-pub memory_refused : (cause : Option Error) (r : Result RoundTrip ConvertError) → IfErr r (λ e. e ≡ NoMemory) → IfErr r (IsCausedRefusal cause)
-memory_refused cause r is = MatchResult-weaker r is (λ _ u. u) (λ e memory. rw memory tt)
-
 -- what was appended is the unit that was wanted
 unit_written : (wanted : ToWrite) (old new : List ℕ) → wanted.cause ≡ None → Appends wanted.bytes old new → (unit : List ℕ) × WasWritten wanted old new unit
 unit_written wanted old new none there = by _ refl there

@@ -208,14 +208,6 @@ module _ (i : Ins) (old new : LineRow) (ready : IsReady old) where
   pub ready_when_quiet : (p : Parameters) → makes_row i ≡ false → new ≡ step_of p i old → IsReady new
   ready_when_quiet p quiet step = ap (λ r. r.end_sequence) step ∙ keeps_end p i _ quiet ∙ ready
 
-reset_ready : (q : Parameters) (r : LineRow) (last : Bool) → r.end_sequence ≡ last → IsReady (reset_row q r)
-reset_ready q r true e = rw e refl
-reset_ready q r false e = rw e refl
-
--- after a row, whose registers are reset
-pub ready_after_row : (q : Parameters) (new after : LineRow) → after ≡ reset_row q new → IsReady after
-ready_after_row q new after reset = rw reset (reset_ready q new new.end_sequence refl)
-
 -- ---- what is done of an instruction that sets no address and defines no file
 
 module _ {R Endian Offset : Type 0} where

@@ -158,10 +158,3 @@ module _ {R Offset : Type 0} (Endian : Type 0) (bytes : R → List ℕ) (number 
   executed_stop (Err e) over = λ sections tables. refusal_last sections tables s u notation i front parts spelled over.1
 
 -- ---- a file that is refused
-
-pub file_stopped : (before new last : TablesAndTexts) (there : Result TablesAndTexts ConvertError) (more : TablesAndTexts → TablesAndTexts) (e : ConvertError)
-    → IsRefusedBy there e → e ≢ OutOfMemory → new ≡ before
-    → unless_refused before there more ≡ last → new ≡ last
-file_stopped before new last there more e (inl memory) other same is = absurd (other memory)
-file_stopped before new last there more e (inr refused) other same is =
-    same ∙ ap (λ r. unless_refused before r more) (sym refused) ∙ is

@@ -111,10 +111,3 @@ writable_with_items old new line_strings same = record {
       let texts = texts_in strings line_strings in
       written_tables _ _ (subst (λ p. WrittenTables p texts) (sym same) (tables_written _ _ can));
 }
-
--- after a builder call, of which a refused one changes nothing
-pub writable_built : {A E : Type 0} (result : Result A E) (old new : SourceTables) (line_strings : List (List ℕ)) (built : Built)
-    → without_items built ≡ without_items old.program
-    → OnOk result (new ≡ record old { program = built }) → OnErr result (new ≡ old) → StaysWritable old line_strings new line_strings
-writable_built (Ok _) old new line_strings built same is kept = rw is (writable_with_items _ _ _ same)
-writable_built (Err _) old new line_strings built same is kept = rw kept (record { still = λ strings can. can })
