@@ -1,5 +1,6 @@
 -- Reading the single productions of a format: bytes, numbers, texts, lengths.
-use Rattle.std.proofs.Common.{◌≡◌, ◌≢◌, ℕ, suc, ◌+◌, ◌<◌, ◌≤◌, Bool, true, false, if◌then◌else◌, List, [], ◌∷◌, ◌++◌, length, take, drop, Ok, Err, refl, sym}
+use Rattle.std.proofs.Common.{◌≡◌, ◌≢◌, ℕ, suc, ◌+◌, ◌<◌, ◌≤◌, Bool, true, false, if◌then◌else◌, List, [], ◌∷◌, ◌++◌}
+use Rattle.std.proofs.Common.{length, take, drop, Ok, Err, refl, sym}
 use Rattle.std.proofs.Common.{ap, subst, ◌∙◌, arith, append_assoc, inl, inr, ◌⊎◌}
 use Rattle.std.specs.Prelude.{nat_eq, nat_lt}
 use Rattle.std.specs.Int.{w8, cast_signed}
@@ -10,15 +11,22 @@ use Rattle.std.proofs.lemmas.List.{append-nil, take_at, drop_at, take-append-dro
 use Rattle.gimli_core.specs.declared.common.Format.{Format}
 use Rattle.gimli_core.specs.declared.common.Format.TheVariants.{Dwarf32, Dwarf64}
 use Rattle.gimli_core.specs.declared.error.Error.{Error}
-use Rattle.gimli_core.specs.declared.error.Error.TheVariants.{UnknownReservedLength, UnsupportedAddressSize, UnsupportedOffset}
+use Rattle.gimli_core.specs.declared.error.Error.TheVariants.{
+  UnknownReservedLength,
+  UnsupportedAddressSize,
+  UnsupportedOffset,
+}
 use Rattle.gimli_core.specs.Notation.{Notation}
 use Rattle.gimli_core.specs.Numbers.{SpellsNumber, SpellsInitialLength, value_of, is_address_size}
-use Rattle.gimli_core.specs.Reading.{Read, ◌>>=◌, result_map, eof, byte_at, signed_byte_at, number_at, split_at, text_at, word_at, initial_length_at}
+use Rattle.gimli_core.specs.Reading.{Read, ◌>>=◌, result_map, eof, byte_at, signed_byte_at, number_at, split_at}
+use Rattle.gimli_core.specs.Reading.{text_at, word_at, initial_length_at}
 use Rattle.gimli_core.specs.Reading.{address_size_at, offset_of}
 use Rattle.gimli_core.specs.inside.Reading.{check_at, below_at}
-use Rattle.gimli_core.specs.Production.{Production, check, byte, signed_byte, number, some_bytes, text, address_size, below_limit, fits_offset, offset_word}
+use Rattle.gimli_core.specs.Production.{Production, check, byte, signed_byte, number, some_bytes, text, address_size}
+use Rattle.gimli_core.specs.Production.{below_limit, fits_offset, offset_word}
 use Rattle.gimli_core.specs.Production.{initial_length, unit_length, IsWanting, Reads}
-use Rattle.gimli_core.proofs.Productions.{ok_parts, bind_ok, bind_fault, bind_refused, reads_both, reads_done, reads_check, reads_same}
+use Rattle.gimli_core.proofs.Productions.{ok_parts, bind_ok, bind_fault, bind_refused, reads_both, reads_done}
+use Rattle.gimli_core.proofs.Productions.{reads_check, reads_same}
 use Rattle.gimli_core.proofs.Padded.{split_ok}
 
 -- ---- bytes
@@ -26,11 +34,13 @@ use Rattle.gimli_core.proofs.Padded.{split_ok}
 -- what is after a front of known length
 front_split : (n : ℕ) (front rest : List ℕ) → length front ≡ n
     → (n ≤ length (front ++ rest)) × (take n (front ++ rest) ≡ front) × (drop n (front ++ rest) ≡ rest)
-front_split n front rest is = (omega (arith, length-append front rest), take_at front rest n is, drop_at front rest n is)
+front_split n front rest is =
+    (omega (arith, length-append front rest), take_at front rest n is, drop_at front rest n is)
 
 -- a refusal for want of bytes
 want_fault : {A : Type 0} (n : ℕ) (bytes : List ℕ) (x : A) (left : List ℕ) (e : Error)
-    → ((if nat_lt (length bytes) n then (let r : Read A = (Err (eof bytes), bytes) in r) else (Ok x, left)).0 ≡ Err e) → IsWanting n bytes e
+    → ((if nat_lt (length bytes) n then (let r : Read A = (Err (eof bytes), bytes) in r) else (Ok x, left)).0 ≡ Err e)
+    → IsWanting n bytes e
 want_fault {A} n bytes x left e is = elim (cases_lt (length bytes) n) [
   | inl lt ↦ let p = rw (lt-ltb (length bytes) n lt) at is in (lt, cc)
   | inr le ↦ let p = rw (le-ltb (length bytes) n le) at is in absurd cc
@@ -56,7 +66,8 @@ reads_byte = record {
   refused = byte_refused;
 }
   where
-    byte_found : (bytes : List ℕ) (b : ℕ) (rest : List ℕ) → byte_at bytes ≡ (Ok b, rest) → (front : List ℕ) × (bytes ≡ front ++ rest) × (front ≡ b ∷ [])
+    byte_found : (bytes : List ℕ) (b : ℕ) (rest : List ℕ) → byte_at bytes ≡ (Ok b, rest)
+        → (front : List ℕ) × (bytes ≡ front ++ rest) × (front ≡ b ∷ [])
     byte_found [] b rest e = let p = ap (λ (r : Read ℕ). r.0) e in absurd cc
     byte_found (c ∷ bytes) b rest e = let p = ok_parts c b bytes rest e in (b ∷ [], rw (p.0, p.1) refl, refl)
 
@@ -88,8 +99,13 @@ reads_number big size = record {
     number_found bytes n rest e = elim (cases_lt (length bytes) size) [
       | inl lt ↦ let p = ap (λ (r : Read ℕ). r.0) (rw (lt-ltb (length bytes) size lt, number_at) at e) in absurd cc
       | inr le ↦
-          let p = ok_parts (value_of big (take size bytes)) n (drop size bytes) rest (rw (le-ltb (length bytes) size le, number_at) at e) in
-          (take size bytes, sym (rw (← p.1) (take-append-drop size bytes)), record { size_is = length-take-le size bytes le; value_is = p.0 })
+          let p =
+          ok_parts (value_of big (take size bytes)) n (drop size bytes) rest
+          (rw (le-ltb (length bytes) size le, number_at) at e) in (
+            take size bytes,
+            sym (rw (← p.1) (take-append-drop size bytes)),
+            record { size_is = length-take-le size bytes le; value_is = p.0 },
+          )
     ]
 
 -- ---- texts
@@ -111,7 +127,8 @@ record ZeroAt (bytes : List ℕ) (k : ℕ) : Type 0 where
 
 zero_more : (b : ℕ) (bytes : List ℕ) (k : ℕ) → b ≢ 0 → ZeroAt bytes k → ZeroAt (b ∷ bytes) (suc k)
 zero_more b bytes k other zero =
-    let after : drop (suc k + 1) (b ∷ bytes) ≡ drop (k + 1) bytes = let n : suc k + 1 ≡ suc (k + 1) = omega arith in rw n refl in
+    let after : drop (suc k + 1) (b ∷ bytes) ≡ drop (k + 1) bytes = let n : suc k + 1 ≡ suc (k + 1) = omega arith in
+    rw n refl in
     record {
       parts = ap (λ (xs : List ℕ). b ∷ xs) zero.parts ∙ ap (λ (xs : List ℕ). b ∷ take k bytes ++ 0 ∷ xs) (sym after);
       name = (other, zero.name);
@@ -128,7 +145,8 @@ zero_at (b ∷ bytes) lt = elim (eqb_tells b 0) [
 ]
   where
     at_zero : (b : ℕ) (bytes : List ℕ) → b ≡ 0 → ZeroAt (b ∷ bytes) (place (b ∷ bytes))
-    at_zero b bytes is = subst (λ (n : ℕ). ZeroAt (n ∷ bytes) (place (n ∷ bytes))) (sym is) (record { parts = refl; name = tt })
+    at_zero b bytes is =
+        subst (λ (n : ℕ). ZeroAt (n ∷ bytes) (place (n ∷ bytes))) (sym is) (record { parts = refl; name = tt })
 
 -- where none is zero the place is the end
 place_none : (name : List ℕ) → AllByRecursion IsNoZero name → place name ≡ length name
@@ -146,26 +164,34 @@ none_zero (b ∷ bytes) le = elim (eqb_tells b 0) [
   | inr p ↦ let more = place_more b bytes p.1 in (p.1, none_zero bytes (omega (arith, more)))
 ]
 
-text_found : (bytes name rest : List ℕ) → text_at bytes ≡ (Ok name, rest) → (front : List ℕ) × (bytes ≡ front ++ rest) × text.Spells front name
+text_found : (bytes name rest : List ℕ) → text_at bytes ≡ (Ok name, rest)
+    → (front : List ℕ) × (bytes ≡ front ++ rest) × text.Spells front name
 text_found bytes name rest e = elim (cases_lt (place bytes) (length bytes)) [
   | inl lt ↦
-      let p = ok_parts (take (place bytes) bytes) name (drop (place bytes + 1) bytes) rest (rw (lt-ltb (place bytes) (length bytes) lt, text_at) at e) in
+      let p =
+      ok_parts (take (place bytes) bytes) name (drop (place bytes + 1) bytes) rest
+      (rw (lt-ltb (place bytes) (length bytes) lt, text_at) at e) in
       let zero = zero_at bytes lt in
       let whole : bytes
-      ≡ (name ++ 0 ∷ []) ++ rest = rw (← p.0, ← p.1) (zero.parts ∙ sym (append_assoc (take (place bytes) bytes) (0 ∷ []) (drop (place bytes + 1) bytes))) in
+      ≡ (name ++ 0 ∷ [])
+      ++ rest = rw (← p.0, ← p.1)
+      (zero.parts ∙ sym (append_assoc (take (place bytes) bytes) (0 ∷ []) (drop (place bytes + 1) bytes))) in
       (name ++ 0 ∷ [], whole, (rw (← p.0) zero.name, refl))
-  | inr le ↦ let p = ap (λ (r : Read (List ℕ)). r.0) (rw (le-ltb (place bytes) (length bytes) le, text_at) at e) in absurd cc
+  | inr le ↦
+      let p = ap (λ (r : Read (List ℕ)). r.0) (rw (le-ltb (place bytes) (length bytes) le, text_at) at e) in absurd cc
 ]
 
 text_only : (front name rest : List ℕ) → text.Spells front name → text_at (front ++ rest) ≡ (Ok name, rest)
 text_only front name rest s =
-    let whole : front ++ rest ≡ name ++ 0 ∷ rest = ap (λ (xs : List ℕ). xs ++ rest) s.1 ∙ append_assoc name (0 ∷ []) rest in
+    let whole : front ++ rest ≡ name ++ 0 ∷ rest = ap (λ (xs : List ℕ). xs ++ rest) s.1
+    ∙ append_assoc name (0 ∷ []) rest in
     let at = place_name name rest s.0 in
     let lt : length name < length (name ++ 0 ∷ rest) = omega (arith, length-append name (0 ∷ rest)) in
     let front_is : take (length name) (name ++ 0 ∷ rest) ≡ name = take_at name (0 ∷ rest) (length name) refl in
     let len : length (name ++ 0 ∷ []) ≡ length name + 1 = length-append name (0 ∷ []) in
     let after : drop (length name + 1) (name ++ 0 ∷ rest) ≡ rest =
-    ap (drop (length name + 1)) (sym (append_assoc name (0 ∷ []) rest)) ∙ drop_at (name ++ 0 ∷ []) rest (length name + 1) len in
+    ap (drop (length name + 1)) (sym (append_assoc name (0 ∷ []) rest))
+    ∙ drop_at (name ++ 0 ∷ []) rest (length name + 1) len in
     ap text_at whole ∙ rw (at, lt-ltb (length name) (length (name ++ 0 ∷ rest)) lt, front_is, after, text_at) refl
 
 text_fault : (bytes : List ℕ) (e : Error) → (text_at bytes).0 ≡ Err e → text.Fault bytes e
@@ -185,7 +211,8 @@ reads_text = record { found = text_found; only = text_only; fault = text_fault; 
 
 -- ---- steps that come to the same
 
-bind_same : {A B : Type 0} (r : Read A) (f g : A → List ℕ → Read B) → ((x : A) (rest : List ℕ) → f x rest ≡ g x rest) → (r >>= f) ≡ (r >>= g)
+bind_same : {A B : Type 0} (r : Read A) (f g : A → List ℕ → Read B) → ((x : A) (rest : List ℕ) → f x rest ≡ g x rest)
+    → (r >>= f) ≡ (r >>= g)
 bind_same (Ok x, rest) f g same = same x rest
 bind_same (Err e, rest) f g same = refl
 
@@ -193,14 +220,16 @@ bind_done : {A : Type 0} (r : Read A) → (r >>= λ x rest. (Ok x, rest)) ≡ r
 bind_done (Ok x, rest) = refl
 bind_done (Err e, rest) = refl
 
-bind_assoc : {A B C : Type 0} (r : Read A) (f : A → List ℕ → Read B) (g : B → List ℕ → Read C) → ((r >>= f) >>= g) ≡ (r >>= λ x rest. f x rest >>= g)
+bind_assoc : {A B C : Type 0} (r : Read A) (f : A → List ℕ → Read B) (g : B → List ℕ → Read C)
+    → ((r >>= f) >>= g) ≡ (r >>= λ x rest. f x rest >>= g)
 bind_assoc (Ok x, rest) f g = refl
 bind_assoc (Err e, rest) f g = refl
 
 -- ---- sizes of addresses
 
 tested_size : (allowed : Bool) (n : ℕ) (d : Error) (rest : List ℕ)
-    → (check_at allowed d rest >>= λ fits left. (let r : Read ℕ = (Ok n, left) in r)) ≡ (if allowed then Ok n else Err d, rest)
+    → (check_at allowed d rest >>= λ fits left. (let r : Read ℕ = (Ok n, left) in r))
+    ≡ (if allowed then Ok n else Err d, rest)
 tested_size true n d rest = refl
 tested_size false n d rest = refl
 
@@ -208,16 +237,19 @@ pub reads_address_size : Reads address_size address_size_at
 unfolding address_size_at
 reads_address_size =
     reads_same address_size _ address_size_at
-    (λ bytes. bind_same (byte_at bytes) _ _ (λ n rest. tested_size (is_address_size n) n (UnsupportedAddressSize n) rest))
+    (λ bytes. bind_same (byte_at bytes) _ _ (λ n rest.
+    tested_size (is_address_size n) n (UnsupportedAddressSize n) rest))
     (reads_both byte _ byte_at _ reads_byte (λ n.
-    reads_both (check (is_address_size n) (UnsupportedAddressSize n)) _ (check_at (is_address_size n) (UnsupportedAddressSize n)) _
+    reads_both (check (is_address_size n) (UnsupportedAddressSize n)) _
+    (check_at (is_address_size n) (UnsupportedAddressSize n)) _
     (reads_check (is_address_size n) (UnsupportedAddressSize n)) (λ fits. reads_done n)))
 
 -- ---- offsets, words and lengths
 
 -- the test of a number
 test_of : (limit n : ℕ) (rest : List ℕ)
-    → (check_at (nat_lt n limit) UnsupportedOffset rest >>= λ fits left. (let r : Read ℕ = (Ok n, left) in r)) ≡ (offset_of limit n, rest)
+    → (check_at (nat_lt n limit) UnsupportedOffset rest >>= λ fits left. (let r : Read ℕ = (Ok n, left) in r))
+    ≡ (offset_of limit n, rest)
 test_of limit n rest = elim (cases_lt n limit) [
   | inl lt ↦ rw (lt-ltb n limit lt, lt-leb limit n lt) refl
   | inr le ↦ rw (le-ltb n limit le, le-leb limit n le) refl
@@ -229,22 +261,26 @@ reads_below_limit notation l read r =
     reads_same (below_limit notation l) _ (below_at notation.limit read)
     (λ bytes. bind_same (read bytes) _ _ (test_of notation.limit))
     (reads_both l _ read _ r (λ n.
-    reads_both (check (nat_lt n notation.limit) UnsupportedOffset) _ (check_at (nat_lt n notation.limit) UnsupportedOffset) _
+    reads_both (check (nat_lt n notation.limit) UnsupportedOffset) _
+    (check_at (nat_lt n notation.limit) UnsupportedOffset) _
     (reads_check (nat_lt n notation.limit) UnsupportedOffset) (λ fits. reads_done n)))
 
 -- a word that is an offset
-pub reads_offset_word : (notation : Notation) (format : Format) → Reads (offset_word notation format) (word_at notation.big notation.limit format)
+pub reads_offset_word : (notation : Notation) (format : Format)
+    → Reads (offset_word notation format) (word_at notation.big notation.limit format)
 unfolding word_at
 reads_offset_word notation Dwarf32 =
     reads_same (offset_word notation Dwarf32) _ (word_at notation.big notation.limit Dwarf32)
     (λ bytes. bind_done (number_at notation.big 4 bytes))
     (reads_both (number notation.big 4) _ (number_at notation.big 4) _ (reads_number notation.big 4) (λ n.
-    reads_both (check true UnsupportedOffset) _ (check_at true UnsupportedOffset) _ (reads_check true UnsupportedOffset) (λ fits. reads_done n)))
+    reads_both (check true UnsupportedOffset) _ (check_at true UnsupportedOffset) _ (reads_check true UnsupportedOffset)
+    (λ fits. reads_done n)))
 reads_offset_word notation Dwarf64 =
     reads_same (offset_word notation Dwarf64) _ (word_at notation.big notation.limit Dwarf64)
     (λ bytes. bind_same (number_at notation.big 8 bytes) _ _ (test_of notation.limit))
     (reads_both (number notation.big 8) _ (number_at notation.big 8) _ (reads_number notation.big 8) (λ n.
-    reads_both (check (nat_lt n notation.limit) UnsupportedOffset) _ (check_at (nat_lt n notation.limit) UnsupportedOffset) _
+    reads_both (check (nat_lt n notation.limit) UnsupportedOffset) _
+    (check_at (nat_lt n notation.limit) UnsupportedOffset) _
     (reads_check (nat_lt n notation.limit) UnsupportedOffset) (λ fits. reads_done n)))
 
 -- ---- initial lengths
@@ -253,7 +289,8 @@ reads_offset_word notation Dwarf64 =
 abbrev after_first : Bool → ℕ → List ℕ → Read (ℕ × Format)
 after_first big n rest =
     if nat_lt n 0xffff_fff0 then (Ok (n, Dwarf32), rest)
-    else (if nat_eq n 0xffff_ffff then (number_at big 8 rest >>= λ m left. (Ok (m, Dwarf64), left)) else (Err UnknownReservedLength, rest))
+    else (if nat_eq n 0xffff_ffff then (number_at big 8 rest >>= λ m left. (Ok (m, Dwarf64), left))
+    else (Err UnknownReservedLength, rest))
 
 abbrev length_at : Bool → List ℕ → Read (ℕ × Format)
 length_at big bytes = number_at big 4 bytes >>= after_first big
@@ -274,20 +311,28 @@ first_of n = elim (cases_lt n 0xffff_fff0) [
 ]
 
 module _ (big : Bool) where
-  number_8 : (rest : List ℕ) (m : ℕ) (left : List ℕ) → number_at big 8 rest ≡ (Ok m, left) → (tail : List ℕ) × (rest ≡ tail ++ left) × SpellsNumber big 8 tail m
+  number_8 : (rest : List ℕ) (m : ℕ) (left : List ℕ) → number_at big 8 rest ≡ (Ok m, left)
+      → (tail : List ℕ) × (rest ≡ tail ++ left) × SpellsNumber big 8 tail m
   number_8 = (reads_number big 8).found
 
-  after_found : (n : ℕ) → First n → (rest : List ℕ) (u : ℕ × Format) (left first : List ℕ) → SpellsNumber big 4 first n → after_first big n rest ≡ (Ok u, left)
+  after_found : (n : ℕ) → First n → (rest : List ℕ) (u : ℕ × Format) (left first : List ℕ) → SpellsNumber big 4 first n
+      → after_first big n rest ≡ (Ok u, left)
       → (tail : List ℕ) × (rest ≡ tail ++ left) × SpellsInitialLength big (first ++ tail) u.1 u.0
   after_found n (short lt is) rest u left first spelled e =
       let p = ok_parts (n, Dwarf32) u rest left (rw is at e) in
-      subst (λ (v : ℕ × Format). (tail : List ℕ) × (rest ≡ tail ++ left) × SpellsInitialLength big (first ++ tail) v.1 v.0) p.0
+      subst
+      (λ (v : ℕ × Format). (tail : List ℕ) × (rest ≡ tail ++ left) × SpellsInitialLength big (first ++ tail) v.1 v.0)
+      p.0
       ([], p.1, (rw (append-nil first) spelled, lt))
   after_found n (long same not_short is) rest u left first spelled e =
-      let q = bind_ok (number_at big 8 rest) (λ m left. (let r : Read (ℕ × Format) = (Ok (m, Dwarf64), left) in r)) u left (rw (not_short, is) at e) in
+      let q =
+      bind_ok (number_at big 8 rest) (λ m left. (let r : Read (ℕ × Format) = (Ok (m, Dwarf64), left) in r)) u left
+      (rw (not_short, is) at e) in
       let p = ok_parts (q.0, Dwarf64) u q.1 left q.3 in
       let t = number_8 rest q.0 q.1 q.2 in
-      subst (λ (v : ℕ × Format). (tail : List ℕ) × (rest ≡ tail ++ left) × SpellsInitialLength big (first ++ tail) v.1 v.0) p.0
+      subst
+      (λ (v : ℕ × Format). (tail : List ℕ) × (rest ≡ tail ++ left) × SpellsInitialLength big (first ++ tail) v.1 v.0)
+      p.0
       (t.0, t.1 ∙ ap (λ (xs : List ℕ). t.0 ++ xs) p.1, (first, t.0, refl, rw (← same) spelled, t.2))
   after_found n (reserved le other not_short is) rest u left first spelled e =
       let p = ap (λ (r : Read (ℕ × Format)). r.0) (rw (not_short, is) at e) in absurd cc
@@ -300,12 +345,14 @@ module _ (big : Bool) where
       let b = after_found q.0 (first_of q.0) q.1 u rest f.0 f.2 q.3 in
       (f.0 ++ b.0, f.1 ∙ ap (λ (xs : List ℕ). f.0 ++ xs) b.1 ∙ sym (append_assoc f.0 b.0 rest), b.2)
 
-  length_only : (front : List ℕ) (u : ℕ × Format) (rest : List ℕ) → SpellsInitialLength big front u.1 u.0 → length_at big (front ++ rest) ≡ (Ok u, rest)
+  length_only : (front : List ℕ) (u : ℕ × Format) (rest : List ℕ) → SpellsInitialLength big front u.1 u.0
+      → length_at big (front ++ rest) ≡ (Ok u, rest)
   length_only front (n, Dwarf32) rest s =
       let first = (reads_number big 4).only front n rest s.0 in
       rw (first, lt-ltb n 0xffff_fff0 s.1) refl
   length_only front (n, Dwarf64) rest s =
-      let whole : front ++ rest ≡ s.0 ++ (s.1 ++ rest) = ap (λ (xs : List ℕ). xs ++ rest) s.2 ∙ append_assoc s.0 s.1 rest in
+      let whole : front ++ rest ≡ s.0 ++ (s.1 ++ rest) = ap (λ (xs : List ℕ). xs ++ rest) s.2
+      ∙ append_assoc s.0 s.1 rest in
       let first = (reads_number big 4).only s.0 0xffff_ffff (s.1 ++ rest) s.3 in
       let second = (reads_number big 8).only s.1 n rest s.4 in
       ap (length_at big) whole ∙ rw (first, second) refl
@@ -314,7 +361,8 @@ module _ (big : Bool) where
       → ((0xffff_fff0 ≤ n) × (n ≢ 0xffff_ffff) × (e ≡ UnknownReservedLength)) ⊎ ((n ≡ 0xffff_ffff) × IsWanting 8 rest e)
   after_fault n (short lt is) rest e f = let p = rw is at f in absurd cc
   after_fault n (long same not_short is) rest e f =
-      elim (bind_fault (number_at big 8 rest) (λ m left. (let r : Read (ℕ × Format) = (Ok (m, Dwarf64), left) in r)) e (rw (not_short, is) at f)) [
+      elim (bind_fault (number_at big 8 rest) (λ m left. (let r : Read (ℕ × Format) = (Ok (m, Dwarf64), left) in r)) e
+      (rw (not_short, is) at f)) [
         | inl p ↦ inr (same, (reads_number big 8).fault rest e p)
         | inr q ↦ let none = q.3 in absurd cc
       ]
@@ -329,20 +377,28 @@ module _ (big : Bool) where
   ]
 
   after_refused : (n : ℕ) (rest : List ℕ) (e : Error)
-      → ((0xffff_fff0 ≤ n) × (n ≢ 0xffff_ffff) × (e ≡ UnknownReservedLength)) ⊎ ((n ≡ 0xffff_ffff) × IsWanting 8 rest e) → (after_first big n rest).0 ≡ Err e
+      → ((0xffff_fff0 ≤ n) × (n ≢ 0xffff_ffff) × (e ≡ UnknownReservedLength)) ⊎ ((n ≡ 0xffff_ffff) × IsWanting 8 rest e)
+      → (after_first big n rest).0 ≡ Err e
   after_refused n rest e (inl f) = rw (le-ltb n 0xffff_fff0 f.0, ne_eqb n 0xffff_ffff f.1, f.2) refl
   after_refused n rest e (inr f) =
       rw f.0
-      (bind_refused (number_at big 8 rest) (λ m left. (let r : Read (ℕ × Format) = (Ok (m, Dwarf64), left) in r)) e ((reads_number big 8).refused rest e f.1))
+      (bind_refused (number_at big 8 rest) (λ m left. (let r : Read (ℕ × Format) = (Ok (m, Dwarf64), left) in r)) e
+      ((reads_number big 8).refused rest e f.1))
 
   length_refused : (bytes : List ℕ) (e : Error) → (initial_length big).Fault bytes e → (length_at big bytes).0 ≡ Err e
-  length_refused bytes e (inl f) = bind_refused (number_at big 4 bytes) (after_first big) e ((reads_number big 4).refused bytes e f)
+  length_refused bytes e (inl f) =
+      bind_refused (number_at big 4 bytes) (after_first big) e ((reads_number big 4).refused bytes e f)
   length_refused bytes e (inr f) =
       let first = (reads_number big 4).only f.0 f.2 f.1 f.4 in
       rw (f.3, first) (after_refused f.2 f.1 e f.5)
 
   reads_initial_length : Reads (initial_length big) (length_at big)
-  reads_initial_length = record { found = length_found; only = length_only; fault = length_fault; refused = length_refused }
+  reads_initial_length = record {
+    found = length_found;
+    only = length_only;
+    fault = length_fault;
+    refused = length_refused;
+  }
 
 -- ---- the length of a unit, and that an offset holds it
 
@@ -362,9 +418,11 @@ module _ (notation : Notation) where
   abbrev after_tested : ℕ → List ℕ → Read (ℕ × Format)
   after_tested n rest =
       if nat_lt n 0xffff_fff0 then (Ok (n, Dwarf32), rest)
-      else (if nat_eq n 0xffff_ffff then (number_at notation.big 8 rest >>= as_offset) else (Err UnknownReservedLength, rest))
+      else (if nat_eq n 0xffff_ffff then (number_at notation.big 8 rest >>= as_offset)
+      else (Err UnknownReservedLength, rest))
 
-  after_same : (n : ℕ) → First n → (rest : List ℕ) → (after_first notation.big n rest >>= with_test) ≡ after_tested n rest
+  after_same : (n : ℕ) → First n → (rest : List ℕ)
+      → (after_first notation.big n rest >>= with_test) ≡ after_tested n rest
   after_same n (short lt is) rest = rw is refl
   after_same n (long same not_short is) rest =
       let wrap : ℕ → List ℕ → Read (ℕ × Format) = λ m left. (Ok (m, Dwarf64), left) in
@@ -372,16 +430,19 @@ module _ (notation : Notation) where
       ∙ bind_same (number_at notation.big 8 rest) (λ m left. with_test (m, Dwarf64) left) as_offset test_long)
   after_same n (reserved le other not_short is) rest = rw (not_short, is) refl
 
-  unit_same : (bytes : List ℕ) → (length_at notation.big bytes >>= with_test) ≡ initial_length_at notation.big notation.limit bytes
+  unit_same : (bytes : List ℕ)
+      → (length_at notation.big bytes >>= with_test) ≡ initial_length_at notation.big notation.limit bytes
   unfolding initial_length_at
   unit_same bytes =
       bind_assoc (number_at notation.big 4 bytes) (after_first notation.big) with_test
-      ∙ bind_same (number_at notation.big 4 bytes) (λ n rest. after_first notation.big n rest >>= with_test) after_tested (λ n rest.
+      ∙ bind_same (number_at notation.big 4 bytes) (λ n rest. after_first notation.big n rest >>= with_test)
+      after_tested (λ n rest.
       after_same n (first_of n) rest)
 
   pub reads_unit_length : Reads (unit_length notation) (initial_length_at notation.big notation.limit)
   reads_unit_length =
       reads_same (unit_length notation) _ (initial_length_at notation.big notation.limit) unit_same
       (reads_both (initial_length notation.big) _ (length_at notation.big) _ (reads_initial_length notation.big) (λ u.
-      reads_both (check (fits_offset notation u.1 u.0) UnsupportedOffset) _ (check_at (fits_offset notation u.1 u.0) UnsupportedOffset) _
+      reads_both (check (fits_offset notation u.1 u.0) UnsupportedOffset) _
+      (check_at (fits_offset notation u.1 u.0) UnsupportedOffset) _
       (reads_check (fits_offset notation u.1 u.0) UnsupportedOffset) (λ fits. reads_done u)))

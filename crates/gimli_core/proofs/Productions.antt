@@ -1,5 +1,6 @@
 -- Reading one production after another: what reads the productions reads what is put together of them.
-use Rattle.std.proofs.Common.{◌≡◌, ℕ, zero, suc, Bool, true, false, if◌then◌else◌, List, [], ◌∷◌, ◌++◌, Ok, Err, refl, sym, ap, ◌∙◌, append_assoc, ◌⊎◌, inl}
+use Rattle.std.proofs.Common.{◌≡◌, ℕ, zero, suc, Bool, true, false, if◌then◌else◌, List, [], ◌∷◌, ◌++◌, Ok, Err, refl}
+use Rattle.std.proofs.Common.{sym, ap, ◌∙◌, append_assoc, ◌⊎◌, inl}
 use Rattle.std.proofs.Common.{inr}
 use Rattle.gimli_core.specs.declared.error.Error.{Error}
 use Rattle.gimli_core.specs.Reading.{Read, ◌>>=◌, times_at, with_rest, within_at}
@@ -30,7 +31,8 @@ ok_parts {A} x y a b e = let p = ap (λ (r : Read A). r.0) e in let q = ap (λ (
 
 -- ---- a production, and after it the next
 
-module _ {A B : Type 0} (l : Production A) (next : A → Production B) (read : List ℕ → Read A) (after : A → List ℕ → Read B) (first : Reads l read)
+module _ {A B : Type 0} (l : Production A) (next : A → Production B) (read : List ℕ → Read A)
+    (after : A → List ℕ → Read B) (first : Reads l read)
     (second : (x : A) → Reads (next x) (after x)) where
   abbrev both : List ℕ → Read B
   both bytes = read bytes >>= after
@@ -40,12 +42,17 @@ module _ {A B : Type 0} (l : Production A) (next : A → Production B) (read : L
   reads_both_found bytes y rest e =
       let a = bind_ok (read bytes) after y rest e in
       let p = first.found bytes a.0 a.1 a.2 in
-      let q = (second a.0).found a.1 y rest a.3 in
-      (p.0 ++ q.0, p.1 ∙ ap (λ (xs : List ℕ). p.0 ++ xs) q.1 ∙ sym (append_assoc p.0 q.0 rest), (a.0, p.0, q.0, refl, p.2, q.2))
+      let q = (second a.0).found a.1 y rest a.3 in (
+        p.0 ++ q.0,
+        p.1 ∙ ap (λ (xs : List ℕ). p.0 ++ xs) q.1 ∙ sym (append_assoc p.0 q.0 rest),
+        (a.0, p.0, q.0, refl, p.2, q.2),
+      )
 
-  reads_both_only : (front : List ℕ) (y : B) (rest : List ℕ) → (l >>> next).Spells front y → both (front ++ rest) ≡ (Ok y, rest)
+  reads_both_only : (front : List ℕ) (y : B) (rest : List ℕ) → (l >>> next).Spells front y
+      → both (front ++ rest) ≡ (Ok y, rest)
   reads_both_only front y rest s =
-      let regrouped : front ++ rest ≡ s.1 ++ (s.2 ++ rest) = ap (λ (xs : List ℕ). xs ++ rest) s.3 ∙ append_assoc s.1 s.2 rest in
+      let regrouped : front ++ rest ≡ s.1 ++ (s.2 ++ rest) = ap (λ (xs : List ℕ). xs ++ rest) s.3
+      ∙ append_assoc s.1 s.2 rest in
       ap both regrouped ∙ rw (first.only s.1 s.0 (s.2 ++ rest) s.4) ((second s.0).only s.2 y rest s.5)
 
   reads_both_fault : (bytes : List ℕ) (e : Error) → (both bytes).0 ≡ Err e → (l >>> next).Fault bytes e
@@ -59,7 +66,12 @@ module _ {A B : Type 0} (l : Production A) (next : A → Production B) (read : L
   reads_both_refused bytes e (inr s) = rw (s.3, first.only s.1 s.0 s.2 s.4) ((second s.0).refused s.2 e s.5)
 
   pub reads_both : Reads (l >>> next) both
-  reads_both = record { found = reads_both_found; only = reads_both_only; fault = reads_both_fault; refused = reads_both_refused }
+  reads_both = record {
+    found = reads_both_found;
+    only = reads_both_only;
+    fault = reads_both_fault;
+    refused = reads_both_refused;
+  }
 
 -- ---- no bytes
 
@@ -102,15 +114,18 @@ reads_if false l m r s p q = q
 
 -- ---- so many of a production
 
-pub reads_times : {A : Type 0} (n : ℕ) (l : Production A) (read : List ℕ → Read A) → Reads l read → Reads (times n l) (times_at n read)
+pub reads_times : {A : Type 0} (n : ℕ) (l : Production A) (read : List ℕ → Read A) → Reads l read
+    → Reads (times n l) (times_at n read)
 reads_times zero l read r = reads_done []
 reads_times (suc n) l read r =
-    reads_both l _ read _ r (λ x. reads_both (times n l) _ (times_at n read) _ (reads_times n l read r) (λ xs. reads_done (x ∷ xs)))
+    reads_both l _ read _ r (λ x.
+    reads_both (times n l) _ (times_at n read) _ (reads_times n l read r) (λ xs. reads_done (x ∷ xs)))
 
 -- ---- a production within bytes that were taken before
 
 with_rest_ok : {A : Type 0} (r : Read A) (x : A × List ℕ) → with_rest r ≡ Ok x → r ≡ (Ok x.0, x.1)
-with_rest_ok {A} (Ok y, rest) x e = let p : (y, rest) ≡ x = cc in ap (λ (z : A × List ℕ). let r : Read A = (Ok z.0, z.1) in r) p
+with_rest_ok {A} (Ok y, rest) x e =
+    let p : (y, rest) ≡ x = cc in ap (λ (z : A × List ℕ). let r : Read A = (Ok z.0, z.1) in r) p
 with_rest_ok (Err d, rest) x e = absurd cc
 
 with_rest_fault : {A : Type 0} (r : Read A) (e : Error) → with_rest r ≡ Err e → r.0 ≡ Err e
@@ -121,7 +136,8 @@ with_rest_refused : {A : Type 0} (r : Read A) (e : Error) → r.0 ≡ Err e → 
 with_rest_refused (Ok y, rest) e is = absurd cc
 with_rest_refused (Err d, rest) e is = let p : d ≡ e = cc in rw p refl
 
-pub reads_within : {A : Type 0} (inside : List ℕ) (l : Production A) (read : List ℕ → Read A) → Reads l read → Reads (within inside l) (within_at inside read)
+pub reads_within : {A : Type 0} (inside : List ℕ) (l : Production A) (read : List ℕ → Read A) → Reads l read
+    → Reads (within inside l) (within_at inside read)
 reads_within {A} inside l read r = record {
   found = λ bytes x rest e.
       let value = with_rest_ok (read inside) x (ap (λ (y : Read (A × List ℕ)). y.0) e) in
@@ -137,7 +153,8 @@ reads_within {A} inside l read r = record {
 
 -- ---- the same function in other words
 
-pub reads_same : {A : Type 0} (l : Production A) (read other : List ℕ → Read A) → ((bytes : List ℕ) → read bytes ≡ other bytes) → Reads l read → Reads l other
+pub reads_same : {A : Type 0} (l : Production A) (read other : List ℕ → Read A)
+    → ((bytes : List ℕ) → read bytes ≡ other bytes) → Reads l read → Reads l other
 reads_same {A} l read other same r = record {
   found = λ bytes x rest e. r.found bytes x rest (same bytes ∙ e);
   only = λ front x rest s. sym (same (front ++ rest)) ∙ r.only front x rest s;

@@ -1,5 +1,6 @@
 -- Reading a signed LEB128 number takes a spelling of it.
-use Rattle.std.proofs.Common.{◌≡◌, ◌≢◌, ℕ, zero, suc, ◌+◌, ◌*◌, ◌%◌, ◌^◌, ◌<◌, ◌≤◌, Bool, true, false, if◌then◌else◌, ◌||◌, List, [], ◌∷◌, ◌++◌, length, Ok}
+use Rattle.std.proofs.Common.{◌≡◌, ◌≢◌, ℕ, zero, suc, ◌+◌, ◌*◌, ◌%◌, ◌^◌, ◌<◌, ◌≤◌, Bool, true, false, if◌then◌else◌}
+use Rattle.std.proofs.Common.{◌||◌, List, [], ◌∷◌, ◌++◌, length, Ok}
 use Rattle.std.proofs.Common.{Err, refl, sym, ap, ◌∙◌, arith, inl, inr}
 use Rattle.std.specs.Prelude.{ℤ, pos, ◌-ℤ◌, nat_le, nat_eq, FitsSigned}
 use Rattle.std.specs.Int.{w64}
@@ -45,7 +46,8 @@ record Front (more : ℕ) (bytes : List ℕ) (z : Difference) (rest : List ℕ) 
   above : z.1 ≤ z.0 + limit more
   parts : bytes ≡ front ++ rest
 
-last_of : (more b : ℕ) (bytes rest : List ℕ) (z : Difference) → b < 128 → last_group b ≡ z → bytes ≡ rest → b < limit more + (last_group b).1
+last_of : (more b : ℕ) (bytes rest : List ℕ) (z : Difference) → b < 128 → last_group b ≡ z → bytes ≡ rest
+    → b < limit more + (last_group b).1
     → (last_group b).1 ≤ b + limit more → Front more (b ∷ bytes) z rest
 last_of more b bytes rest z small same left low high =
     let zero_is = ap (λ (d : Difference). d.0) same in
@@ -65,8 +67,10 @@ last_small : (more b : ℕ) (negative : Bool) → nat_le 64 b ≡ negative → b
 last_small more b true is small = (omega (arith, limit_pos more), omega (arith, limit_pos more))
 last_small more b false is small = (omega (arith, limit_pos more), omega (arith, limit_pos more))
 
-more_of : (more b : ℕ) (bytes rest front : List ℕ) (high z : Difference) → 128 ≤ b → z.0 ≡ b % 128 + 128 * high.0 → z.1 ≡ 128 * high.1
-    → Groups front high.0 → high.1 ≡ taken (is_negative front) (length front) → length front ≤ suc more → high.0 < limit more + high.1
+more_of : (more b : ℕ) (bytes rest front : List ℕ) (high z : Difference) → 128 ≤ b → z.0 ≡ b % 128 + 128 * high.0
+    → z.1 ≡ 128 * high.1
+    → Groups front high.0 → high.1 ≡ taken (is_negative front) (length front) → length front ≤ suc more
+    → high.0 < limit more + high.1
     → high.1 ≤ high.0 + limit more → bytes ≡ front ++ rest → Front (suc more) (b ∷ bytes) z rest
 more_of more b bytes rest [] high z large zero_is one_is groups sign short low up parts = absurd groups
 more_of more b bytes rest (c ∷ bs) high z large zero_is one_is groups sign short low up parts = record {
@@ -79,9 +83,11 @@ more_of more b bytes rest (c ∷ bs) high z large zero_is one_is groups sign sho
   parts = ap (λ (xs : List ℕ). b ∷ xs) parts;
 }
 
-tenth_found : (b : ℕ) (bytes : List ℕ) (z : Difference) (rest : List ℕ) (zero_last minus_one_last : Bool) → nat_eq b 0 ≡ zero_last
+tenth_found : (b : ℕ) (bytes : List ℕ) (z : Difference) (rest : List ℕ) (zero_last minus_one_last : Bool)
+    → nat_eq b 0 ≡ zero_last
     → nat_eq b 127 ≡ minus_one_last
-    → ◌≡◌ {A = Read Difference} (if zero_last || minus_one_last then (Ok (last_group b), bytes) else (Err BadSignedLeb128, bytes)) (Ok z, rest)
+    → ◌≡◌ {A = Read Difference}
+    (if zero_last || minus_one_last then (Ok (last_group b), bytes) else (Err BadSignedLeb128, bytes)) (Ok z, rest)
     → Front zero (b ∷ bytes) z rest
 tenth_found b bytes z rest true m is is_m e =
     let p = ok_parts (last_group b) z bytes rest e in
@@ -93,7 +99,8 @@ tenth_found b bytes z rest false true is is_m e =
     rw same (last_of zero 127 bytes rest z (omega arith) (rw same at p.0) p.1 (omega arith) (omega arith))
 tenth_found b bytes z rest false false is is_m e = let p = ap (λ (r : Read Difference). r.0) e in absurd cc
 
-sleb_found : (more : ℕ) (bytes : List ℕ) (z : Difference) (rest : List ℕ) → sleb_at more bytes ≡ (Ok z, rest) → Front more bytes z rest
+sleb_found : (more : ℕ) (bytes : List ℕ) (z : Difference) (rest : List ℕ) → sleb_at more bytes ≡ (Ok z, rest)
+    → Front more bytes z rest
 unfolding sleb_at
 sleb_found zero [] z rest e = let p = ap (λ (r : Read Difference). r.0) e in absurd cc
 sleb_found (suc more) [] z rest e = let p = ap (λ (r : Read Difference). r.0) e in absurd cc
@@ -104,31 +111,41 @@ sleb_found (suc more) (b ∷ bytes) z rest e = elim (cases_lt b 128) [
       let fits = last_small more b (nat_le 64 b) refl lt in
       last_of (suc more) b bytes rest z lt p.0 p.1 fits.0 fits.1
   | inr le ↦
-      let after : Difference → List ℕ → Read Difference = λ high left. (Ok (b % 128 + 128 * high.0, 128 * high.1), left) in
+      let after : Difference → List ℕ → Read Difference = λ high left.
+      (Ok (b % 128 + 128 * high.0, 128 * high.1), left) in
       let q = bind_ok (sleb_at more bytes) after z rest (rw (le-ltb b 128 le) at e) in
       let p = ok_parts (b % 128 + 128 * q.0.0, 128 * q.0.1) z q.1 rest q.3 in
       let f = sleb_found more bytes q.0 q.1 q.2 in
-      more_of more b bytes rest f.front q.0 z le (sym (ap (λ (d : Difference). d.0) p.0)) (sym (ap (λ (d : Difference). d.1) p.0)) f.groups f.sign f.short
+      more_of more b bytes rest f.front q.0 z le (sym (ap (λ (d : Difference). d.0) p.0))
+      (sym (ap (λ (d : Difference). d.1) p.0)) f.groups f.sign f.short
       f.below f.above (f.parts ∙ ap (λ (xs : List ℕ). f.front ++ xs) p.1)
 ]
 
 -- ---- each spelling is taken
 
-tenth_only : (b n s : ℕ) (rest : List ℕ) (zero_last minus_one_last : Bool) → nat_eq b 0 ≡ zero_last → nat_eq b 127 ≡ minus_one_last → b < 128 → n ≡ b
+tenth_only : (b n s : ℕ) (rest : List ℕ) (zero_last minus_one_last : Bool) → nat_eq b 0 ≡ zero_last
+    → nat_eq b 127 ≡ minus_one_last → b < 128 → n ≡ b
     → s ≡ taken (nat_le 64 b) 1 → n < 1 + s → s ≤ n + 1
-    → ◌≡◌ {A = Read Difference} (if zero_last || minus_one_last then (Ok (last_group b), rest) else (Err BadSignedLeb128, rest)) (Ok (n, s), rest)
+    → ◌≡◌ {A = Read Difference}
+    (if zero_last || minus_one_last then (Ok (last_group b), rest) else (Err BadSignedLeb128, rest)) (Ok (n, s), rest)
 tenth_only b n s rest true m is is_m small same sign low up = rw (same, sign) refl
 tenth_only b n s rest false true is is_m small same sign low up = rw (same, sign) refl
 tenth_only b n s rest false false is is_m small same sign low up = elim (cases_lt b 64) [
-  | inl lt ↦ let none : s ≡ 0 = rw (lt-leb 64 b lt) at sign in let zero_last : b ≡ 0 = omega arith in absurd (eqb-false b 0 is zero_last)
-  | inr le ↦ let all : s ≡ 128 = rw (le-leb 64 b le) at sign in let minus_one_last : b ≡ 127 = omega arith in absurd (eqb-false b 127 is_m minus_one_last)
+  | inl lt ↦
+      let none : s ≡ 0 = rw (lt-leb 64 b lt) at sign in let zero_last : b ≡ 0 = omega arith in
+      absurd (eqb-false b 0 is zero_last)
+  | inr le ↦
+      let all : s ≡ 128 = rw (le-leb 64 b le) at sign in let minus_one_last : b ≡ 127 = omega arith in
+      absurd (eqb-false b 127 is_m minus_one_last)
 ]
 
-sleb_only : (more : ℕ) (front : List ℕ) (n s : ℕ) (rest : List ℕ) → Groups front n → s ≡ taken (is_negative front) (length front) → length front ≤ suc more
+sleb_only : (more : ℕ) (front : List ℕ) (n s : ℕ) (rest : List ℕ) → Groups front n
+    → s ≡ taken (is_negative front) (length front) → length front ≤ suc more
     → n < limit more + s → s ≤ n + limit more → sleb_at more (front ++ rest) ≡ (Ok (n, s), rest)
 unfolding sleb_at
 sleb_only more [] n s rest groups sign short low up = absurd groups
-sleb_only zero (b ∷ []) n s rest groups sign short low up = tenth_only b n s rest (nat_eq b 0) (nat_eq b 127) refl refl groups.0 groups.1 sign low up
+sleb_only zero (b ∷ []) n s rest groups sign short low up =
+    tenth_only b n s rest (nat_eq b 0) (nat_eq b 127) refl refl groups.0 groups.1 sign low up
 sleb_only (suc more) (b ∷ []) n s rest groups sign short low up = rw (lt-ltb b 128 groups.0, groups.1, sign) refl
 sleb_only zero (b ∷ c ∷ bs) n s rest groups sign short low up = absurd (omega arith)
 sleb_only (suc more) (b ∷ c ∷ bs) n s rest groups sign short low up =
@@ -144,15 +161,18 @@ abbrev IsRefused : ℕ → Type 0
 IsRefused b = (b ≢ 0) × (b ≢ 127)
 
 abbrev tenth_read : ℕ → List ℕ → Bool → Bool → Read Difference
-tenth_read b bytes zero_last minus_one_last = if zero_last || minus_one_last then (Ok (last_group b), bytes) else (Err BadSignedLeb128, bytes)
+tenth_read b bytes zero_last minus_one_last =
+    if zero_last || minus_one_last then (Ok (last_group b), bytes) else (Err BadSignedLeb128, bytes)
 
-tenth_fault : (b : ℕ) (bytes : List ℕ) (e : Error) (zero_last minus_one_last : Bool) → nat_eq b 0 ≡ zero_last → nat_eq b 127 ≡ minus_one_last
+tenth_fault : (b : ℕ) (bytes : List ℕ) (e : Error) (zero_last minus_one_last : Bool) → nat_eq b 0 ≡ zero_last
+    → nat_eq b 127 ≡ minus_one_last
     → (tenth_read b bytes zero_last minus_one_last).0 ≡ Err e → IsRefused b × (e ≡ BadSignedLeb128)
 tenth_fault b bytes e true m is is_m f = absurd cc
 tenth_fault b bytes e false true is is_m f = absurd cc
 tenth_fault b bytes e false false is is_m f = ((eqb-false b 0 is, eqb-false b 127 is_m), cc)
 
-sleb_fault : (more : ℕ) (bytes : List ℕ) (e : Error) → (sleb_at more bytes).0 ≡ Err e → IsLebFault (suc more) IsRefused BadSignedLeb128 bytes e
+sleb_fault : (more : ℕ) (bytes : List ℕ) (e : Error) → (sleb_at more bytes).0 ≡ Err e
+    → IsLebFault (suc more) IsRefused BadSignedLeb128 bytes e
 unfolding sleb_at
 sleb_fault zero [] e is = inl (omega arith, tt, cc)
 sleb_fault (suc more) [] e is = inl (omega arith, tt, cc)
@@ -162,20 +182,23 @@ sleb_fault zero (b ∷ bytes) e is =
 sleb_fault (suc more) (b ∷ bytes) e is = elim (cases_lt b 128) [
   | inl lt ↦ let p = rw (lt-ltb b 128 lt) at is in absurd cc
   | inr le ↦
-      let after : Difference → List ℕ → Read Difference = λ high left. (Ok (b % 128 + 128 * high.0, 128 * high.1), left) in
+      let after : Difference → List ℕ → Read Difference = λ high left.
+      (Ok (b % 128 + 128 * high.0, 128 * high.1), left) in
       elim (bind_fault (sleb_at more bytes) after e (rw (le-ltb b 128 le) at is)) [
         | inl p ↦ longer IsRefused BadSignedLeb128 b le (suc more) bytes e (sleb_fault more bytes e p)
         | inr q ↦ let no = q.3 in absurd cc
       ]
 ]
 
-tenth_refused : (b : ℕ) (bytes : List ℕ) (zero_last minus_one_last : Bool) → nat_eq b 0 ≡ zero_last → nat_eq b 127 ≡ minus_one_last → IsRefused b
+tenth_refused : (b : ℕ) (bytes : List ℕ) (zero_last minus_one_last : Bool) → nat_eq b 0 ≡ zero_last
+    → nat_eq b 127 ≡ minus_one_last → IsRefused b
     → (tenth_read b bytes zero_last minus_one_last).0 ≡ Err BadSignedLeb128
 tenth_refused b bytes true m is is_m neither = absurd (neither.0 (eqb-true b 0 is))
 tenth_refused b bytes false true is is_m neither = absurd (neither.1 (eqb-true b 127 is_m))
 tenth_refused b bytes false false is is_m neither = refl
 
-sleb_refused : (more : ℕ) (bytes : List ℕ) (e : Error) → IsLebFault (suc more) IsRefused BadSignedLeb128 bytes e → (sleb_at more bytes).0 ≡ Err e
+sleb_refused : (more : ℕ) (bytes : List ℕ) (e : Error) → IsLebFault (suc more) IsRefused BadSignedLeb128 bytes e
+    → (sleb_at more bytes).0 ≡ Err e
 unfolding sleb_at
 sleb_refused zero [] e (inl f) = rw f.2 refl
 sleb_refused (suc more) [] e (inl f) = rw f.2 refl
@@ -186,16 +209,20 @@ sleb_refused zero (b ∷ bytes) e (inr f) =
     let same = only_last f.0 f.1 f.2 b bytes f.3 f.4 in
     rw f.7 (tenth_refused b bytes (nat_eq b 0) (nat_eq b 127) refl refl (rw same f.6))
 sleb_refused (suc more) (b ∷ bytes) e (inl f) =
-    let after : Difference → List ℕ → Read Difference = λ high left. (Ok (b % 128 + 128 * high.0, 128 * high.1), left) in
-    rw (le-ltb b 128 f.1.0) (bind_refused (sleb_at more bytes) after e (sleb_refused more bytes e (inl (omega (arith, f.0), f.1.1, f.2))))
+    let after : Difference → List ℕ → Read Difference = λ high left.
+    (Ok (b % 128 + 128 * high.0, 128 * high.1), left) in
+    rw (le-ltb b 128 f.1.0)
+    (bind_refused (sleb_at more bytes) after e (sleb_refused more bytes e (inl (omega (arith, f.0), f.1.1, f.2))))
 sleb_refused (suc more) (b ∷ bytes) e (inr f) =
-    let after : Difference → List ℕ → Read Difference = λ high left. (Ok (b % 128 + 128 * high.0, 128 * high.1), left) in
+    let after : Difference → List ℕ → Read Difference = λ high left.
+    (Ok (b % 128 + 128 * high.0, 128 * high.1), left) in
     let p = first_high IsRefused BadSignedLeb128 more f.0 f.1 f.2 b bytes e f.3 f.4 f.5 f.6 f.7 in
     rw (le-ltb b 128 p.high) (bind_refused (sleb_at more bytes) after e (sleb_refused more bytes e p.fault))
 
 -- ---- the number as an integer
 
-signed_found : (bytes : List ℕ) (z : ℤ) (rest : List ℕ) → signed_at bytes ≡ (Ok z, rest) → (front : List ℕ) × (bytes ≡ front ++ rest) × SpellsSleb128 front z
+signed_found : (bytes : List ℕ) (z : ℤ) (rest : List ℕ) → signed_at bytes ≡ (Ok z, rest)
+    → (front : List ℕ) × (bytes ≡ front ++ rest) × SpellsSleb128 front z
 signed_found bytes z rest e =
     let after : Difference → List ℕ → Read ℤ = λ d left. (Ok (pos d.0 -ℤ pos d.1), left) in
     let q = bind_ok (sleb_at 9 bytes) after z rest e in
@@ -215,7 +242,8 @@ signed_found bytes z rest e =
       },
     )
 
-signed_only : (front : List ℕ) (z : ℤ) (rest : List ℕ) → SpellsSleb128 front z → signed_at (front ++ rest) ≡ (Ok z, rest)
+signed_only : (front : List ℕ) (z : ℤ) (rest : List ℕ) → SpellsSleb128 front z
+    → signed_at (front ++ rest) ≡ (Ok z, rest)
 signed_only front z rest s =
     let t = taken (is_negative front) (length front) in
     let fits : FitsSigned w64 (pos s.unsigned -ℤ pos t) = rw s.value_is s.fits in
@@ -223,7 +251,8 @@ signed_only front z rest s =
     let above : t ≤ s.unsigned + 2 ^ 63 = omega (arith, ints, fits) in
     rw (sleb_only 9 front s.unsigned t rest s.groups refl s.short below above) (ap (λ (i : ℤ). (Ok i, rest)) s.value_is)
 
-signed_fault : (bytes : List ℕ) (e : Error) → (signed_at bytes).0 ≡ Err e → IsLebFault 10 IsRefused BadSignedLeb128 bytes e
+signed_fault : (bytes : List ℕ) (e : Error) → (signed_at bytes).0 ≡ Err e
+    → IsLebFault 10 IsRefused BadSignedLeb128 bytes e
 signed_fault bytes e is =
     let after : Difference → List ℕ → Read ℤ = λ d left. (Ok (pos d.0 -ℤ pos d.1), left) in
     elim (bind_fault (sleb_at 9 bytes) after e is) [
@@ -231,7 +260,8 @@ signed_fault bytes e is =
       | inr q ↦ let no = q.3 in absurd cc
     ]
 
-signed_refused : (bytes : List ℕ) (e : Error) → IsLebFault 10 IsRefused BadSignedLeb128 bytes e → (signed_at bytes).0 ≡ Err e
+signed_refused : (bytes : List ℕ) (e : Error) → IsLebFault 10 IsRefused BadSignedLeb128 bytes e
+    → (signed_at bytes).0 ≡ Err e
 signed_refused bytes e f =
     let after : Difference → List ℕ → Read ℤ = λ d left. (Ok (pos d.0 -ℤ pos d.1), left) in
     bind_refused (sleb_at 9 bytes) after e (sleb_refused 9 bytes e f)

@@ -1,5 +1,6 @@
 -- Reading a signed LEB128 number, one byte after another.
-use Rattle.std.proofs.Common.{◌≡◌, ℕ, zero, suc, ◌+◌, ◌-◌, ◌*◌, ◌%◌, ◌^◌, ◌<◌, ◌≤◌, Bool, true, false, if◌then◌else◌, List, [], ◌∷◌, Ok, Err, refl, sym, ap}
+use Rattle.std.proofs.Common.{◌≡◌, ℕ, zero, suc, ◌+◌, ◌-◌, ◌*◌, ◌%◌, ◌^◌, ◌<◌, ◌≤◌, Bool, true, false, if◌then◌else◌}
+use Rattle.std.proofs.Common.{List, [], ◌∷◌, Ok, Err, refl, sym, ap}
 use Rattle.std.proofs.Common.{◌∙◌, arith, nat_eq}
 use Rattle.std.specs.Prelude.{ℤ, pos, ◌-ℤ◌, nat_le}
 use Rattle.std.proofs.Math.Nat.{mul-zero}
@@ -25,7 +26,8 @@ grown_z scale low (Ok high, rest) = (Ok (difference (low + scale * high.0, scale
 grown_z scale low (Err e, rest) = (Err e, rest)
 
 grown_z_more : (scale low b : ℕ) (r : Read Difference)
-    → grown_z scale low (r >>= λ high rest. (Ok (b % 128 + 128 * high.0, 128 * high.1), rest)) ≡ grown_z (scale * 128) (low + scale * (b % 128)) r
+    → grown_z scale low (r >>= λ high rest. (Ok (b % 128 + 128 * high.0, 128 * high.1), rest))
+    ≡ grown_z (scale * 128) (low + scale * (b % 128)) r
 grown_z_more scale low b (Ok x, rest) =
     let m : low + scale * (b % 128 + 128 * x.0) ≡ low + scale * (b % 128) + scale * 128 * x.0 = omega arith in
     let n : scale * (128 * x.1) ≡ scale * 128 * x.1 = omega arith in
@@ -33,19 +35,22 @@ grown_z_more scale low b (Ok x, rest) =
 grown_z_more scale low b (Err e, rest) = refl
 
 more_byte : (scale low b more : ℕ) (bytes : List ℕ) → 128 ≤ b →
-    grown_z scale low (sleb_at (suc more) (b ∷ bytes)) ≡ grown_z (scale * 128) (low + scale * (b % 128)) (sleb_at more bytes)
+    grown_z scale low (sleb_at (suc more) (b ∷ bytes))
+    ≡ grown_z (scale * 128) (low + scale * (b % 128)) (sleb_at more bytes)
 unfolding sleb_at
 more_byte scale low b more bytes le = rw (le-ltb b 128 le) (grown_z_more scale low b (sleb_at more bytes))
 
 last_byte : (scale low b more : ℕ) (bytes : List ℕ) → b < 128 →
-    grown_z scale low (sleb_at (suc more) (b ∷ bytes)) ≡ ok_z bytes (pos (low + scale * (b % 128)) -ℤ pos (if nat_le 64 b then scale * 128 else 0))
+    grown_z scale low (sleb_at (suc more) (b ∷ bytes))
+    ≡ ok_z bytes (pos (low + scale * (b % 128)) -ℤ pos (if nat_le 64 b then scale * 128 else 0))
 unfolding sleb_at
 last_byte scale low b more bytes lt =
     let small : b % 128 ≡ b = omega arith in
     rw (lt-ltb b 128 lt, small) (sign scale low b (nat_le 64 b) bytes)
   where
     sign : (scale low b : ℕ) (negative : Bool) (bytes : List ℕ)
-        → grown_z scale low (Ok (b, if negative then 128 else 0), bytes) ≡ ok_z bytes (pos (low + scale * b) -ℤ pos (if negative then scale * 128 else 0))
+        → grown_z scale low (Ok (b, if negative then 128 else 0), bytes)
+        ≡ ok_z bytes (pos (low + scale * b) -ℤ pos (if negative then scale * 128 else 0))
     sign scale low b true bytes = refl
     sign scale low b false bytes = rw mul-zero refl
 
@@ -56,7 +61,8 @@ at_end (suc more) = refl
 
 -- ---- the tenth byte
 
-tenth : (value b : ℕ) (rest : List ℕ) (zero_last minus_one_last : Bool) → nat_eq b 0 ≡ zero_last → nat_eq b 127 ≡ minus_one_last
+tenth : (value b : ℕ) (rest : List ℕ) (zero_last minus_one_last : Bool) → nat_eq b 0 ≡ zero_last
+    → nat_eq b 127 ≡ minus_one_last
     → grown_z (2 ^ (7 * 9)) value (sleb_at 0 (b ∷ rest)) ≡ (tenth_at value b, rest)
 unfolding sleb_at
 tenth value b rest true m is is_m =
@@ -77,25 +83,30 @@ tenth value b rest false false is is_m = rw (is, is_m) refl
 -- ---- the exits of the loop, and a turn
 
 module _ (value : ℕ) (bytes : List ℕ) (total : Read ℤ) where
-  pub ends_err : (group : ℕ) (x : Error) (rest : List ℕ) → grown_z (2 ^ (7 * group)) value (sleb_at (9 - group) bytes) ≡ total → err x rest ≡ byte_at bytes
+  pub ends_err : (group : ℕ) (x : Error) (rest : List ℕ)
+      → grown_z (2 ^ (7 * group)) value (sleb_at (9 - group) bytes) ≡ total → err x rest ≡ byte_at bytes
       → err_z x rest ≡ total
   ends_err group x rest so_far e =
       let p = byte_err x rest bytes e in
       let q : grown_z (2 ^ (7 * group)) value (sleb_at (9 - group) bytes) ≡ err_z (eof []) [] = rw (p.0, at_end) refl in
       rw (p.1, p.2) (sym q ∙ so_far)
 
-  pub ends_ok : (group b : ℕ) (rest : List ℕ) → grown_z (2 ^ (7 * group)) value (sleb_at (9 - group) bytes) ≡ total → group < 9 → b < 128
+  pub ends_ok : (group b : ℕ) (rest : List ℕ) → grown_z (2 ^ (7 * group)) value (sleb_at (9 - group) bytes) ≡ total
+      → group < 9 → b < 128
       → ok rest b ≡ byte_at bytes
-      → ok_z rest (pos (value + 2 ^ (7 * group) * (b % 128)) -ℤ pos (if nat_le 64 b then 2 ^ (7 * (group + 1)) else 0)) ≡ total
+      → ok_z rest (pos (value + 2 ^ (7 * group) * (b % 128)) -ℤ pos (if nat_le 64 b then 2 ^ (7 * (group + 1)) else 0))
+      ≡ total
   ends_ok group b rest so_far lt small e =
       let p = byte_ok b rest bytes e in
       let k : 9 - group ≡ suc (9 - (group + 1)) = omega arith in
       let q : grown_z (2 ^ (7 * group)) value (sleb_at (9 - group) bytes)
-      ≡ ok_z rest (pos (value + 2 ^ (7 * group) * (b % 128)) -ℤ pos (if nat_le 64 b then 2 ^ (7 * group) * 128 else 0)) =
+      ≡ ok_z rest
+      (pos (value + 2 ^ (7 * group) * (b % 128)) -ℤ pos (if nat_le 64 b then 2 ^ (7 * group) * 128 else 0)) =
       rw (k, p) (last_byte (2 ^ (7 * group)) value b (9 - (group + 1)) rest small) in
       rw (pow_next group) (sym q ∙ so_far)
 
-  pub goes_on : (group b : ℕ) (rest : List ℕ) → grown_z (2 ^ (7 * group)) value (sleb_at (9 - group) bytes) ≡ total → group < 9 → 128 ≤ b
+  pub goes_on : (group b : ℕ) (rest : List ℕ) → grown_z (2 ^ (7 * group)) value (sleb_at (9 - group) bytes) ≡ total
+      → group < 9 → 128 ≤ b
       → ok rest b ≡ byte_at bytes
       → grown_z (2 ^ (7 * (group + 1))) (value + 2 ^ (7 * group) * (b % 128)) (sleb_at (9 - (group + 1)) rest) ≡ total
   goes_on group b rest so_far lt large e =
@@ -106,7 +117,8 @@ module _ (value : ℕ) (bytes : List ℕ) (total : Read ℤ) where
       = rw (k, p) (more_byte (2 ^ (7 * group)) value b (9 - (group + 1)) rest large) in
       rw (pow_next group) (sym q ∙ so_far)
 
-  pub ends_tenth : (group b : ℕ) (rest : List ℕ) → grown_z (2 ^ (7 * group)) value (sleb_at (9 - group) bytes) ≡ total → 9 ≤ group → group ≤ 9
+  pub ends_tenth : (group b : ℕ) (rest : List ℕ) → grown_z (2 ^ (7 * group)) value (sleb_at (9 - group) bytes) ≡ total
+      → 9 ≤ group → group ≤ 9
       → ok rest b ≡ byte_at bytes
       → ◌≡◌ {A = Read ℤ} (tenth_at value b, rest) total
   ends_tenth group b rest so_far ge le e =

@@ -17,16 +17,20 @@ found_within byte n bytes e =
     ]
 
 -- what is left after a skip is an end of the bytes
-pub skip_front : (n : ℕ) (bytes rest : List ℕ) → ◌≡◌ {A = Read (Unit {0})} (Ok tt, rest) (skip_at n bytes) → (front : List ℕ) × (bytes ≡ front ++ rest)
+pub skip_front : (n : ℕ) (bytes rest : List ℕ) → ◌≡◌ {A = Read (Unit {0})} (Ok tt, rest) (skip_at n bytes)
+    → (front : List ℕ) × (bytes ≡ front ++ rest)
 skip_front n bytes rest e = elim (cases_lt (length bytes) n) [
   | inl lt ↦ let p = ap (λ (r : Read (Unit {0})). r.0) (rw (lt-ltb (length bytes) n lt, skip_at) at e) in absurd cc
   | inr le ↦
-      let left = ap (λ (r : Read (Unit {0})). r.1) (rw (le-ltb (length bytes) n le, skip_at) at e) in (take n bytes, sym (rw left (take-append-drop n bytes)))
+      let left =
+      ap (λ (r : Read (Unit {0})). r.1) (rw (le-ltb (length bytes) n le, skip_at) at e) in
+      (take n bytes, sym (rw left (take-append-drop n bytes)))
 ]
 
 -- so the byte itself can be skipped, after those before it
 pub skip_refuses_not : (n one : ℕ) (bytes text mid rest : List ℕ) (e : Error) → n < length bytes → one ≡ 1
-    → ◌≡◌ {A = Read (List ℕ)} (Ok text, mid) (split_at n bytes) → ◌≡◌ {A = Read (Unit {0})} (Err e, rest) (skip_at one mid) → ⊥
+    → ◌≡◌ {A = Read (List ℕ)} (Ok text, mid) (split_at n bytes)
+    → ◌≡◌ {A = Read (Unit {0})} (Err e, rest) (skip_at one mid) → ⊥
 skip_refuses_not n one bytes text mid rest e lt is taken refused =
     let there : n ≤ length bytes = omega arith in
     let parts = rw (le-ltb (length bytes) n there, split_at) at taken in

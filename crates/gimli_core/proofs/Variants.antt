@@ -1,4 +1,5 @@
--- Two of an enum are equal exactly where they are of one variant and agree in its parts: the sum of its variants' parts.
+-- Two of an enum are equal exactly where they are of one variant and agree in its parts: the sum of
+-- its variants' parts.
 use Rattle.std.proofs.Common.{◌≡◌, Bool, true, false, refl, ap}
 use Rattle.std.specs.Prelude.{◌&&◌, ◌⊎◌, Decides}
 use mathlib.Core.Logic.{inl, inr, ⊎_elim}

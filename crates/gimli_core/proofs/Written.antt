@@ -1,5 +1,6 @@
 -- The one spelling of a number in so many bytes.
-use Rattle.std.proofs.Common.{◌≡◌, ℕ, zero, suc, ◌+◌, ◌*◌, ◌/◌, ◌%◌, ◌^◌, ◌<◌, Bool, true, false, List, [], ◌∷◌, ◌++◌, length, reverse, refl, sym, ap, ◌∙◌}
+use Rattle.std.proofs.Common.{◌≡◌, ℕ, zero, suc, ◌+◌, ◌*◌, ◌/◌, ◌%◌, ◌^◌, ◌<◌, Bool, true, false, List, [], ◌∷◌, ◌++◌}
+use Rattle.std.proofs.Common.{length, reverse, refl, sym, ap, ◌∙◌}
 use Rattle.std.proofs.Common.{arith, pow-suc}
 use Rattle.std.proofs.Math.Nat.{div-div-eq-div-mul, div-one}
 use Rattle.std.specs.Int.{byte_at, bytes_low_first, bytes_high_first}
@@ -35,7 +36,8 @@ low_more : (size i n : ℕ) → bytes_low_first i (suc size) n ≡ bytes_low_fir
 low_more zero i n = let same : i + 0 ≡ i = omega arith in rw same refl
 low_more (suc size) i n =
     let same : suc i + size ≡ i + suc size = omega arith in
-    ap (λ (xs : List ℕ). byte_at i n ∷ xs) (low_more size (suc i) n ∙ ap (λ (k : ℕ). bytes_low_first (suc i) size n ++ byte_at k n ∷ []) same)
+    ap (λ (xs : List ℕ). byte_at i n ∷ xs)
+    (low_more size (suc i) n ∙ ap (λ (k : ℕ). bytes_low_first (suc i) size n ++ byte_at k n ∷ []) same)
 
 high_reversed : (size n : ℕ) → reverse (bytes_high_first size n) ≡ bytes_low_first 0 size n
 high_reversed zero n = refl

@@ -1,21 +1,34 @@
 -- The machine makes what is found by looking back.
-use Rattle.std.proofs.Common.{◌≡◌, Bool, true, false, not, ◌||◌, if◌then◌else◌, List, [], ◌∷◌, ◌++◌, Option, None, refl, ap, ◌∙◌}
+use Rattle.std.proofs.Common.{◌≡◌, Bool, true, false, not, ◌||◌, if◌then◌else◌, List, [], ◌∷◌, ◌++◌, Option, None, refl}
+use Rattle.std.proofs.Common.{ap, ◌∙◌}
 use Rattle.std.specs.List.{list_any}
 use Rattle.gimli_core.specs.declared.error.Error.{Error}
 use Rattle.gimli_line.specs.declared.run.row.LineRow.{LineRow}
-use Rattle.gimli_line.specs.declared.run.instruction.LineInstruction.TheVariants.{Special, Copy, AdvancePc, AdvanceLine, SetFile, SetColumn, NegateStatement}
-use Rattle.gimli_line.specs.declared.run.instruction.LineInstruction.TheVariants.{SetBasicBlock, ConstAddPc, FixedAddPc, SetPrologueEnd, SetEpilogueBegin}
-use Rattle.gimli_line.specs.declared.run.instruction.LineInstruction.TheVariants.{SetIsa, UnknownStandard0, UnknownStandard1, UnknownStandardN, EndSequence}
-use Rattle.gimli_line.specs.declared.run.instruction.LineInstruction.TheVariants.{SetAddress, DefineFile, SetDiscriminator, UnknownExtended}
+use Rattle.gimli_line.specs.declared.run.instruction.LineInstruction.TheVariants.{Special, Copy, AdvancePc, AdvanceLine}
+use Rattle.gimli_line.specs.declared.run.instruction.LineInstruction.TheVariants.{SetFile, SetColumn, NegateStatement}
+use Rattle.gimli_line.specs.declared.run.instruction.LineInstruction.TheVariants.{SetBasicBlock, ConstAddPc, FixedAddPc}
+use Rattle.gimli_line.specs.declared.run.instruction.LineInstruction.TheVariants.{SetPrologueEnd, SetEpilogueBegin}
+use Rattle.gimli_line.specs.declared.run.instruction.LineInstruction.TheVariants.{
+  SetIsa,
+  UnknownStandard0,
+  UnknownStandard1,
+  UnknownStandardN,
+  EndSequence,
+}
+use Rattle.gimli_line.specs.declared.run.instruction.LineInstruction.TheVariants.{SetAddress, DefineFile}
+use Rattle.gimli_line.specs.declared.run.instruction.LineInstruction.TheVariants.{SetDiscriminator, UnknownExtended}
 use Rattle.gimli_line.specs.header.Parameters.{Parameters}
 use Rattle.gimli_line.specs.header.File.{File}
 use Rattle.gimli_line.specs.run.Instruction.{Ins, makes_row, files_after}
-use Rattle.gimli_line.specs.run.Registers.{sequence, nearest, is_odd, negates_statement, sets_basic_block, sets_prologue_end, sets_epilogue_begin}
+use Rattle.gimli_line.specs.run.Registers.{sequence, nearest, is_odd, negates_statement, sets_basic_block}
+use Rattle.gimli_line.specs.run.Registers.{sets_prologue_end, sets_epilogue_begin}
 use Rattle.gimli_line.specs.run.Registers.{discriminator_operand, file_at, column_at, isa_at, is_stmt_at, line_after}
 use Rattle.gimli_line.specs.run.OperationPointer.{pointer_at, is_under_tombstone, overflows, since_last_row}
-use Rattle.gimli_line.specs.run.Events.{row, row_at, made_at, EventWithFiles, with_files, made_after, given_of, events_of, events_after, files_at}
+use Rattle.gimli_line.specs.run.Events.{row, row_at, made_at, EventWithFiles, with_files, made_after, given_of}
+use Rattle.gimli_line.specs.run.Events.{events_of, events_after, files_at}
 use Rattle.gimli_line.specs.run.Events.{past_at_end}
-use Rattle.gimli_line.specs.run.Machine.{initial, reset_row, step_of, is_refused, made_step, next_registers, registers_after, made_from, run}
+use Rattle.gimli_line.specs.run.Machine.{initial, reset_row, step_of, is_refused, made_step, next_registers}
+use Rattle.gimli_line.specs.run.Machine.{registers_after, made_from, run}
 use Rattle.gimli_line.specs.run.Progress.{files_from}
 
 -- the registers before a point
@@ -55,7 +68,8 @@ goes_on h past (AdvanceLine v) fits quiet = refl
 goes_on h past (SetFile n) fits quiet = refl
 goes_on h past (SetColumn n) fits quiet = refl
 goes_on h past NegateStatement fits quiet =
-    ap (λ (b : Bool). record (registers h past) { is_stmt = b }) (turned (is_odd negates_statement (sequence past)) h.line_encoding.default_is_stmt)
+    ap (λ (b : Bool). record (registers h past) { is_stmt = b })
+    (turned (is_odd negates_statement (sequence past)) h.line_encoding.default_is_stmt)
 goes_on h past SetBasicBlock fits quiet = refl
 goes_on h past ConstAddPc fits quiet = rw fits refl
 goes_on h past (FixedAddPc n) fits quiet = rw fits refl
@@ -71,14 +85,16 @@ goes_on h past (SetDiscriminator n) fits quiet = refl
 goes_on h past (UnknownExtended o r) fits quiet = refl
 
 -- after a row
-pub starts_anew : (h : Parameters) (past : List Ins) (i : Ins) → makes_row i ≡ true → reset_row h (step_of h i (registers h past)) ≡ registers h (i ∷ past)
+pub starts_anew : (h : Parameters) (past : List Ins) (i : Ins) → makes_row i ≡ true
+    → reset_row h (step_of h i (registers h past)) ≡ registers h (i ∷ past)
 starts_anew h past (Special o) loud = refl
 starts_anew h past Copy loud = refl
 starts_anew h past EndSequence loud = refl
 starts_anew h past i loud = absurd cc
 
 -- after an overflow
-pub goes_past : (h : Parameters) (past : List Ins) (i : Ins) → overflows h past i ≡ true → reset_row h (step_of h i (registers h past)) ≡ registers h (i ∷ past)
+pub goes_past : (h : Parameters) (past : List Ins) (i : Ins) → overflows h past i ≡ true
+    → reset_row h (step_of h i (registers h past)) ≡ registers h (i ∷ past)
 goes_past h past (Special o) large = refl
 goes_past h past (AdvancePc n) large = rw large refl
 goes_past h past ConstAddPc large = rw large refl
@@ -86,7 +102,8 @@ goes_past h past (FixedAddPc n) large = rw large refl
 goes_past h past i large = absurd cc
 
 -- the row that the machine makes
-pub row_is : (h : Parameters) (past : List Ins) (i : Ins) → makes_row i ≡ true → step_of h i (registers h past) ≡ row_at h past i
+pub row_is : (h : Parameters) (past : List Ins) (i : Ins) → makes_row i ≡ true
+    → step_of h i (registers h past) ≡ row_at h past i
 row_is h past (Special o) loud = refl
 row_is h past Copy loud = refl
 row_is h past EndSequence loud = refl
@@ -107,20 +124,25 @@ goes_to h i r b is = ap (λ (b : Bool). if b then reset_row h (step_of h i r) el
 goes : (h : Parameters) (past : List Ins) (i : Ins) (o m : Bool) → overflows h past i ≡ o → makes_row i ≡ m
     → next_registers h i (registers h past) ≡ registers h (i ∷ past)
 goes h past i true m large loud = goes_to h i (registers h past) true (rw large refl) ∙ goes_past h past i large
-goes h past i false true fits loud = goes_to h i (registers h past) true (rw (fits, loud) refl) ∙ starts_anew h past i loud
-goes h past i false false fits quiet = goes_to h i (registers h past) false (rw (fits, quiet) refl) ∙ goes_on h past i fits quiet
+goes h past i false true fits loud =
+    goes_to h i (registers h past) true (rw (fits, loud) refl) ∙ starts_anew h past i loud
+goes h past i false false fits quiet =
+    goes_to h i (registers h past) false (rw (fits, quiet) refl) ∙ goes_on h past i fits quiet
 
 -- and the files
-files_go : (a : Bool) (files : List File) (past : List Ins) (i : Ins) → files_after a i (files_at a files past) ≡ files_at a files (i ∷ past)
+files_go : (a : Bool) (files : List File) (past : List Ins) (i : Ins)
+    → files_after a i (files_at a files past) ≡ files_at a files (i ∷ past)
 files_go true files past (DefineFile f) = refl
 files_go false files past (DefineFile f) = refl
 files_go a files past i = refl
 
-files_come : (a : Bool) (files : List File) (past list : List Ins) → files_from a (files_at a files past) list ≡ files_at a files (past_at_end past list)
+files_come : (a : Bool) (files : List File) (past list : List Ins)
+    → files_from a (files_at a files past) list ≡ files_at a files (past_at_end past list)
 files_come a files past [] = refl
 files_come a files past (i ∷ list) = rw (files_go a files past i) (files_come a files (i ∷ past) list)
 
-pub files_from_start : (a : Bool) (files : List File) (list : List Ins) → files_from a files list ≡ files_at a files (past_at_end [] list)
+pub files_from_start : (a : Bool) (files : List File) (list : List Ins)
+    → files_from a files list ≡ files_at a files (past_at_end [] list)
 files_from_start true files list = files_come true files [] list
 files_from_start false files list = files_come false files [] list
 
@@ -134,7 +156,8 @@ made_are a h files past (i ∷ list) end =
       goes h past i (overflows h past i) (makes_row i) refl refl,
       files_go a files past i,
     )
-    (ap (λ (rest : List EventWithFiles). with_files (files_at a files past) (made_at h past i) ++ rest) (made_are a h files (i ∷ past) list end))
+    (ap (λ (rest : List EventWithFiles). with_files (files_at a files past) (made_at h past i) ++ rest)
+    (made_are a h files (i ∷ past) list end))
 
 -- from the start
 pub made_start : (a : Bool) (h : Parameters) (files : List File) (list : List Ins) (end : Option Error)
@@ -148,13 +171,17 @@ starts h list = ap (λ (es : List EventWithFiles). events_of (given_of es)) (mad
 -- the registers after a past are those that are found by looking back
 looked_back : (h : Parameters) (past : List Ins) → registers_after h past ≡ registers h past
 looked_back h [] = refl
-looked_back h (i ∷ past) = ap (next_registers h i) (looked_back h past) ∙ goes h past i (overflows h past i) (makes_row i) refl refl
+looked_back h (i ∷ past) =
+    ap (next_registers h i) (looked_back h past) ∙ goes h past i (overflows h past i) (makes_row i) refl refl
 
-pub refused_after : (h : Parameters) (past : List Ins) (i : Ins) → is_refused h i (registers_after h past) ≡ overflows h past i
+pub refused_after : (h : Parameters) (past : List Ins) (i : Ins)
+    → is_refused h i (registers_after h past) ≡ overflows h past i
 refused_after h past i = ap (is_refused h i) (looked_back h past)
 
-pub tombstone_after : (h : Parameters) (past : List Ins) → (registers_after h past).tombstone ≡ is_under_tombstone h past
+pub tombstone_after : (h : Parameters) (past : List Ins)
+    → (registers_after h past).tombstone ≡ is_under_tombstone h past
 tombstone_after h past = ap (λ (r : LineRow). r.tombstone) (looked_back h past)
 
-pub row_after : (h : Parameters) (past : List Ins) (i : Ins) → makes_row i ≡ true → step_of h i (registers_after h past) ≡ row_at h past i
+pub row_after : (h : Parameters) (past : List Ins) (i : Ins) → makes_row i ≡ true
+    → step_of h i (registers_after h past) ≡ row_at h past i
 row_after h past i loud = ap (step_of h i) (looked_back h past) ∙ row_is h past i loud

@@ -1,6 +1,7 @@
 -- A table of version 5 has no more entries than bytes stand after their count, and the tables of a header have no more
 -- than it has bytes.
-use Rattle.std.proofs.Common.{◌≡◌, ◌≢◌, ℕ, zero, suc, ◌+◌, ◌<◌, ◌≤◌, Bool, true, false, List, [], ◌∷◌, length, Option, Some, None, refl, sym, ap, subst, ◌∙◌}
+use Rattle.std.proofs.Common.{◌≡◌, ◌≢◌, ℕ, zero, suc, ◌+◌, ◌<◌, ◌≤◌, Bool, true, false, List, [], ◌∷◌, length, Option}
+use Rattle.std.proofs.Common.{Some, None, refl, sym, ap, subst, ◌∙◌}
 use Rattle.std.proofs.Common.{arith, inl, inr, IsTrue}
 use Rattle.std.specs.List.{AllByRecursion}
 use Rattle.std.specs.Prelude.{nat_eq, nat_le, count_by}
@@ -11,7 +12,8 @@ use Rattle.gimli_core.specs.Numbers.{Groups, word_size}
 use Rattle.gimli_core.specs.declared.error.Error.TheVariants.{UnknownForm}
 use Rattle.gimli_core.specs.Values.{Value}
 use Rattle.gimli_core.specs.Production.{Production, Each, times, refuse, choose}
-use Rattle.gimli_core.specs.Form.{Shape, fixed, three_bytes, word_offset, leb, signed_leb, leb_offset, block, counted, leb_counted, string, shape_among, shapes}
+use Rattle.gimli_core.specs.Form.{Shape, fixed, three_bytes, word_offset, leb, signed_leb, leb_offset, block, counted}
+use Rattle.gimli_core.specs.Form.{leb_counted, string, shape_among, shapes}
 use Rattle.gimli_core.specs.Form.{shape_production, form_production}
 use Rattle.gimli_core.specs.declared.attribute_value.AttributeValue.TheVariants.{String}
 use Rattle.gimli_core.specs.declared.common.Format.{Format}
@@ -20,8 +22,10 @@ use Rattle.gimli_core.specs.declared.common.Encoding.{Encoding}
 use Rattle.gimli_line.specs.header.File.{File}
 use Rattle.gimli_line.specs.header.Header.{Header, UnitEntry}
 use Rattle.gimli_line.specs.header.Productions.{name}
-use Rattle.gimli_line.specs.header.HeaderGrammar.{Entry, is_content, path_of, file_of_entry, paths_production, files_production, formats_production}
-use Rattle.gimli_line.specs.header.HeaderGrammar.{entry_production, entries_production, table_production, directory_table, file_table, opening_production}
+use Rattle.gimli_line.specs.header.HeaderGrammar.{Entry, is_content, path_of, file_of_entry, paths_production}
+use Rattle.gimli_line.specs.header.HeaderGrammar.{files_production, formats_production}
+use Rattle.gimli_line.specs.header.HeaderGrammar.{entry_production, entries_production, table_production}
+use Rattle.gimli_line.specs.header.HeaderGrammar.{directory_table, file_table, opening_production}
 use Rattle.gimli_line.specs.header.HeaderGrammar.{fields_production, Opening, SpellsUnit, HoldsCount}
 use Rattle.gimli_line.specs.declared.header.file_entry.FileEntryFormat.{FileEntryFormat}
 
@@ -60,7 +64,25 @@ shapes_have = (
               omega arith,
               (
                 omega arith,
-                (omega arith, (tt, (tt, (omega arith, (tt, (tt, (tt, (tt, (tt, (tt, (tt, (tt, (omega arith, (omega arith, (tt, (omega arith, tt)))))))))))))))),
+                (
+                  omega arith,
+                  (
+                    tt,
+                    (
+                      tt,
+                      (
+                        omega arith,
+                        (
+                          tt,
+                          (
+                            tt,
+                            (tt, (tt, (tt, (tt, (tt, (tt, (omega arith, (omega arith, (tt, (omega arith, tt)))))))))),
+                          ),
+                        ),
+                      ),
+                    ),
+                  ),
+                ),
               ),
             ),
           ),
@@ -70,16 +92,19 @@ shapes_have = (
   ),
 )
 
-among_has : (form : ℕ) (shape : Shape) (rows : List (ℕ × Shape)) → AllByRecursion (λ row. HasBytes row.1) rows → shape_among form rows ≡ Some shape
+among_has : (form : ℕ) (shape : Shape) (rows : List (ℕ × Shape)) → AllByRecursion (λ row. HasBytes row.1) rows
+    → shape_among form rows ≡ Some shape
     → HasBytes shape
 among_has form shape [] all is = absurd cc
 among_has form shape (row ∷ rows) all is = elim (eqb_tells form row.0) [
-  | inl p ↦ let found : Some row.1 ≡ Some shape = rw p.0 at is in let same : row.1 ≡ shape = cc in subst HasBytes same all.0
+  | inl p ↦
+      let found : Some row.1 ≡ Some shape = rw p.0 at is in let same : row.1 ≡ shape = cc in subst HasBytes same all.0
   | inr p ↦ among_has form shape rows all.1 (rw p.0 at is)
 ]
 
 -- so many values, each of which has bytes
-times_bounded : {A : Type 0} (n : ℕ) (l : Production A) → ((bytes : List ℕ) (x : A) → l.Spells bytes x → 0 < length bytes) → (bytes : List ℕ) (xs : List A)
+times_bounded : {A : Type 0} (n : ℕ) (l : Production A)
+    → ((bytes : List ℕ) (x : A) → l.Spells bytes x → 0 < length bytes) → (bytes : List ℕ) (xs : List A)
     → (times n l).Spells bytes xs → length xs ≤ length bytes
 times_bounded zero l some bytes xs s = rw s.1 (omega arith)
 times_bounded (suc n) l some bytes xs s =
@@ -89,20 +114,24 @@ times_bounded (suc n) l some bytes xs s =
     omega (arith, length-append s.1 s.2, ap length s.3, length-append r.1 r.2, ap length r.3, ap length r.5.1)
 
 -- so many values are that many
-times_counted : {A : Type 0} (n : ℕ) (l : Production A) (bytes : List ℕ) (xs : List A) → (times n l).Spells bytes xs → n ≡ length xs
+times_counted : {A : Type 0} (n : ℕ) (l : Production A) (bytes : List ℕ) (xs : List A) → (times n l).Spells bytes xs
+    → n ≡ length xs
 times_counted zero l bytes xs s = rw s.1 refl
 times_counted (suc n) l bytes xs s =
     let r = s.5 in
     rw r.5.1 (ap suc (times_counted n l r.1 r.0 r.4))
 
 -- values one after the other, each of which has bytes
-each_bounded : {A : Type 0} (Spells : List ℕ → A → Type 0) → ((bytes : List ℕ) (x : A) → Spells bytes x → 0 < length bytes) → (bytes : List ℕ) (xs : List A)
+each_bounded : {A : Type 0} (Spells : List ℕ → A → Type 0)
+    → ((bytes : List ℕ) (x : A) → Spells bytes x → 0 < length bytes) → (bytes : List ℕ) (xs : List A)
     → Each Spells bytes xs → length xs ≤ length bytes
 each_bounded Spells some bytes [] s = omega arith
-each_bounded Spells some bytes (x ∷ xs) s = omega (arith, length-append s.0 s.1, ap length s.2, some s.0 x s.3, each_bounded Spells some s.1 xs s.4)
+each_bounded Spells some bytes (x ∷ xs) s =
+    omega (arith, length-append s.0 s.1, ap length s.2, some s.0 x s.3, each_bounded Spells some s.1 xs s.4)
 
 -- formats with a path are some
-pub formats_some : (bytes : List ℕ) (formats : List FileEntryFormat) → formats_production.Spells bytes formats → formats ≢ []
+pub formats_some : (bytes : List ℕ) (formats : List FileEntryFormat) → formats_production.Spells bytes formats
+    → formats ≢ []
 formats_some bytes formats s none =
     let c = s.5 in
     let path = c.5 in
@@ -113,24 +142,47 @@ formats_some bytes formats s none =
     absurd cc
 
 module _ (notation : Notation) (format : Format) where
-  shape_some : (shape : Shape) → HasBytes shape → (bytes : List ℕ) (v : Value) → (shape_production notation format shape).Spells bytes v → 0 < length bytes
+  shape_some : (shape : Shape) → HasBytes shape → (bytes : List ℕ) (v : Value)
+      → (shape_production notation format shape).Spells bytes v → 0 < length bytes
   shape_some (fixed size make) some bytes v s = omega (arith, length-append s.1 s.2, ap length s.3, s.4.size_is)
   shape_some (three_bytes make) some bytes v s =
-      let n = s.4 in omega (arith, length-append s.1 s.2, ap length s.3, length-append n.1 n.2, ap length n.3, n.4.size_is)
+      let n =
+      s.4 in omega (arith, length-append s.1 s.2, ap length s.3, length-append n.1 n.2, ap length n.3, n.4.size_is)
   shape_some (word_offset make) some bytes v s =
       let n = s.4 in
-      omega (arith, length-append s.1 s.2, ap length s.3, length-append n.1 n.2, ap length n.3, n.4.size_is, word_some format)
-  shape_some (leb make) some bytes v s = omega (arith, length-append s.1 s.2, ap length s.3, groups_some s.1 s.0 s.4.groups)
-  shape_some (signed_leb make) some bytes v s = omega (arith, length-append s.1 s.2, ap length s.3, groups_some s.1 s.4.unsigned s.4.groups)
+      omega
+      (arith, length-append s.1 s.2, ap length s.3, length-append n.1 n.2, ap length n.3, n.4.size_is, word_some format)
+  shape_some (leb make) some bytes v s =
+      omega (arith, length-append s.1 s.2, ap length s.3, groups_some s.1 s.0 s.4.groups)
+  shape_some (signed_leb make) some bytes v s =
+      omega (arith, length-append s.1 s.2, ap length s.3, groups_some s.1 s.4.unsigned s.4.groups)
   shape_some (leb_offset make) some bytes v s =
-      let n = s.4 in omega (arith, length-append s.1 s.2, ap length s.3, length-append n.1 n.2, ap length n.3, groups_some n.1 n.0 n.4.groups)
+      let n =
+      s.4 in omega (
+        arith,
+        length-append s.1 s.2,
+        ap length s.3,
+        length-append n.1 n.2,
+        ap length n.3,
+        groups_some n.1 n.0 n.4.groups,
+      )
   shape_some (block size) some bytes v s = omega (arith, length-append s.1 s.2, ap length s.3, s.4.0)
   shape_some (counted size) some bytes v s = omega (arith, length-append s.1 s.2, ap length s.3, s.4.size_is)
   shape_some leb_counted some bytes v s =
-      let n = s.4 in omega (arith, length-append s.1 s.2, ap length s.3, length-append n.1 n.2, ap length n.3, groups_some n.1 n.0 n.4.groups)
-  shape_some string some bytes v s = omega (arith, length-append s.1 s.2, ap length s.3, length-append s.0 (0 ∷ []), ap length s.4.1)
+      let n =
+      s.4 in omega (
+        arith,
+        length-append s.1 s.2,
+        ap length s.3,
+        length-append n.1 n.2,
+        ap length n.3,
+        groups_some n.1 n.0 n.4.groups,
+      )
+  shape_some string some bytes v s =
+      omega (arith, length-append s.1 s.2, ap length s.3, length-append s.0 (0 ∷ []), ap length s.4.1)
 
-  form_some : (form : ℕ) (bytes : List ℕ) (v : Value) → (form_production notation format form).Spells bytes v → 0 < length bytes
+  form_some : (form : ℕ) (bytes : List ℕ) (v : Value) → (form_production notation format form).Spells bytes v
+      → 0 < length bytes
   form_some form bytes v = at_shape (shape_among form shapes) refl
     where
       at_shape : (found : Option Shape) → shape_among form shapes ≡ found
@@ -146,7 +198,8 @@ module _ (notation : Notation) (format : Format) where
   entry_some : (formats : List FileEntryFormat) → formats ≢ [] → (bytes : List ℕ) (entry : Entry)
       → (entry_production notation format formats).Spells bytes entry → 0 < length bytes
   entry_some [] some bytes entry s = absurd (some refl)
-  entry_some (f ∷ formats) some bytes entry s = omega (arith, length-append s.1 s.2, ap length s.3, form_some f.form.0 s.1 s.0 s.4)
+  entry_some (f ∷ formats) some bytes entry s =
+      omega (arith, length-append s.1 s.2, ap length s.3, form_some f.form.0 s.1 s.0 s.4)
 
   -- a table's entries are as many as their count says, and no more than the bytes after it
   pub entries_bounded : (formats : List FileEntryFormat) → formats ≢ [] → (bytes : List ℕ) (entries : List Entry)
@@ -156,7 +209,8 @@ module _ (notation : Notation) (format : Format) where
       let counted = times_counted s.0 l s.2 entries s.5 in
       (s.1, s.2, s.3, rw (← counted) s.4, times_bounded s.0 l (entry_some formats some) s.2 entries s.5)
 
-  table_bounded : (bytes : List ℕ) (table : List FileEntryFormat × List Entry) → (table_production notation format).Spells bytes table
+  table_bounded : (bytes : List ℕ) (table : List FileEntryFormat × List Entry)
+      → (table_production notation format).Spells bytes table
       → length table.1 ≤ length bytes
   table_bounded bytes table s =
       let e = s.5 in
@@ -178,8 +232,10 @@ module _ (notation : Notation) (format : Format) where
 name_some : (bytes path : List ℕ) → name.Spells bytes path → 0 < length bytes
 name_some bytes path s = omega (arith, length-append path (0 ∷ []), ap length s.1.1)
 
-paths_bounded : (bytes : List ℕ) (paths : List (List ℕ)) → paths_production.Spells bytes paths → length paths ≤ length bytes
-paths_bounded bytes paths s = omega (arith, length-append s.0 (0 ∷ []), ap length s.1, each_bounded name.Spells name_some s.0 paths s.2)
+paths_bounded : (bytes : List ℕ) (paths : List (List ℕ)) → paths_production.Spells bytes paths
+    → length paths ≤ length bytes
+paths_bounded bytes paths s =
+    omega (arith, length-append s.0 (0 ∷ []), ap length s.1, each_bounded name.Spells name_some s.0 paths s.2)
 
 files_bounded : (bytes : List ℕ) (files : List File) → files_production.Spells bytes files → length files ≤ length bytes
 files_bounded bytes files s =
@@ -187,17 +243,20 @@ files_bounded bytes files s =
       arith,
       length-append s.0 (0 ∷ []),
       ap length s.1,
-      each_bounded _ (λ part file f. omega (arith, length-append f.1 f.2, ap length f.3, name_some f.1 f.0 f.4)) s.0 files s.2,
+      each_bounded _ (λ part file f. omega (arith, length-append f.1 f.2, ap length f.3, name_some f.1 f.0 f.4)) s.0
+          files s.2,
     )
 
 -- one production or the other
-chosen : {A : Type 0} {P : Type 0} (test : Bool) (l m : Production A) (bytes : List ℕ) (x : A) → (l.Spells bytes x → P) → (m.Spells bytes x → P)
+chosen : {A : Type 0} {P : Type 0} (test : Bool) (l m : Production A) (bytes : List ℕ) (x : A) → (l.Spells bytes x → P)
+    → (m.Spells bytes x → P)
     → (choose test l m).Spells bytes x → P
 chosen true l m bytes x one other s = one s
 chosen false l m bytes x one other s = other s
 
 module _ (notation : Notation) (encoding : Encoding) where
-  directories_bounded : (bytes : List ℕ) (table : List FileEntryFormat × List Value) → (directory_table notation encoding).Spells bytes table
+  directories_bounded : (bytes : List ℕ) (table : List FileEntryFormat × List Value)
+      → (directory_table notation encoding).Spells bytes table
       → length table.1 ≤ length bytes
   directories_bounded bytes table =
       chosen (nat_le encoding.version 4) _ _ bytes table
@@ -218,11 +277,18 @@ module _ (notation : Notation) (encoding : Encoding) where
         ap (λ (t : List FileEntryFormat × List Value). length t.1) s.5.1,
       ))
 
-  all_files_bounded : (bytes : List ℕ) (table : List FileEntryFormat × List File) → (file_table notation encoding).Spells bytes table
+  all_files_bounded : (bytes : List ℕ) (table : List FileEntryFormat × List File)
+      → (file_table notation encoding).Spells bytes table
       → length table.1 ≤ length bytes
   all_files_bounded bytes table =
       chosen (nat_le encoding.version 4) _ _ bytes table
-      (λ s. omega (arith, length-append s.1 s.2, ap length s.3, files_bounded s.1 s.0 s.4, ap (λ (t : List FileEntryFormat × List File). length t.1) s.5.1))
+      (λ s. omega (
+        arith,
+        length-append s.1 s.2,
+        ap length s.3,
+        files_bounded s.1 s.0 s.4,
+        ap (λ (t : List FileEntryFormat × List File). length t.1) s.5.1,
+      ))
       (λ s. omega (
         arith,
         length-append s.1 s.2,
@@ -258,9 +324,11 @@ opening_counted notation handed format bytes o s =
       ),
     )
 
-fields_bounded : (notation : Notation) (unit_entry : UnitEntry) (unit : ℕ) (o : Opening) (program bytes : List ℕ) (h : Header)
+fields_bounded : (notation : Notation) (unit_entry : UnitEntry) (unit : ℕ) (o : Opening) (program bytes : List ℕ)
+    (h : Header)
     → (fields_production notation unit_entry unit o program).Spells bytes h
-    → (length h.directories + length h.files ≤ length bytes) × (h.program ≡ program) × (h.header_length ≡ o.header_length) × (h.unit_length ≡ unit)
+    → (length h.directories + length h.files ≤ length bytes) × (h.program ≡ program)
+    × (h.header_length ≡ o.header_length) × (h.unit_length ≡ unit)
 fields_bounded notation unit_entry unit o program bytes h s =
     let c = s.5 in
     let d = c.5 in
@@ -290,8 +358,10 @@ fields_bounded notation unit_entry unit o program bytes h s =
       ap (λ (h : Header). h.unit_length) is,
     )
 
-pub unit_bounded : (notation : Notation) (unit_entry : UnitEntry) (bytes : List ℕ) (h : Header) → SpellsUnit notation unit_entry bytes h
-    → (length h.directories + length h.files ≤ h.header_length) × (h.header_length + length h.program ≤ h.unit_length) × (h.unit_length ≤ length bytes)
+pub unit_bounded : (notation : Notation) (unit_entry : UnitEntry) (bytes : List ℕ) (h : Header)
+    → SpellsUnit notation unit_entry bytes h
+    → (length h.directories + length h.files ≤ h.header_length) × (h.header_length + length h.program ≤ h.unit_length)
+    × (h.unit_length ≤ length bytes)
 unit_bounded notation unit_entry bytes h u =
     let s = u.3 in
     let i = s.5 in
@@ -303,6 +373,26 @@ unit_bounded notation unit_entry bytes h u =
     let same : h ≡ f.0.0 = f.5.1 in
     rw same (
       omega (arith, fields.0, fields.2, opened.0, length-append f.4.1.0 f.0.1, ap length f.4.1.1),
-      omega (arith, fields.2, fields.3, ap length fields.1, opened.1, length-append o.4.1.0 o.0.1, ap length o.4.1.1, ap length i.4.1, i.4.0),
-      omega (arith, fields.3, i.4.0, whole, ap length u.2, length-append s.1 s.2, ap length s.3, length-append i.1 i.2, ap length i.3),
+      omega (
+        arith,
+        fields.2,
+        fields.3,
+        ap length fields.1,
+        opened.1,
+        length-append o.4.1.0 o.0.1,
+        ap length o.4.1.1,
+        ap length i.4.1,
+        i.4.0,
+      ),
+      omega (
+        arith,
+        fields.3,
+        i.4.0,
+        whole,
+        ap length u.2,
+        length-append s.1 s.2,
+        ap length s.3,
+        length-append i.1 i.2,
+        ap length i.3,
+      ),
     )

@@ -1,5 +1,6 @@
 -- Taking in the values of an entry one by one gives the entry's parts.
-use Rattle.std.proofs.Common.{◌≡◌, ℕ, ◌+◌, ◌<◌, Bool, if◌then◌else◌, List, [], ◌∷◌, length, get_or, drop, Option, Some, None, Ok, Err, refl, sym, ap, ◌∙◌}
+use Rattle.std.proofs.Common.{◌≡◌, ℕ, ◌+◌, ◌<◌, Bool, if◌then◌else◌, List, [], ◌∷◌, length, get_or, drop, Option, Some}
+use Rattle.std.proofs.Common.{None, Ok, Err, refl, sym, ap, ◌∙◌}
 use Rattle.std.proofs.lemmas.List.{drop_more}
 use Rattle.std.specs.Prelude.{nat_eq}
 use Rattle.gimli_core.specs.Notation.{Notation}
@@ -18,7 +19,8 @@ use Rattle.gimli_line.specs.declared.header.file_entry.FileEntryFormat.{FileEntr
 
 -- the last value of an entry, from its first value on
 last_of : {A : Type 0} (wanted : ℕ) (pick : Value → Option A) (first : A) (content : ℕ) (value : Value) (entry : Entry)
-    → last_value wanted pick first ((content, value) ∷ entry) ≡ last_value wanted pick (value_after wanted pick content value first) entry
+    → last_value wanted pick first ((content, value) ∷ entry)
+    ≡ last_value wanted pick (value_after wanted pick content value first) entry
 last_of {A} wanted pick first content value entry = at_pick (if nat_eq content wanted then pick value else None)
   where
     at_pick : (picked : Option A)
@@ -51,10 +53,12 @@ file_folded first (v ∷ entry) =
 
 module _ (notation : Notation) (format : Format) {A : Type 0} (step : A → ℕ → Value → A) where
   folded_is : (first : A) (formats : List FileEntryFormat) (bytes : List ℕ)
-      → folded_at notation format step first formats bytes ≡ read_map (fold_of step first) (entry_at notation format formats bytes)
+      → folded_at notation format step first formats bytes
+      ≡ read_map (fold_of step first) (entry_at notation format formats bytes)
   folded_is first [] bytes = refl
   folded_is first (f ∷ formats) bytes =
-      at_value (form_at notation format f.form.0 bytes) (λ value rest. folded_is (step first f.content_type.0 value) formats rest)
+      at_value (form_at notation format f.form.0 bytes) (λ value rest.
+      folded_is (step first f.content_type.0 value) formats rest)
     where
       after : (value : Value) (r : Read Entry)
           → read_map (fold_of step (step first f.content_type.0 value)) r
@@ -79,10 +83,12 @@ viewed_by f g same (Err e, rest) = refl
 module _ (notation : Notation) (format : Format) where
   -- from a file of an empty path the file is that of the entry
   pub file_is : (formats : List FileEntryFormat) (bytes : List ℕ)
-      → folded_at notation format file_with (plain_file [] 0 0 0) formats bytes ≡ read_map file_of_entry (entry_at notation format formats bytes)
+      → folded_at notation format file_with (plain_file [] 0 0 0) formats bytes
+      ≡ read_map file_of_entry (entry_at notation format formats bytes)
   file_is formats bytes =
       folded_is notation format file_with (plain_file [] 0 0 0) formats bytes
-      ∙ viewed_by (fold_of file_with (plain_file [] 0 0 0)) file_of_entry (file_folded (plain_file [] 0 0 0)) (entry_at notation format formats bytes)
+      ∙ viewed_by (fold_of file_with (plain_file [] 0 0 0)) file_of_entry (file_folded (plain_file [] 0 0 0))
+      (entry_at notation format formats bytes)
 
 -- a directory is the path of such a file
 pub path_is : (r : Read Entry) → read_map (λ (f : File). f.path_name) (read_map file_of_entry r) ≡ read_map path_of r

@@ -23,10 +23,25 @@ module _ (a : Bool) (h : Header) (c : Source) (s : Unread) where
   decoding = bare_decoding s.notation h s.bytes parts.0 parts.1 (is_decoded s.notation (without_files h) s.bytes)
 
   pub started_events : EventsWithFiles s.notation a h s.bytes (events_left (start_of_run a h c s))
-  started_events = record { list = parts.0; end = parts.1; decoding = decoding; given = ap given_of (made_start a h.parameters h.files parts.0 parts.1) }
+  started_events = record {
+    list = parts.0;
+    end = parts.1;
+    decoding = decoding;
+    given = ap given_of (made_start a h.parameters h.files parts.0 parts.1);
+  }
 
   pub started_made : Makes s.notation a h s.bytes (made_left (start_of_run a h c s))
-  started_made = record { list = parts.0; end = parts.1; decoding = decoding; made = made_start a h.parameters h.files parts.0 parts.1 }
+  started_made = record {
+    list = parts.0;
+    end = parts.1;
+    decoding = decoding;
+    made = made_start a h.parameters h.files parts.0 parts.1;
+  }
 
   pub started_files : FilesAtEnd s.notation a h s.bytes (files_at_end (start_of_run a h c s))
-  started_files = record { list = parts.0; end = parts.1; decoding = decoding; given = files_from_start a h.files parts.0 }
+  started_files = record {
+    list = parts.0;
+    end = parts.1;
+    decoding = decoding;
+    given = files_from_start a h.files parts.0;
+  }

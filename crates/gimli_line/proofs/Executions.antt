@@ -8,7 +8,8 @@ use Rattle.gimli_core.specs.Reading.{byte_at, split_at, text_at, unsigned_at}
 use Rattle.gimli_line.specs.declared.run.from_bytes.Executed.{Executed}
 use Rattle.gimli_line.specs.declared.run.from_bytes.Executed.TheVariants.{Quiet, Address, Row}
 use Rattle.gimli_line.specs.declared.run.row.LineRow.{LineRow}
-use Rattle.gimli_line.specs.declared.run.instruction.LineInstruction.TheVariants.{Special, Copy, DefineFile, EndSequence}
+use Rattle.gimli_line.specs.declared.run.instruction.LineInstruction.TheVariants.{Special, Copy, DefineFile}
+use Rattle.gimli_line.specs.declared.run.instruction.LineInstruction.TheVariants.{EndSequence}
 use Rattle.gimli_line.specs.declared.run.instruction.LineInstruction.TheVariants.{SetAddress}
 use Rattle.gimli_line.specs.header.File.{File}
 use Rattle.gimli_line.specs.header.FormReading.{offset_at}
@@ -28,7 +29,8 @@ zero_not : (n : ℕ) → 0 < n → nat_eq n 0 ≡ false
 zero_not zero some = absurd (omega (arith, some))
 zero_not (suc n) some = eqb-suc-zero n
 
-module _ (notation : Notation) (h : Header) (bytes rest : List ℕ) (opcode base : ℕ) (is : base ≡ h.parameters.opcode_base)
+module _ (notation : Notation) (h : Header) (bytes rest : List ℕ) (opcode base : ℕ)
+    (is : base ≡ h.parameters.opcode_base)
     (read : (Ok opcode, rest) ≡ byte_at bytes) where
   pub special_read : 0 < opcode → base ≤ opcode → ins_at notation h bytes ≡ (Ok (Special opcode), rest)
   unfolding ins_at
@@ -41,7 +43,8 @@ module _ (notation : Notation) (h : Header) (bytes rest : List ℕ) (opcode base
       rw (← read, zero_not opcode some, lt-leb h.parameters.opcode_base opcode (omega (arith, lt, is))) refl
 
 -- a zero byte was in front of it
-pub extended_first : (notation : Notation) (h : Header) (whole bytes : List ℕ) (opcode : ℕ) → opcode ≡ 0 → (Ok opcode, bytes) ≡ byte_at whole
+pub extended_first : (notation : Notation) (h : Header) (whole bytes : List ℕ) (opcode : ℕ) → opcode ≡ 0
+    → (Ok opcode, bytes) ≡ byte_at whole
     → ins_at notation h whole ≡ extended_at notation h bytes
 unfolding ins_at
 extended_first notation h whole bytes opcode is read = rw (← read, is) refl
@@ -69,18 +72,23 @@ file_read notation h operands rest opcode is old path left text f after found =
 -- ---- what is told of it
 
 module _ (h : Header) (old new : Unread) (row after : LineRow) where
-  abbrev executed : (i : Ins) (refused : Bool) → ins_at old.notation h old.bytes ≡ (Ok i, new.bytes) → defines_file i ≡ false
+  abbrev executed : (i : Ins) (refused : Bool) → ins_at old.notation h old.bytes ≡ (Ok i, new.bytes)
+      → defines_file i ≡ false
       → after ≡ step_of h.parameters i row → is_refused h.parameters i row ≡ refused
       → IsExecuted h.parameters (ins_at old.notation h old.bytes) new.bytes row after refused
   executed i refused reading none registers refusal =
       record { instruction = i; reading = reading; defines = none; refusal = refusal; registers = registers }
 
   pub executes : (i : Ins) → ins_at old.notation h old.bytes ≡ (Ok i, new.bytes) → defines_file i ≡ false
-      → after ≡ step_of h.parameters i row → is_refused h.parameters i row ≡ false → ExecutesNext h old new row after (told_of i)
-  executes (Special o) reading none registers refusal = (executed (Special o) false reading none registers refusal, refl)
+      → after ≡ step_of h.parameters i row → is_refused h.parameters i row ≡ false
+      → ExecutesNext h old new row after (told_of i)
+  executes (Special o) reading none registers refusal =
+      (executed (Special o) false reading none registers refusal, refl)
   executes Copy reading none registers refusal = (executed Copy false reading none registers refusal, refl)
-  executes EndSequence reading none registers refusal = (executed EndSequence false reading none registers refusal, refl)
-  executes (SetAddress a) reading none registers refusal = (executed (SetAddress a) false reading none registers refusal, refl)
+  executes EndSequence reading none registers refusal =
+      (executed EndSequence false reading none registers refusal, refl)
+  executes (SetAddress a) reading none registers refusal =
+      (executed (SetAddress a) false reading none registers refusal, refl)
   executes i reading none registers refusal = (executed i false reading none registers refusal, refl)
 
 pub told_row : (i : Ins) → Row ≡ told_of i → makes_row i ≡ true

@@ -26,16 +26,20 @@ module _ (big : Bool) (limit : ℕ) (entry : UnitEntry) (unit : ℕ) (opening : 
   unfolding fields_at
   parameters_end e rest is = rw (← is) refl
 
-  module _ (parameters : Parameters) (mid : List ℕ) (count : ℕ) (first : (Ok parameters, mid) ≡ parameters_at opening.encoding bytes)
+  module _ (parameters : Parameters) (mid : List ℕ) (count : ℕ)
+      (first : (Ok parameters, mid) ≡ parameters_at opening.encoding bytes)
       (counted : count ≡ parameters.opcode_base - 1) where
-    pub counts_end : (e : Error) (rest : List ℕ) → (Err e, rest) ≡ split_at count mid → (fields_at notation entry unit opening program bytes).0 ≡ Err e
+    pub counts_end : (e : Error) (rest : List ℕ) → (Err e, rest) ≡ split_at count mid
+        → (fields_at notation entry unit opening program bytes).0 ≡ Err e
     unfolding fields_at
     counts_end e rest is =
         let again : (Err e, rest) ≡ split_at (parameters.opcode_base - 1) mid = rw counted at is in
         rw (← first, ← again) refl
 
-    module _ (counts left : List ℕ) (now : Bool) (second : (Ok counts, left) ≡ split_at count mid) (kept : now ≡ big) where
-      pub directories_end : (e : Error) → (directories_at (record { big = now; limit = limit }) opening.encoding left).0 ≡ Err e
+    module _ (counts left : List ℕ) (now : Bool) (second : (Ok counts, left) ≡ split_at count mid)
+        (kept : now ≡ big) where
+      pub directories_end : (e : Error)
+          → (directories_at (record { big = now; limit = limit }) opening.encoding left).0 ≡ Err e
           → (fields_at notation entry unit opening program bytes).0 ≡ Err e
       unfolding fields_at
       directories_end e is =
@@ -44,19 +48,24 @@ module _ (big : Bool) (limit : ℕ) (entry : UnitEntry) (unit : ℕ) (opening : 
           rw (← first, ← again, refused (directories_at notation opening.encoding left) e here) refl
 
       module _ (directory_formats : List FileEntryFormat) (directories : List Value) (next : List ℕ) (later : Bool)
-          (third : directories_at (record { big = now; limit = limit }) opening.encoding left ≡ (Ok (directory_formats, directories), next))
+          (third : directories_at (record { big = now; limit = limit }) opening.encoding left
+          ≡ (Ok (directory_formats, directories), next))
           (also : later ≡ big) where
-        pub files_end : (e : Error) → (file_names_at (record { big = later; limit = limit }) opening.encoding next).0 ≡ Err e
+        pub files_end : (e : Error)
+            → (file_names_at (record { big = later; limit = limit }) opening.encoding next).0 ≡ Err e
             → (fields_at notation entry unit opening program bytes).0 ≡ Err e
         unfolding fields_at
         files_end e is =
             let again : (Ok counts, left) ≡ split_at (parameters.opcode_base - 1) mid = rw counted at second in
-            let here : directories_at notation opening.encoding left ≡ (Ok (directory_formats, directories), next) = rw kept at third in
+            let here : directories_at notation opening.encoding left
+            ≡ (Ok (directory_formats, directories), next) = rw kept at third in
             let there : (file_names_at notation opening.encoding next).0 ≡ Err e = rw also at is in
             rw (← first, ← again, here, refused (file_names_at notation opening.encoding next) e there) refl
 
-        pub fields_done : (file_formats : List FileEntryFormat) (files : List File) (end : List ℕ) (comp_dir : Option (List ℕ)) (comp_file : Option File)
-            → file_names_at (record { big = later; limit = limit }) opening.encoding next ≡ (Ok (file_formats, files), end)
+        pub fields_done : (file_formats : List FileEntryFormat) (files : List File) (end : List ℕ)
+            (comp_dir : Option (List ℕ)) (comp_file : Option File)
+            → file_names_at (record { big = later; limit = limit }) opening.encoding next
+            ≡ (Ok (file_formats, files), end)
             → comp_dir ≡ handed_value opening.encoding entry.directory
             → comp_file ≡ handed_value opening.encoding (option_map (λ path. plain_file path 0 0 0) entry.name)
             → (fields_at notation entry unit opening program bytes).0 ≡ Ok (record {
@@ -75,6 +84,8 @@ module _ (big : Bool) (limit : ℕ) (entry : UnitEntry) (unit : ℕ) (opening : 
         unfolding fields_at
         fields_done file_formats files end comp_dir comp_file fourth directory file =
             let again : (Ok counts, left) ≡ split_at (parameters.opcode_base - 1) mid = rw counted at second in
-            let here : directories_at notation opening.encoding left ≡ (Ok (directory_formats, directories), next) = rw kept at third in
-            let there : file_names_at notation opening.encoding next ≡ (Ok (file_formats, files), end) = rw also at fourth in
+            let here : directories_at notation opening.encoding left
+            ≡ (Ok (directory_formats, directories), next) = rw kept at third in
+            let there : file_names_at notation opening.encoding next
+            ≡ (Ok (file_formats, files), end) = rw also at fourth in
             rw (← first, ← again, here, there, directory, file) refl

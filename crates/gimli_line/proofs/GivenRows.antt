@@ -1,12 +1,14 @@
 -- What a row that was the next to be made, and a refusal, mean for what is given.
-use Rattle.std.proofs.Common.{◌≡◌, ◌<◌, Bool, true, false, not, if◌then◌else◌, List, [], ◌∷◌, length, refl, ap, subst, ◌∙◌, arith, inl, inr}
+use Rattle.std.proofs.Common.{◌≡◌, ◌<◌, Bool, true, false, not, if◌then◌else◌, List, [], ◌∷◌, length, refl, ap, subst}
+use Rattle.std.proofs.Common.{◌∙◌, arith, inl, inr}
 use Rattle.std.specs.List.{All}
 use Rattle.gimli_core.specs.declared.error.Error.{Error}
 use Rattle.gimli_line.specs.declared.run.row.LineRow.{LineRow}
 use Rattle.gimli_line.specs.header.File.{File}
 use Rattle.gimli_line.specs.run.Events.{row, EventWithFiles, given_of}
 use Rattle.gimli_line.specs.run.RunState.{RunState}
-use Rattle.gimli_line.specs.run.Rows.{live_made, live_events, made_left, events_left, GivesRowsAlone, IsRow, RowIs, FaultIs}
+use Rattle.gimli_line.specs.run.Rows.{live_made, live_events, made_left, events_left, GivesRowsAlone, IsRow, RowIs}
+use Rattle.gimli_line.specs.run.Rows.{FaultIs}
 use Rattle.gimli_line.proofs.RowsAlone.{rest_alone}
 
 pub none_given : (a : RunState) → made_left a ≡ [] → events_left a ≡ []
@@ -35,8 +37,12 @@ module _ (old new : RunState) (r : LineRow) (files : List File) (next : RowIs li
   any_rest_alone appends alone = by_flag r.tombstone refl
     where
       by_flag : (b : Bool) → r.tombstone ≡ b → GivesRowsAlone new
-      by_flag true under = record { complete = appends ∙ alone.complete; rows = subst (All IsRow) (hidden under) alone.rows }
-      by_flag false is = rest_alone old new (record { event = row r; files = files }) appends (first_given false is) alone
+      by_flag true under = record {
+        complete = appends ∙ alone.complete;
+        rows = subst (All IsRow) (hidden under) alone.rows;
+      }
+      by_flag false is =
+          rest_alone old new (record { event = row r; files = files }) appends (first_given false is) alone
 
 -- ---- refusals
 

@@ -1,36 +1,53 @@
 -- Reading a header, production by production.
-use Rattle.std.proofs.Common.{◌≡◌, ℕ, ◌-◌, Bool, true, false, not, if◌then◌else◌, List, [], ◌∷◌, map, Option, Some, None, Ok, Err, refl, sym, ap, ◌∙◌, ◌⊎◌, inl, inr}
+use Rattle.std.proofs.Common.{◌≡◌, ℕ, ◌-◌, Bool, true, false, not, if◌then◌else◌, List, [], ◌∷◌, map, Option, Some}
+use Rattle.std.proofs.Common.{None, Ok, Err, refl, sym, ap, ◌∙◌, ◌⊎◌, inl, inr}
 use Rattle.std.specs.Prelude.{nat_eq, nat_le, count_by, ◌&&◌}
 use Rattle.gimli_core.specs.Notation.{Notation}
 use Rattle.gimli_core.specs.Numbers.{is_address_size}
 use Rattle.gimli_core.specs.Reading.{Read, ◌>>=◌, byte_at, address_size_at}
 use Rattle.gimli_core.specs.inside.Reading.{check_at}
-use Rattle.gimli_core.specs.Production.{Production, ◌>>=◌ as ◌>>>◌, done, refuse, check, choose, times, byte, number, some_bytes, text, unsigned, unsigned_16}
+use Rattle.gimli_core.specs.Production.{Production, ◌>>=◌ as ◌>>>◌, done, refuse, check, choose, times, byte, number}
+use Rattle.gimli_core.specs.Production.{some_bytes, text, unsigned, unsigned_16}
 use Rattle.gimli_core.specs.Production.{signed, below_limit, offset_word, unit_length, within, Reads}
-use Rattle.gimli_core.specs.Form.{Shape, fixed, three_bytes, word_offset, leb, signed_leb, leb_offset, block, counted, leb_counted, string, shape_among, shapes}
+use Rattle.gimli_core.specs.Form.{Shape, fixed, three_bytes, word_offset, leb, signed_leb, leb_offset, block, counted}
+use Rattle.gimli_core.specs.Form.{leb_counted, string, shape_among, shapes}
 use Rattle.gimli_core.specs.Form.{block_production, shape_production, form_production}
 use Rattle.gimli_core.specs.declared.common.Encoding.{Encoding}
 use Rattle.gimli_core.specs.declared.common.Format.{Format}
 use Rattle.gimli_core.specs.declared.attribute_value.AttributeValue.TheVariants.{Block, String}
 use Rattle.gimli_core.specs.declared.error.Error.{Error}
-use Rattle.gimli_core.specs.declared.error.Error.TheVariants.{UnknownForm, UnknownVersion, UnsupportedAddressSize, UnsupportedSegmentSize}
-use Rattle.gimli_core.specs.declared.error.Error.TheVariants.{MinimumInstructionLengthZero, MaximumOperationsPerInstructionZero, LineRangeZero, OpcodeBaseZero}
+use Rattle.gimli_core.specs.declared.error.Error.TheVariants.{UnknownForm, UnknownVersion, UnsupportedAddressSize}
+use Rattle.gimli_core.specs.declared.error.Error.TheVariants.{UnsupportedSegmentSize}
+use Rattle.gimli_core.specs.declared.error.Error.TheVariants.{
+  MinimumInstructionLengthZero,
+  MaximumOperationsPerInstructionZero,
+  LineRangeZero,
+  OpcodeBaseZero,
+}
 use Rattle.gimli_core.specs.declared.error.Error.TheVariants.{MissingFileEntryFormatPath}
-use Rattle.gimli_core.proofs.Productions.{reads_both, reads_done, reads_refuse, reads_check, reads_if, reads_times, reads_within, reads_same}
-use Rattle.gimli_core.proofs.ProductionLaws.{reads_byte, reads_some_bytes, reads_number, reads_text, reads_below_limit, reads_offset_word, reads_unit_length}
+use Rattle.gimli_core.proofs.Productions.{reads_both, reads_done, reads_refuse, reads_check, reads_if, reads_times}
+use Rattle.gimli_core.proofs.Productions.{reads_within, reads_same}
+use Rattle.gimli_core.proofs.ProductionLaws.{reads_byte, reads_some_bytes, reads_number, reads_text, reads_below_limit}
+use Rattle.gimli_core.proofs.ProductionLaws.{reads_offset_word, reads_unit_length}
 use Rattle.gimli_core.proofs.UnsignedLeb.{reads_unsigned, reads_unsigned_16}
 use Rattle.gimli_core.proofs.SignedLaws.{reads_signed}
 use Rattle.gimli_line.specs.header.File.{File}
 use Rattle.gimli_line.specs.header.Header.{Header, UnitEntry, plain_file}
 use Rattle.gimli_line.specs.header.Productions.{name, positive}
 use Rattle.gimli_line.specs.inside.header.FormReading.{block_at, shape_at, form_at}
-use Rattle.gimli_line.specs.header.HeaderGrammar.{is_content, Entry, path_of, file_of_entry, Opening, paths_production, file_production, files_production, format_production}
-use Rattle.gimli_line.specs.header.HeaderGrammar.{formats_production, entry_production, entries_production, table_production, version_production}
-use Rattle.gimli_line.specs.header.HeaderGrammar.{address_size_production, opening_production, line_encoding_production, parameters_production, directory_table}
-use Rattle.gimli_line.specs.header.HeaderGrammar.{file_table, fields_production, header_production, SpellsUnit, HasHeaderFault}
+use Rattle.gimli_line.specs.header.HeaderGrammar.{is_content, Entry, path_of, file_of_entry, Opening, paths_production}
+use Rattle.gimli_line.specs.header.HeaderGrammar.{file_production, files_production, format_production}
+use Rattle.gimli_line.specs.header.HeaderGrammar.{formats_production, entry_production, entries_production}
+use Rattle.gimli_line.specs.header.HeaderGrammar.{table_production, version_production}
+use Rattle.gimli_line.specs.header.HeaderGrammar.{address_size_production, opening_production, line_encoding_production}
+use Rattle.gimli_line.specs.header.HeaderGrammar.{parameters_production, directory_table}
+use Rattle.gimli_line.specs.header.HeaderGrammar.{file_table, fields_production, header_production, SpellsUnit}
+use Rattle.gimli_line.specs.header.HeaderGrammar.{HasHeaderFault}
 use Rattle.gimli_line.specs.header.HeaderReading.{plain_file_at}
-use Rattle.gimli_line.specs.inside.header.HeaderReading.{positive_at, paths_at, named_file_at, files_at, format_at, formats_at, entry_at, entries_at, table_at}
-use Rattle.gimli_line.specs.inside.header.HeaderReading.{version_at, own_address_size_at, size_at, opening_at, operations_at, line_encoding_at, parameters_at}
+use Rattle.gimli_line.specs.inside.header.HeaderReading.{positive_at, paths_at, named_file_at, files_at, format_at}
+use Rattle.gimli_line.specs.inside.header.HeaderReading.{formats_at, entry_at, entries_at, table_at}
+use Rattle.gimli_line.specs.inside.header.HeaderReading.{version_at, own_address_size_at, size_at, opening_at}
+use Rattle.gimli_line.specs.inside.header.HeaderReading.{operations_at, line_encoding_at, parameters_at}
 use Rattle.gimli_line.specs.inside.header.HeaderReading.{table_of, directories_at, file_names_at, fields_at, header_at}
 use Rattle.gimli_line.specs.inside.header.Outcome.{read_map}
 use Rattle.gimli_line.specs.declared.header.file_entry.FileEntryFormat.{FileEntryFormat}
@@ -40,12 +57,15 @@ use Rattle.gimli_line.proofs.Closed.{ReadsOpen, reads_name, reads_open_both, rea
 
 pub reads_guard : {A : Type 0} (b : Bool) (d : Error) (m : Production A) (after : List ℕ → Read A) → Reads m after
     → Reads (check b d >>> λ ok. m) (λ bytes. if b then after bytes else (Err d, bytes))
-reads_guard true d m after r = reads_both (check true d) (λ ok. m) (check_at true d) (λ ok. after) (reads_check true d) (λ ok. r)
-reads_guard false d m after r = reads_both (check false d) (λ ok. m) (check_at false d) (λ ok. after) (reads_check false d) (λ ok. r)
+reads_guard true d m after r =
+    reads_both (check true d) (λ ok. m) (check_at true d) (λ ok. after) (reads_check true d) (λ ok. r)
+reads_guard false d m after r =
+    reads_both (check false d) (λ ok. m) (check_at false d) (λ ok. after) (reads_check false d) (λ ok. r)
 
 pub reads_positive : (d : Error) → Reads (positive d) (positive_at d)
 unfolding positive_at
-reads_positive d = reads_both byte _ byte_at _ reads_byte (λ n. reads_guard (not (nat_eq n 0)) d (done n) _ (reads_done n))
+reads_positive d =
+    reads_both byte _ byte_at _ reads_byte (λ n. reads_guard (not (nat_eq n 0)) d (done n) _ (reads_done n))
 
 -- ---- the values of forms
 
@@ -54,18 +74,24 @@ reads_block n = reads_both (some_bytes n) _ _ _ (reads_some_bytes n) (λ xs. rea
 
 module _ (notation : Notation) (format : Format) where
   reads_shape : (shape : Shape) → Reads (shape_production notation format shape) (shape_at notation format shape)
-  reads_shape (fixed size make) = reads_both (number notation.big size) _ _ _ (reads_number notation.big size) (λ n. reads_done (make n))
+  reads_shape (fixed size make) =
+      reads_both (number notation.big size) _ _ _ (reads_number notation.big size) (λ n. reads_done (make n))
   reads_shape (three_bytes make) =
-      reads_both (below_limit notation (number notation.big 3)) _ _ _ (reads_below_limit notation (number notation.big 3) _ (reads_number notation.big 3)) (λ n.
+      reads_both (below_limit notation (number notation.big 3)) _ _ _
+      (reads_below_limit notation (number notation.big 3) _ (reads_number notation.big 3)) (λ n.
       reads_done (make n))
-  reads_shape (word_offset make) = reads_both (offset_word notation format) _ _ _ (reads_offset_word notation format) (λ n. reads_done (make n))
+  reads_shape (word_offset make) =
+      reads_both (offset_word notation format) _ _ _ (reads_offset_word notation format) (λ n. reads_done (make n))
   reads_shape (leb make) = reads_both unsigned _ _ _ reads_unsigned (λ n. reads_done (make n))
   reads_shape (signed_leb make) = reads_both signed _ _ _ reads_signed (λ z. reads_done (make z))
   reads_shape (leb_offset make) =
-      reads_both (below_limit notation unsigned) _ _ _ (reads_below_limit notation unsigned _ reads_unsigned) (λ n. reads_done (make n))
+      reads_both (below_limit notation unsigned) _ _ _ (reads_below_limit notation unsigned _ reads_unsigned) (λ n.
+      reads_done (make n))
   reads_shape (block size) = reads_block size
   reads_shape (counted size) = reads_both (number notation.big size) _ _ _ (reads_number notation.big size) reads_block
-  reads_shape leb_counted = reads_both (below_limit notation unsigned) _ _ _ (reads_below_limit notation unsigned _ reads_unsigned) reads_block
+  reads_shape leb_counted =
+      reads_both (below_limit notation unsigned) _ _ _ (reads_below_limit notation unsigned _ reads_unsigned)
+      reads_block
   reads_shape string = reads_both text _ _ _ reads_text (λ xs. reads_done (String xs))
 
   pub reads_form : (form : ℕ) → Reads (form_production notation format form) (form_at notation format form)
@@ -73,8 +99,14 @@ module _ (notation : Notation) (format : Format) where
   reads_form form = at_shape (shape_among form shapes)
     where
       at_shape : (found : Option Shape)
-          → Reads (elim found [ Some shape ↦ shape_production notation format shape | None ↦ refuse (UnknownForm (record { 0 = form })) ]) (λ bytes.
-          elim found [ Some shape ↦ shape_at notation format shape bytes | None ↦ (Err (UnknownForm (record { 0 = form })), bytes) ])
+          → Reads
+          (elim found
+          [ Some shape ↦ shape_production notation format shape | None ↦ refuse (UnknownForm (record { 0 = form })) ])
+          (λ bytes.
+          elim found [
+            | Some shape ↦ shape_at notation format shape bytes
+            | None ↦ (Err (UnknownForm (record { 0 = form })), bytes)
+          ])
       at_shape (Some shape) = reads_shape shape
       at_shape None = reads_refuse (UnknownForm (record { 0 = form }))
 
@@ -87,7 +119,8 @@ pub reads_file : (path : List ℕ) → Reads (file_production path) (plain_file_
 unfolding plain_file_at
 reads_file path =
     reads_both unsigned _ _ _ reads_unsigned (λ directory.
-    reads_both unsigned _ _ _ reads_unsigned (λ time. reads_both unsigned _ _ _ reads_unsigned (λ size. reads_done (plain_file path directory time size))))
+    reads_both unsigned _ _ _ reads_unsigned (λ time.
+    reads_both unsigned _ _ _ reads_unsigned (λ size. reads_done (plain_file path directory time size))))
 
 -- a path that isn't empty, and what stands after it
 abbrev pub named_file : Production File
@@ -103,31 +136,40 @@ reads_files = reads_closed named_file _ reads_named_file
 
 pub reads_format : Reads format_production format_at
 unfolding format_at
-reads_format = reads_both unsigned _ _ _ reads_unsigned (λ content. reads_both unsigned_16 _ _ _ reads_unsigned_16 (λ form. reads_done _))
+reads_format =
+    reads_both unsigned _ _ _ reads_unsigned (λ content.
+    reads_both unsigned_16 _ _ _ reads_unsigned_16 (λ form. reads_done _))
 
 pub reads_formats : Reads formats_production formats_at
 unfolding formats_at
 reads_formats =
-    reads_both byte _ _ _ reads_byte (λ count. reads_both (times count format_production) _ _ _ (reads_times count format_production _ reads_format)
-    (λ formats. reads_guard (nat_eq (count_by (is_content 0x0001) formats) 1) MissingFileEntryFormatPath (done formats) _ (reads_done formats)))
+    reads_both byte _ _ _ reads_byte (λ count.
+    reads_both (times count format_production) _ _ _ (reads_times count format_production _ reads_format)
+    (λ formats. reads_guard (nat_eq (count_by (is_content 0x0001) formats) 1) MissingFileEntryFormatPath (done formats)
+    _ (reads_done formats)))
 
 module _ (notation : Notation) (format : Format) where
-  pub reads_entry : (formats : List FileEntryFormat) → Reads (entry_production notation format formats) (entry_at notation format formats)
+  pub reads_entry : (formats : List FileEntryFormat)
+      → Reads (entry_production notation format formats) (entry_at notation format formats)
   reads_entry [] = reads_done []
   reads_entry (f ∷ formats) =
       reads_both (form_production notation format f.form.0) _ _ _ (reads_form notation format f.form.0)
-      (λ value. reads_both (entry_production notation format formats) _ _ _ (reads_entry formats) (λ values. reads_done _))
+      (λ value. reads_both (entry_production notation format formats) _ _ _ (reads_entry formats) (λ values.
+      reads_done _))
 
-  pub reads_entries : (formats : List FileEntryFormat) → Reads (entries_production notation format formats) (entries_at notation format formats)
+  pub reads_entries : (formats : List FileEntryFormat)
+      → Reads (entries_production notation format formats) (entries_at notation format formats)
   unfolding entries_at
   reads_entries formats =
-      reads_both unsigned _ _ _ reads_unsigned (λ count. reads_times count (entry_production notation format formats) _ (reads_entry formats))
+      reads_both unsigned _ _ _ reads_unsigned (λ count.
+      reads_times count (entry_production notation format formats) _ (reads_entry formats))
 
   pub reads_table : Reads (table_production notation format) (table_at notation format)
   unfolding table_at
   reads_table =
       reads_both formats_production _ _ _ reads_formats (λ formats.
-      reads_both (entries_production notation format formats) _ _ _ (reads_entries formats) (λ entries. reads_done (formats, entries)))
+      reads_both (entries_production notation format formats) _ _ _ (reads_entries formats) (λ entries.
+      reads_done (formats, entries)))
 
 -- ---- the parts of a header
 
@@ -139,7 +181,8 @@ reads_version big =
 
 -- an address size, which the core reads with its test
 tested_size : (k : ℕ → List ℕ → Read ℕ) (bytes : List ℕ)
-    → (byte_at bytes >>= λ n rest. if is_address_size n then k n rest else (Err (UnsupportedAddressSize n), rest)) ≡ (address_size_at bytes >>= k)
+    → (byte_at bytes >>= λ n rest. if is_address_size n then k n rest else (Err (UnsupportedAddressSize n), rest))
+    ≡ (address_size_at bytes >>= k)
 unfolding address_size_at
 tested_size k [] = refl
 tested_size k (b ∷ bytes) = at_test (is_address_size b)
@@ -156,9 +199,11 @@ reads_size version handed =
     reads_if (nat_le version 4) (done handed) _ _ _ (reads_done handed)
     (reads_same _ _ own_address_size_at (tested_size _)
     (reads_both byte _ _ _ reads_byte (λ size. reads_guard (is_address_size size) (UnsupportedAddressSize size) _ _
-    (reads_both byte _ _ _ reads_byte (λ selector. reads_guard (nat_eq selector 0) (UnsupportedSegmentSize selector) (done size) _ (reads_done size))))))
+    (reads_both byte _ _ _ reads_byte (λ selector.
+    reads_guard (nat_eq selector 0) (UnsupportedSegmentSize selector) (done size) _ (reads_done size))))))
 
-pub reads_opening : (notation : Notation) (handed : ℕ) (format : Format) → Reads (opening_production notation handed format) (opening_at notation handed format)
+pub reads_opening : (notation : Notation) (handed : ℕ) (format : Format)
+    → Reads (opening_production notation handed format) (opening_at notation handed format)
 unfolding opening_at
 reads_opening notation handed format =
     reads_both (version_production notation.big) _ _ _ (reads_version notation.big)
@@ -171,7 +216,8 @@ pub reads_line_encoding : (version : ℕ) → Reads (line_encoding_production ve
 unfolding line_encoding_at
 reads_line_encoding version =
     reads_both (positive MinimumInstructionLengthZero) _ _ _ (reads_positive MinimumInstructionLengthZero)
-    (λ minimum. reads_both (choose (nat_le version 3) (done 1) (positive MaximumOperationsPerInstructionZero)) _ (operations_at version) _
+    (λ minimum. reads_both (choose (nat_le version 3) (done 1) (positive MaximumOperationsPerInstructionZero)) _
+    (operations_at version) _
     (reads_if (nat_le version 3) (done 1) _ _ _ (reads_done 1) (reads_positive MaximumOperationsPerInstructionZero))
     (λ maximum. reads_both byte _ _ _ reads_byte (λ statement. reads_both byte _ _ _ reads_byte
     (λ base. reads_both (positive LineRangeZero) _ _ _ (reads_positive LineRangeZero) (λ range. reads_done _)))))
@@ -180,7 +226,8 @@ pub reads_parameters : (encoding : Encoding) → Reads (parameters_production en
 unfolding parameters_at
 reads_parameters encoding =
     reads_both (line_encoding_production encoding.version) _ _ _ (reads_line_encoding encoding.version)
-    (λ line_encoding. reads_both (positive OpcodeBaseZero) _ _ _ (reads_positive OpcodeBaseZero) (λ opcode_base. reads_done _))
+    (λ line_encoding. reads_both (positive OpcodeBaseZero) _ _ _ (reads_positive OpcodeBaseZero) (λ opcode_base.
+    reads_done _))
 
 module _ {A B : Type 0} (f : A → B) where
   paired : (none : List FileEntryFormat) (r : Read A)
@@ -189,14 +236,17 @@ module _ {A B : Type 0} (f : A → B) where
   paired none (Ok x, rest) = refl
   paired none (Err e, rest) = refl
 
-table_viewed : {B : Type 0} (view : Entry → B) (read : List FileEntryFormat → List ℕ → Read (List Entry)) (r : Read (List FileEntryFormat))
-    → ((r >>= λ formats rest. read formats rest >>= λ xs end. (let s : Read (List FileEntryFormat × List Entry) = (Ok (formats, xs), end) in s))
+table_viewed : {B : Type 0} (view : Entry → B) (read : List FileEntryFormat → List ℕ → Read (List Entry))
+    (r : Read (List FileEntryFormat))
+    → ((r >>= λ formats rest. read formats rest >>= λ xs end.
+    (let s : Read (List FileEntryFormat × List Entry) = (Ok (formats, xs), end) in s))
     >>= λ table rest. (let t : Read (List FileEntryFormat × List B) = (Ok (table.0, map view table.1), rest) in t))
     ≡ (r >>= λ formats rest. read_map (map view) (read formats rest) >>= λ ys end. (Ok (formats, ys), end))
 table_viewed {B} view read (Ok formats, rest) = inner (read formats rest)
   where
     inner : (r : Read (List Entry))
-        → ((r >>= λ xs rest. (let s : Read (List FileEntryFormat × List Entry) = (Ok (formats, xs), rest) in s)) >>= λ table rest.
+        → ((r >>= λ xs rest. (let s : Read (List FileEntryFormat × List Entry) = (Ok (formats, xs), rest) in s))
+        >>= λ table rest.
         (let t : Read (List FileEntryFormat × List B) = (Ok (table.0, map view table.1), rest) in t))
         ≡ (read_map (map view) r >>= λ ys rest. (Ok (formats, ys), rest))
     inner (Ok xs, rest) = refl
@@ -204,15 +254,18 @@ table_viewed {B} view read (Ok formats, rest) = inner (read formats rest)
 table_viewed view read (Err e, rest) = refl
 
 reads_entries_seen : {B : Type 0} (view : Entry → B) (notation : Notation) (format : Format)
-    → Reads {A = List FileEntryFormat × List B} (table_production notation format >>> λ table. done (table.0, map view table.1))
-    (λ bytes. formats_at bytes >>= λ formats rest. read_map (map view) (entries_at notation format formats rest) >>= λ items rest.
+    → Reads {A = List FileEntryFormat × List B} (table_production notation format >>> λ table.
+    done (table.0, map view table.1))
+    (λ bytes. formats_at bytes >>= λ formats rest.
+    read_map (map view) (entries_at notation format formats rest) >>= λ items rest.
     (Ok (formats, items), rest))
 unfolding table_at
 reads_entries_seen view notation format =
     reads_same _ _ _ (λ bytes. table_viewed view (entries_at notation format) (formats_at bytes))
     (reads_both (table_production notation format) _ _ _ (reads_table notation format) (λ table. reads_done _))
 
-pub reads_directories : (notation : Notation) (encoding : Encoding) → Reads (directory_table notation encoding) (directories_at notation encoding)
+pub reads_directories : (notation : Notation) (encoding : Encoding)
+    → Reads (directory_table notation encoding) (directories_at notation encoding)
 unfolding table_of
 reads_directories notation encoding =
     reads_if (nat_le encoding.version 4) _ _ _ _
@@ -220,33 +273,41 @@ reads_directories notation encoding =
     (reads_both paths_production _ _ _ reads_paths (λ paths. reads_done _)))
     (reads_entries_seen path_of notation encoding.format)
 
-pub reads_file_names : (notation : Notation) (encoding : Encoding) → Reads (file_table notation encoding) (file_names_at notation encoding)
+pub reads_file_names : (notation : Notation) (encoding : Encoding)
+    → Reads (file_table notation encoding) (file_names_at notation encoding)
 unfolding table_of
 reads_file_names notation encoding =
     reads_if (nat_le encoding.version 4) _ _ _ _ (reads_both files_production _ _ _ reads_files (λ files. reads_done _))
     (reads_entries_seen file_of_entry notation encoding.format)
 
 pub reads_fields : (notation : Notation) (unit_entry : UnitEntry) (unit : ℕ) (opening : Opening) (program : List ℕ)
-    → Reads (fields_production notation unit_entry unit opening program) (fields_at notation unit_entry unit opening program)
+    → Reads (fields_production notation unit_entry unit opening program)
+    (fields_at notation unit_entry unit opening program)
 unfolding fields_at
 reads_fields notation unit_entry unit opening program =
     reads_both (parameters_production opening.encoding) _ _ _ (reads_parameters opening.encoding)
-    (λ parameters. reads_both (some_bytes (parameters.opcode_base - 1)) _ _ _ (reads_some_bytes (parameters.opcode_base - 1))
-    (λ counts. reads_both (directory_table notation opening.encoding) _ _ _ (reads_directories notation opening.encoding)
+    (λ parameters. reads_both (some_bytes (parameters.opcode_base - 1)) _ _ _
+    (reads_some_bytes (parameters.opcode_base - 1))
+    (λ counts. reads_both (directory_table notation opening.encoding) _ _ _
+    (reads_directories notation opening.encoding)
     (λ directories. reads_both (file_table notation opening.encoding) _ _ _ (reads_file_names notation opening.encoding)
     (λ files. reads_done _))))
 
 -- ---- the header
 
-pub reads_header : (notation : Notation) (unit_entry : UnitEntry) → Reads (header_production notation unit_entry) (header_at notation unit_entry)
+pub reads_header : (notation : Notation) (unit_entry : UnitEntry)
+    → Reads (header_production notation unit_entry) (header_at notation unit_entry)
 unfolding header_at
 reads_header notation unit_entry =
     reads_both (unit_length notation) _ _ _ (reads_unit_length notation)
     (λ unit. reads_both (some_bytes unit.0) _ _ _ (reads_some_bytes unit.0)
     (λ inside. reads_both (within inside (opening_production notation unit_entry.address_size unit.1)) _ _ _
-    (reads_within inside (opening_production notation unit_entry.address_size unit.1) _ (reads_opening notation unit_entry.address_size unit.1))
-    (λ opened. reads_both (within opened.0.fields (fields_production notation unit_entry unit.0 opened.0 opened.1)) _ _ _ (reads_within opened.0.fields
-    (fields_production notation unit_entry unit.0 opened.0 opened.1) _ (reads_fields notation unit_entry unit.0 opened.0 opened.1))
+    (reads_within inside (opening_production notation unit_entry.address_size unit.1) _
+    (reads_opening notation unit_entry.address_size unit.1))
+    (λ opened. reads_both (within opened.0.fields (fields_production notation unit_entry unit.0 opened.0 opened.1)) _ _
+    _ (reads_within opened.0.fields
+    (fields_production notation unit_entry unit.0 opened.0 opened.1) _
+    (reads_fields notation unit_entry unit.0 opened.0 opened.1))
     (λ fields. reads_done _))))
 
 -- ---- a unit, or a refusal
@@ -262,37 +323,53 @@ answer_of (Err e, rest) = given_err e refl
 
 module _ (notation : Notation) (unit_entry : UnitEntry) where
   -- a header that is read is that of the unit in front
-  pub unit_found : (bytes : List ℕ) (h : Header) (rest : List ℕ) → header_at notation unit_entry bytes ≡ (Ok h, rest) → SpellsUnit notation unit_entry bytes h
+  pub unit_found : (bytes : List ℕ) (h : Header) (rest : List ℕ) → header_at notation unit_entry bytes ≡ (Ok h, rest)
+      → SpellsUnit notation unit_entry bytes h
   unit_found bytes h rest e = let f = (reads_header notation unit_entry).found bytes h rest e in (f.0, rest, f.1, f.2)
 
   -- the same where the bytes after it aren't named
-  pub unit_answered : (bytes : List ℕ) (h : Header) → (header_at notation unit_entry bytes).0 ≡ Ok h → SpellsUnit notation unit_entry bytes h
+  pub unit_answered : (bytes : List ℕ) (h : Header) → (header_at notation unit_entry bytes).0 ≡ Ok h
+      → SpellsUnit notation unit_entry bytes h
   unit_answered bytes h is = at_rest (header_at notation unit_entry bytes) refl is
     where
-      at_rest : (r : Read Header) → header_at notation unit_entry bytes ≡ r → r.0 ≡ Ok h → SpellsUnit notation unit_entry bytes h
+      at_rest : (r : Read Header) → header_at notation unit_entry bytes ≡ r → r.0 ≡ Ok h
+          → SpellsUnit notation unit_entry bytes h
       at_rest (Ok k, rest) same is =
-          let whole : k ≡ h = cc in unit_found bytes h rest (same ∙ ap (λ (x : Header). let r : Read Header = (Ok x, rest) in r) whole)
+          let whole : k
+          ≡ h = cc in unit_found bytes h rest
+          (same ∙ ap (λ (x : Header). let r : Read Header = (Ok x, rest) in r) whole)
       at_rest (Err e, rest) same is = absurd cc
 
   -- the header of a unit in front is read
-  pub unit_read : (bytes : List ℕ) (h : Header) → SpellsUnit notation unit_entry bytes h → (header_at notation unit_entry bytes).0 ≡ Ok h
+  pub unit_read : (bytes : List ℕ) (h : Header) → SpellsUnit notation unit_entry bytes h
+      → (header_at notation unit_entry bytes).0 ≡ Ok h
   unit_read bytes h s =
-      ap (λ (xs : List ℕ). (header_at notation unit_entry xs).0) s.2 ∙ ap (λ (r : Read Header). r.0) ((reads_header notation unit_entry).only s.0 h s.1 s.3)
+      ap (λ (xs : List ℕ). (header_at notation unit_entry xs).0) s.2
+      ∙ ap (λ (r : Read Header). r.0) ((reads_header notation unit_entry).only s.0 h s.1 s.3)
 
   -- a unit has one header
-  pub one_header : (bytes : List ℕ) (h k : Header) → SpellsUnit notation unit_entry bytes h → SpellsUnit notation unit_entry bytes k → h ≡ k
+  pub one_header : (bytes : List ℕ) (h k : Header) → SpellsUnit notation unit_entry bytes h
+      → SpellsUnit notation unit_entry bytes k → h ≡ k
   one_header bytes h k s t = let e = sym (unit_read bytes h s) ∙ unit_read bytes k t in cc
 
   -- and no refusal
-  pub no_fault : (bytes : List ℕ) (h : Header) (e : Error) → SpellsUnit notation unit_entry bytes h → HasHeaderFault notation unit_entry bytes e → ⊥
-  no_fault bytes h e s f = let both = sym (unit_read bytes h s) ∙ (reads_header notation unit_entry).refused bytes e f in cc
+  pub no_fault : (bytes : List ℕ) (h : Header) (e : Error) → SpellsUnit notation unit_entry bytes h
+      → HasHeaderFault notation unit_entry bytes e → ⊥
+  no_fault bytes h e s f =
+      let both = sym (unit_read bytes h s) ∙ (reads_header notation unit_entry).refused bytes e f in cc
 
   -- what is no unit has one refusal
-  pub one_fault : (bytes : List ℕ) (e d : Error) → HasHeaderFault notation unit_entry bytes e → HasHeaderFault notation unit_entry bytes d → e ≡ d
-  one_fault bytes e d f g = let both = sym ((reads_header notation unit_entry).refused bytes e f) ∙ (reads_header notation unit_entry).refused bytes d g in cc
+  pub one_fault : (bytes : List ℕ) (e d : Error) → HasHeaderFault notation unit_entry bytes e
+      → HasHeaderFault notation unit_entry bytes d → e ≡ d
+  one_fault bytes e d f g =
+      let both = sym ((reads_header notation unit_entry).refused bytes e f)
+      ∙ (reads_header notation unit_entry).refused bytes d g in
+      cc
 
   -- one of the two is there
-  pub unit_or_fault : (bytes : List ℕ) → ((h : Header) × SpellsUnit notation unit_entry bytes h) ⊎ ((e : Error) × HasHeaderFault notation unit_entry bytes e)
+  pub unit_or_fault : (bytes : List ℕ)
+      → ((h : Header) × SpellsUnit notation unit_entry bytes h)
+      ⊎ ((e : Error) × HasHeaderFault notation unit_entry bytes e)
   unit_or_fault bytes = elim (answer_of (header_at notation unit_entry bytes)) [
     | given_ok h rest is ↦ inl (h, unit_found bytes h rest is)
     | given_err e is ↦ inr (e, (reads_header notation unit_entry).fault bytes e is)

@@ -8,11 +8,13 @@ use Rattle.gimli_line.specs.header.HeaderParts.{HeaderParts}
 abbrev rebuilt_parameters : Parameters → Parameters
 rebuilt_parameters p = record { encoding = p.encoding; line_encoding = p.line_encoding; opcode_base = p.opcode_base }
 
-pub joined_parameters : (x y : Parameters) → (x.encoding ≡ y.encoding) × ((x.line_encoding ≡ y.line_encoding) × (x.opcode_base ≡ y.opcode_base)) → x ≡ y
-joined_parameters x y p = let same : rebuilt_parameters x ≡ rebuilt_parameters y = rw (p.0, p.1.0, p.1.1) refl in same
+pub joined_parameters : (x y : Parameters)
+    → (x.encoding ≡ y.encoding) × ((x.line_encoding ≡ y.line_encoding) × (x.opcode_base ≡ y.opcode_base)) → x ≡ y
+joined_parameters x y p = let same : rebuilt_parameters x ≡ rebuilt_parameters y = cc in same
 
-pub parted_parameters : (x y : Parameters) → x ≡ y → (x.encoding ≡ y.encoding) × ((x.line_encoding ≡ y.line_encoding) × (x.opcode_base ≡ y.opcode_base))
-parted_parameters x y e = (ap (λ (p : Parameters). p.encoding) e, (ap (λ (p : Parameters). p.line_encoding) e, ap (λ (p : Parameters). p.opcode_base) e))
+pub parted_parameters : (x y : Parameters) → x ≡ y
+    → (x.encoding ≡ y.encoding) × ((x.line_encoding ≡ y.line_encoding) × (x.opcode_base ≡ y.opcode_base))
+parted_parameters x y e = rw e (refl, (refl, refl))
 
 -- an offset of this number
 pub joined_offset : {Offset : Type 0} (x y : DebugLineOffset Offset) → x.0 ≡ y.0 → x ≡ y
@@ -46,57 +48,11 @@ module _ {R Offset Directory File : Type 0} where
       × ((x.directory_formats ≡ y.directory_formats)
       × ((x.directories ≡ y.directories)
       × ((x.file_formats ≡ y.file_formats)
-      × ((x.files ≡ y.files) × ((x.program ≡ y.program) × ((x.comp_dir ≡ y.comp_dir) × (x.comp_file ≡ y.comp_file)))))))))))
+      × ((x.files ≡ y.files)
+      × ((x.program ≡ y.program) × ((x.comp_dir ≡ y.comp_dir) × (x.comp_file ≡ y.comp_file)))))))))))
 
   pub joined : (x y : HeaderParts R Offset Directory File) → SameParts x y → x ≡ y
-  joined x y p =
-      let same : rebuilt x
-      ≡ rebuilt y = rw (
-        p.0,
-        p.1.0,
-        p.1.1.0,
-        p.1.1.1.0,
-        p.1.1.1.1.0,
-        p.1.1.1.1.1.0,
-        p.1.1.1.1.1.1.0,
-        p.1.1.1.1.1.1.1.0,
-        p.1.1.1.1.1.1.1.1.0,
-        p.1.1.1.1.1.1.1.1.1.0,
-        p.1.1.1.1.1.1.1.1.1.1.0,
-        p.1.1.1.1.1.1.1.1.1.1.1,
-      )
-      refl in
-      same
+  joined x y p = let same : rebuilt x ≡ rebuilt y = cc in same
 
   pub parted : (x y : HeaderParts R Offset Directory File) → x ≡ y → SameParts x y
-  parted x y e = (
-    ap (λ (h : HeaderParts R Offset Directory File). h.parameters) e,
-    (
-      ap (λ (h : HeaderParts R Offset Directory File). h.offset) e,
-      (
-        ap (λ (h : HeaderParts R Offset Directory File). h.unit_length) e,
-        (
-          ap (λ (h : HeaderParts R Offset Directory File). h.header_length) e,
-          (
-            ap (λ (h : HeaderParts R Offset Directory File). h.operand_counts) e,
-            (
-              ap (λ (h : HeaderParts R Offset Directory File). h.directory_formats) e,
-              (
-                ap (λ (h : HeaderParts R Offset Directory File). h.directories) e,
-                (
-                  ap (λ (h : HeaderParts R Offset Directory File). h.file_formats) e,
-                  (
-                    ap (λ (h : HeaderParts R Offset Directory File). h.files) e,
-                    (
-                      ap (λ (h : HeaderParts R Offset Directory File). h.program) e,
-                      (ap (λ (h : HeaderParts R Offset Directory File). h.comp_dir) e, ap (λ (h : HeaderParts R Offset Directory File). h.comp_file) e),
-                    ),
-                  ),
-                ),
-              ),
-            ),
-          ),
-        ),
-      ),
-    ),
-  )
+  parted x y e = rw e (refl, (refl, (refl, (refl, (refl, (refl, (refl, (refl, (refl, (refl, (refl, refl)))))))))))

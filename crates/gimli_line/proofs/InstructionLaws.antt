@@ -1,26 +1,33 @@
 -- Reading instructions, and decoding a program into them.
-use Rattle.std.proofs.Common.{◌≡◌, ◌≢◌, ℕ, zero, suc, ◌-◌, ◌<◌, ◌≤◌, List, [], ◌∷◌, ◌++◌, length, take, Option, Some, None, Ok, Err, refl, sym, ap, subst, ◌∙◌}
+use Rattle.std.proofs.Common.{◌≡◌, ◌≢◌, ℕ, zero, suc, ◌-◌, ◌<◌, ◌≤◌, List, [], ◌∷◌, ◌++◌, length, take, Option, Some}
+use Rattle.std.proofs.Common.{None, Ok, Err, refl, sym, ap, subst, ◌∙◌}
 use Rattle.std.proofs.Common.{append_assoc, arith, inl, inr}
 use Rattle.std.specs.Prelude.{nat_eq, nat_le, slice_index}
 use Rattle.std.proofs.lemmas.List.{length-append, take_at}
 use Rattle.gimli_core.specs.Notation.{Notation}
 use Rattle.gimli_core.specs.Reading.{Read, ◌>>=◌, within_at}
-use Rattle.gimli_core.specs.Production.{Production, ◌>>=◌ as ◌>>>◌, done, times, byte, number, some_bytes, text, unsigned, signed, below_limit, within, Reads}
+use Rattle.gimli_core.specs.Production.{Production, ◌>>=◌ as ◌>>>◌, done, times, byte, number, some_bytes, text}
+use Rattle.gimli_core.specs.Production.{unsigned, signed, below_limit, within, Reads}
 use Rattle.gimli_core.specs.declared.error.Error.{Error}
-use Rattle.gimli_core.proofs.Productions.{reads_both, reads_done, reads_if, reads_times, reads_within, bind_ok, bind_fault, bind_refused, ok_parts}
+use Rattle.gimli_core.proofs.Productions.{reads_both, reads_done, reads_if, reads_times, reads_within, bind_ok}
+use Rattle.gimli_core.proofs.Productions.{bind_fault, bind_refused, ok_parts}
 use Rattle.gimli_core.proofs.ProductionLaws.{reads_byte, reads_some_bytes, reads_number, reads_text, reads_below_limit}
 use Rattle.gimli_core.proofs.UnsignedLeb.{reads_unsigned}
 use Rattle.gimli_core.proofs.SignedLaws.{reads_signed}
-use Rattle.gimli_line.specs.declared.run.instruction.LineInstruction.TheVariants.{Special, UnknownStandard0, UnknownStandard1, UnknownStandardN}
+use Rattle.gimli_line.specs.declared.run.instruction.LineInstruction.TheVariants.{Special, UnknownStandard0}
+use Rattle.gimli_line.specs.declared.run.instruction.LineInstruction.TheVariants.{UnknownStandard1, UnknownStandardN}
 use Rattle.gimli_line.specs.declared.run.instruction.LineInstruction.TheVariants.{UnknownExtended}
 use Rattle.gimli_line.specs.run.Instruction.{Ins}
 use Rattle.gimli_line.specs.header.Header.{Header}
 use Rattle.gimli_line.specs.header.Productions.{bytes_of, among}
 use Rattle.gimli_line.specs.header.HeaderGrammar.{file_production}
-use Rattle.gimli_line.specs.run.InstructionGrammar.{Operand, none, uleb, sleb, half, address, file, standard_opcodes, extended_opcodes, operand_production}
-use Rattle.gimli_line.specs.run.InstructionGrammar.{unknown_production, standard_production, extended_operands, extended_production, instruction_production}
+use Rattle.gimli_line.specs.run.InstructionGrammar.{Operand, none, uleb, sleb, half, address, file, standard_opcodes}
+use Rattle.gimli_line.specs.run.InstructionGrammar.{extended_opcodes, operand_production}
+use Rattle.gimli_line.specs.run.InstructionGrammar.{unknown_production, standard_production, extended_operands}
+use Rattle.gimli_line.specs.run.InstructionGrammar.{extended_production, instruction_production}
 use Rattle.gimli_line.specs.run.InstructionGrammar.{SpellsInstruction, Decodes}
-use Rattle.gimli_line.specs.run.InstructionReading.{bytes_at, operand_at, unknown_at, standard_at, extended_operands_at, extended_at, ins_at, decoded_after}
+use Rattle.gimli_line.specs.run.InstructionReading.{bytes_at, operand_at, unknown_at, standard_at, extended_operands_at}
+use Rattle.gimli_line.specs.run.InstructionReading.{extended_at, ins_at, decoded_after}
 use Rattle.gimli_line.specs.run.InstructionReading.{decoded_upto, decoded_at}
 use Rattle.gimli_line.proofs.HeaderLaws.{reads_file, given_ok, given_err, answer_of}
 
@@ -29,18 +36,22 @@ use Rattle.gimli_line.proofs.HeaderLaws.{reads_file, given_ok, given_err, answer
 module _ {A : Type 0} (l : Production A) (read : List ℕ → Read A) (r : Reads l read) where
   -- what stands in front of the rest
   front_is : (front rest : List ℕ) → take (length (front ++ rest) - length rest) (front ++ rest) ≡ front
-  front_is front rest = take_at front rest (length (front ++ rest) - length rest) (omega (arith, length-append front rest))
+  front_is front rest =
+      take_at front rest (length (front ++ rest) - length rest) (omega (arith, length-append front rest))
 
   abbrev as_bytes : List ℕ → A → List ℕ → Read (List ℕ)
   as_bytes bytes x rest = (Ok (take (length bytes - length rest) bytes), rest)
 
-  bytes_found : (bytes xs rest : List ℕ) → bytes_at read bytes ≡ (Ok xs, rest) → (front : List ℕ) × (bytes ≡ front ++ rest) × (bytes_of l).Spells front xs
+  bytes_found : (bytes xs rest : List ℕ) → bytes_at read bytes ≡ (Ok xs, rest)
+      → (front : List ℕ) × (bytes ≡ front ++ rest) × (bytes_of l).Spells front xs
   bytes_found bytes xs rest e =
       let a = bind_ok (read bytes) (as_bytes bytes) xs rest e in
       let p = ok_parts (take (length bytes - length a.1) bytes) xs a.1 rest a.3 in
       let f = r.found bytes a.0 a.1 a.2 in
       let whole : bytes ≡ f.0 ++ rest = f.1 ∙ ap (λ (ys : List ℕ). f.0 ++ ys) p.1 in
-      let taken : take (length bytes - length a.1) bytes ≡ f.0 = ap (λ (ys : List ℕ). take (length ys - length a.1) ys) f.1 ∙ front_is f.0 a.1 in
+      let taken : take (length bytes - length a.1) bytes
+      ≡ f.0 = ap (λ (ys : List ℕ). take (length ys - length a.1) ys) f.1
+      ∙ front_is f.0 a.1 in
       (f.0, whole, (sym p.0 ∙ taken, (a.0, f.2)))
 
   bytes_fault : (bytes : List ℕ) (e : Error) → (bytes_at read bytes).0 ≡ Err e → l.Fault bytes e
@@ -64,16 +75,22 @@ module _ (notation : Notation) (h : Header) where
   reads_operand (none i) = reads_done i
   reads_operand (uleb make) = reads_both unsigned _ _ _ reads_unsigned (λ n. reads_done (make n))
   reads_operand (sleb make) = reads_both signed _ _ _ reads_signed (λ z. reads_done (make z))
-  reads_operand (half make) = reads_both (number notation.big 2) _ _ _ (reads_number notation.big 2) (λ n. reads_done (make n))
+  reads_operand (half make) =
+      reads_both (number notation.big 2) _ _ _ (reads_number notation.big 2) (λ n. reads_done (make n))
   reads_operand (address make) =
-      reads_both (number notation.big h.parameters.encoding.address_size) _ _ _ (reads_number notation.big h.parameters.encoding.address_size) (λ a.
+      reads_both (number notation.big h.parameters.encoding.address_size) _ _ _
+      (reads_number notation.big h.parameters.encoding.address_size) (λ a.
       reads_done (make a))
-  reads_operand (file make) = reads_both text _ _ _ reads_text (λ path. reads_both (file_production path) _ _ _ (reads_file path) (λ f. reads_done (make f)))
+  reads_operand (file make) =
+      reads_both text _ _ _ reads_text (λ path.
+      reads_both (file_production path) _ _ _ (reads_file path) (λ f. reads_done (make f)))
 
-  reads_unknown : (opcode count : ℕ) → Reads (unknown_production notation h opcode count) (unknown_at notation h opcode count)
+  reads_unknown : (opcode count : ℕ)
+      → Reads (unknown_production notation h opcode count) (unknown_at notation h opcode count)
   unfolding unknown_at
   reads_unknown opcode zero = reads_done (UnknownStandard0 (record { 0 = opcode }))
-  reads_unknown opcode (suc zero) = reads_both unsigned _ _ _ reads_unsigned (λ n. reads_done (UnknownStandard1 (record { 0 = opcode }) n))
+  reads_unknown opcode (suc zero) =
+      reads_both unsigned _ _ _ reads_unsigned (λ n. reads_done (UnknownStandard1 (record { 0 = opcode }) n))
   reads_unknown opcode (suc (suc more)) =
       reads_both (bytes_of (times (suc (suc more)) unsigned)) _ _ _
       (reads_bytes_of (times (suc (suc more)) unsigned) _ (reads_times (suc (suc more)) unsigned _ reads_unsigned))
@@ -88,8 +105,11 @@ module _ (notation : Notation) (h : Header) where
             | Some operand ↦ operand_production notation h operand
             | None ↦ unknown_production notation h opcode (slice_index h.operand_counts (opcode - 1))
           ])
-          (λ bytes. elim found
-          [ Some operand ↦ operand_at notation h operand bytes | None ↦ unknown_at notation h opcode (slice_index h.operand_counts (opcode - 1)) bytes ])
+          (λ bytes. elim found [
+            | Some operand ↦
+                operand_at notation h operand bytes
+            | None ↦ unknown_at notation h opcode (slice_index h.operand_counts (opcode - 1)) bytes
+          ])
       at_operand (Some operand) = reads_operand operand
       at_operand None = reads_unknown opcode (slice_index h.operand_counts (opcode - 1))
 
@@ -104,12 +124,14 @@ module _ (notation : Notation) (h : Header) where
             | None ↦ done (UnknownExtended (record { 0 = opcode }) operands)
           ])
           (λ bytes. elim found [
-            | Some operand ↦ within_at operands (operand_at notation h operand) bytes >>= (λ read rest. (Ok read.0, rest))
+            | Some operand ↦
+                within_at operands (operand_at notation h operand) bytes >>= (λ read rest. (Ok read.0, rest))
             | None ↦ (Ok (UnknownExtended (record { 0 = opcode }) operands), bytes)
           ])
       at_operand (Some operand) =
           reads_both (within operands (operand_production notation h operand)) _ _ _
-          (reads_within operands (operand_production notation h operand) _ (reads_operand operand)) (λ read. reads_done read.0)
+          (reads_within operands (operand_production notation h operand) _ (reads_operand operand)) (λ read.
+          reads_done read.0)
       at_operand None = reads_done (UnknownExtended (record { 0 = opcode }) operands)
 
   reads_extended : Reads (extended_production notation h) (extended_at notation h)
@@ -125,7 +147,8 @@ module _ (notation : Notation) (h : Header) where
   reads_instruction =
       reads_both byte _ _ _ reads_byte
       (λ opcode. reads_if (nat_eq opcode 0) (extended_production notation h) _ _ _ reads_extended
-      (reads_if (nat_le h.parameters.opcode_base opcode) (done (Special opcode)) _ _ _ (reads_done (Special opcode)) (reads_standard opcode)))
+      (reads_if (nat_le h.parameters.opcode_base opcode) (done (Special opcode)) _ _ _ (reads_done (Special opcode))
+      (reads_standard opcode)))
 
   -- ---- a program
 
@@ -168,7 +191,8 @@ module _ (notation : Notation) (h : Header) where
         ended = (λ none. absurd cc, reads_instruction.fault (b ∷ bytes) d (rw (← same) refl));
       }
 
-  only_decoding : (list : List Ins) (end : Option Error) (more : ℕ) (bytes : List ℕ) → length bytes ≤ more → Decodes notation h bytes list end
+  only_decoding : (list : List Ins) (end : Option Error) (more : ℕ) (bytes : List ℕ) → length bytes ≤ more
+      → Decodes notation h bytes list end
       → (list, end) ≡ decoded_upto notation h more bytes
   unfolding decoded_upto
   only_decoding [] None more bytes le c = at_end more bytes (c.parts ∙ rw (c.spelled, c.ended) refl)
@@ -182,36 +206,46 @@ module _ (notation : Notation) (h : Header) where
       at_fault more bytes le (λ none. c.ended.0 (sym whole ∙ none))
       (subst (λ (xs : List ℕ). (instruction_production notation h).Fault xs e) (sym whole) c.ended.1)
     where
-      after : (b : ℕ) (bytes : List ℕ) (more : ℕ) (r : Read Ins) → r.0 ≡ Err e → ([], Some e) ≡ decoded_after notation h (decoded_upto notation h more) r
+      after : (b : ℕ) (bytes : List ℕ) (more : ℕ) (r : Read Ins) → r.0 ≡ Err e
+          → ([], Some e) ≡ decoded_after notation h (decoded_upto notation h more) r
       after b bytes more (Ok i, rest) is = absurd cc
       after b bytes more (Err d, rest) is = let same : d ≡ e = cc in rw same refl
 
-      at_fault : (more : ℕ) (bytes : List ℕ) → length bytes ≤ more → bytes ≢ [] → (instruction_production notation h).Fault bytes e
+      at_fault : (more : ℕ) (bytes : List ℕ) → length bytes ≤ more → bytes ≢ []
+          → (instruction_production notation h).Fault bytes e
           → ([], Some e) ≡ decoded_upto notation h more bytes
       at_fault zero [] le some f = absurd (some refl)
       at_fault zero (b ∷ bytes) le some f = absurd (omega arith)
       at_fault (suc more) [] le some f = absurd (some refl)
-      at_fault (suc more) (b ∷ bytes) le some f = after b bytes more (ins_at notation h (b ∷ bytes)) (reads_instruction.refused (b ∷ bytes) e f)
+      at_fault (suc more) (b ∷ bytes) le some f =
+          after b bytes more (ins_at notation h (b ∷ bytes)) (reads_instruction.refused (b ∷ bytes) e f)
   only_decoding (i ∷ list) end more bytes le c =
       let s = c.spelled in
       let some = takes_bytes s.0 i s.3 in
-      let whole : bytes ≡ s.0 ++ (s.1 ++ c.rest) = c.parts ∙ ap (λ (xs : List ℕ). xs ++ c.rest) s.2 ∙ append_assoc s.0 s.1 c.rest in
-      let first : ins_at notation h bytes ≡ (Ok i, s.1 ++ c.rest) = ap (ins_at notation h) whole ∙ reads_instruction.only s.0 i (s.1 ++ c.rest) s.3 in
+      let whole : bytes ≡ s.0 ++ (s.1 ++ c.rest) = c.parts ∙ ap (λ (xs : List ℕ). xs ++ c.rest) s.2
+      ∙ append_assoc s.0 s.1 c.rest in
+      let first : ins_at notation h bytes ≡ (Ok i, s.1 ++ c.rest) = ap (ins_at notation h) whole
+      ∙ reads_instruction.only s.0 i (s.1 ++ c.rest) s.3 in
       at_more more bytes le (s.1 ++ c.rest) first (omega (arith, length-append s.0 (s.1 ++ c.rest), ap length whole))
-      (λ less fewer. only_decoding list end less (s.1 ++ c.rest) fewer (record { front = s.1; rest = c.rest; parts = refl; spelled = s.4; ended = c.ended }))
+      (λ less fewer. only_decoding list end less (s.1 ++ c.rest) fewer
+      (record { front = s.1; rest = c.rest; parts = refl; spelled = s.4; ended = c.ended }))
     where
-      at_more : (more : ℕ) (bytes : List ℕ) → length bytes ≤ more → (rest : List ℕ) → ins_at notation h bytes ≡ (Ok i, rest) → length rest < length bytes
-          → ((less : ℕ) → length rest ≤ less → (list, end) ≡ decoded_upto notation h less rest) → (i ∷ list, end) ≡ decoded_upto notation h more bytes
+      at_more : (more : ℕ) (bytes : List ℕ) → length bytes ≤ more → (rest : List ℕ)
+          → ins_at notation h bytes ≡ (Ok i, rest) → length rest < length bytes
+          → ((less : ℕ) → length rest ≤ less → (list, end) ≡ decoded_upto notation h less rest)
+          → (i ∷ list, end) ≡ decoded_upto notation h more bytes
       at_more zero bytes le rest first fewer others = absurd (omega arith)
       at_more (suc more) [] le rest first fewer others = absurd (omega arith)
       at_more (suc more) (b ∷ bytes) le rest first fewer others = rw (first, ← others more (omega arith)) refl
 
   -- a program is decoded so
-  pub is_decoded : (bytes : List ℕ) → Decodes notation h bytes (decoded_at notation h bytes).0 (decoded_at notation h bytes).1
+  pub is_decoded : (bytes : List ℕ)
+      → Decodes notation h bytes (decoded_at notation h bytes).0 (decoded_at notation h bytes).1
   is_decoded bytes = decoding_is (length bytes) bytes (omega arith)
 
   -- and no other way
-  pub one_decoding : (bytes : List ℕ) (list : List Ins) (end : Option Error) → Decodes notation h bytes list end → (list, end) ≡ decoded_at notation h bytes
+  pub one_decoding : (bytes : List ℕ) (list : List Ins) (end : Option Error) → Decodes notation h bytes list end
+      → (list, end) ≡ decoded_at notation h bytes
   one_decoding bytes list end c = only_decoding list end (length bytes) bytes (omega arith) c
 
   -- ---- no more instructions than bytes
@@ -227,7 +261,10 @@ module _ (notation : Notation) (h : Header) where
       after bound (Ok i, rest) = omega (arith, bound rest)
       after bound (Err e, rest) = omega arith
 
-  pub instructions_bounded : (bytes : List ℕ) (list : List Ins) (end : Option Error) → Decodes notation h bytes list end → length list ≤ length bytes
+  pub instructions_bounded : (bytes : List ℕ) (list : List Ins) (end : Option Error) → Decodes notation h bytes list end
+      → length list ≤ length bytes
   instructions_bounded bytes list end c =
-      let same : length list ≡ length (decoded_at notation h bytes).0 = ap (λ (p : List Ins × Option Error). length p.0) (one_decoding bytes list end c) in
+      let same : length list
+      ≡ length (decoded_at notation h bytes).0 = ap (λ (p : List Ins × Option Error). length p.0)
+      (one_decoding bytes list end c) in
       omega (arith, decoded_bounded (length bytes) bytes)

@@ -4,18 +4,22 @@ use Rattle.std.proofs.lemmas.Bool.{ltb-false}
 use Rattle.std.specs.Prelude.{nat_eq, nat_le, nat_lt, slice_index}
 use Rattle.gimli_core.specs.Notation.{Notation}
 use Rattle.gimli_core.specs.Numbers.{SpellsUleb128}
-use Rattle.gimli_core.specs.Production.{Production, ◌>>=◌, done, check, choose, times, within, byte, number, some_bytes, text, unsigned, signed, below_limit}
+use Rattle.gimli_core.specs.Production.{Production, ◌>>=◌, done, check, choose, times, within, byte, number, some_bytes}
+use Rattle.gimli_core.specs.Production.{text, unsigned, signed, below_limit}
 use Rattle.gimli_core.specs.Production.{IsWanting}
 use Rattle.gimli_core.specs.declared.error.Error.{Error}
 use Rattle.gimli_core.specs.declared.error.Error.TheVariants.{UnsupportedOffset}
-use Rattle.gimli_line.specs.declared.run.instruction.LineInstruction.TheVariants.{Special, UnknownStandard0, UnknownStandard1, UnknownStandardN}
+use Rattle.gimli_line.specs.declared.run.instruction.LineInstruction.TheVariants.{Special, UnknownStandard0}
+use Rattle.gimli_line.specs.declared.run.instruction.LineInstruction.TheVariants.{UnknownStandard1, UnknownStandardN}
 use Rattle.gimli_line.specs.declared.run.instruction.LineInstruction.TheVariants.{UnknownExtended}
 use Rattle.gimli_line.specs.header.Header.{Header, plain_file}
 use Rattle.gimli_line.specs.header.HeaderGrammar.{file_production}
 use Rattle.gimli_line.specs.header.Productions.{among, bytes_of}
 use Rattle.gimli_line.specs.run.Instruction.{Ins}
-use Rattle.gimli_line.specs.run.InstructionGrammar.{Operand, none, uleb, sleb, half, address, file, standard_opcodes, extended_opcodes, operand_production}
-use Rattle.gimli_line.specs.run.InstructionGrammar.{unknown_production, standard_production, extended_operands, extended_production, instruction_production}
+use Rattle.gimli_line.specs.run.InstructionGrammar.{Operand, none, uleb, sleb, half, address, file, standard_opcodes}
+use Rattle.gimli_line.specs.run.InstructionGrammar.{extended_opcodes, operand_production}
+use Rattle.gimli_line.specs.run.InstructionGrammar.{unknown_production, standard_production, extended_operands}
+use Rattle.gimli_line.specs.run.InstructionGrammar.{extended_production, instruction_production}
 use Rattle.gimli_line.specs.run.InstructionGrammar.{IsInstructionRefusal}
 
 -- a production that is refused as an instruction may be
@@ -59,7 +63,8 @@ module _ (notation : Notation) where
 
   -- ---- put together
 
-  then_known : {A B : Type 0} (l : Production A) (next : A → Production B) → IsKnown notation l → ((x : A) → IsKnown notation (next x))
+  then_known : {A B : Type 0} (l : Production A) (next : A → Production B) → IsKnown notation l
+      → ((x : A) → IsKnown notation (next x))
       → IsKnown notation (l >>= next)
   then_known l next first after = record { known = at_fault }
     where
@@ -67,18 +72,21 @@ module _ (notation : Notation) where
       at_fault bytes e (inl f) = first.known bytes e f
       at_fault bytes e (inr f) = (after f.0).known f.2 e f.5
 
-  choose_known : {A : Type 0} (b : Bool) (l m : Production A) → IsKnown notation l → IsKnown notation m → IsKnown notation (choose b l m)
+  choose_known : {A : Type 0} (b : Bool) (l m : Production A) → IsKnown notation l → IsKnown notation m
+      → IsKnown notation (choose b l m)
   choose_known true l m first other = first
   choose_known false l m first other = other
 
   times_known : {A : Type 0} (n : ℕ) (l : Production A) → IsKnown notation l → IsKnown notation (times n l)
   times_known zero l known = done_known []
-  times_known (suc n) l known = then_known l _ known (λ x. then_known (times n l) _ (times_known n l known) (λ xs. done_known (x ∷ xs)))
+  times_known (suc n) l known =
+      then_known l _ known (λ x. then_known (times n l) _ (times_known n l known) (λ xs. done_known (x ∷ xs)))
 
   bytes_of_known : {A : Type 0} (l : Production A) → IsKnown notation l → IsKnown notation (bytes_of l)
   bytes_of_known l known = record { known = known.known }
 
-  within_known : {A : Type 0} (inside : List ℕ) (l : Production A) → IsKnown notation l → IsKnown notation (within inside l)
+  within_known : {A : Type 0} (inside : List ℕ) (l : Production A) → IsKnown notation l
+      → IsKnown notation (within inside l)
   within_known inside l known = record { known = λ bytes e f. known.known inside e f }
 
   -- a number that the reader's offsets don't hold is below 2 ^ 64
@@ -86,11 +94,13 @@ module _ (notation : Notation) where
   limit_known = record { known = at_fault }
     where
       at_check : (n : ℕ) (front : List ℕ) → SpellsUleb128 64 front n → (rest : List ℕ) (e : Error)
-          → (check (nat_lt n notation.limit) UnsupportedOffset >>= λ fits. done n).Fault rest e → IsInstructionRefusal notation e
+          → (check (nat_lt n notation.limit) UnsupportedOffset >>= λ fits. done n).Fault rest e
+          → IsInstructionRefusal notation e
       at_check n front s rest e (inl f) = rw f.1 (omega (arith, ltb-false n notation.limit f.0, s.fits))
       at_check n front s rest e (inr f) = elim f.5 [ ]
 
-      at_fault : (bytes : List ℕ) (e : Error) → (below_limit notation unsigned).Fault bytes e → IsInstructionRefusal notation e
+      at_fault : (bytes : List ℕ) (e : Error) → (below_limit notation unsigned).Fault bytes e
+          → IsInstructionRefusal notation e
       at_fault bytes e (inl f) = unsigned_known.known bytes e f
       at_fault bytes e (inr f) = at_check f.0 f.1 f.4 f.2 e f.5
 
@@ -107,18 +117,24 @@ module _ (notation : Notation) where
     operand_known (none i) = done_known i
     operand_known (uleb make) = then_known unsigned _ unsigned_known (λ n. done_known (make n))
     operand_known (sleb make) = then_known signed _ signed_known (λ z. done_known (make z))
-    operand_known (half make) = then_known (number notation.big 2) _ (number_known notation.big 2) (λ n. done_known (make n))
+    operand_known (half make) =
+        then_known (number notation.big 2) _ (number_known notation.big 2) (λ n. done_known (make n))
     operand_known (address make) =
-        then_known (number notation.big h.parameters.encoding.address_size) _ (number_known notation.big h.parameters.encoding.address_size) (λ a.
+        then_known (number notation.big h.parameters.encoding.address_size) _
+        (number_known notation.big h.parameters.encoding.address_size) (λ a.
         done_known (make a))
-    operand_known (file make) = then_known text _ text_known (λ path. then_known (file_production path) _ (file_known path) (λ f. done_known (make f)))
+    operand_known (file make) =
+        then_known text _ text_known (λ path.
+        then_known (file_production path) _ (file_known path) (λ f. done_known (make f)))
 
     unknown_known : (opcode count : ℕ) → IsKnown notation (unknown_production notation h opcode count)
     unknown_known opcode zero = done_known (UnknownStandard0 (record { 0 = opcode }))
-    unknown_known opcode (suc zero) = then_known unsigned _ unsigned_known (λ n. done_known (UnknownStandard1 (record { 0 = opcode }) n))
+    unknown_known opcode (suc zero) =
+        then_known unsigned _ unsigned_known (λ n. done_known (UnknownStandard1 (record { 0 = opcode }) n))
     unknown_known opcode (suc (suc more)) =
         let all = times (suc (suc more)) unsigned in
-        then_known (bytes_of all) _ (bytes_of_known all (times_known (suc (suc more)) unsigned unsigned_known)) (λ operands.
+        then_known (bytes_of all) _ (bytes_of_known all (times_known (suc (suc more)) unsigned unsigned_known))
+        (λ operands.
         done_known (UnknownStandardN (record { 0 = opcode }) operands))
 
     standard_known : (opcode : ℕ) → IsKnown notation (standard_production notation h opcode)
@@ -142,18 +158,24 @@ module _ (notation : Notation) where
             ])
         at_operand (Some operand) =
             then_known (within operands (operand_production notation h operand)) _
-            (within_known operands (operand_production notation h operand) (operand_known operand)) (λ read. done_known read.0)
+            (within_known operands (operand_production notation h operand) (operand_known operand)) (λ read.
+            done_known read.0)
         at_operand None = done_known (UnknownExtended (record { 0 = opcode }) operands)
 
     extended_known : IsKnown notation (extended_production notation h)
     extended_known =
         then_known (below_limit notation unsigned) _ limit_known (λ size.
         then_known (some_bytes size) _ (bytes_known size) (λ inside.
-        then_known (within inside byte) _ (within_known inside byte byte_known) (λ opened. operands_known opened.0 opened.1)))
+        then_known (within inside byte) _ (within_known inside byte byte_known) (λ opened.
+        operands_known opened.0 opened.1)))
 
     instruction_known : IsKnown notation (instruction_production notation h)
-    instruction_known = then_known byte _ byte_known (λ opcode. choose_known (nat_eq opcode 0) (extended_production notation h) _ extended_known
-        (choose_known (nat_le h.parameters.opcode_base opcode) (done (Special opcode)) _ (done_known (Special opcode)) (standard_known opcode)))
+    instruction_known =
+        then_known byte _ byte_known (λ opcode.
+        choose_known (nat_eq opcode 0) (extended_production notation h) _ extended_known
+        (choose_known (nat_le h.parameters.opcode_base opcode) (done (Special opcode)) _ (done_known (Special opcode))
+        (standard_known opcode)))
 
-    pub instruction_refused : (bytes : List ℕ) (e : Error) → (instruction_production notation h).Fault bytes e → IsInstructionRefusal notation e
+    pub instruction_refused : (bytes : List ℕ) (e : Error) → (instruction_production notation h).Fault bytes e
+        → IsInstructionRefusal notation e
     instruction_refused = instruction_known.known

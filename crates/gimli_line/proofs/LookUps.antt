@@ -8,7 +8,8 @@ use Rattle.std.proofs.lemmas.Option.{slice_get-map}
 use Rattle.gimli_core.specs.declared.attribute_value.AttributeValue.TheVariants.{String}
 use Rattle.gimli_line.specs.header.Header.{Header, from_one, entry_of, directory_of, file_of}
 
-above : {A : Type 0} (first : Option A) (entries : List A) (i : ℕ) → 0 < i → from_one first entries i ≡ slice_get entries (i - 1)
+above : {A : Type 0} (first : Option A) (entries : List A) (i : ℕ) → 0 < i
+    → from_one first entries i ≡ slice_get entries (i - 1)
 above first entries zero lt = absurd (omega arith)
 above first entries (suc i) lt = let less : i ≡ suc i - 1 = omega arith in ap (slice_get entries) less
 
@@ -16,10 +17,12 @@ pub entry_above : {A : Type 0} (version : ℕ) (handed : Option A) (entries : Li
     → entry_of version handed entries i ≡ slice_get entries (i - 1)
 entry_above version handed entries i old lt = rw (le-leb version 4 old) (above handed entries i lt)
 
-pub directory_above : (h : Header) (i : ℕ) → h.parameters.encoding.version ≤ 4 → 0 < i → directory_of h i ≡ slice_get h.directories (i - 1)
+pub directory_above : (h : Header) (i : ℕ) → h.parameters.encoding.version ≤ 4 → 0 < i
+    → directory_of h i ≡ slice_get h.directories (i - 1)
 directory_above h i old lt = entry_above h.parameters.encoding.version _ h.directories i old lt
 
-pub file_above : (h : Header) (i : ℕ) → h.parameters.encoding.version ≤ 4 → 0 < i → file_of h i ≡ slice_get h.files (i - 1)
+pub file_above : (h : Header) (i : ℕ) → h.parameters.encoding.version ≤ 4 → 0 < i
+    → file_of h i ≡ slice_get h.files (i - 1)
 file_above h i old lt = entry_above h.parameters.encoding.version _ h.files i old lt
 
 -- from version 5 on, every index; and index 0 up to version 4
@@ -27,14 +30,17 @@ pub entry_new : {A : Type 0} (version : ℕ) (handed : Option A) (entries : List
     → entry_of version handed entries i ≡ slice_get entries i
 entry_new version handed entries i new = rw (lt-leb version 4 new) refl
 
-pub entry_first : {A : Type 0} (version : ℕ) (handed : Option A) (entries : List A) (i : ℕ) → version ≤ 4 → i ≤ 0 → entry_of version handed entries i ≡ handed
+pub entry_first : {A : Type 0} (version : ℕ) (handed : Option A) (entries : List A) (i : ℕ) → version ≤ 4 → i ≤ 0
+    → entry_of version handed entries i ≡ handed
 entry_first version handed entries zero old le = rw (le-leb version 4 old) refl
 entry_first version handed entries (suc i) old le = absurd (omega arith)
 
-pub directory_new : (h : Header) (i : ℕ) → 4 < h.parameters.encoding.version → directory_of h i ≡ slice_get h.directories i
+pub directory_new : (h : Header) (i : ℕ) → 4 < h.parameters.encoding.version
+    → directory_of h i ≡ slice_get h.directories i
 directory_new h i new = entry_new h.parameters.encoding.version _ h.directories i new
 
-pub directory_first : (h : Header) (i : ℕ) → h.parameters.encoding.version ≤ 4 → i ≤ 0 → directory_of h i ≡ option_map String h.comp_dir
+pub directory_first : (h : Header) (i : ℕ) → h.parameters.encoding.version ≤ 4 → i ≤ 0
+    → directory_of h i ≡ option_map String h.comp_dir
 directory_first h i old le = entry_first h.parameters.encoding.version _ h.directories i old le
 
 pub file_new : (h : Header) (i : ℕ) → 4 < h.parameters.encoding.version → file_of h i ≡ slice_get h.files i
@@ -50,11 +56,13 @@ copied_own None = refl
 -- ---- an entry that was found, seen as a table's
 
 module _ {A B : Type 0} (see : A → B) where
-  now_seen : (found : Option (Bor A)) → option_map (λ b. see b.now) found ≡ option_map see (option_map (λ b. b.now) found)
+  now_seen : (found : Option (Bor A))
+      → option_map (λ b. see b.now) found ≡ option_map see (option_map (λ b. b.now) found)
   now_seen (Some b) = refl
   now_seen None = refl
 
-  copied_seen : (found : Option (Bor A)) → option_map see (option_copied found) ≡ option_map see (option_map (λ b. b.now) found)
+  copied_seen : (found : Option (Bor A))
+      → option_map see (option_copied found) ≡ option_map see (option_map (λ b. b.now) found)
   copied_seen (Some b) = refl
   copied_seen None = refl
 
@@ -62,10 +70,12 @@ module _ {A B : Type 0} (see : A → B) where
       → option_map (λ b. see b.now) found ≡ slice_get (map see items) i
   lent_entry items found i is = now_seen found ∙ ap (option_map see) is ∙ sym (slice_get-map see items i)
 
-  pub copied_entry : (items : List A) (found : Option (Bor A)) (i : ℕ) → option_map (λ b. b.now) found ≡ slice_get items i
+  pub copied_entry : (items : List A) (found : Option (Bor A)) (i : ℕ)
+      → option_map (λ b. b.now) found ≡ slice_get items i
       → option_map see (option_copied found) ≡ slice_get (map see items) i
   copied_entry items found i is = copied_seen found ∙ ap (option_map see) is ∙ sym (slice_get-map see items i)
 
-  pub lent_whole : (found : Option (Bor A)) (whole : Option A) → option_copied found ≡ whole → option_map (λ b. see b.now) found ≡ option_map see whole
+  pub lent_whole : (found : Option (Bor A)) (whole : Option A) → option_copied found ≡ whole
+      → option_map (λ b. see b.now) found ≡ option_map see whole
   lent_whole (Some b) whole is = ap (option_map see) is
   lent_whole None whole is = ap (option_map see) is

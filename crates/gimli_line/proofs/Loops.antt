@@ -1,5 +1,6 @@
 -- Reading the items of a table one after the other, as loops do.
-use Rattle.std.proofs.Common.{◌≡◌, ◌≢◌, ℕ, zero, suc, ◌+◌, ◌-◌, ◌<◌, ◌≤◌, Bool, true, false, List, [], ◌∷◌, ◌++◌, length, map, Ok, Err, refl, sym, ap, ◌∙◌}
+use Rattle.std.proofs.Common.{◌≡◌, ◌≢◌, ℕ, zero, suc, ◌+◌, ◌-◌, ◌<◌, ◌≤◌, Bool, true, false, List, [], ◌∷◌, ◌++◌}
+use Rattle.std.proofs.Common.{length, map, Ok, Err, refl, sym, ap, ◌∙◌}
 use Rattle.std.proofs.Common.{append_assoc, arith}
 use Rattle.std.specs.Prelude.{nat_eq, IsTrue, ◌↔◌}
 use Rattle.std.proofs.lemmas.Bool.{ne_eqb, le-leb, lt-leb}
@@ -18,7 +19,8 @@ use Rattle.gimli_line.specs.header.File.{File}
 use Rattle.gimli_line.specs.header.HeaderGrammar.{Entry, file_of_entry}
 use Rattle.gimli_core.specs.declared.common.Encoding.{Encoding}
 use Rattle.gimli_line.specs.header.HeaderReading.{plain_file_at}
-use Rattle.gimli_line.specs.inside.header.HeaderReading.{named_file_at, files_at, formats_at, entry_at, entries_at, table_at, file_names_at}
+use Rattle.gimli_line.specs.inside.header.HeaderReading.{named_file_at, files_at, formats_at, entry_at, entries_at}
+use Rattle.gimli_line.specs.inside.header.HeaderReading.{table_at, file_names_at}
 use Rattle.gimli_line.specs.declared.header.file_entry.FileEntryFormat.{FileEntryFormat}
 use Rattle.gimli_line.proofs.Closed.{ReadsOpen}
 
@@ -42,14 +44,16 @@ viewed_same (Ok x, rest) = refl
 viewed_same (Err e, rest) = refl
 
 module _ {A B : Type 0} (f : A → B) where
-  regroup : (xs : List B) (x : A) (v : B) → f x ≡ v → (r : Read (List A)) → collected xs f (r >>= λ ys rest. (Ok (x ∷ ys), rest)) ≡ collected (xs ++ v ∷ []) f r
+  regroup : (xs : List B) (x : A) (v : B) → f x ≡ v → (r : Read (List A))
+      → collected xs f (r >>= λ ys rest. (Ok (x ∷ ys), rest)) ≡ collected (xs ++ v ∷ []) f r
   regroup xs x v is (Ok ys, rest) =
       ap (λ (zs : List B). let r : Read (List B) = (Ok zs, rest) in r)
       (sym (append_assoc xs (f x ∷ []) (map f ys)) ∙ ap (λ (w : B). (xs ++ w ∷ []) ++ map f ys) is)
   regroup xs x v is (Err e, rest) = refl
 
   -- what was read, where it is seen
-  seen_item : (r : Read A) (v : B) (left : List ℕ) → (Ok v, left) ≡ read_map f r → (x : A) × (r ≡ (Ok x, left)) × (f x ≡ v)
+  seen_item : (r : Read A) (v : B) (left : List ℕ) → (Ok v, left) ≡ read_map f r
+      → (x : A) × (r ≡ (Ok x, left)) × (f x ≡ v)
   seen_item r v left e =
       let a = bind_ok r (λ x rest. (let s : Read B = (Ok (f x), rest) in s)) v left (sym e) in
       let p = ok_parts (f a.0) v a.1 left a.3 in
@@ -65,31 +69,39 @@ module _ {A B : Type 0} (f : A → B) where
   -- ---- so many of an item
 
   module _ (read : List ℕ → Read A) where
-    pub times_goes_on : (xs : List B) (count i : ℕ) (bytes : List ℕ) (v : B) (left : List ℕ) (total : Read (List B)) → i < count
+    pub times_goes_on : (xs : List B) (count i : ℕ) (bytes : List ℕ) (v : B) (left : List ℕ) (total : Read (List B))
+        → i < count
         → (Ok v, left) ≡ read_map f (read bytes)
-        → collected xs f (times_at (count - i) read bytes) ≡ total → collected (xs ++ v ∷ []) f (times_at (count - (i + 1)) read left) ≡ total
+        → collected xs f (times_at (count - i) read bytes) ≡ total
+        → collected (xs ++ v ∷ []) f (times_at (count - (i + 1)) read left) ≡ total
     times_goes_on xs count i bytes v left total lt e so_far =
         let a = seen_item (read bytes) v left e in
         let k : count - i ≡ suc (count - (i + 1)) = omega arith in
-        let one : collected xs f (times_at (count - i) read bytes) ≡ collected (xs ++ v ∷ []) f (times_at (count - (i + 1)) read left) =
+        let one : collected xs f (times_at (count - i) read bytes)
+        ≡ collected (xs ++ v ∷ []) f (times_at (count - (i + 1)) read left) =
         rw (k, a.1) (regroup xs a.0 v a.2 (times_at (count - (i + 1)) read left)) in
         sym one ∙ so_far
 
-    pub times_ends : (xs : List B) (count i : ℕ) (bytes : List ℕ) (e : Error) (left : List ℕ) (total : Read (List B)) → i < count
+    pub times_ends : (xs : List B) (count i : ℕ) (bytes : List ℕ) (e : Error) (left : List ℕ) (total : Read (List B))
+        → i < count
         → (Err e, left) ≡ read_map f (read bytes)
         → collected xs f (times_at (count - i) read bytes) ≡ total → total.0 ≡ Err e
     times_ends xs count i bytes e left total lt is so_far =
         let k : count - i ≡ suc (count - (i + 1)) = omega arith in
         let refused = seen_fault (read bytes) e left is in
         let inner =
-        bind_refused (read bytes) (λ x rest. times_at (count - (i + 1)) read rest >>= λ ys end. (let s : Read (List A) = (Ok (x ∷ ys), end) in s)) e
+        bind_refused (read bytes)
+        (λ x rest. times_at (count - (i + 1)) read rest >>= λ ys end. (let s : Read (List A) = (Ok (x ∷ ys), end) in s))
+        e
         refused in
         let one : (collected xs f (times_at (count - i) read bytes)).0
         ≡ Err e = rw k
-        (bind_refused (times_at (suc (count - (i + 1))) read bytes) (λ ys rest. (let s : Read (List B) = (Ok (xs ++ map f ys), rest) in s)) e inner) in
+        (bind_refused (times_at (suc (count - (i + 1))) read bytes)
+        (λ ys rest. (let s : Read (List B) = (Ok (xs ++ map f ys), rest) in s)) e inner) in
         ap (λ (r : Read (List B)). r.0) (sym so_far) ∙ one
 
-    pub times_done : (xs : List B) (count i : ℕ) (bytes : List ℕ) (total : Read (List B)) → count ≤ i → collected xs f (times_at (count - i) read bytes) ≡ total
+    pub times_done : (xs : List B) (count i : ℕ) (bytes : List ℕ) (total : Read (List B)) → count ≤ i
+        → collected xs f (times_at (count - i) read bytes) ≡ total
         → total ≡ (Ok xs, bytes)
     times_done xs count i bytes total le so_far =
         let k : count - i ≡ 0 = omega arith in
@@ -100,7 +112,8 @@ module _ {A B : Type 0} (f : A → B) where
 
   module _ (l : Production A) (read : List ℕ → Read A) (r : ReadsOpen l read) where
     -- an item has bytes
-    pub shrinks : (bytes : List ℕ) (x : A) (rest : List ℕ) → IsOpen bytes → read bytes ≡ (Ok x, rest) → length rest < length bytes
+    pub shrinks : (bytes : List ℕ) (x : A) (rest : List ℕ) → IsOpen bytes → read bytes ≡ (Ok x, rest)
+        → length rest < length bytes
     shrinks bytes x rest free e =
         let a = r.found bytes x rest free e in
         let o = r.opens a.0 x a.2 in
@@ -111,14 +124,17 @@ module _ {A B : Type 0} (f : A → B) where
     is_open (b ∷ bytes) is = λ zero_is. let no : nat_eq 0 0 ≡ false = rw zero_is at is in absurd cc
 
     -- a greater bound on their number changes nothing
-    bound_free : (n m : ℕ) (bytes : List ℕ) → length bytes < n → length bytes < m → closed_below n read bytes ≡ closed_below m read bytes
+    bound_free : (n m : ℕ) (bytes : List ℕ) → length bytes < n → length bytes < m
+        → closed_below n read bytes ≡ closed_below m read bytes
     unfolding closed_below
     bound_free zero m bytes lt also = absurd (omega arith)
     bound_free (suc n) zero bytes lt also = absurd (omega arith)
-    bound_free (suc n) (suc m) bytes lt also = at_test (is_closed bytes) refl (read bytes) refl (λ rest fewer more. bound_free n m rest fewer more)
+    bound_free (suc n) (suc m) bytes lt also =
+        at_test (is_closed bytes) refl (read bytes) refl (λ rest fewer more. bound_free n m rest fewer more)
       where
         at_test : (test : Bool) → is_closed bytes ≡ test → (one : Read A) → read bytes ≡ one
-            → ((rest : List ℕ) → length rest < n → length rest < m → closed_below n read rest ≡ closed_below m read rest)
+            → ((rest : List ℕ) → length rest < n → length rest < m
+            → closed_below n read rest ≡ closed_below m read rest)
             → closed_below (suc n) read bytes ≡ closed_below (suc m) read bytes
         at_test true is one same others = rw is refl
         at_test false is (Ok x, rest) same others =
@@ -134,22 +150,28 @@ module _ {A B : Type 0} (f : A → B) where
         let fewer = shrinks bytes x left (is_open bytes is) same in
         let further : closed_below (length bytes) read left
         ≡ list_to_zero_at read left = bound_free (length bytes) (suc (length left)) left fewer (omega arith) in
-        rw (is, same) (ap (λ (s : Read (List A)). s >>= λ ys rest. (let t : Read (List A) = (Ok (x ∷ ys), rest) in t)) further)
+        rw (is, same)
+        (ap (λ (s : Read (List A)). s >>= λ ys rest. (let t : Read (List A) = (Ok (x ∷ ys), rest) in t)) further)
 
-    pub closed_goes_on : (xs : List B) (bytes : List ℕ) (v : B) (left : List ℕ) (total : Read (List B)) → is_closed bytes ≡ false
+    pub closed_goes_on : (xs : List B) (bytes : List ℕ) (v : B) (left : List ℕ) (total : Read (List B))
+        → is_closed bytes ≡ false
         → (Ok v, left) ≡ read_map f (read bytes)
-        → collected xs f (list_to_zero_at read bytes) ≡ total → collected (xs ++ v ∷ []) f (list_to_zero_at read left) ≡ total
+        → collected xs f (list_to_zero_at read bytes) ≡ total
+        → collected (xs ++ v ∷ []) f (list_to_zero_at read left) ≡ total
     closed_goes_on xs bytes v left total is e so_far =
         let a = seen_item (read bytes) v left e in
         let one : collected xs f (list_to_zero_at read bytes) ≡ collected (xs ++ v ∷ []) f (list_to_zero_at read left) =
         ap (collected xs f) (step bytes a.0 left is a.1) ∙ regroup xs a.0 v a.2 (list_to_zero_at read left) in
         sym one ∙ so_far
 
-    pub closed_smaller : (bytes : List ℕ) (v : B) (left : List ℕ) → is_closed bytes ≡ false → (Ok v, left) ≡ read_map f (read bytes)
+    pub closed_smaller : (bytes : List ℕ) (v : B) (left : List ℕ) → is_closed bytes ≡ false
+        → (Ok v, left) ≡ read_map f (read bytes)
         → length left < length bytes
-    closed_smaller bytes v left is e = let a = seen_item (read bytes) v left e in shrinks bytes a.0 left (is_open bytes is) a.1
+    closed_smaller bytes v left is e =
+        let a = seen_item (read bytes) v left e in shrinks bytes a.0 left (is_open bytes is) a.1
 
-    pub closed_ends : (xs : List B) (bytes : List ℕ) (e : Error) (left : List ℕ) (total : Read (List B)) → is_closed bytes ≡ false
+    pub closed_ends : (xs : List B) (bytes : List ℕ) (e : Error) (left : List ℕ) (total : Read (List B))
+        → is_closed bytes ≡ false
         → (Err e, left) ≡ read_map f (read bytes)
         → collected xs f (list_to_zero_at read bytes) ≡ total → total.0 ≡ Err e
     unfolding closed_below
@@ -157,11 +179,15 @@ module _ {A B : Type 0} (f : A → B) where
         let refused = seen_fault (read bytes) e left same in
         let inner : (list_to_zero_at read bytes).0
         ≡ Err e = rw is (bind_refused (read bytes)
-        (λ x rest. closed_below (length bytes) read rest >>= λ ys end. (let s : Read (List A) = (Ok (x ∷ ys), end) in s)) e refused) in
-        let one = bind_refused (list_to_zero_at read bytes) (λ ys rest. (let s : Read (List B) = (Ok (xs ++ map f ys), rest) in s)) e inner in
+        (λ x rest. closed_below (length bytes) read rest >>= λ ys end.
+        (let s : Read (List A) = (Ok (x ∷ ys), end) in s)) e refused) in
+        let one =
+        bind_refused (list_to_zero_at read bytes)
+        (λ ys rest. (let s : Read (List B) = (Ok (xs ++ map f ys), rest) in s)) e inner in
         ap (λ (r : Read (List B)). r.0) (sym so_far) ∙ one
 
-    pub closed_done : (xs : List B) (bytes left : List ℕ) (total : Read (List B)) → bytes ≡ 0 ∷ left → collected xs f (list_to_zero_at read bytes) ≡ total
+    pub closed_done : (xs : List B) (bytes left : List ℕ) (total : Read (List B)) → bytes ≡ 0 ∷ left
+        → collected xs f (list_to_zero_at read bytes) ≡ total
         → total ≡ (Ok xs, left)
     unfolding closed_below
     closed_done xs bytes left total is so_far =
@@ -170,20 +196,23 @@ module _ {A B : Type 0} (f : A → B) where
 
 -- ---- what a text says of the zero byte
 
-pub text_closed : (bytes text rest : List ℕ) → (IsTrue true ↔ (text ≡ [])) → (Ok text, rest) ≡ text_at bytes → bytes ≡ 0 ∷ rest
+pub text_closed : (bytes text rest : List ℕ) → (IsTrue true ↔ (text ≡ [])) → (Ok text, rest) ≡ text_at bytes
+    → bytes ≡ 0 ∷ rest
 text_closed bytes text rest empty e =
     let none = empty.0 refl in
     let a = reads_text.found bytes text rest (sym e) in
     let front : a.0 ≡ 0 ∷ [] = a.2.1 ∙ ap (λ (xs : List ℕ). xs ++ 0 ∷ []) none in
     a.1 ∙ ap (λ (xs : List ℕ). xs ++ rest) front
 
-pub text_free : (bytes text rest : List ℕ) → (IsTrue false ↔ (text ≡ [])) → (Ok text, rest) ≡ text_at bytes → is_closed bytes ≡ false
+pub text_free : (bytes text rest : List ℕ) → (IsTrue false ↔ (text ≡ [])) → (Ok text, rest) ≡ text_at bytes
+    → is_closed bytes ≡ false
 text_free bytes text rest empty e =
     let some : text ≢ [] = λ none. let no = empty.1 none in cc in
     let a = reads_text.found bytes text rest (sym e) in
     first bytes a.0 text a.1 some a.2.0 a.2.1
   where
-    first : (bytes front text : List ℕ) → bytes ≡ front ++ rest → text ≢ [] → AllByRecursion (λ b. b ≢ 0) text → front ≡ text ++ 0 ∷ []
+    first : (bytes front text : List ℕ) → bytes ≡ front ++ rest → text ≢ [] → AllByRecursion (λ b. b ≢ 0) text
+        → front ≡ text ++ 0 ∷ []
         → is_closed bytes ≡ false
     first bytes front [] parts some all is = absurd (some refl)
     first bytes front (b ∷ text) parts some all is = rw (parts, is) (ne_eqb b 0 all.0)
@@ -197,25 +226,32 @@ text_refused bytes rest e is = all_free bytes (reads_text.fault bytes e (ap (λ 
 
 -- ---- a file, whose path is read first
 
-pub named_is : (bytes path mid : List ℕ) (answer : Read File) → (Ok path, mid) ≡ text_at bytes → answer ≡ plain_file_at path mid
+pub named_is : (bytes path mid : List ℕ) (answer : Read File) → (Ok path, mid) ≡ text_at bytes
+    → answer ≡ plain_file_at path mid
     → answer ≡ read_map (λ x. x) (named_file_at bytes)
-named_is bytes path mid answer e is = is ∙ ap (λ (r : Read (List ℕ)). r >>= plain_file_at) e ∙ sym (viewed_same (named_file_at bytes))
+named_is bytes path mid answer e is =
+    is ∙ ap (λ (r : Read (List ℕ)). r >>= plain_file_at) e ∙ sym (viewed_same (named_file_at bytes))
 
-pub named_fault : (bytes mid : List ℕ) (e : Error) → (Err e, mid) ≡ text_at bytes → (Err e, mid) ≡ read_map (λ x. x) (named_file_at bytes)
-named_fault bytes mid e is = ap (λ (r : Read (List ℕ)). r >>= plain_file_at) is ∙ sym (viewed_same (named_file_at bytes))
+pub named_fault : (bytes mid : List ℕ) (e : Error) → (Err e, mid) ≡ text_at bytes
+    → (Err e, mid) ≡ read_map (λ x. x) (named_file_at bytes)
+named_fault bytes mid e is =
+    ap (λ (r : Read (List ℕ)). r >>= plain_file_at) is ∙ sym (viewed_same (named_file_at bytes))
 
 -- ---- the entries of a table of version 5, whose count is read first
 
 module _ (notation : Notation) (format : Format) {B : Type 0} (f : Entry → B) (formats : List FileEntryFormat) where
   pub entries_start : (bytes : List ℕ) (count : ℕ) (left : List ℕ) → (Ok count, left) ≡ unsigned_at bytes
-      → collected [] f (times_at (count - 0) (entry_at notation format formats) left) ≡ read_map (map f) (entries_at notation format formats bytes)
+      → collected [] f (times_at (count - 0) (entry_at notation format formats) left)
+      ≡ read_map (map f) (entries_at notation format formats bytes)
   unfolding entries_at
   entries_start bytes count left is =
       let all : count - 0 ≡ count = omega arith in
-      rw all (ap (λ (r : Read ℕ). read_map (map f) (r >>= λ n rest. times_at n (entry_at notation format formats) rest)) is)
+      rw all
+      (ap (λ (r : Read ℕ). read_map (map f) (r >>= λ n rest. times_at n (entry_at notation format formats) rest)) is)
 
 -- the order of bytes, which a loop keeps
-pub entry_kept : (format : Format) {B : Type 0} (f : Entry → B) (formats : List FileEntryFormat) (now first : Bool) (limit : ℕ) (bytes : List ℕ)
+pub entry_kept : (format : Format) {B : Type 0} (f : Entry → B) (formats : List FileEntryFormat) (now first : Bool)
+    (limit : ℕ) (bytes : List ℕ)
     (answer : Read B)
     → now ≡ first
     → answer ≡ read_map f (entry_at (record { big = now; limit = limit }) format formats bytes)

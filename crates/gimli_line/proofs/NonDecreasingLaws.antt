@@ -1,13 +1,16 @@
 -- Row addresses never go down between two ends.
-use Rattle.std.proofs.Common.{◌≡◌, ℕ, ◌+◌, ◌*◌, ◌/◌, ◌%◌, ◌^◌, ◌≤◌, Bool, true, false, ◌||◌, if◌then◌else◌, List, [], ◌∷◌, ◌++◌, None, not, refl, arith}
+use Rattle.std.proofs.Common.{◌≡◌, ℕ, ◌+◌, ◌*◌, ◌/◌, ◌%◌, ◌^◌, ◌≤◌, Bool, true, false, ◌||◌, if◌then◌else◌, List, []}
+use Rattle.std.proofs.Common.{◌∷◌, ◌++◌, None, not, refl, arith}
 use Rattle.std.specs.Prelude.{nat_eq, nat_lt, nat_le}
 use Rattle.std.specs.List.{filter}
 use Rattle.std.proofs.lemmas.Bool.{ltb-false}
 use Rattle.gimli_core.specs.declared.error.Error.TheVariants.{AddressOverflow}
-use Rattle.gimli_line.specs.declared.run.instruction.LineInstruction.TheVariants.{Special, AdvancePc, ConstAddPc, FixedAddPc, EndSequence, SetAddress}
+use Rattle.gimli_line.specs.declared.run.instruction.LineInstruction.TheVariants.{Special, AdvancePc, ConstAddPc}
+use Rattle.gimli_line.specs.declared.run.instruction.LineInstruction.TheVariants.{FixedAddPc, EndSequence, SetAddress}
 use Rattle.gimli_line.specs.header.Parameters.{Parameters}
 use Rattle.gimli_line.specs.run.Instruction.{Ins, is_end, makes_row}
-use Rattle.gimli_line.specs.run.OperationPointer.{OperationPointer, advanced_by, is_too_large, pointer_at_overflow, next_pointer, pointer_at}
+use Rattle.gimli_line.specs.run.OperationPointer.{OperationPointer, advanced_by, is_too_large, pointer_at_overflow}
+use Rattle.gimli_line.specs.run.OperationPointer.{next_pointer, pointer_at}
 use Rattle.gimli_line.specs.run.OperationPointer.{is_under_tombstone, overflows}
 use Rattle.gimli_line.specs.run.Events.{Event, row, fault, row_at, is_given, events_after}
 use Rattle.gimli_line.specs.run.NonDecreasing.{NeverBelow, AreOneSequence}
@@ -15,25 +18,34 @@ use Rattle.gimli_line.proofs.RunLists.{after_here}
 
 -- ---- a pointer that goes on isn't lower
 
-operations_rise : (parameters : Parameters) (n : ℕ) (p : OperationPointer) → p.address ≤ (advanced_by parameters n p).address
+operations_rise : (parameters : Parameters) (n : ℕ) (p : OperationPointer)
+    → p.address ≤ (advanced_by parameters n p).address
 operations_rise parameters n p = at_test (nat_eq parameters.line_encoding.maximum_operations_per_instruction 1)
   where
     at_test : (b : Bool)
         → p.address
         ≤ (if b
-        then (let q : OperationPointer = record { address = p.address + parameters.line_encoding.minimum_instruction_length * n % 2 ^ 64; op_index = 0 } in q)
+        then (let q : OperationPointer = record {
+          address = p.address + parameters.line_encoding.minimum_instruction_length * n % 2 ^ 64;
+          op_index = 0;
+        } in
+        q)
         else (let s = (p.op_index + n) % 2 ^ 64 in
         record {
           address =
-              p.address + parameters.line_encoding.minimum_instruction_length * (s / parameters.line_encoding.maximum_operations_per_instruction) % 2 ^ 64;
+              p.address
+              + parameters.line_encoding.minimum_instruction_length
+              * (s / parameters.line_encoding.maximum_operations_per_instruction) % 2 ^ 64;
           op_index = s % parameters.line_encoding.maximum_operations_per_instruction;
         })).address
     at_test true = omega arith
     at_test false = omega arith
 
-advance_rises : (parameters : Parameters) (tombstone : Bool) (i : Ins) (p to : OperationPointer) → (pointer_at_overflow i p to).address ≡ p.address
+advance_rises : (parameters : Parameters) (tombstone : Bool) (i : Ins) (p to : OperationPointer)
+    → (pointer_at_overflow i p to).address ≡ p.address
     → p.address ≤ to.address
-    → p.address ≤ (if tombstone then p else (if is_too_large parameters to then pointer_at_overflow i p to else to)).address
+    → p.address
+    ≤ (if tombstone then p else (if is_too_large parameters to then pointer_at_overflow i p to else to)).address
 advance_rises parameters true i p to stays rises = omega arith
 advance_rises parameters false i p to stays rises = at_test (is_too_large parameters to)
   where
@@ -41,11 +53,13 @@ advance_rises parameters false i p to stays rises = at_test (is_too_large parame
     at_test true = omega (arith, stays)
     at_test false = rises
 
-set_rises : (parameters : Parameters) (a : ℕ) (p : OperationPointer) → p.address ≤ (next_pointer parameters false (SetAddress a) p).address
+set_rises : (parameters : Parameters) (a : ℕ) (p : OperationPointer)
+    → p.address ≤ (next_pointer parameters false (SetAddress a) p).address
 set_rises parameters a p = at_test (nat_lt a p.address) refl (nat_le _ a)
   where
     at_test : (b : Bool) → nat_lt a p.address ≡ b → (c : Bool)
-        → p.address ≤ (if b || c then p else (let q : OperationPointer = record { address = a; op_index = 0 } in q)).address
+        → p.address
+        ≤ (if b || c then p else (let q : OperationPointer = record { address = a; op_index = 0 } in q)).address
     at_test true e c = omega arith
     at_test false e true = omega arith
     at_test false e false = ltb-false a p.address e
@@ -57,11 +71,13 @@ rises parameters tombstone (SetAddress a) p inner = set_rises parameters a p
 rises parameters tombstone (Special o) p inner =
     advance_rises parameters tombstone (Special o) p (advanced_by parameters _ p) refl (operations_rise parameters _ p)
 rises parameters tombstone (AdvancePc n) p inner =
-    advance_rises parameters tombstone (AdvancePc n) p (advanced_by parameters n p) refl (operations_rise parameters n p)
+    advance_rises parameters tombstone (AdvancePc n) p (advanced_by parameters n p) refl
+    (operations_rise parameters n p)
 rises parameters tombstone ConstAddPc p inner =
     advance_rises parameters tombstone ConstAddPc p (advanced_by parameters _ p) refl (operations_rise parameters _ p)
 rises parameters tombstone (FixedAddPc n) p inner =
-    advance_rises parameters tombstone (FixedAddPc n) p (record { address = p.address + n; op_index = 0 }) refl (omega arith)
+    advance_rises parameters tombstone (FixedAddPc n) p (record { address = p.address + n; op_index = 0 }) refl
+    (omega arith)
 rises parameters tombstone i p inner = omega arith
 
 -- ---- rows
@@ -73,9 +89,12 @@ weaker low high le (fault e ∷ events) n = weaker low high le events n
 
 module _ (parameters : Parameters) where
   -- what stands after a point that makes these events
-  after_point : (past : List Ins) (i : Ins) (rest : List Event) → is_end i ≡ false → NeverBelow (pointer_at parameters (i ∷ past)).address rest
+  after_point : (past : List Ins) (i : Ins) (rest : List Event) → is_end i ≡ false
+      → NeverBelow (pointer_at parameters (i ∷ past)).address rest
       → (o m : Bool) → NeverBelow (pointer_at parameters past).address
-      (filter is_given (if o then fault AddressOverflow ∷ [] else (if m then row (row_at parameters past i) ∷ [] else [])) ++ rest)
+      (filter is_given
+      (if o then fault AddressOverflow ∷ [] else (if m then row (row_at parameters past i) ∷ [] else []))
+      ++ rest)
   after_point past i rest inner n o m = at_test o m
     where
       up : (pointer_at parameters past).address ≤ (pointer_at parameters (i ∷ past)).address
@@ -87,13 +106,21 @@ module _ (parameters : Parameters) where
       later : NeverBelow (pointer_at parameters past).address rest
       later = weaker (pointer_at parameters past).address (pointer_at parameters (i ∷ past)).address up rest n
 
-      given : (b : Bool) → NeverBelow (pointer_at parameters past).address ((if b then row (row_at parameters past i) ∷ [] else []) ++ rest)
-      given true = (omega (arith, up, here), weaker (row_at parameters past i).address (pointer_at parameters (i ∷ past)).address (omega (arith, here)) rest n)
+      given : (b : Bool)
+          → NeverBelow (pointer_at parameters past).address
+          ((if b then row (row_at parameters past i) ∷ [] else []) ++ rest)
+      given true = (
+        omega (arith, up, here),
+        weaker (row_at parameters past i).address (pointer_at parameters (i ∷ past)).address (omega (arith, here))
+            rest n,
+      )
       given false = later
 
       at_test : (o m : Bool)
           → NeverBelow (pointer_at parameters past).address
-          (filter is_given (if o then fault AddressOverflow ∷ [] else (if m then row (row_at parameters past i) ∷ [] else [])) ++ rest)
+          (filter is_given
+          (if o then fault AddressOverflow ∷ [] else (if m then row (row_at parameters past i) ∷ [] else []))
+          ++ rest)
       at_test true m = later
       at_test false true = given (not (is_under_tombstone parameters past))
       at_test false false = later
@@ -101,7 +128,9 @@ module _ (parameters : Parameters) where
   -- the last point, which may be an end
   last_point : (past : List Ins) (i : Ins) → (e o m : Bool) → is_end i ≡ e
       → NeverBelow (pointer_at parameters past).address
-      (filter is_given (if o then fault AddressOverflow ∷ [] else (if m then row (row_at parameters past i) ∷ [] else [])) ++ [])
+      (filter is_given
+      (if o then fault AddressOverflow ∷ [] else (if m then row (row_at parameters past i) ∷ [] else []))
+      ++ [])
   last_point past i false o m inner = after_point past i [] inner tt o m
   last_point past i true true m closes = tt
   last_point past i true false true closes = given (not (is_under_tombstone parameters past))
@@ -109,19 +138,26 @@ module _ (parameters : Parameters) where
       here : (row_at parameters past i).address ≡ (pointer_at parameters past).address
       here = rw closes refl
 
-      given : (b : Bool) → NeverBelow (pointer_at parameters past).address ((if b then row (row_at parameters past i) ∷ [] else []) ++ [])
+      given : (b : Bool)
+          → NeverBelow (pointer_at parameters past).address
+          ((if b then row (row_at parameters past i) ∷ [] else []) ++ [])
       given true = (omega (arith, here), tt)
       given false = tt
   last_point past i true false false closes = tt
 
-  pub non_decreasing : (past list : List Ins) → AreOneSequence list → NeverBelow (pointer_at parameters past).address (events_after parameters past list None)
+  pub non_decreasing : (past list : List Ins) → AreOneSequence list
+      → NeverBelow (pointer_at parameters past).address (events_after parameters past list None)
   non_decreasing past [] one = tt
-  non_decreasing past (i ∷ []) one = rw (after_here parameters past i [] None) (last_point past i (is_end i) (overflows parameters past i) (makes_row i) refl)
+  non_decreasing past (i ∷ []) one =
+      rw (after_here parameters past i [] None)
+      (last_point past i (is_end i) (overflows parameters past i) (makes_row i) refl)
   non_decreasing past (i ∷ j ∷ list) one =
       rw (after_here parameters past i (j ∷ list) None)
-      (after_point past i (events_after parameters (i ∷ past) (j ∷ list) None) one.0 (non_decreasing (i ∷ past) (j ∷ list) one.1)
+      (after_point past i (events_after parameters (i ∷ past) (j ∷ list) None) one.0
+      (non_decreasing (i ∷ past) (j ∷ list) one.1)
       (overflows parameters past i) (makes_row i))
 
   pub never_down : (past list : List Ins) → AreOneSequence list → NeverBelow 0 (events_after parameters past list None)
   never_down past list one =
-      weaker 0 (pointer_at parameters past).address (omega arith) (events_after parameters past list None) (non_decreasing past list one)
+      weaker 0 (pointer_at parameters past).address (omega arith) (events_after parameters past list None)
+      (non_decreasing past list one)

@@ -10,7 +10,8 @@ use Rattle.gimli_line.specs.header.HeaderGrammar.{Opening}
 use Rattle.gimli_line.specs.inside.header.HeaderReading.{opening_at, fields_at, header_at}
 
 -- the answer of the last part is that of all
-last_answer : (r : Read Header) (rest : List ℕ) → (within_at [] (λ bytes. r) rest >>= λ fields left. (Ok fields.0, left)).0 ≡ r.0
+last_answer : (r : Read Header) (rest : List ℕ)
+    → (within_at [] (λ bytes. r) rest >>= λ fields left. (Ok fields.0, left)).0 ≡ r.0
 last_answer (Ok h, left) rest = refl
 last_answer (Err e, left) rest = refl
 
@@ -19,13 +20,15 @@ module _ (big : Bool) (limit : ℕ) (unit_entry : UnitEntry) where
   notation = record { big = big; limit = limit }
 
   -- the answer where everything in front of the fields is there
-  pub header_answer : (bytes : List ℕ) (unit : ℕ × Format) (rest inside left : List ℕ) (opened : Opening) (program : List ℕ)
+  pub header_answer : (bytes : List ℕ) (unit : ℕ × Format) (rest inside left : List ℕ) (opened : Opening)
+      (program : List ℕ)
       → (Ok unit, rest) ≡ initial_length_at big limit bytes → (Ok inside, left) ≡ split_at unit.0 rest
       → (Ok opened, program) ≡ opening_at notation unit_entry.address_size unit.1 inside
       → (header_at notation unit_entry bytes).0 ≡ (fields_at notation unit_entry unit.0 opened program opened.fields).0
   unfolding header_at
   header_answer bytes unit rest inside left opened program length whole opening =
-      rw (← length, ← whole, ← opening) (last_answer (fields_at notation unit_entry unit.0 opened program opened.fields) left)
+      rw (← length, ← whole, ← opening)
+      (last_answer (fields_at notation unit_entry unit.0 opened program opened.fields) left)
 
   -- the fields take no address size
   size_free : (size unit : ℕ) (opened : Opening) (program : List ℕ)
@@ -34,20 +37,26 @@ module _ (big : Bool) (limit : ℕ) (unit_entry : UnitEntry) where
   unfolding fields_at
   size_free size unit opened program = refl
 
-  pub header_answers : {X : Type 0} (view : X → Header) (result : Result X Error) (size : ℕ) (now later : Bool) (bytes : List ℕ) (unit : ℕ × Format)
+  pub header_answers : {X : Type 0} (view : X → Header) (result : Result X Error) (size : ℕ) (now later : Bool)
+      (bytes : List ℕ) (unit : ℕ × Format)
       (rest inside left : List ℕ) (opened : Opening) (program : List ℕ)
       → (Ok unit, rest) ≡ initial_length_at big limit bytes → (Ok inside, left) ≡ split_at unit.0 rest
-      → now ≡ big → (Ok opened, program) ≡ opening_at (record { big = now; limit = limit }) unit_entry.address_size unit.1 inside
+      → now ≡ big
+      → (Ok opened, program) ≡ opening_at (record { big = now; limit = limit }) unit_entry.address_size unit.1 inside
       → later ≡ big
       → IsAnswer view result
-      (fields_at (record { big = later; limit = limit }) (record unit_entry { address_size = size }) unit.0 opened program opened.fields).0
+      (fields_at (record { big = later; limit = limit }) (record unit_entry { address_size = size }) unit.0 opened
+      program opened.fields).0
       → IsAnswer view result (header_at notation unit_entry bytes).0
-  header_answers view result size now later bytes unit rest inside left opened program length whole same opening kept answers =
+  header_answers view result size now later bytes unit rest inside left opened program length whole same opening kept
+      answers =
       let again : (Ok opened, program) ≡ opening_at notation unit_entry.address_size unit.1 inside = opening
       ∙ ap (λ (b : Bool). opening_at (record { big = b; limit = limit }) unit_entry.address_size unit.1 inside) same in
       let is = header_answer bytes unit rest inside left opened program length whole again in
       let others =
-      ap (λ (b : Bool). (fields_at (record { big = b; limit = limit }) (record unit_entry { address_size = size }) unit.0 opened program opened.fields).0)
+      ap (λ (b : Bool).
+      (fields_at (record { big = b; limit = limit }) (record unit_entry { address_size = size }) unit.0 opened program
+      opened.fields).0)
       kept in
       let free = ap (λ (r : Read Header). r.0) (size_free size unit.0 opened program) in
       subst (λ (r : Result Header Error). IsAnswer view result r) (others ∙ free ∙ sym is) answers

@@ -8,19 +8,23 @@ use Rattle.gimli_core.proofs.UnsignedLeb.{reads_unsigned}
 use Rattle.gimli_line.specs.inside.run.InstructionReading.{without_value}
 
 module _ {A : Type 0} (read : List ℕ → Read A) where
-  after_item : (x : A) (r : Read (List A)) → without_value (r >>= λ xs left. (let s : Read (List A) = (Ok (x ∷ xs), left) in s)) ≡ without_value r
+  after_item : (x : A) (r : Read (List A))
+      → without_value (r >>= λ xs left. (let s : Read (List A) = (Ok (x ∷ xs), left) in s)) ≡ without_value r
   after_item x (Ok xs, left) = refl
   after_item x (Err e, left) = refl
 
-  pub passes_on : (count i : ℕ) (bytes : List ℕ) (x : A) (left : List ℕ) (total : Read (Unit {0})) → i < count → (Ok x, left) ≡ read bytes
-      → without_value (times_at (count - i) read bytes) ≡ total → without_value (times_at (count - (i + 1)) read left) ≡ total
+  pub passes_on : (count i : ℕ) (bytes : List ℕ) (x : A) (left : List ℕ) (total : Read (Unit {0})) → i < count
+      → (Ok x, left) ≡ read bytes
+      → without_value (times_at (count - i) read bytes) ≡ total
+      → without_value (times_at (count - (i + 1)) read left) ≡ total
   passes_on count i bytes x left total lt is so_far =
       let k : count - i ≡ suc (count - (i + 1)) = omega arith in
       let one : without_value (times_at (count - i) read bytes) ≡ without_value (times_at (count - (i + 1)) read left) =
       rw (k, ← is) (after_item x (times_at (count - (i + 1)) read left)) in
       sym one ∙ so_far
 
-  pub pass_ends : (count i : ℕ) (bytes : List ℕ) (e : Error) (left : List ℕ) (total : Read (Unit {0})) → i < count → (Err e, left) ≡ read bytes
+  pub pass_ends : (count i : ℕ) (bytes : List ℕ) (e : Error) (left : List ℕ) (total : Read (Unit {0})) → i < count
+      → (Err e, left) ≡ read bytes
       → without_value (times_at (count - i) read bytes) ≡ total → (Err e, left) ≡ total
   pass_ends count i bytes e left total lt is so_far =
       let k : count - i ≡ suc (count - (i + 1)) = omega arith in
@@ -28,9 +32,12 @@ module _ {A : Type 0} (read : List ℕ → Read A) where
       sym one ∙ so_far
 
 -- what was passed over stood in front of what is left
-pub passed_front : (count : ℕ) (bytes left : List ℕ) (u : Unit {0}) → (Ok u, left) ≡ without_value (times_at count unsigned_at bytes)
+pub passed_front : (count : ℕ) (bytes left : List ℕ) (u : Unit {0})
+    → (Ok u, left) ≡ without_value (times_at count unsigned_at bytes)
     → (front : List ℕ) × (bytes ≡ front ++ left)
 passed_front count bytes left u is =
-    let a = bind_ok (times_at count unsigned_at bytes) (λ xs rest. (let s : Read (Unit {0}) = (Ok tt, rest) in s)) u left (sym is) in
+    let a =
+    bind_ok (times_at count unsigned_at bytes) (λ xs rest. (let s : Read (Unit {0}) = (Ok tt, rest) in s)) u left
+    (sym is) in
     let f = (reads_times count unsigned unsigned_at reads_unsigned).found bytes a.0 a.1 a.2 in
     (f.0, f.1 ∙ ap (λ (xs : List ℕ). f.0 ++ xs) (ok_parts tt u a.1 left a.3).1)

@@ -10,48 +10,62 @@ use Rattle.gimli_line.specs.header.File.{FileHasOrder, AreFileOrders, file_order
 use Rattle.gimli_line.specs.declared.header.file_entry.FileEntry.{FileEntry}
 
 -- a list that was made longer, all of whose items have the order that the new one has
-pushed : {X : Type 0} (Has : Bool → X → Type 0) (first now : Bool) (xs longer : List X) (x : X) → longer ≡ xs ++ x ∷ [] → now ≡ first → All (Has first) xs
+pushed : {X : Type 0} (Has : Bool → X → Type 0) (first now : Bool) (xs longer : List X) (x : X) → longer ≡ xs ++ x ∷ []
+    → now ≡ first → All (Has first) xs
     → Has now x → All (Has first) longer
-pushed Has first now xs longer x is same all one = subst (All (Has first)) (sym is) (All-push (Has first) xs x all (subst (λ order. Has order x) same one))
+pushed Has first now xs longer x is same all one =
+    subst (All (Has first)) (sym is) (All-push (Has first) xs x all (subst (λ order. Has order x) same one))
 
 module _ {R Offset Endian : Type 0} (big : R → Bool) where
-  pub values_pushed : (first now : Bool) (xs longer : List (AttributeValue R Offset Endian)) (x : AttributeValue R Offset Endian) → longer ≡ xs ++ x ∷ []
+  pub values_pushed : (first now : Bool) (xs longer : List (AttributeValue R Offset Endian))
+      (x : AttributeValue R Offset Endian)
+      → longer ≡ xs ++ x ∷ []
       → now ≡ first
       → All (ValueHasOrder big first) xs → ValueHasOrder big now x → All (ValueHasOrder big first) longer
   values_pushed = pushed (ValueHasOrder big)
 
-  pub files_pushed : (first now : Bool) (xs longer : List (FileEntry R Offset Endian)) (x : FileEntry R Offset Endian) → longer ≡ xs ++ x ∷ [] → now ≡ first
+  pub files_pushed : (first now : Bool) (xs longer : List (FileEntry R Offset Endian)) (x : FileEntry R Offset Endian)
+      → longer ≡ xs ++ x ∷ [] → now ≡ first
       → All (FileHasOrder big first) xs → FileHasOrder big now x → All (FileHasOrder big first) longer
   files_pushed = pushed (FileHasOrder big)
 
-  pub value_kept : (first now : Bool) (x : AttributeValue R Offset Endian) → now ≡ first → ValueHasOrder big now x → ValueHasOrder big first x
+  pub value_kept : (first now : Bool) (x : AttributeValue R Offset Endian) → now ≡ first → ValueHasOrder big now x
+      → ValueHasOrder big first x
   value_kept first now x same = subst (λ order. ValueHasOrder big order x) same
 
-  pub file_kept : (first now : Bool) (x : FileEntry R Offset Endian) → now ≡ first → FileHasOrder big now x → FileHasOrder big first x
+  pub file_kept : (first now : Bool) (x : FileEntry R Offset Endian) → now ≡ first → FileHasOrder big now x
+      → FileHasOrder big first x
   file_kept first now x same = subst (λ order. FileHasOrder big order x) same
 
-  pub values_kept : (first now : Bool) (xs : List (AttributeValue R Offset Endian)) → now ≡ first → All (ValueHasOrder big now) xs
+  pub values_kept : (first now : Bool) (xs : List (AttributeValue R Offset Endian)) → now ≡ first
+      → All (ValueHasOrder big now) xs
       → All (ValueHasOrder big first) xs
   values_kept first now xs same = subst (λ order. All (ValueHasOrder big order) xs) same
 
-  pub files_kept : (first now : Bool) (xs : List (FileEntry R Offset Endian)) → now ≡ first → All (FileHasOrder big now) xs → All (FileHasOrder big first) xs
+  pub files_kept : (first now : Bool) (xs : List (FileEntry R Offset Endian)) → now ≡ first
+      → All (FileHasOrder big now) xs → All (FileHasOrder big first) xs
   files_kept first now xs same = subst (λ order. All (FileHasOrder big order) xs) same
 
 -- ---- the orders of a header's readers
 
 module _ {R Offset Endian : Type 0} (big : R → Bool) (order : Bool) where
-  pub values_mapped : (xs : List (AttributeValue R Offset Endian)) → All (ValueHasOrder big order) xs → All (IsOrder order) (map (value_order big) xs)
+  pub values_mapped : (xs : List (AttributeValue R Offset Endian)) → All (ValueHasOrder big order) xs
+      → All (IsOrder order) (map (value_order big) xs)
   values_mapped = All-map (IsOrder order) (value_order big)
 
-  pub files_mapped : (xs : List (FileEntry R Offset Endian)) → All (FileHasOrder big order) xs → All (AreFileOrders order) (map (file_orders big) xs)
+  pub files_mapped : (xs : List (FileEntry R Offset Endian)) → All (FileHasOrder big order) xs
+      → All (AreFileOrders order) (map (file_orders big) xs)
   files_mapped = All-map (AreFileOrders order) (file_orders big)
 
   -- after a file is added, or memory is missing for it
-  pub files_after : {A E : Type 0} (result : Result A E) (xs longer : List (FileEntry R Offset Endian)) (f : FileEntry R Offset Endian)
+  pub files_after : {A E : Type 0} (result : Result A E) (xs longer : List (FileEntry R Offset Endian))
+      (f : FileEntry R Offset Endian)
       → OnOk result (longer ≡ xs ++ f ∷ []) → OnErr result (longer ≡ xs)
-      → FileHasOrder big order f → All (AreFileOrders order) (map (file_orders big) xs) → All (AreFileOrders order) (map (file_orders big) longer)
+      → FileHasOrder big order f → All (AreFileOrders order) (map (file_orders big) xs)
+      → All (AreFileOrders order) (map (file_orders big) longer)
   files_after (Ok _) xs longer f is kept one all =
       subst (λ ys. All (AreFileOrders order) (map (file_orders big) ys)) (sym is)
       (subst (All (AreFileOrders order)) (sym (map-append (file_orders big) xs (f ∷ [])))
       (All-push (AreFileOrders order) (map (file_orders big) xs) (file_orders big f) all one))
-  files_after (Err _) xs longer f is kept one all = subst (λ ys. All (AreFileOrders order) (map (file_orders big) ys)) (sym kept) all
+  files_after (Err _) xs longer f is kept one all =
+      subst (λ ys. All (AreFileOrders order) (map (file_orders big) ys)) (sym kept) all

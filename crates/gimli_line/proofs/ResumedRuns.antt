@@ -22,7 +22,8 @@ use Rattle.gimli_line.proofs.RunLists.{given_from_start}
 -- ---- bytes give one run
 
 module _ (n : Notation) (h : Header) (bytes : List ℕ) where
-  same_decoding : (list other : List Ins) (end finish : Option Error) → Decodes n h bytes list end → Decodes n h bytes other finish
+  same_decoding : (list other : List Ins) (end finish : Option Error) → Decodes n h bytes list end
+      → Decodes n h bytes other finish
       → program_events h.parameters list end ≡ program_events h.parameters other finish
   same_decoding list other end finish a b =
       ap (λ (p : List Ins × Option Error). program_events h.parameters p.0 p.1)
@@ -31,7 +32,8 @@ module _ (n : Notation) (h : Header) (bytes : List ℕ) where
   pub one_run : (run other : List Event) → Events n h bytes run → Events n h bytes other → run ≡ other
   one_run run other a b = a.given ∙ same_decoding a.list b.list a.end b.end a.decoding b.decoding ∙ sym b.given
 
-pub one_list_of_runs : (h : Header) (parts : List Part) (runs others : List (List Event)) → HaveRuns h parts runs → HaveRuns h parts others → runs ≡ others
+pub one_list_of_runs : (h : Header) (parts : List Part) (runs others : List (List Event)) → HaveRuns h parts runs
+    → HaveRuns h parts others → runs ≡ others
 one_list_of_runs h [] [] [] a b = refl
 one_list_of_runs h [] [] (other ∷ others) a b = absurd b
 one_list_of_runs h [] (run ∷ runs) others a b = absurd a
@@ -63,15 +65,20 @@ module _ (h : Header) (c : Source) (s : Unread) where
   decoding = bare_decoding s.notation h s.bytes decoded.0 decoded.1 (is_decoded s.notation (without_files h) s.bytes)
 
   -- they give the run of the bytes
-  pub gives_run : (run : List Event) → Events s.notation h s.bytes run → events_of (events_left (start_of_run false h c s)) ≡ run
+  pub gives_run : (run : List Event) → Events s.notation h s.bytes run
+      → events_of (events_left (start_of_run false h c s)) ≡ run
   gives_run run has =
       given_from_start false h.parameters h.files decoded.0 decoded.1
       ∙ same_decoding s.notation h s.bytes decoded.0 has.list decoded.1 has.end decoding has.decoding
       ∙ sym has.given
 
   -- and rows alone, where that has rows alone
-  pub gives_rows_alone : (rows : List LineRow) → Events s.notation h s.bytes (map row rows) → GivesRowsAlone (start_of_run false h c s)
-  gives_rows_alone rows has = record { complete = refl; rows = are_rows (events_left (start_of_run false h c s)) rows (gives_run (map row rows) has) }
+  pub gives_rows_alone : (rows : List LineRow) → Events s.notation h s.bytes (map row rows)
+      → GivesRowsAlone (start_of_run false h c s)
+  gives_rows_alone rows has = record {
+    complete = refl;
+    rows = are_rows (events_left (start_of_run false h c s)) rows (gives_run (map row rows) has);
+  }
 
 -- ---- sequences with runs
 
@@ -79,11 +86,14 @@ to_rows : (h : Header) (s : Part) (run : List Event) → HasRun h s run → Resu
 to_rows h s run has = record {
   rows = has.is.rows ++ has.is.last ∷ [];
   given =
-      subst (λ (events : List Event). Events s.unread.notation h s.unread.bytes events) (has.is.given ∙ sym (map-append row has.is.rows (has.is.last ∷ [])))
+      subst (λ (events : List Event). Events s.unread.notation h s.unread.bytes events)
+      (has.is.given ∙ sym (map-append row has.is.rows (has.is.last ∷ [])))
       has.given;
 }
 
-pub resume_to_rows : (h : Header) (parts : List Part) (runs : List (List Event)) → HaveRuns h parts runs → All (ResumesToRows h) parts
+pub resume_to_rows : (h : Header) (parts : List Part) (runs : List (List Event)) → HaveRuns h parts runs
+    → All (ResumesToRows h) parts
 resume_to_rows h [] runs all = All-nil (ResumesToRows h)
 resume_to_rows h (s ∷ parts) [] all = absurd all
-resume_to_rows h (s ∷ parts) (run ∷ runs) all = All-cons (ResumesToRows h) s parts (to_rows h s run all.0) (resume_to_rows h parts runs all.1)
+resume_to_rows h (s ∷ parts) (run ∷ runs) all =
+    All-cons (ResumesToRows h) s parts (to_rows h s run all.0) (resume_to_rows h parts runs all.1)

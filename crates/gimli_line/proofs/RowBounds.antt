@@ -1,5 +1,6 @@
 -- A run gives no more rows and refusals than its program has bytes.
-use Rattle.std.proofs.Common.{◌≡◌, ℕ, zero, suc, ◌+◌, ◌≤◌, Bool, true, false, if◌then◌else◌, List, [], ◌∷◌, length, Option, Ok, Err, ap, refl, arith}
+use Rattle.std.proofs.Common.{◌≡◌, ℕ, zero, suc, ◌+◌, ◌≤◌, Bool, true, false, if◌then◌else◌, List, [], ◌∷◌, length}
+use Rattle.std.proofs.Common.{Option, Ok, Err, ap, refl, arith}
 use Rattle.std.proofs.lemmas.List.{length-append, length-map}
 use Rattle.gimli_core.specs.Notation.{Notation}
 use Rattle.gimli_core.specs.Reading.{Read}
@@ -14,7 +15,8 @@ use Rattle.gimli_line.specs.run.InstructionGrammar.{Decodes}
 use Rattle.gimli_line.specs.run.InstructionReading.{ins_at, decoded_at, decoded_after, decoded_upto}
 use Rattle.gimli_line.specs.run.OperationPointer.{overflows}
 use Rattle.gimli_line.specs.run.Machine.{is_refused, step_of, made_step, next_registers, made_from}
-use Rattle.gimli_line.specs.run.Events.{Event, Events, row, fault, row_at, made_at, end_events, EventWithFiles, with_files, made_after, is_given, given_of}
+use Rattle.gimli_line.specs.run.Events.{Event, Events, row, fault, row_at, made_at, end_events, EventWithFiles}
+use Rattle.gimli_line.specs.run.Events.{with_files, made_after, is_given, given_of}
 use Rattle.gimli_line.specs.run.Events.{files_at}
 use Rattle.gimli_line.specs.run.EventsWithFiles.{program_made, Makes, EventsWithFiles}
 use Rattle.gimli_line.specs.run.Progress.{with_reset_row}
@@ -24,7 +26,8 @@ use Rattle.gimli_line.proofs.InstructionLaws.{one_decoding}
 
 -- ---- no more events than instructions, and one more at a refused end
 
-one_at_most : (overflow made : Bool) (r : LineRow) → length (if overflow then fault AddressOverflow ∷ [] else (if made then row r ∷ [] else [])) ≤ 1
+one_at_most : (overflow made : Bool) (r : LineRow)
+    → length (if overflow then fault AddressOverflow ∷ [] else (if made then row r ∷ [] else [])) ≤ 1
 one_at_most true made r = omega arith
 one_at_most false true r = omega arith
 one_at_most false false r = omega arith
@@ -45,7 +48,8 @@ few_after parameters files past (i ∷ list) end =
       few_after parameters files (i ∷ past) list end,
     )
 
-few_from : (appends : Bool) (parameters : Parameters) (r : LineRow) (files : List File) (list : List Ins) (end : Option Error)
+few_from : (appends : Bool) (parameters : Parameters) (r : LineRow) (files : List File) (list : List Ins)
+    (end : Option Error)
     → length (made_from appends parameters r files list end) ≤ length list + length (end_events end)
 few_from appends parameters r files [] end = omega (arith, length_with_files files (end_events end))
 few_from appends parameters r files (i ∷ list) end =
@@ -63,20 +67,25 @@ few_given : (events : List EventWithFiles) → length (given_of events) ≤ leng
 few_given [] = omega arith
 few_given (e ∷ events) = by (is_given e.event) (few_given events)
   where
-    by : (b : Bool) → length (given_of events) ≤ length events → length (if b then e ∷ given_of events else given_of events) ≤ suc (length events)
+    by : (b : Bool) → length (given_of events) ≤ length events
+        → length (if b then e ∷ given_of events else given_of events) ≤ suc (length events)
     by true few = omega (arith, few)
     by false few = omega (arith, few)
 
 -- ---- no more instructions than bytes; where the end is refused, a byte is left for it
 
 module _ (notation : Notation) (h : Header) where
-  upto_bounded : (more : ℕ) (bytes : List ℕ) → length (decoded_upto notation h more bytes).0 + length (end_events (decoded_upto notation h more bytes).1) ≤ more
+  upto_bounded : (more : ℕ) (bytes : List ℕ)
+      → length (decoded_upto notation h more bytes).0 + length (end_events (decoded_upto notation h more bytes).1)
+      ≤ more
   unfolding decoded_upto
   upto_bounded zero bytes = omega arith
   upto_bounded (suc more) [] = omega arith
   upto_bounded (suc more) (b ∷ bytes) = after (λ rest. upto_bounded more rest) (ins_at notation h (b ∷ bytes))
     where
-      after : ((rest : List ℕ) → length (decoded_upto notation h more rest).0 + length (end_events (decoded_upto notation h more rest).1) ≤ more)
+      after : ((rest : List ℕ)
+          → length (decoded_upto notation h more rest).0 + length (end_events (decoded_upto notation h more rest).1)
+          ≤ more)
           → (r : Read Ins)
           → length (decoded_after notation h (decoded_upto notation h more) r).0
           + length (end_events (decoded_after notation h (decoded_upto notation h more) r).1)
@@ -84,23 +93,33 @@ module _ (notation : Notation) (h : Header) where
       after bound (Ok i, rest) = omega (arith, bound rest)
       after bound (Err e, rest) = omega arith
 
-  taken_bounded : (bytes : List ℕ) → length (decoded_at notation h bytes).0 + length (end_events (decoded_at notation h bytes).1) ≤ length bytes
+  taken_bounded : (bytes : List ℕ)
+      → length (decoded_at notation h bytes).0 + length (end_events (decoded_at notation h bytes).1) ≤ length bytes
   taken_bounded bytes = upto_bounded (length bytes) bytes
 
   decoded_bounded : (bytes : List ℕ) (list : List Ins) (end : Option Error) → Decodes notation h bytes list end
       → length list + length (end_events end) ≤ length bytes
   decoded_bounded bytes list end c =
-      let same : length list + length (end_events end) ≡ length (decoded_at notation h bytes).0 + length (end_events (decoded_at notation h bytes).1) =
-      ap (λ (p : List Ins × Option Error). length p.0 + length (end_events p.1)) (one_decoding notation h bytes list end c) in
+      let same : length list + length (end_events end)
+      ≡ length (decoded_at notation h bytes).0 + length (end_events (decoded_at notation h bytes).1) =
+      ap (λ (p : List Ins × Option Error). length p.0 + length (end_events p.1))
+      (one_decoding notation h bytes list end c) in
       omega (arith, same, taken_bounded bytes)
 
   -- ---- no more events than bytes
 
-  pub made_bounded : (appends : Bool) (bytes : List ℕ) (events : List EventWithFiles) → Makes notation appends h bytes events → length events ≤ length bytes
+  pub made_bounded : (appends : Bool) (bytes : List ℕ) (events : List EventWithFiles)
+      → Makes notation appends h bytes events → length events ≤ length bytes
   made_bounded appends bytes events m =
-      omega (arith, ap length m.made, few_after h.parameters (files_at appends h.files) [] m.list m.end, decoded_bounded bytes m.list m.end m.decoding)
+      omega (
+        arith,
+        ap length m.made,
+        few_after h.parameters (files_at appends h.files) [] m.list m.end,
+        decoded_bounded bytes m.list m.end m.decoding,
+      )
 
-  pub events_bounded : (bytes : List ℕ) (events : List Event) → Events notation h bytes events → length events ≤ length bytes
+  pub events_bounded : (bytes : List ℕ) (events : List Event) → Events notation h bytes events
+      → length events ≤ length bytes
   events_bounded bytes events given =
       let made = made_after h.parameters (λ before. []) [] given.list given.end in
       omega (
@@ -112,7 +131,8 @@ module _ (notation : Notation) (h : Header) where
         decoded_bounded bytes given.list given.end given.decoding,
       )
 
-  pub with_files_bounded : (appends : Bool) (bytes : List ℕ) (events : List EventWithFiles) → EventsWithFiles notation appends h bytes events
+  pub with_files_bounded : (appends : Bool) (bytes : List ℕ) (events : List EventWithFiles)
+      → EventsWithFiles notation appends h bytes events
       → length events ≤ length bytes
   with_files_bounded appends bytes events given =
       let made = program_made appends h given.list given.end in
@@ -120,14 +140,19 @@ module _ (notation : Notation) (h : Header) where
         arith,
         ap length given.given,
         few_given made,
-        made_bounded appends bytes made (record { list = given.list; end = given.end; decoding = given.decoding; made = refl }),
+        made_bounded appends bytes made
+            (record { list = given.list; end = given.end; decoding = given.decoding; made = refl }),
       )
 
 pub made_left_bounded : (rows : RunState) → length (made_left rows) ≤ length rows.unread.bytes
 made_left_bounded rows =
     let a = with_reset_row rows in
     let taken = decoded_at a.unread.notation a.fixed a.unread.bytes in
-    omega (arith, few_from a.appends a.fixed.parameters a.row a.files taken.0 taken.1, taken_bounded a.unread.notation a.fixed a.unread.bytes)
+    omega (
+      arith,
+      few_from a.appends a.fixed.parameters a.row a.files taken.0 taken.1,
+      taken_bounded a.unread.notation a.fixed a.unread.bytes,
+    )
 
 pub left_bounded : (rows : RunState) → length (events_left rows) ≤ length rows.unread.bytes
 left_bounded rows = omega (arith, few_given (made_left rows), made_left_bounded rows)

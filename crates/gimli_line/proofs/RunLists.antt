@@ -1,5 +1,6 @@
 -- What instructions give, one list of them after another; the files mean nothing to it.
-use Rattle.std.proofs.Common.{◌≡◌, Bool, true, false, not, if◌then◌else◌, List, [], ◌∷◌, ◌++◌, Option, Some, None, refl, sym, ap, ◌∙◌, append_assoc}
+use Rattle.std.proofs.Common.{◌≡◌, Bool, true, false, not, if◌then◌else◌, List, [], ◌∷◌, ◌++◌, Option, Some, None, refl}
+use Rattle.std.proofs.Common.{sym, ap, ◌∙◌, append_assoc}
 use Rattle.std.specs.List.{filter}
 use Rattle.std.proofs.lemmas.List.{append-nil}
 use Rattle.gimli_core.specs.declared.error.Error.{Error}
@@ -8,7 +9,8 @@ use Rattle.gimli_line.specs.header.File.{File}
 use Rattle.gimli_line.specs.header.Header.{Header}
 use Rattle.gimli_line.specs.header.Parameters.{Parameters}
 use Rattle.gimli_line.specs.run.Instruction.{Ins, files_after}
-use Rattle.gimli_line.specs.run.Events.{Event, row, fault, made_at, EventWithFiles, with_files, made_after, is_given, given_of, events_of, events_after}
+use Rattle.gimli_line.specs.run.Events.{Event, row, fault, made_at, EventWithFiles, with_files, made_after, is_given}
+use Rattle.gimli_line.specs.run.Events.{given_of, events_of, events_after}
 use Rattle.gimli_line.specs.run.Events.{program_events}
 use Rattle.gimli_line.specs.run.EventsWithFiles.{program_made}
 use Rattle.gimli_line.specs.run.Machine.{initial, made_step, next_registers, made_from, run}
@@ -40,7 +42,8 @@ pub after_here : (h : Parameters) (past : List Ins) (i : Ins) (list : List Ins) 
 after_here h past i list end = given_here [] (made_at h past i) (made_after h (λ before. []) (i ∷ past) list end)
 
 -- the same, whatever files are there
-files_aside : (a c : Bool) (h : Parameters) (r : LineRow) (files others : List File) (list : List Ins) (end : Option Error)
+files_aside : (a c : Bool) (h : Parameters) (r : LineRow) (files others : List File) (list : List Ins)
+    (end : Option Error)
     → events_of (given_of (made_from a h r files list end)) ≡ events_of (given_of (made_from c h r others list end))
 files_aside a c h r files others [] None = refl
 files_aside a c h r files others [] (Some e) = refl
@@ -48,13 +51,15 @@ files_aside a c h r files others (i ∷ list) end =
     let here = made_step h i r in
     let next = next_registers h i r in
     given_here files here (made_from a h next (files_after a i files) list end)
-    ∙ ap (λ (xs : List Event). filter is_given here ++ xs) (files_aside a c h next (files_after a i files) (files_after c i others) list end)
+    ∙ ap (λ (xs : List Event). filter is_given here ++ xs)
+    (files_aside a c h next (files_after a i files) (files_after c i others) list end)
     ∙ sym (given_here others here (made_from c h next (files_after c i others) list end))
 
 pub given_from_start : (a : Bool) (h : Parameters) (files : List File) (list : List Ins) (end : Option Error)
     → events_of (given_of (made_from a h (initial h) files list end)) ≡ program_events h list end
 given_from_start a h files list end =
-    files_aside a false h (initial h) files [] list end ∙ ap (λ (es : List EventWithFiles). events_of (given_of es)) (made_start false h [] list end)
+    files_aside a false h (initial h) files [] list end
+    ∙ ap (λ (es : List EventWithFiles). events_of (given_of es)) (made_start false h [] list end)
 
 pub given_without_files : (a : Bool) (h : Header) (list : List Ins) (end : Option Error)
     → events_of (given_of (program_made a h list end)) ≡ program_events h.parameters list end
@@ -63,25 +68,32 @@ given_without_files a h list end =
     ∙ given_from_start a h.parameters h.files list end
 
 -- one list, and then more
-pub given_joined : (a : Bool) (h : Parameters) (r : LineRow) (files : List File) (list more : List Ins) (end : Option Error)
+pub given_joined : (a : Bool) (h : Parameters) (r : LineRow) (files : List File) (list more : List Ins)
+    (end : Option Error)
     → events_of (given_of (made_from a h r files (list ++ more) end))
     ≡ run h r list ++ events_of (given_of (made_from a h (registers_from h r list) (files_from a files list) more end))
 given_joined a h r files [] more end = refl
 given_joined a h r files (i ∷ list) more end =
     let here = made_step h i r in
     let next = next_registers h i r in
-    let rest = events_of (given_of (made_from a h (registers_from h next list) (files_from a (files_after a i files) list) more end)) in
+    let rest =
+    events_of
+    (given_of (made_from a h (registers_from h next list) (files_from a (files_after a i files) list) more end)) in
     let first : run h r (i ∷ list) ≡ filter is_given here ++ run h next list =
     given_here [] here (made_from false h next (files_after false i []) list None)
-    ∙ ap (λ (xs : List Event). filter is_given here ++ xs) (files_aside false false h next (files_after false i []) [] list None) in
+    ∙ ap (λ (xs : List Event). filter is_given here ++ xs)
+    (files_aside false false h next (files_after false i []) [] list None) in
     given_here files here (made_from a h next (files_after a i files) (list ++ more) end)
     ∙ ap (λ (xs : List Event). filter is_given here ++ xs) (given_joined a h next (files_after a i files) list more end)
-    ∙ sym (append_assoc (filter is_given here) (run h next list) rest) ∙ ap (λ (xs : List Event). xs ++ rest) (sym first)
+    ∙ sym (append_assoc (filter is_given here) (run h next list) rest)
+    ∙ ap (λ (xs : List Event). xs ++ rest) (sym first)
 
-pub runs_joined : (h : Parameters) (r : LineRow) (list more : List Ins) → run h r (list ++ more) ≡ run h r list ++ run h (registers_from h r list) more
+pub runs_joined : (h : Parameters) (r : LineRow) (list more : List Ins)
+    → run h r (list ++ more) ≡ run h r list ++ run h (registers_from h r list) more
 runs_joined h r list more =
     given_joined false h r [] list more None
-    ∙ ap (λ (xs : List Event). run h r list ++ xs) (files_aside false false h (registers_from h r list) (files_from false [] list) [] more None)
+    ∙ ap (λ (xs : List Event). run h r list ++ xs)
+    (files_aside false false h (registers_from h r list) (files_from false [] list) [] more None)
 
 pub run_of_one : (h : Parameters) (i : Ins) (r : LineRow) → run h r (i ∷ []) ≡ filter is_given (made_step h i r)
 run_of_one h i r = given_here [] (made_step h i r) [] ∙ append-nil (filter is_given (made_step h i r))

@@ -1,5 +1,6 @@
 -- What one instruction does to the events that are still to come.
-use Rattle.std.proofs.Common.{◌≡◌, ◌≢◌, ℕ, ◌<◌, Bool, true, false, List, [], ◌∷◌, ◌++◌, length, Option, Some, None, refl, sym, ap, ◌∙◌}
+use Rattle.std.proofs.Common.{◌≡◌, ◌≢◌, ℕ, ◌<◌, Bool, true, false, List, [], ◌∷◌, ◌++◌, length, Option, Some, None}
+use Rattle.std.proofs.Common.{refl, sym, ap, ◌∙◌}
 use Rattle.std.proofs.Common.{append_assoc, arith, ◌⊎◌, inl, inr}
 use Rattle.std.specs.List.{filter}
 use Rattle.std.proofs.lemmas.List.{length-append, append-nil}
@@ -22,7 +23,8 @@ use Rattle.gimli_line.specs.run.Machine.{step_of, reset_row, is_refused, made_st
 use Rattle.gimli_line.specs.run.Unread.{Unread}
 use Rattle.gimli_line.specs.run.RunState.{RunState}
 use Rattle.gimli_line.specs.run.Progress.{Progress, with_reset_row, registers_from, files_from}
-use Rattle.gimli_line.specs.run.Rows.{live_made, live_events, made_left, events_left, files_at_end, WantsMemory, FaultComes, FaultIs}
+use Rattle.gimli_line.specs.run.Rows.{live_made, live_events, made_left, events_left, files_at_end, WantsMemory}
+use Rattle.gimli_line.specs.run.Rows.{FaultComes, FaultIs}
 use Rattle.gimli_line.specs.inside.run.Rows.{given_row}
 use Rattle.gimli_line.proofs.RunLists.{run_of_one, runs_joined}
 use Rattle.gimli_line.proofs.InstructionLaws.{is_decoded, one_decoding, takes_bytes}
@@ -34,9 +36,11 @@ module _ (notation : Notation) (h : Header) (bytes : List ℕ) where
   unfolding decoded_upto
   decoded_none e = rw e refl
 
-  pub decoded_fault : (e : Error) → bytes ≢ [] → (instruction_production notation h).Fault bytes e → decoded_at notation h bytes ≡ ([], Some e)
+  pub decoded_fault : (e : Error) → bytes ≢ [] → (instruction_production notation h).Fault bytes e
+      → decoded_at notation h bytes ≡ ([], Some e)
   decoded_fault e some f =
-      sym (one_decoding notation h bytes [] (Some e) (record { front = []; rest = bytes; parts = refl; spelled = refl; ended = (some, f) }))
+      sym (one_decoding notation h bytes [] (Some e)
+      (record { front = []; rest = bytes; parts = refl; spelled = refl; ended = (some, f) }))
 
   pub decoded_some : (i : Ins) (front rest : List ℕ) → bytes ≡ front ++ rest → SpellsInstruction notation h front i
       → decoded_at notation h bytes ≡ (i ∷ (decoded_at notation h rest).0, (decoded_at notation h rest).1)
@@ -50,12 +54,14 @@ module _ (notation : Notation) (h : Header) (bytes : List ℕ) where
         ended = c.ended;
       }))
 
-pub decodes_on : (n : Notation) (h : Header) (bytes : List ℕ) (list : List Ins) (front rest : List ℕ) → bytes ≡ front ++ rest
+pub decodes_on : (n : Notation) (h : Header) (bytes : List ℕ) (list : List Ins) (front rest : List ℕ)
+    → bytes ≡ front ++ rest
     → Each (SpellsInstruction n h) front list
     → decoded_at n h bytes ≡ (list ++ (decoded_at n h rest).0, (decoded_at n h rest).1)
 decodes_on n h bytes [] front rest parts s = ap (decoded_at n h) (parts ∙ ap (λ (xs : List ℕ). xs ++ rest) s)
 decodes_on n h bytes (i ∷ list) front rest parts s =
-    let whole : bytes ≡ s.0 ++ (s.1 ++ rest) = parts ∙ ap (λ (xs : List ℕ). xs ++ rest) s.2 ∙ append_assoc s.0 s.1 rest in
+    let whole : bytes ≡ s.0 ++ (s.1 ++ rest) = parts ∙ ap (λ (xs : List ℕ). xs ++ rest) s.2
+    ∙ append_assoc s.0 s.1 rest in
     decoded_some n h bytes i s.0 (s.1 ++ rest) whole s.3
     ∙ ap (λ (c : List Ins × Option Error). (i ∷ c.0, c.1)) (decodes_on n h (s.1 ++ rest) list s.1 rest refl s.4)
 
@@ -70,7 +76,8 @@ bare_decoding notation h bytes list end c = record {
   ended = end_is end c.ended;
 }
   where
-    each : (front : List ℕ) (list : List Ins) → Each (SpellsInstruction notation (without_files h)) front list → Each (SpellsInstruction notation h) front list
+    each : (front : List ℕ) (list : List Ins) → Each (SpellsInstruction notation (without_files h)) front list
+        → Each (SpellsInstruction notation h) front list
     each front [] s = s
     each front (i ∷ list) s = (s.0, s.1, s.2, s.3, each s.1 list s.4)
 
@@ -85,7 +92,8 @@ pub no_file_at_row : (a : Bool) (i : Ins) (files : List File) → makes_row i �
 no_file_at_row a (DefineFile f) files made = absurd cc
 no_file_at_row a i files made = refl
 
-pub no_file_at_refusal : (a : Bool) (h : Parameters) (i : Ins) (r : LineRow) (files : List File) → is_refused h i r ≡ true → files_after a i files ≡ files
+pub no_file_at_refusal : (a : Bool) (h : Parameters) (i : Ins) (r : LineRow) (files : List File)
+    → is_refused h i r ≡ true → files_after a i files ≡ files
 no_file_at_refusal a h (DefineFile f) r files large = absurd cc
 no_file_at_refusal a h i r files large = refl
 
@@ -117,23 +125,31 @@ end_here a e = rw (decoded_none a.unread.notation a.fixed a.unread.bytes e) refl
 
 -- k is the header that was lent, s2 what was left of the instructions
 module _ (a : Bool) (h k : Header) (same : k ≡ h) (c c2 : Source) (r : LineRow) (s s2 : Unread) where
-  pub after_fault : (e : Error) → s.bytes ≢ [] → s2.bytes ≡ [] → (instruction_production s.notation k).Fault s.bytes e → (r2 : LineRow)
+  pub after_fault : (e : Error) → s.bytes ≢ [] → s2.bytes ≡ [] → (instruction_production s.notation k).Fault s.bytes e
+      → (r2 : LineRow)
       → FaultComes live_made (state a h c r s) (state a h c2 r2 s2) e
   after_fault e some empty f r2 =
-      let last = decoded_fault s.notation (without_files h) s.bytes e some (rw same at f) in
-      (rw (last, none_to_make (state a h c2 r2 s2) empty) refl, rw (last, end_here (state a h c2 r2 s2) empty) refl, λ _. empty)
+      let last = decoded_fault s.notation (without_files h) s.bytes e some (rw same at f) in (
+        rw (last, none_to_make (state a h c2 r2 s2) empty) refl,
+        rw (last, end_here (state a h c2 r2 s2) empty) refl,
+        λ _. empty,
+      )
 
   module _ (notation : s2.notation ≡ s.notation) (i : Ins) (front : List ℕ) (parts : s.bytes ≡ front ++ s2.bytes)
       (spelled : SpellsInstruction s.notation k front i) where
     first_decoded : decoded_at s.notation (without_files h) s.bytes
-        ≡ (i ∷ (decoded_at s.notation (without_files h) s2.bytes).0, (decoded_at s.notation (without_files h) s2.bytes).1)
+        ≡ (
+          i ∷ (decoded_at s.notation (without_files h) s2.bytes).0,
+          (decoded_at s.notation (without_files h) s2.bytes).1,
+        )
     first_decoded = decoded_some s.notation (without_files h) s.bytes i front s2.bytes parts (rw same at spelled)
 
     pub is_shorter : length s2.bytes < length s.bytes
     is_shorter = omega (arith, takes_bytes s.notation k front i spelled, length-append front s2.bytes, ap length parts)
 
     -- one instruction is passed over
-    pub passes_one : (h2 : Header) (r2 : LineRow) (events : List Event) → h2 ≡ record h { files = files_after a i h.files }
+    pub passes_one : (h2 : Header) (r2 : LineRow) (events : List Event)
+        → h2 ≡ record h { files = files_after a i h.files }
         → filter is_given (made_step h.parameters i r) ≡ events
         → r2 ≡ next_registers h.parameters i r → Progress (state a h c r s) (state a h2 c2 r2 s2) events
     passes_one h2 r2 events after given next = record {
@@ -149,24 +165,30 @@ module _ (a : Bool) (h k : Header) (same : k ≡ h) (c c2 : Source) (r : LineRow
       files = ap (λ (k : Header). k.files) after;
     }
 
-    module _ (h2 : Header) (r2 : LineRow) (after : h2 ≡ record h { files = files_after a i h.files }) (fits : is_refused h.parameters i r ≡ false) where
-      pub passes_quiet : makes_row i ≡ false → r2 ≡ step_of h.parameters i r → Progress (state a h c r s) (state a h2 c2 r2 s2) []
+    module _ (h2 : Header) (r2 : LineRow) (after : h2 ≡ record h { files = files_after a i h.files })
+        (fits : is_refused h.parameters i r ≡ false) where
+      pub passes_quiet : makes_row i ≡ false → r2 ≡ step_of h.parameters i r
+          → Progress (state a h c r s) (state a h2 c2 r2 s2) []
       passes_quiet made row_is = passes_one h2 r2 [] after (rw (fits, made) refl) (rw (fits, made) row_is)
 
       pub passes_made : makes_row i ≡ true → r2 ≡ step_of h.parameters i r
           → Progress (state a h c r s) (with_reset_row (state a h2 c2 r2 s2)) (given_row r2)
       passes_made made row_is =
           let parameters : h2.parameters ≡ h.parameters = ap (λ (k : Header). k.parameters) after in
-          let given : filter is_given (made_step h.parameters i r) ≡ given_row r2 = rw (fits, made) (ap given_row (sym row_is)) in
-          passes_one h2 (reset_row h2.parameters r2) (given_row r2) after given (rw (fits, made, parameters, row_is) refl)
+          let given : filter is_given (made_step h.parameters i r)
+          ≡ given_row r2 = rw (fits, made) (ap given_row (sym row_is)) in
+          passes_one h2 (reset_row h2.parameters r2) (given_row r2) after given
+          (rw (fits, made, parameters, row_is) refl)
 
     module _ (h2 : Header) (r2 : LineRow) where
-      pub after_quiet : h2 ≡ record h { files = files_after a i h.files } → is_refused h.parameters i r ≡ false → makes_row i ≡ false
+      pub after_quiet : h2 ≡ record h { files = files_after a i h.files } → is_refused h.parameters i r ≡ false
+          → makes_row i ≡ false
           → r2 ≡ step_of h.parameters i r
           → live_made (state a h c r s) ≡ live_made (state a h2 c2 r2 s2)
       after_quiet after fits made row_is = rw (first_decoded, after, row_is, notation, fits, made) refl
 
-      pub after_made : h2 ≡ record h { files = files_after a i h.files } → is_refused h.parameters i r ≡ false → makes_row i ≡ true
+      pub after_made : h2 ≡ record h { files = files_after a i h.files } → is_refused h.parameters i r ≡ false
+          → makes_row i ≡ true
           → r2 ≡ step_of h.parameters i r
           → live_made (state a h c r s) ≡ events (row r2) h2 ∷ made_left (state a h2 c2 r2 s2)
       after_made after fits made row_is =
@@ -179,8 +201,12 @@ module _ (a : Bool) (h k : Header) (same : k ≡ h) (c c2 : Source) (r : LineRow
           let files : files_after a i h.files ≡ h.files = no_file_at_refusal a h.parameters i r h.files large in
           let after = (decoded_at s.notation (without_files h) s2.bytes).0 in
           let at_end : files_at_end (state a h c r s) ≡ files_from a h.files after =
-          ap (λ (c : List Ins × Option Error). files_from a h.files c.0) first_decoded ∙ ap (λ (fs : List File). files_from a fs after) files in
-          (rw (first_decoded, kept, row_is, notation, large, files) refl, rw (kept, notation) (sym at_end), λ other. absurd (other refl))
+          ap (λ (c : List Ins × Option Error). files_from a h.files c.0) first_decoded
+          ∙ ap (λ (fs : List File). files_from a fs after) files in (
+            rw (first_decoded, kept, row_is, notation, large, files) refl,
+            rw (kept, notation) (sym at_end),
+            λ other. absurd (other refl),
+          )
 
 -- ---- errors
 
@@ -209,7 +235,8 @@ passes_none a b same = record {
 }
 
 -- the same where only the orders of readers differ
-pub passes_still : (a b : RunState) → b.unread ≡ a.unread → b.fixed ≡ a.fixed → b.appends ≡ a.appends → b.row ≡ a.row → b.files ≡ a.files → Progress a b []
+pub passes_still : (a b : RunState) → b.unread ≡ a.unread → b.fixed ≡ a.fixed → b.appends ≡ a.appends → b.row ≡ a.row
+    → b.files ≡ a.files → Progress a b []
 passes_still a b unread fixed appends registers files = record {
   list = [];
   front = [];
@@ -223,18 +250,26 @@ passes_still a b unread fixed appends registers files = record {
   files = files;
 }
 
-each_joined : (n : Notation) (h : Header) (front after : List ℕ) (list more : List Ins) → Each (SpellsInstruction n h) front list
+each_joined : (n : Notation) (h : Header) (front after : List ℕ) (list more : List Ins)
+    → Each (SpellsInstruction n h) front list
     → Each (SpellsInstruction n h) after more
     → Each (SpellsInstruction n h) (front ++ after) (list ++ more)
 each_joined n h front after [] more s t = rw s t
-each_joined n h front after (i ∷ list) more s t =
-    (s.0, s.1 ++ after, ap (λ (xs : List ℕ). xs ++ after) s.2 ∙ append_assoc s.0 s.1 after, s.3, each_joined n h s.1 after list more s.4 t)
+each_joined n h front after (i ∷ list) more s t = (
+  s.0,
+  s.1 ++ after,
+  ap (λ (xs : List ℕ). xs ++ after) s.2 ∙ append_assoc s.0 s.1 after,
+  s.3,
+  each_joined n h s.1 after list more s.4 t,
+)
 
-registers_joined : (h : Parameters) (r : LineRow) (list more : List Ins) → registers_from h r (list ++ more) ≡ registers_from h (registers_from h r list) more
+registers_joined : (h : Parameters) (r : LineRow) (list more : List Ins)
+    → registers_from h r (list ++ more) ≡ registers_from h (registers_from h r list) more
 registers_joined h r [] more = refl
 registers_joined h r (i ∷ list) more = registers_joined h (next_registers h i r) list more
 
-files_joined : (a : Bool) (files : List File) (list more : List Ins) → files_from a files (list ++ more) ≡ files_from a (files_from a files list) more
+files_joined : (a : Bool) (files : List File) (list more : List Ins)
+    → files_from a files (list ++ more) ≡ files_from a (files_from a files list) more
 files_joined a files [] more = refl
 files_joined a files (i ∷ list) more = files_joined a (files_after a i files) list more
 
@@ -243,13 +278,16 @@ passes_both a b c es fs p q = record {
   list = p.list ++ q.list;
   front = p.front ++ q.front;
   parts = p.parts ∙ ap (λ (xs : List ℕ). p.front ++ xs) q.parts ∙ sym (append_assoc p.front q.front c.unread.bytes);
-  spelled = each_joined a.unread.notation a.fixed p.front q.front p.list q.list p.spelled (rw (p.notation, p.fixed) at q.spelled);
+  spelled =
+      each_joined a.unread.notation a.fixed p.front q.front p.list q.list p.spelled
+      (rw (p.notation, p.fixed) at q.spelled);
   notation = q.notation ∙ p.notation;
   fixed = q.fixed ∙ p.fixed;
   appends = q.appends ∙ p.appends;
   given =
       runs_joined a.fixed.parameters a.row p.list q.list
-      ∙ ap (λ (xs : List Event). xs ++ run a.fixed.parameters (registers_from a.fixed.parameters a.row p.list) q.list) p.given
+      ∙ ap (λ (xs : List Event). xs ++ run a.fixed.parameters (registers_from a.fixed.parameters a.row p.list) q.list)
+      p.given
       ∙ ap (λ (xs : List Event). es ++ xs) (rw (p.fixed, p.registers) at q.given);
   registers = rw (p.fixed, p.registers) at q.registers ∙ sym (registers_joined a.fixed.parameters a.row p.list q.list);
   files = rw (p.appends, p.files) at q.files ∙ sym (files_joined a.appends a.files p.list q.list);
@@ -259,7 +297,9 @@ passes_both a b c es fs p q = record {
 pub same_end : (a b : RunState) (es : List Event) → Progress a b es → files_at_end b ≡ files_at_end a
 same_end a b es p =
     let after = (decoded_at a.unread.notation a.fixed b.unread.bytes).0 in
-    let there : files_at_end b ≡ files_from a.appends (files_from a.appends a.files p.list) after = rw (p.notation, p.fixed, p.appends, p.files) refl in
+    let there : files_at_end b
+    ≡ files_from a.appends (files_from a.appends a.files p.list) after = rw
+    (p.notation, p.fixed, p.appends, p.files) refl in
     there ∙ sym (files_joined a.appends a.files p.list after)
     ∙ ap (λ (c : List Ins × Option Error). files_from a.appends a.files c.0)
     (sym (decodes_on a.unread.notation a.fixed a.unread.bytes p.list p.front b.unread.bytes p.parts p.spelled))
@@ -267,9 +307,11 @@ same_end a b es p =
 -- ---- refusals
 
 -- memory is missing for the file that an instruction defines
-pub wants : (a : Bool) (h k : Header) → k ≡ h → (c c2 : Source) (r : LineRow) (s : Unread) (i : Ins) (front rest : List ℕ)
+pub wants : (a : Bool) (h k : Header) → k ≡ h
+    → (c c2 : Source) (r : LineRow) (s : Unread) (i : Ins) (front rest : List ℕ)
     → s.bytes ≡ front ++ rest
-    → SpellsInstruction s.notation k front i → defines_file i ≡ true → (h2 : Header) (r2 : LineRow) (s2 : Unread) → s2.bytes ≡ [] → h2 ≡ h → a ≡ true
+    → SpellsInstruction s.notation k front i → defines_file i ≡ true → (h2 : Header) (r2 : LineRow) (s2 : Unread)
+    → s2.bytes ≡ [] → h2 ≡ h → a ≡ true
     → WantsMemory (state a h c r s) (state a h2 c2 r2 s2)
 wants a h k same c c2 r s i front rest parts spelled defines h2 r2 s2 empty kept appends = record {
   point = state a h c r s;
@@ -303,7 +345,8 @@ wants_after a b c passed m = record {
   empty = m.empty;
 }
 
-pub refused_after : (live : RunState → List EventWithFiles) (a b c : RunState) (e : Error) → live a ≡ live b → Progress a b [] → FaultIs live b c e
+pub refused_after : (live : RunState → List EventWithFiles) (a b c : RunState) (e : Error) → live a ≡ live b
+    → Progress a b [] → FaultIs live b c e
     → FaultIs live a c e
 refused_after live a b c e events passed (inl m) = inl (m.0, wants_after a b c passed m.1)
 refused_after live a b c e events passed (inr f) = inr (events ∙ f.0, f.1 ∙ same_end a b [] passed, f.2)

@@ -1,5 +1,6 @@
 -- Splitting a program into sequences gives its rows through the last end.
-use Rattle.std.proofs.Common.{◌<◌, ◌≡◌, ℕ, ◌-◌, Bool, true, false, if◌then◌else◌, ◌||◌, List, [], ◌∷◌, ◌++◌, length, take, map, Option, Some, None, refl, sym}
+use Rattle.std.proofs.Common.{◌<◌, ◌≡◌, ℕ, ◌-◌, Bool, true, false, if◌then◌else◌, ◌||◌, List, [], ◌∷◌, ◌++◌, length}
+use Rattle.std.proofs.Common.{take, map, Option, Some, None, refl, sym}
 use Rattle.std.proofs.Common.{ap, ◌∙◌, subst, append_assoc, arith, ◌≢◌, inl, inr}
 use Rattle.std.specs.List.{AllByRecursion, list_any, flat_map}
 use Rattle.std.specs.Option.{unwrap_or}
@@ -16,7 +17,8 @@ use Rattle.gimli_line.specs.run.Instruction.{Ins}
 use Rattle.gimli_line.specs.header.File.{File}
 use Rattle.gimli_line.specs.run.InstructionGrammar.{SpellsInstruction}
 use Rattle.gimli_line.specs.run.InstructionReading.{decoded_at}
-use Rattle.gimli_line.specs.run.Events.{Event, row, EventWithFiles, given_of, events_of, program_events, defined_files, past_at_end, ends_sequence}
+use Rattle.gimli_line.specs.run.Events.{Event, row, EventWithFiles, given_of, events_of, program_events, defined_files}
+use Rattle.gimli_line.specs.run.Events.{past_at_end, ends_sequence}
 use Rattle.gimli_line.specs.run.Events.{through_last_end}
 use Rattle.gimli_line.specs.run.Machine.{initial, reset_row, made_from, run}
 use Rattle.gimli_line.specs.run.Unread.{Unread}
@@ -24,7 +26,8 @@ use Rattle.gimli_line.specs.inside.run.Unread.{front_of}
 use Rattle.gimli_line.specs.run.RunState.{RunState}
 use Rattle.gimli_line.specs.run.Progress.{Progress, with_reset_row, registers_from, files_from}
 use Rattle.gimli_line.specs.run.Rows.{live_events, events_left, start_of_run, whole_run, FaultComes, FaultIs, KeepsRun}
-use Rattle.gimli_line.specs.run.Sequences.{Part, first_address, IsSequence, HasRun, HaveRuns, AreSequences, HasFirstFault}
+use Rattle.gimli_line.specs.run.Sequences.{Part, first_address, IsSequence, HasRun, HaveRuns, AreSequences}
+use Rattle.gimli_line.specs.run.Sequences.{HasFirstFault}
 use Rattle.gimli_line.specs.inside.run.SequenceSplit.{SequenceSplit, with_row, RowSplit, with_kept_row}
 use Rattle.gimli_line.proofs.Backwards.{starts, files_from_start}
 use Rattle.gimli_line.proofs.RunLists.{given_joined, given_from_start}
@@ -55,17 +58,20 @@ one_ends (r ∷ rows) last later closed = at_test r.end_sequence (one_ends rows 
     at_test false e = e
 
 through_one : (rows : List LineRow) (last : LineRow) (later : List Event) → last.end_sequence ≡ true
-    → through_last_end ((map row rows ++ row last ∷ []) ++ later) ≡ (map row rows ++ row last ∷ []) ++ through_last_end later
+    → through_last_end ((map row rows ++ row last ∷ []) ++ later)
+    ≡ (map row rows ++ row last ∷ []) ++ through_last_end later
 through_one [] last later closed = rw (one_ends [] last later closed) refl
 through_one (r ∷ rows) last later closed =
-    rw (one_ends (r ∷ rows) last later closed) (ap (λ (xs : List Event). row r ∷ xs) (through_one rows last later closed))
+    rw (one_ends (r ∷ rows) last later closed)
+    (ap (λ (xs : List Event). row r ∷ xs) (through_one rows last later closed))
 
 -- ---- sequences that are closed
 
 abbrev joined_runs : List (List Event) → List Event
 joined_runs runs = flat_map (λ run. run) runs
 
-runs_push : (h : Header) (parts : List Part) (runs : List (List Event)) (s : Part) (run : List Event) → HaveRuns h parts runs → HasRun h s run
+runs_push : (h : Header) (parts : List Part) (runs : List (List Event)) (s : Part) (run : List Event)
+    → HaveRuns h parts runs → HasRun h s run
     → HaveRuns h (parts ++ s ∷ []) (runs ++ run ∷ [])
 runs_push h [] [] s run all one = (one, tt)
 runs_push h [] (r ∷ runs) s run all one = absurd all
@@ -74,13 +80,15 @@ runs_push h (p ∷ parts) (r ∷ runs) s run all one = (all.0, runs_push h parts
 
 joined_push : (runs : List (List Event)) (run : List Event) → joined_runs (runs ++ run ∷ []) ≡ joined_runs runs ++ run
 joined_push [] run = append-nil run
-joined_push (r ∷ runs) run = ap (λ (xs : List Event). r ++ xs) (joined_push runs run) ∙ sym (append_assoc r (joined_runs runs) run)
+joined_push (r ∷ runs) run =
+    ap (λ (xs : List Event). r ++ xs) (joined_push runs run) ∙ sym (append_assoc r (joined_runs runs) run)
 
 through_events : (events : List Event) (start end : ℕ) → IsSequence events start end → (later : List Event)
     → through_last_end (events ++ later) ≡ events ++ through_last_end later
 through_events events start end is later = rw is.given (through_one is.rows is.last later is.ended)
 
-through_runs : (h : Header) (parts : List Part) (runs : List (List Event)) → HaveRuns h parts runs → (later : List Event)
+through_runs : (h : Header) (parts : List Part) (runs : List (List Event)) → HaveRuns h parts runs
+    → (later : List Event)
     → through_last_end (joined_runs runs ++ later) ≡ joined_runs runs ++ through_last_end later
 through_runs h [] [] all later = refl
 through_runs h [] (run ∷ runs) all later = absurd all
@@ -103,21 +111,26 @@ run_over c s run has = record {
   is = has.is;
 }
 
-runs_over : (c : Header) (parts : List Part) (runs : List (List Event)) → HaveRuns (without_files c) parts runs → HaveRuns c parts runs
+runs_over : (c : Header) (parts : List Part) (runs : List (List Event)) → HaveRuns (without_files c) parts runs
+    → HaveRuns c parts runs
 runs_over c [] [] all = tt
 runs_over c [] (run ∷ runs) all = absurd all
 runs_over c (s ∷ parts) [] all = absurd all
 runs_over c (s ∷ parts) (run ∷ runs) all = (run_over c s run all.0, runs_over c parts runs all.1)
 
-complete_runs : (h c : Header) (parts : List Part) (runs : List (List Event)) → without_files c ≡ without_files h → HaveRuns (without_files h) parts runs
-    → HaveRuns c parts runs
-complete_runs h c parts runs same all = runs_over c parts runs (subst (λ (b : Header). HaveRuns b parts runs) (sym same) all)
-
--- over the complete header too
-pub runs_are_kept : (n : Notation) (h c : Header) (parts : List Part) (runs : List (List Event)) → AreSequences n h c parts
+complete_runs : (h c : Header) (parts : List Part) (runs : List (List Event)) → without_files c ≡ without_files h
     → HaveRuns (without_files h) parts runs
     → HaveRuns c parts runs
-runs_are_kept n h c parts runs are all = complete_runs h c parts runs (ap (λ (k : Header). without_files k) are.files) all
+complete_runs h c parts runs same all =
+    runs_over c parts runs (subst (λ (b : Header). HaveRuns b parts runs) (sym same) all)
+
+-- over the complete header too
+pub runs_are_kept : (n : Notation) (h c : Header) (parts : List Part) (runs : List (List Event))
+    → AreSequences n h c parts
+    → HaveRuns (without_files h) parts runs
+    → HaveRuns c parts runs
+runs_are_kept n h c parts runs are all =
+    complete_runs h c parts runs (ap (λ (k : Header). without_files k) are.files) all
 
 -- ---- the state of the split after some rows
 
@@ -147,7 +160,8 @@ pub record Splitting (h : Header) (k : SequenceSplit) (done : List LineRow) (poi
   passes : Progress (began h source files k.unread) point (map row rows)
 
 pub starts_splitting : (h : Header) (source : Source) (unread : Unread)
-    → Splitting h (record { parts = []; unread = unread; start = None }) [] (with_reset_row (start_of_run true h source unread))
+    → Splitting h (record { parts = []; unread = unread; start = None }) []
+    (with_reset_row (start_of_run true h source unread))
 starts_splitting h source unread = record {
   source = source;
   runs = [];
@@ -157,11 +171,14 @@ starts_splitting h source unread = record {
   closed = tt;
   unended = tt;
   start_is = refl;
-  passes = passes_still (began h source h.files unread) (with_reset_row (start_of_run true h source unread)) refl refl refl refl refl;
+  passes =
+      passes_still (began h source h.files unread) (with_reset_row (start_of_run true h source unread)) refl refl refl
+      refl refl;
 }
 
 -- the same, with the rows of each sequence
-pub record Keeping (h : Header) (k : SequenceSplit) (kept : RowSplit) (done : List LineRow) (point : RunState) : Type 0 where
+pub record Keeping (h : Header) (k : SequenceSplit) (kept : RowSplit) (done : List LineRow) (point : RunState)
+    : Type 0 where
   pub splitting : Splitting h k done point
   pub unended : splitting.rows ≡ kept.unended
   pub closed : splitting.runs ≡ map (map row) kept.closed
@@ -173,15 +190,19 @@ unfolding starts_splitting
 starts_keeping h source unread = record { splitting = starts_splitting h source unread; unended = refl; closed = refl }
 
 -- the rows of each sequence are its run
-pub kept_runs : (h : Header) (k : SequenceSplit) (kept : RowSplit) (done : List LineRow) (point : RunState) → Keeping h k kept done point
+pub kept_runs : (h : Header) (k : SequenceSplit) (kept : RowSplit) (done : List LineRow) (point : RunState)
+    → Keeping h k kept done point
     → HaveRuns (without_files h) k.parts (map (map row) kept.closed)
-kept_runs h k kept done point keeping = subst (λ (runs : List (List Event)). HaveRuns (without_files h) k.parts runs) keeping.closed keeping.splitting.closed
+kept_runs h k kept done point keeping =
+    subst (λ (runs : List (List Event)). HaveRuns (without_files h) k.parts runs) keeping.closed
+    keeping.splitting.closed
 
 open_push : (rows : List LineRow) (r : LineRow) → AreOpen rows → r.end_sequence ≡ false → AreOpen (rows ++ r ∷ [])
 open_push [] r o e = (e, tt)
 open_push (q ∷ rows) r o e = (o.0, open_push rows r o.1 e)
 
-first_push : (rows : List LineRow) (r : LineRow) (start : Option ℕ) → start ≡ first_of rows → Some (unwrap_or start r.address) ≡ first_of (rows ++ r ∷ [])
+first_push : (rows : List LineRow) (r : LineRow) (start : Option ℕ) → start ≡ first_of rows
+    → Some (unwrap_or start r.address) ≡ first_of (rows ++ r ∷ [])
 first_push [] r start is = rw is refl
 first_push (q ∷ rows) r start is = rw is refl
 
@@ -189,16 +210,20 @@ first_is : (rows : List LineRow) (start : Option ℕ) → start ≡ first_of row
 first_is [] start is = rw is refl
 first_is (q ∷ rows) start is = rw is refl
 
-anew_at_end : (parameters : Parameters) (r : LineRow) → r.end_sequence ≡ true → reset_row parameters r ≡ initial parameters
+anew_at_end : (parameters : Parameters) (r : LineRow) → r.end_sequence ≡ true
+    → reset_row parameters r ≡ initial parameters
 anew_at_end parameters r e = rw e refl
 
 front_at : (bytes front rest : List ℕ) → bytes ≡ front ++ rest → take (length bytes - length rest) bytes ≡ front
-front_at bytes front rest parts = rw parts (take_at front rest (length (front ++ rest) - length rest) (omega (arith, length-append front rest)))
+front_at bytes front rest parts =
+    rw parts (take_at front rest (length (front ++ rest) - length rest) (omega (arith, length-append front rest)))
 
 module _ (h : Header) (k : SequenceSplit) (done : List LineRow) (point next : RunState) (c : Splitting h k done point)
     (p : Progress point (with_reset_row next) (row next.row ∷ [])) where
   whole : Progress (began h c.source c.files k.unread) (with_reset_row next) (map row c.rows ++ row next.row ∷ [])
-  whole = passes_both (began h c.source c.files k.unread) point (with_reset_row next) (map row c.rows) (row next.row ∷ []) c.passes p
+  whole =
+      passes_both (began h c.source c.files k.unread) point (with_reset_row next) (map row c.rows) (row next.row ∷ [])
+      c.passes p
 
   abbrev last_run : List Event
   last_run = map row c.rows ++ row next.row ∷ []
@@ -209,18 +234,21 @@ module _ (h : Header) (k : SequenceSplit) (done : List LineRow) (point next : Ru
       ∙ append_assoc (joined_runs c.runs) (map row c.rows) (row next.row ∷ [])
 
   goes_open : next.row.end_sequence ≡ false
-      → Splitting h (record k { start = Some (unwrap_or k.start next.row.address) }) (done ++ next.row ∷ []) (with_reset_row next)
+      → Splitting h (record k { start = Some (unwrap_or k.start next.row.address) }) (done ++ next.row ∷ [])
+      (with_reset_row next)
   goes_open e = record {
     runs = c.runs;
     rows = c.rows ++ next.row ∷ [];
     source = c.source;
     files = c.files;
-    done_is = more_done ∙ ap (λ (xs : List Event). joined_runs c.runs ++ xs) (sym (map-append row c.rows (next.row ∷ [])));
+    done_is =
+        more_done ∙ ap (λ (xs : List Event). joined_runs c.runs ++ xs) (sym (map-append row c.rows (next.row ∷ [])));
     closed = c.closed;
     unended = open_push c.rows next.row c.unended e;
     start_is = first_push c.rows next.row k.start c.start_is;
     passes =
-        subst (λ (es : List Event). Progress (began h c.source c.files k.unread) (with_reset_row next) es) (sym (map-append row c.rows (next.row ∷ [])))
+        subst (λ (es : List Event). Progress (began h c.source c.files k.unread) (with_reset_row next) es)
+        (sym (map-append row c.rows (next.row ∷ [])))
         whole;
   }
 
@@ -235,7 +263,13 @@ module _ (h : Header) (k : SequenceSplit) (done : List LineRow) (point next : Ru
     given = record {
       list = whole.list;
       end = None;
-      decoding = record { front = whole.front; rest = []; parts = front_is ∙ sym (append-nil whole.front); spelled = whole.spelled; ended = refl };
+      decoding = record {
+        front = whole.front;
+        rest = [];
+        parts = front_is ∙ sym (append-nil whole.front);
+        spelled = whole.spelled;
+        ended = refl;
+      };
       given = sym whole.given ∙ starts h.parameters whole.list;
     };
     is = record {
@@ -250,7 +284,8 @@ module _ (h : Header) (k : SequenceSplit) (done : List LineRow) (point next : Ru
   }
 
   goes_closed : next.row.end_sequence ≡ true
-      → Splitting h (record { parts = k.parts ++ ended ∷ []; unread = next.unread; start = None }) (done ++ next.row ∷ []) (with_reset_row next)
+      → Splitting h (record { parts = k.parts ++ ended ∷ []; unread = next.unread; start = None })
+      (done ++ next.row ∷ []) (with_reset_row next)
   goes_closed e = record {
     runs = c.runs ++ last_run ∷ [];
     rows = [];
@@ -268,13 +303,16 @@ module _ (h : Header) (k : SequenceSplit) (done : List LineRow) (point next : Ru
   pub goes_splitting : Splitting h (with_row next.row next.unread k) (done ++ next.row ∷ []) (with_reset_row next)
   goes_splitting = at_test next.row.end_sequence refl
     where
-      at_test : (b : Bool) → next.row.end_sequence ≡ b → Splitting h (if b then record { parts = k.parts ++ ended ∷ []; unread = next.unread; start = None }
-          else record k { start = Some (unwrap_or k.start next.row.address) }) (done ++ next.row ∷ []) (with_reset_row next)
+      at_test : (b : Bool) → next.row.end_sequence ≡ b
+          → Splitting h (if b then record { parts = k.parts ++ ended ∷ []; unread = next.unread; start = None }
+          else record k { start = Some (unwrap_or k.start next.row.address) }) (done ++ next.row ∷ [])
+          (with_reset_row next)
       at_test true e = goes_closed e
       at_test false e = goes_open e
 
   pub goes_keeping : (kept : RowSplit) → c.rows ≡ kept.unended → c.runs ≡ map (map row) kept.closed
-      → Keeping h (with_row next.row next.unread k) (with_kept_row next.row kept) (done ++ next.row ∷ []) (with_reset_row next)
+      → Keeping h (with_row next.row next.unread k) (with_kept_row next.row kept) (done ++ next.row ∷ [])
+      (with_reset_row next)
   unfolding goes_open goes_closed
   goes_keeping kept same all = at_test next.row.end_sequence refl
     where
@@ -282,12 +320,15 @@ module _ (h : Header) (k : SequenceSplit) (done : List LineRow) (point next : Ru
       whole_rows = kept.unended ++ next.row ∷ []
 
       whole_same : last_run ≡ map row whole_rows
-      whole_same = sym (map-append row c.rows (next.row ∷ [])) ∙ ap (λ (xs : List LineRow). map row (xs ++ next.row ∷ [])) same
+      whole_same =
+          sym (map-append row c.rows (next.row ∷ [])) ∙ ap (λ (xs : List LineRow). map row (xs ++ next.row ∷ [])) same
 
       at_test : (b : Bool) → next.row.end_sequence ≡ b
           → Keeping h (if b then record { parts = k.parts ++ ended ∷ []; unread = next.unread; start = None }
           else record k { start = Some (unwrap_or k.start next.row.address) })
-          (if b then record { closed = kept.closed ++ whole_rows ∷ []; unended = [] } else record kept { unended = whole_rows }) (done ++ next.row ∷ [])
+          (if b then record { closed = kept.closed ++ whole_rows ∷ []; unended = [] }
+          else record kept { unended = whole_rows })
+          (done ++ next.row ∷ [])
           (with_reset_row next)
       at_test true e = record {
         splitting = goes_closed e;
@@ -308,35 +349,52 @@ module _ (h : Header) (k : SequenceSplit) (done : List LineRow) (point next : Ru
   has_front = (whole.front, whole.parts)
 
 -- a row takes bytes
-pub row_takes : (a b : RunState) (e : Event) (es : List Event) → Progress a b (e ∷ es) → length b.unread.bytes < length a.unread.bytes
+pub row_takes : (a b : RunState) (e : Event) (es : List Event) → Progress a b (e ∷ es)
+    → length b.unread.bytes < length a.unread.bytes
 row_takes a b e es p = at_list p.list p.front p.parts p.spelled p.given
   where
-    at_list : (list : List Ins) (front : List ℕ) → a.unread.bytes ≡ front ++ b.unread.bytes → Each (SpellsInstruction a.unread.notation a.fixed) front list
+    at_list : (list : List Ins) (front : List ℕ) → a.unread.bytes ≡ front ++ b.unread.bytes
+        → Each (SpellsInstruction a.unread.notation a.fixed) front list
         → run a.fixed.parameters a.row list ≡ e ∷ es → length b.unread.bytes < length a.unread.bytes
     at_list [] front parts s given = absurd cc
     at_list (i ∷ list) front parts s given =
-        omega
-        (arith, takes_bytes a.unread.notation a.fixed s.0 i s.3, length-append s.0 s.1, ap length s.2, length-append front b.unread.bytes, ap length parts)
+        omega (
+          arith,
+          takes_bytes a.unread.notation a.fixed s.0 i s.3,
+          length-append s.0 s.1,
+          ap length s.2,
+          length-append front b.unread.bytes,
+          ap length parts,
+        )
 
 -- ---- the end of a run without a fault
 
 module _ (source : Source) (h c : Header) (k : SequenceSplit) (done : List LineRow) (point last : RunState) where
-  are_sequences : Splitting h k done point → Progress (with_reset_row (whole_run h source)) last (map row done) → last.unread.bytes ≡ []
+  are_sequences : Splitting h k done point → Progress (with_reset_row (whole_run h source)) last (map row done)
+      → last.unread.bytes ≡ []
       → without_files c ≡ last.fixed → c.files ≡ last.files
       → AreSequences source.notation h c k.parts
   are_sequences splitting p empty fixed files = record {
     list = p.list;
     decoding =
         bare_decoding source.notation h h.program p.list None
-        (record { front = p.front; rest = []; parts = p.parts ∙ ap (λ (xs : List ℕ). p.front ++ xs) empty; spelled = p.spelled; ended = refl });
+        (record {
+          front = p.front;
+          rest = [];
+          parts = p.parts ∙ ap (λ (xs : List ℕ). p.front ++ xs) empty;
+          spelled = p.spelled;
+          ended = refl;
+        });
     rows = done;
     given = given;
     files = c_is;
     runs = splitting.runs;
     each = complete_runs h c k.parts splitting.runs (fixed ∙ p.fixed) splitting.closed;
     joined =
-        sym (ap through_last_end (given ∙ splitting.done_is) ∙ through_runs (without_files h) k.parts splitting.runs splitting.closed (map row splitting.rows)
-        ∙ ap (λ (xs : List Event). joined_runs splitting.runs ++ xs) (through_none (map row splitting.rows) (none_ends splitting.rows splitting.unended))
+        sym (ap through_last_end (given ∙ splitting.done_is)
+        ∙ through_runs (without_files h) k.parts splitting.runs splitting.closed (map row splitting.rows)
+        ∙ ap (λ (xs : List Event). joined_runs splitting.runs ++ xs)
+        (through_none (map row splitting.rows) (none_ends splitting.rows splitting.unended))
         ∙ append-nil (joined_runs splitting.runs));
   }
     where
@@ -346,32 +404,38 @@ module _ (source : Source) (h c : Header) (k : SequenceSplit) (done : List LineR
       c_is : c ≡ record h { files = defined_files h.files (past_at_end [] p.list) }
       c_is =
           ap (λ (b : Header). let k : Header = record b { files = c.files } in k) (fixed ∙ p.fixed)
-          ∙ ap (λ (fs : List File). let k : Header = record h { files = fs } in k) (files ∙ p.files ∙ files_from_start true h.files p.list)
+          ∙ ap (λ (fs : List File). let k : Header = record h { files = fs } in k)
+          (files ∙ p.files ∙ files_from_start true h.files p.list)
 
 -- ---- a fault
 
-passes_left : (a b : RunState) (es : List Event) → Progress a b es → events_of (live_events a) ≡ es ++ events_of (live_events b)
+passes_left : (a b : RunState) (es : List Event) → Progress a b es
+    → events_of (live_events a) ≡ es ++ events_of (live_events b)
 passes_left a b es p =
     let c = decoded_at a.unread.notation a.fixed b.unread.bytes in
-    let rest : live_events b
-    ≡ given_of (made_from a.appends a.fixed.parameters (registers_from a.fixed.parameters a.row p.list) (files_from a.appends a.files p.list) c.0 c.1) =
+    let here = registers_from a.fixed.parameters a.row p.list in
+    let files = files_from a.appends a.files p.list in
+    let rest : live_events b ≡ given_of (made_from a.appends a.fixed.parameters here files c.0 c.1) =
     rw (p.notation, p.fixed, p.appends, p.registers, p.files) refl in
-    ap (λ (d : List Ins × Option Error). events_of (given_of (made_from a.appends a.fixed.parameters a.row a.files d.0 d.1)))
+    ap (λ (d : List Ins × Option Error).
+    events_of (given_of (made_from a.appends a.fixed.parameters a.row a.files d.0 d.1)))
     (decodes_on a.unread.notation a.fixed a.unread.bytes p.list p.front b.unread.bytes p.parts p.spelled)
     ∙ given_joined a.appends a.fixed.parameters a.row a.files p.list c.0 c.1
-    ∙ ap (λ (xs : List Event). xs ++ events_of (given_of (made_from a.appends a.fixed.parameters (registers_from a.fixed.parameters a.row p.list)
-    (files_from a.appends a.files p.list) c.0 c.1))) p.given
+    ∙ ap (λ (xs : List Event).
+    xs ++ events_of (given_of (made_from a.appends a.fixed.parameters here files c.0 c.1))) p.given
     ∙ ap (λ (xs : List EventWithFiles). es ++ events_of xs) (sym rest)
 
 has_first_fault : (source : Source) (h : Header) (done : List LineRow) (old new : RunState) (e : Error)
-    → Progress (with_reset_row (whole_run h source)) (with_reset_row old) (map row done) → FaultComes live_events (with_reset_row old) new e
+    → Progress (with_reset_row (whole_run h source)) (with_reset_row old) (map row done)
+    → FaultComes live_events (with_reset_row old) new e
     → HasFirstFault source.notation h e
 has_first_fault source h done old new e p is =
     let c = decoded_at source.notation (without_files h) h.program in
     record {
       list = c.0;
       end = c.1;
-      decoding = bare_decoding source.notation h h.program c.0 c.1 (is_decoded source.notation (without_files h) h.program);
+      decoding =
+          bare_decoding source.notation h h.program c.0 c.1 (is_decoded source.notation (without_files h) h.program);
       rows = done;
       rest = events_of (events_left new);
       given =
@@ -382,7 +446,8 @@ has_first_fault source h done old new e p is =
 
 -- ---- a run of a whole program that is split on its way
 
-pub record IsSplit (Split : List LineRow → RunState → Type 0) (h : Header) (source : Source) (rows : RunState) : Type 0 where
+pub record IsSplit (Split : List LineRow → RunState → Type 0) (h : Header) (source : Source) (rows : RunState)
+    : Type 0 where
   pub done : List LineRow
   pub split : Split done (with_reset_row rows)
   pub passes : Progress (with_reset_row (whole_run h source)) (with_reset_row rows) (map row done)
@@ -402,29 +467,36 @@ module _ (h : Header) (source : Source) (Split : List LineRow → RunState → T
       })
 
   module _ (rows next : RunState) (so_far : IsSplit Split h source rows) (keeps : KeepsRun rows next) where
-    pub split_goes : (Longer : List LineRow → RunState → Type 0) → Progress (with_reset_row rows) (with_reset_row next) (row next.row ∷ [])
+    pub split_goes : (Longer : List LineRow → RunState → Type 0)
+        → Progress (with_reset_row rows) (with_reset_row next) (row next.row ∷ [])
         → Longer (so_far.done ++ next.row ∷ []) (with_reset_row next) → IsSplit Longer h source next
     split_goes Longer p split = record {
       done = so_far.done ++ next.row ∷ [];
       split = split;
       passes =
-          subst (λ (es : List Event). Progress whole_row (with_reset_row next) es) (sym (map-append row so_far.done (next.row ∷ [])))
-          (passes_both whole_row (with_reset_row rows) (with_reset_row next) (map row so_far.done) (row next.row ∷ []) so_far.passes p);
+          subst (λ (es : List Event). Progress whole_row (with_reset_row next) es)
+          (sym (map-append row so_far.done (next.row ∷ [])))
+          (passes_both whole_row (with_reset_row rows) (with_reset_row next) (map row so_far.done) (row next.row ∷ [])
+          so_far.passes p);
       keeps = keeps_both (whole_run h source) rows next so_far.keeps keeps;
     }
 
-    pub split_faults : (e : Error) → e ≢ OutOfMemory → FaultIs live_events (with_reset_row rows) next e → HasFirstFault source.notation h e
+    pub split_faults : (e : Error) → e ≢ OutOfMemory → FaultIs live_events (with_reset_row rows) next e
+        → HasFirstFault source.notation h e
     split_faults e other (inl memory) = absurd (other memory.0)
     split_faults e other (inr comes) = has_first_fault source h so_far.done rows next e so_far.passes comes
 
     -- the program that is left is that of the run
-    pub split_source : (last : Source) → last ≡ next.source → KeepsSource (λ order. source.notation.big ≡ order) source last
+    pub split_source : (last : Source) → last ≡ next.source
+        → KeepsSource (λ order. source.notation.big ≡ order) source last
     split_source last same =
         subst (KeepsSource (λ order. source.notation.big ≡ order) source) (sym same)
         (fits_less _ _ _ _ (λ order is adds. is) (keeps_both (whole_run h source) rows next so_far.keeps keeps).source)
 
-    pub split_ends : (c : Header) (k : SequenceSplit) → Splitting h k so_far.done (with_reset_row rows) → next.unread.bytes ≡ []
-        → Progress (with_reset_row rows) next [] → without_files c ≡ next.fixed → c.files ≡ next.files → AreSequences source.notation h c k.parts
+    pub split_ends : (c : Header) (k : SequenceSplit) → Splitting h k so_far.done (with_reset_row rows)
+        → next.unread.bytes ≡ []
+        → Progress (with_reset_row rows) next [] → without_files c ≡ next.fixed → c.files ≡ next.files
+        → AreSequences source.notation h c k.parts
     split_ends c k splitting empty p =
         are_sequences source h c k so_far.done (with_reset_row rows) next splitting
         (subst (λ (es : List Event). Progress whole_row next es) (append-nil (map row so_far.done))

@@ -9,7 +9,8 @@ pub source_kept : (Fits : Bool → Type 0) (source : Source) → KeepsSource Fit
 source_kept Fits source = record { notation = refl; offset = refl; handed = refl; order = λ order fits are. are }
 
 -- fewer orders fit
-pub fits_less : (Fits Less : Bool → Type 0) (old new : Source) → ((order : Bool) → Less order → Fits order) → KeepsSource Fits old new
+pub fits_less : (Fits Less : Bool → Type 0) (old new : Source) → ((order : Bool) → Less order → Fits order)
+    → KeepsSource Fits old new
     → KeepsSource Less old new
 fits_less Fits Less old new less keeps = record {
   notation = keeps.notation;
@@ -18,7 +19,8 @@ fits_less Fits Less old new less keeps = record {
   order = λ order fits. keeps.order order (less order fits);
 }
 
-pub source_both : (Fits : Bool → Type 0) (a b c : Source) → KeepsSource Fits a b → KeepsSource Fits b c → KeepsSource Fits a c
+pub source_both : (Fits : Bool → Type 0) (a b c : Source) → KeepsSource Fits a b → KeepsSource Fits b c
+    → KeepsSource Fits a c
 source_both Fits a b c p q = record {
   notation = q.notation ∙ p.notation;
   offset = q.offset ∙ p.offset;
@@ -33,18 +35,22 @@ still_adds : (a b : RunState) → KeepsRun a b → (order : Bool) → AddsInOrde
 still_adds a b keeps order adds = λ appends. ap (λ n. n.big) keeps.unread ∙ adds (sym keeps.appends ∙ appends)
 
 pub keeps_same : (x y : RunState) → x ≡ y → KeepsRun x y
-keeps_same x y same = subst (KeepsRun x) same (record { fixed = refl; appends = refl; unread = refl; source = source_kept (AddsInOrder x) x.source })
+keeps_same x y same =
+    subst (KeepsRun x) same
+    (record { fixed = refl; appends = refl; unread = refl; source = source_kept (AddsInOrder x) x.source })
 
 pub keeps_both : (x y z : RunState) → KeepsRun x y → KeepsRun y z → KeepsRun x z
 keeps_both x y z p q = record {
   fixed = q.fixed ∙ p.fixed;
   appends = q.appends ∙ p.appends;
   unread = q.unread ∙ p.unread;
-  source = source_both (AddsInOrder x) x.source y.source z.source p.source (fits_less _ _ _ _ (still_adds x y p) q.source);
+  source =
+      source_both (AddsInOrder x) x.source y.source z.source p.source (fits_less _ _ _ _ (still_adds x y p) q.source);
 }
 
 -- the header that was lent
-pub sees_lent : {R Offset Endian : Type 0} (big : R → Bool) (number : Offset → _) (x : RunState) (h : SeenHeader R Offset Endian) (meaning : Header)
+pub sees_lent : {R Offset Endian : Type 0} (big : R → Bool) (number : Offset → _) (x : RunState)
+    (h : SeenHeader R Offset Endian) (meaning : Header)
     → x.fixed ≡ without_files meaning
     → h.meaning ≡ meaning → source_of big number h ≡ x.source → SeesHeader big number x h
 sees_lent big number x h meaning fixed same source = record {
@@ -53,11 +59,15 @@ sees_lent big number x h meaning fixed same source = record {
 }
 
 -- a run goes on, and the header is seen then
-pub sees_after : {R Offset Endian : Type 0} (big : R → Bool) (number : Offset → _) (x y : RunState) (h : SeenHeader R Offset Endian) → KeepsRun x y
+pub sees_after : {R Offset Endian : Type 0} (big : R → Bool) (number : Offset → _) (x y : RunState)
+    (h : SeenHeader R Offset Endian)
+    → KeepsRun x y
     → SeesHeader big number y h → SeesHeader big number x h
 sees_after big number x y h p q = record {
   fixed = q.fixed ∙ p.fixed;
-  source = source_both (AddsInOrder x) x.source y.source (source_of big number h) p.source (fits_less _ _ _ _ (still_adds x y p) q.source);
+  source =
+      source_both (AddsInOrder x) x.source y.source (source_of big number h) p.source
+      (fits_less _ _ _ _ (still_adds x y p) q.source);
 }
 
 -- ---- one order

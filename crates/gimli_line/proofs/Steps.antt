@@ -1,5 +1,6 @@
 -- A step of a run: what an instruction does to its state, and steps after one another.
-use Rattle.std.proofs.Common.{◌≡◌, ◌≢◌, ◌∙◌, Bool, true, false, [], ap, arith, inl, inr, length, refl, sym, subst, Result, Some, Ok, Err}
+use Rattle.std.proofs.Common.{◌≡◌, ◌≢◌, ◌∙◌, Bool, true, false, [], ap, arith, inl, inr, length, refl, sym, subst}
+use Rattle.std.proofs.Common.{Result, Some, Ok, Err}
 use Rattle.std.proofs.lemmas.List.{length-append}
 use Rattle.gimli_core.specs.declared.error.Error.{Error}
 use Rattle.gimli_core.specs.declared.error.Error.TheVariants.{AddressOverflow, OutOfMemory}
@@ -24,7 +25,8 @@ use Rattle.gimli_line.specs.run.Unread.{Unread}
 use Rattle.gimli_line.proofs.Executions.{told_row, told_quiet, told_address}
 use Rattle.gimli_line.proofs.InstructionLaws.{reads_instruction}
 use Rattle.gimli_line.proofs.Sources.{source_kept, fits_less, keeps_same, keeps_both}
-use Rattle.gimli_line.proofs.Runs.{state, none_made, after_fault, after_quiet, after_made, after_overflow, is_shorter, passes_none}
+use Rattle.gimli_line.proofs.Runs.{state, none_made, after_fault, after_quiet, after_made, after_overflow, is_shorter}
+use Rattle.gimli_line.proofs.Runs.{passes_none}
 use Rattle.gimli_line.proofs.Runs.{passes_both, passes_quiet, passes_made, wants, refused_after}
 
 -- ---- the state of a run whose program has a header
@@ -37,7 +39,8 @@ is_state : (a : Bool) (h : Header) (s : RunState) → Has a h s → s ≡ state 
 is_state a h s has = rw (← has.0, ← has.1, ← has.2) refl
 
 -- what holds of two runs by their headers holds of them
-by_headers : (a : Bool) (h h2 : Header) (old new : RunState) → Has a h old → Has a h2 new → (P : RunState → RunState → Type 0)
+by_headers : (a : Bool) (h h2 : Header) (old new : RunState) → Has a h old → Has a h2 new
+    → (P : RunState → RunState → Type 0)
     → P (state a h old.source old.row old.unread) (state a h2 new.source new.row new.unread) → P old new
 by_headers a h h2 old new from to P p =
     subst (λ (q : RunState). P q new) (sym (is_state a h old from))
@@ -46,8 +49,10 @@ by_headers a h h2 old new from to P p =
 -- ---- what is kept
 
 -- the header is still that of the run, but for its files; what is added fits the order of the instructions to come
-pub keeps_run : (a : Bool) (h h2 : Header) (old new : RunState) → Has a h old → Has a h2 new → without_files h2 ≡ without_files h
-    → new.unread.notation ≡ old.unread.notation → (Fits : Bool → Type 0) → KeepsSource (λ order. a ≡ true → Fits order) old.source new.source
+pub keeps_run : (a : Bool) (h h2 : Header) (old new : RunState) → Has a h old → Has a h2 new
+    → without_files h2 ≡ without_files h
+    → new.unread.notation ≡ old.unread.notation → (Fits : Bool → Type 0)
+    → KeepsSource (λ order. a ≡ true → Fits order) old.source new.source
     → Fits old.unread.notation.big → KeepsRun old new
 keeps_run a h h2 old new from to fixed unread Fits source fits = record {
   fixed = to.1 ∙ fixed ∙ sym from.1;
@@ -60,14 +65,22 @@ keeps_run a h h2 old new from to fixed unread Fits source fits = record {
 
 module _ (x y : RunState) where
   pub reads_none : x ≡ y → ReadsOn x y
-  reads_none same = record { made = ap live_made same; passed = passes_none x y (sym same); keeps = keeps_same x y same }
+  reads_none same = record {
+    made = ap live_made same;
+    passed = passes_none x y (sym same);
+    keeps = keeps_same x y same;
+  }
 
   pub reads_more : StepsTo x y (Ok More) → ReadsOn x y
   reads_more s = record { made = s.ok.0; passed = s.ok.2; keeps = s.keeps }
 
   module _ (z : RunState) (r : ReadsOn x y) where
     pub reads_both : ReadsOn y z → ReadsOn x z
-    reads_both q = record { made = r.made ∙ q.made; passed = passes_both x y z [] [] r.passed q.passed; keeps = keeps_both x y z r.keeps q.keeps }
+    reads_both q = record {
+      made = r.made ∙ q.made;
+      passed = passes_both x y z [] [] r.passed q.passed;
+      keeps = keeps_both x y z r.keeps q.keeps;
+    }
 
     pub step_after : (s : Step) → StepIs y z s → StepIs x z s
     step_after Done d = (r.made ∙ d.0, d.1, passes_both x y z [] [] r.passed d.2)
@@ -80,7 +93,11 @@ module _ (x y : RunState) where
 
     pub steps_after : (answer : Result Step Error) → StepsTo y z answer → StepsTo x z answer
     steps_after (Ok s) q = record { ok = step_after s q.ok; err = tt; keeps = keeps_both x y z r.keeps q.keeps }
-    steps_after (Err e) q = record { ok = tt; err = refused_after live_made x y z e r.made r.passed q.err; keeps = keeps_both x y z r.keeps q.keeps }
+    steps_after (Err e) q = record {
+      ok = tt;
+      err = refused_after live_made x y z e r.made r.passed q.err;
+      keeps = keeps_both x y z r.keeps q.keeps;
+    }
 
 -- ---- where no instruction was taken
 
@@ -100,7 +117,8 @@ files_kept a h i none = refl
 
 -- h is the header of the run, k the one that was lent
 module _ (a : Bool) (h k : Header) (same : k ≡ h) (old new : RunState) (from : Has a h old) where
-  pub step_faults : (e : Error) → Has a h new → EndsByFault k old.unread new.unread e → KeepsRun old new → StepsTo old new (Err e)
+  pub step_faults : (e : Error) → Has a h new → EndsByFault k old.unread new.unread e → KeepsRun old new
+      → StepsTo old new (Err e)
   step_faults e to fault keeps = record {
     ok = tt;
     err =
@@ -111,7 +129,8 @@ module _ (a : Bool) (h k : Header) (same : k ≡ h) (old new : RunState) (from :
   }
 
   -- memory is missing for the file that it defines
-  pub step_wants : (i : Ins) (rest : Unread) → TakesNext k old.unread rest (Some i) → defines_file i ≡ true → (h2 : Header) → h2 ≡ h → a ≡ true
+  pub step_wants : (i : Ins) (rest : Unread) → TakesNext k old.unread rest (Some i) → defines_file i ≡ true
+      → (h2 : Header) → h2 ≡ h → a ≡ true
       → new.unread.bytes ≡ []
       → Has a h2 new → KeepsRun old new → StepsTo old new (Err OutOfMemory)
   step_wants i rest taken defines h2 kept appends empty to keeps = record {
@@ -127,8 +146,10 @@ module _ (a : Bool) (h k : Header) (same : k ≡ h) (old new : RunState) (from :
   }
 
   -- h2 is the header after it
-  module _ (i : Ins) (taken : TakesNext k old.unread new.unread (Some i)) (notation : new.unread.notation ≡ old.unread.notation) (h2 : Header) where
-    pub step_quiet : h2 ≡ header_after a i h → is_refused h.parameters i old.row ≡ false → makes_row i ≡ false → new.row ≡ step_of h.parameters i old.row
+  module _ (i : Ins) (taken : TakesNext k old.unread new.unread (Some i))
+      (notation : new.unread.notation ≡ old.unread.notation) (h2 : Header) where
+    pub step_quiet : h2 ≡ header_after a i h → is_refused h.parameters i old.row ≡ false → makes_row i ≡ false
+        → new.row ≡ step_of h.parameters i old.row
         → Has a h2 new → KeepsRun old new → StepsTo old new (Ok More)
     step_quiet after fits made row to keeps = record {
       ok = by_headers a h h2 old new from to (λ x y. StepIs x y More) (
@@ -143,7 +164,8 @@ module _ (a : Bool) (h k : Header) (same : k ≡ h) (old new : RunState) (from :
       keeps = keeps;
     }
 
-    pub step_made : h2 ≡ header_after a i h → is_refused h.parameters i old.row ≡ false → makes_row i ≡ true → new.row ≡ step_of h.parameters i old.row
+    pub step_made : h2 ≡ header_after a i h → is_refused h.parameters i old.row ≡ false → makes_row i ≡ true
+        → new.row ≡ step_of h.parameters i old.row
         → Has a h2 new → KeepsRun old new → StepsTo old new (Ok Made)
     step_made after fits made row to keeps = record {
       ok = by_headers a h h2 old new from to (λ x y. StepIs x y Made) (
@@ -156,7 +178,8 @@ module _ (a : Bool) (h k : Header) (same : k ≡ h) (old new : RunState) (from :
       keeps = keeps;
     }
 
-    pub step_overflows : h2 ≡ h → is_refused h.parameters i old.row ≡ true → new.row ≡ step_of h.parameters i old.row → Has a h2 new → KeepsRun old new
+    pub step_overflows : h2 ≡ h → is_refused h.parameters i old.row ≡ true → new.row ≡ step_of h.parameters i old.row
+        → Has a h2 new → KeepsRun old new
         → StepsTo old new (Err AddressOverflow)
     step_overflows kept over row to keeps = record {
       ok = tt;
@@ -172,24 +195,35 @@ module _ (a : Bool) (h k : Header) (same : k ≡ h) (old new : RunState) (from :
 abbrev pub with_rest : RunState → LineRow → Unread → RunState
 with_rest old row unread = record old { row = row; unread = unread }
 
-pub keeps_rest : (old : RunState) (row : LineRow) (unread : Unread) → unread.notation ≡ old.unread.notation → KeepsRun old (with_rest old row unread)
-keeps_rest old row unread notation = record { fixed = refl; appends = refl; unread = notation; source = source_kept (AddsInOrder old) old.source }
+pub keeps_rest : (old : RunState) (row : LineRow) (unread : Unread) → unread.notation ≡ old.unread.notation
+    → KeepsRun old (with_rest old row unread)
+keeps_rest old row unread notation = record {
+  fixed = refl;
+  appends = refl;
+  unread = notation;
+  source = source_kept (AddsInOrder old) old.source;
+}
 
 -- none was
-pub none_executed : (k : Header) (old : RunState) (row : LineRow) (unread : Unread) → ExecutesNext k old.unread unread old.row row No
+pub none_executed : (k : Header) (old : RunState) (row : LineRow) (unread : Unread)
+    → ExecutesNext k old.unread unread old.row row No
     → ReadsOn old (with_rest old row unread)
 none_executed k old row unread same = reads_none old (with_rest old row unread) (rw (same.0, same.1) refl)
 
-module _ (a : Bool) (h k : Header) (same : k ≡ h) (old : RunState) (row : LineRow) (unread : Unread) (from : Has a h old)
+module _ (a : Bool) (h k : Header) (same : k ≡ h) (old : RunState) (row : LineRow) (unread : Unread)
+    (from : Has a h old)
     (notation : unread.notation ≡ old.unread.notation) where
-  executed_quiet : (x : IsExecuted k.parameters (ins_at old.unread.notation k old.unread.bytes) unread.bytes old.row row false)
+  executed_quiet : (x : IsExecuted k.parameters (ins_at old.unread.notation k old.unread.bytes) unread.bytes old.row row
+      false)
       → makes_row x.instruction ≡ false
       → StepsTo old (with_rest old row unread) (Ok More)
   executed_quiet x quiet =
       step_quiet a h k same old (with_rest old row unread) from x.instruction
       ((reads_instruction old.unread.notation k).found old.unread.bytes x.instruction unread.bytes x.reading) notation h
-      (files_kept a h x.instruction x.defines) (subst (λ (j : Header). is_refused j.parameters x.instruction old.row ≡ false) same x.refusal) quiet
-      (subst (λ (j : Header). row ≡ step_of j.parameters x.instruction old.row) same x.registers) from (keeps_rest old row unread notation)
+      (files_kept a h x.instruction x.defines)
+      (subst (λ (j : Header). is_refused j.parameters x.instruction old.row ≡ false) same x.refusal) quiet
+      (subst (λ (j : Header). row ≡ step_of j.parameters x.instruction old.row) same x.registers) from
+      (keeps_rest old row unread notation)
 
   pub executed_more : (told : Executed) → ExecutesNext k old.unread unread old.row row told → told ≢ No → told ≢ Row
       → StepsTo old (with_rest old row unread) (Ok More)
@@ -203,14 +237,18 @@ module _ (a : Bool) (h k : Header) (same : k ≡ h) (old : RunState) (row : Line
       let x = executed.0 in
       step_made a h k same old (with_rest old row unread) from x.instruction
       ((reads_instruction old.unread.notation k).found old.unread.bytes x.instruction unread.bytes x.reading) notation h
-      (files_kept a h x.instruction x.defines) (subst (λ (j : Header). is_refused j.parameters x.instruction old.row ≡ false) same x.refusal)
+      (files_kept a h x.instruction x.defines)
+      (subst (λ (j : Header). is_refused j.parameters x.instruction old.row ≡ false) same x.refusal)
       (told_row x.instruction executed.1)
-      (subst (λ (j : Header). row ≡ step_of j.parameters x.instruction old.row) same x.registers) from (keeps_rest old row unread notation)
+      (subst (λ (j : Header). row ≡ step_of j.parameters x.instruction old.row) same x.registers) from
+      (keeps_rest old row unread notation)
 
-  pub executed_refused : (e : Error) → RefusesNext k old.unread unread old.row row e → StepsTo old (with_rest old row unread) (Err e)
+  pub executed_refused : (e : Error) → RefusesNext k old.unread unread old.row row e
+      → StepsTo old (with_rest old row unread) (Err e)
   executed_refused e refused =
       let x = refused.1 in
       rw refused.0 (step_overflows a h k same old (with_rest old row unread) from x.instruction
       ((reads_instruction old.unread.notation k).found old.unread.bytes x.instruction unread.bytes x.reading) notation h
       refl (subst (λ (j : Header). is_refused j.parameters x.instruction old.row ≡ true) same x.refusal)
-      (subst (λ (j : Header). row ≡ step_of j.parameters x.instruction old.row) same x.registers) from (keeps_rest old row unread notation))
+      (subst (λ (j : Header). row ≡ step_of j.parameters x.instruction old.row) same x.registers) from
+      (keeps_rest old row unread notation))

@@ -1,5 +1,6 @@
 -- The units of a section: each is read, they have one list of offsets, and a walk gives it.
-use Rattle.std.proofs.Common.{◌≡◌, ◌≢◌, ℕ, zero, suc, ◌+◌, ◌-◌, ◌<◌, ◌≤◌, Bool, List, [], ◌∷◌, ◌++◌, length, take, drop, Ok, Err, refl, sym, ap, subst, ◌∙◌}
+use Rattle.std.proofs.Common.{◌≡◌, ◌≢◌, ℕ, zero, suc, ◌+◌, ◌-◌, ◌<◌, ◌≤◌, Bool, List, [], ◌∷◌, ◌++◌, length, take, drop}
+use Rattle.std.proofs.Common.{Ok, Err, refl, sym, ap, subst, ◌∙◌}
 use Rattle.std.proofs.Common.{arith, append_assoc, inl, inr, ◌⊎◌}
 use Rattle.std.proofs.lemmas.Bool.{cases_lt}
 use Rattle.std.proofs.lemmas.List.{append-nil, drop_all, drop_at, take-append-drop, length-append, length-drop}
@@ -13,12 +14,14 @@ use Rattle.gimli_core.specs.declared.error.Error.{Error}
 use Rattle.gimli_core.proofs.Productions.{reads_both}
 use Rattle.gimli_core.proofs.ProductionLaws.{reads_some_bytes, reads_unit_length}
 use Rattle.gimli_line.specs.header.Header.{Header, UnitEntry}
-use Rattle.gimli_line.specs.header.HeaderGrammar.{Opening, fields_production, header_production, opening_production, SpellsUnit}
+use Rattle.gimli_line.specs.header.HeaderGrammar.{Opening, fields_production, header_production, opening_production}
+use Rattle.gimli_line.specs.header.HeaderGrammar.{SpellsUnit}
 use Rattle.gimli_line.specs.Units.{offset_after, any_unit, BeginsWithUnit, IsRest, AreUnits}
 use Rattle.gimli_line.specs.UnitReading.{any_unit_at, after_unit, offsets_upto, offsets_at}
 
 -- the bytes of a length are as many as its format says
-length_size : (big : Bool) (bytes : List ℕ) (format : Format) (n : ℕ) → SpellsInitialLength big bytes format n → length bytes ≡ initial_length_size format
+length_size : (big : Bool) (bytes : List ℕ) (format : Format) (n : ℕ) → SpellsInitialLength big bytes format n
+    → length bytes ≡ initial_length_size format
 length_size big bytes Dwarf32 n s = s.0.size_is
 length_size big bytes Dwarf64 n s = omega (arith, ap length s.2, length-append s.0 s.1, s.3.size_is, s.4.size_is)
 
@@ -29,10 +32,12 @@ size_some Dwarf64 = omega arith
 module _ (notation : Notation) where
   pub reads_any_unit : Reads (any_unit notation) (any_unit_at notation)
   unfolding any_unit_at
-  reads_any_unit = reads_both (unit_length notation) _ _ _ (reads_unit_length notation) (λ unit. reads_some_bytes unit.0)
+  reads_any_unit =
+      reads_both (unit_length notation) _ _ _ (reads_unit_length notation) (λ unit. reads_some_bytes unit.0)
 
   -- the bytes of a length that an offset holds
-  length_exact : (bytes : List ℕ) (unit : ℕ × Format) → (unit_length notation).Spells bytes unit → length bytes ≡ initial_length_size unit.1
+  length_exact : (bytes : List ℕ) (unit : ℕ × Format) → (unit_length notation).Spells bytes unit
+      → length bytes ≡ initial_length_size unit.1
   length_exact bytes unit s =
       let same : unit.1 ≡ s.0.1 = ap (λ (u : ℕ × Format). u.1) s.5.5.1 in
       ap length s.3
@@ -49,14 +54,17 @@ module _ (notation : Notation) where
 
   -- a unit has bytes
   unit_some : (unit content : List ℕ) → (any_unit notation).Spells unit content → 0 < length unit
-  unit_some unit content s = omega (arith, length_exact s.1 s.0 s.4, size_some s.0.1, length-append s.1 s.2, ap length s.3)
+  unit_some unit content s =
+      omega (arith, length_exact s.1 s.0 s.4, size_some s.0.1, length-append s.1 s.2, ap length s.3)
 
   -- what comes after the bytes that were read is an end of them, and is shorter
-  after_end : (bytes : List ℕ) (r : Read (List ℕ)) → any_unit_at notation bytes ≡ r → (front : List ℕ) × (bytes ≡ front ++ after_unit r)
+  after_end : (bytes : List ℕ) (r : Read (List ℕ)) → any_unit_at notation bytes ≡ r
+      → (front : List ℕ) × (bytes ≡ front ++ after_unit r)
   after_end bytes (Ok content, rest) is = let f = reads_any_unit.found bytes content rest is in (f.0, f.1)
   after_end bytes (Err e, rest) is = (bytes, sym (append-nil bytes))
 
-  after_less : (bytes : List ℕ) (r : Read (List ℕ)) → bytes ≢ [] → any_unit_at notation bytes ≡ r → length (after_unit r) < length bytes
+  after_less : (bytes : List ℕ) (r : Read (List ℕ)) → bytes ≢ [] → any_unit_at notation bytes ≡ r
+      → length (after_unit r) < length bytes
   after_less [] r some is = absurd (some refl)
   after_less (b ∷ bytes) (Ok content, rest) some is =
       let f = reads_any_unit.found (b ∷ bytes) content rest is in
@@ -74,7 +82,8 @@ module _ (notation : Notation) where
     upto_none (suc more) = refl
 
     upto_some : (more : ℕ) (bytes : List ℕ) → bytes ≢ []
-        → offsets_upto notation end (suc more) bytes ≡ (end - length bytes) ∷ offsets_upto notation end more (after_unit (any_unit_at notation bytes))
+        → offsets_upto notation end (suc more) bytes
+        ≡ (end - length bytes) ∷ offsets_upto notation end more (after_unit (any_unit_at notation bytes))
     unfolding offsets_upto
     upto_some more [] some = absurd (some refl)
     upto_some more (b ∷ bytes) some = refl
@@ -89,25 +98,29 @@ module _ (notation : Notation) where
         let some : b ∷ bytes ≢ [] = λ none. absurd cc in
         let fewer = after_less (b ∷ bytes) (any_unit_at notation (b ∷ bytes)) some refl in
         upto_some more (b ∷ bytes) some
-        ∙ ap (λ (os : List ℕ). (end - length (b ∷ bytes)) ∷ os) (enough more less (after_unit (any_unit_at notation (b ∷ bytes))) (omega arith) (omega arith))
+        ∙ ap (λ (os : List ℕ). (end - length (b ∷ bytes)) ∷ os)
+        (enough more less (after_unit (any_unit_at notation (b ∷ bytes))) (omega arith) (omega arith))
         ∙ sym (upto_some less (b ∷ bytes) some)
 
     pub offsets_none : (bytes : List ℕ) → bytes ≡ [] → offsets_at notation end bytes ≡ []
     offsets_none bytes none = rw none (upto_none 0)
 
     offsets_some : (bytes : List ℕ) → bytes ≢ []
-        → offsets_at notation end bytes ≡ (end - length bytes) ∷ offsets_at notation end (after_unit (any_unit_at notation bytes))
+        → offsets_at notation end bytes
+        ≡ (end - length bytes) ∷ offsets_at notation end (after_unit (any_unit_at notation bytes))
     offsets_some [] some = absurd (some refl)
     offsets_some (b ∷ bytes) some =
         let after = after_unit (any_unit_at notation (b ∷ bytes)) in
         let fewer = after_less (b ∷ bytes) (any_unit_at notation (b ∷ bytes)) some refl in
         upto_some (length bytes) (b ∷ bytes) some
-        ∙ ap (λ (os : List ℕ). (end - length (b ∷ bytes)) ∷ os) (enough (length bytes) (length after) after (omega arith) (omega arith))
+        ∙ ap (λ (os : List ℕ). (end - length (b ∷ bytes)) ∷ os)
+        (enough (length bytes) (length after) after (omega arith) (omega arith))
 
   -- the offsets that are found are those of the units
   upto_units : (end more offset : ℕ) (bytes : List ℕ) → length bytes ≤ more → offset + length bytes ≡ end
       → AreUnits notation offset bytes (offsets_upto notation end more bytes)
-  upto_units end more offset [] le ends = subst (λ (os : List ℕ). AreUnits notation offset [] os) (sym (upto_none end more)) refl
+  upto_units end more offset [] le ends =
+      subst (λ (os : List ℕ). AreUnits notation offset [] os) (sym (upto_none end more)) refl
   upto_units end zero offset (b ∷ bytes) le ends = absurd (omega arith)
   upto_units end (suc more) offset (b ∷ bytes) le ends =
       let some : b ∷ bytes ≢ [] = λ none. absurd cc in
@@ -115,9 +128,11 @@ module _ (notation : Notation) where
       (omega arith, at_answer some (λ next rest. upto_units end more next rest) (any_unit_at notation (b ∷ bytes)) refl)
     where
       at_answer : b ∷ bytes ≢ []
-          → ((next : ℕ) (rest : List ℕ) → length rest ≤ more → next + length rest ≡ end → AreUnits notation next rest (offsets_upto notation end more rest))
+          → ((next : ℕ) (rest : List ℕ) → length rest ≤ more → next + length rest ≡ end
+          → AreUnits notation next rest (offsets_upto notation end more rest))
           → (r : Read (List ℕ)) → any_unit_at notation (b ∷ bytes) ≡ r
-          → BeginsWithUnit notation (b ∷ bytes) (λ size rest. AreUnits notation (offset + size) rest (offsets_upto notation end more (after_unit r)))
+          → BeginsWithUnit notation (b ∷ bytes) (λ size rest.
+          AreUnits notation (offset + size) rest (offsets_upto notation end more (after_unit r)))
           ⊎ (IsRest notation (b ∷ bytes) × (offsets_upto notation end more (after_unit r) ≡ []))
       at_answer some others (Ok content, rest) is =
           let f = reads_any_unit.found (b ∷ bytes) content rest is in
@@ -129,17 +144,23 @@ module _ (notation : Notation) where
             parts = f.1;
             spelled = f.2;
             follow =
-                others (offset + length f.0) rest (omega (arith, length-append f.0 rest, ap length f.1)) (omega (arith, length-append f.0 rest, ap length f.1));
+                others (offset + length f.0) rest (omega (arith, length-append f.0 rest, ap length f.1))
+                (omega (arith, length-append f.0 rest, ap length f.1));
           })
       at_answer some others (Err e, rest) is =
-          inr (record { some = some; error = e; fault = reads_any_unit.fault (b ∷ bytes) e (rw is refl) }, upto_none end more)
+          inr (
+            record { some = some; error = e; fault = reads_any_unit.fault (b ∷ bytes) e (rw is refl) },
+            upto_none end more,
+          )
 
   -- and there are no others
-  only_units : (offsets : List ℕ) (end more offset : ℕ) (bytes : List ℕ) → length bytes ≤ more → offset + length bytes ≡ end
+  only_units : (offsets : List ℕ) (end more offset : ℕ) (bytes : List ℕ) → length bytes ≤ more
+      → offset + length bytes ≡ end
       → AreUnits notation offset bytes offsets → offsets ≡ offsets_upto notation end more bytes
   only_units [] end more offset bytes le ends s = sym (rw s (upto_none end more))
   only_units (o ∷ offsets) end more offset [] le ends s = elim s.1 [
-    | inl u ↦ absurd (omega (arith, unit_some u.unit u.content u.spelled, length-append u.unit u.rest, ap length u.parts))
+    | inl u ↦
+        absurd (omega (arith, unit_some u.unit u.content u.spelled, length-append u.unit u.rest, ap length u.parts))
     | inr r ↦ absurd (r.0.some refl)
   ]
   only_units (o ∷ offsets) end zero offset (b ∷ bytes) le ends s = absurd (omega arith)
@@ -151,29 +172,42 @@ module _ (notation : Notation) where
             let long = unit_some u.unit u.content u.spelled in
             let read : any_unit_at notation (b ∷ bytes) ≡ (Ok u.content, u.rest) = ap (any_unit_at notation) u.parts
             ∙ reads_any_unit.only u.unit u.content u.rest u.spelled in
-            rw read (only_units offsets end more (offset + length u.unit) u.rest (omega (arith, length-append u.unit u.rest, ap length u.parts))
+            rw read (only_units offsets end more (offset + length u.unit) u.rest
+            (omega (arith, length-append u.unit u.rest, ap length u.parts))
             (omega (arith, length-append u.unit u.rest, ap length u.parts)) u.follow)
-        | inr r ↦ rw (after_fault r.0.error (any_unit_at notation (b ∷ bytes)) (reads_any_unit.refused (b ∷ bytes) r.0.error r.0.fault), upto_none end more) r.1
+        | inr r ↦
+            rw (
+              after_fault r.0.error (any_unit_at notation (b ∷ bytes))
+                  (reads_any_unit.refused (b ∷ bytes) r.0.error r.0.fault),
+              upto_none end more,
+            )
+            r.1
       ] in
-      ap (λ (n : ℕ). n ∷ offsets) first ∙ ap (λ (os : List ℕ). (end - length (b ∷ bytes)) ∷ os) others ∙ sym (upto_some end more (b ∷ bytes) some)
+      ap (λ (n : ℕ). n ∷ offsets) first ∙ ap (λ (os : List ℕ). (end - length (b ∷ bytes)) ∷ os) others
+      ∙ sym (upto_some end more (b ∷ bytes) some)
 
   pub are_units : (section : List ℕ) → AreUnits notation 0 section (offsets_at notation (length section) section)
   are_units section = upto_units (length section) (length section) 0 section (omega arith) (omega arith)
 
   -- bytes have one list of offsets of units
-  pub one_list : (offset : ℕ) (bytes offsets others : List ℕ) → AreUnits notation offset bytes offsets → AreUnits notation offset bytes others
+  pub one_list : (offset : ℕ) (bytes offsets others : List ℕ) → AreUnits notation offset bytes offsets
+      → AreUnits notation offset bytes others
       → offsets ≡ others
   one_list offset bytes offsets others s t =
       let end = offset + length bytes in
-      only_units offsets end (length bytes) offset bytes (omega arith) refl s ∙ sym (only_units others end (length bytes) offset bytes (omega arith) refl t)
+      only_units offsets end (length bytes) offset bytes (omega arith) refl s
+      ∙ sym (only_units others end (length bytes) offset bytes (omega arith) refl t)
 
   pub some_list : (offset : ℕ) (bytes : List ℕ) → (offsets : List ℕ) × AreUnits notation offset bytes offsets
-  some_list offset bytes =
-      (offsets_upto notation (offset + length bytes) (length bytes) bytes, upto_units (offset + length bytes) (length bytes) offset bytes (omega arith) refl)
+  some_list offset bytes = (
+    offsets_upto notation (offset + length bytes) (length bytes) bytes,
+    upto_units (offset + length bytes) (length bytes) offset bytes (omega arith) refl,
+  )
 
   -- ---- a unit with a header
 
-  opening_format : (handed : ℕ) (format : Format) (bytes : List ℕ) (o : Opening) → (opening_production notation handed format).Spells bytes o
+  opening_format : (handed : ℕ) (format : Format) (bytes : List ℕ) (o : Opening)
+      → (opening_production notation handed format).Spells bytes o
       → o.encoding.format ≡ format
   opening_format handed format bytes o s = ap (λ (o : Opening). o.encoding.format) s.5.5.5.5.1
 
@@ -181,52 +215,75 @@ module _ (notation : Notation) where
       → (fields_production notation unit_entry unit o program).Spells bytes h
       → (h.parameters.encoding.format ≡ o.encoding.format) × (h.unit_length ≡ unit)
   fields_are unit_entry unit o program bytes h s =
-      let is = s.5.5.5.5.1 in
-      (ap (λ (h : Header). h.parameters.encoding.format) is ∙ ap (λ p. p.encoding.format) s.4.5.5.1, ap (λ (h : Header). h.unit_length) is)
+      let is = s.5.5.5.5.1 in (
+        ap (λ (h : Header). h.parameters.encoding.format) is ∙ ap (λ p. p.encoding.format) s.4.5.5.1,
+        ap (λ (h : Header). h.unit_length) is,
+      )
 
   -- a unit has the bytes of its length, and as many as that says
-  unit_size : (unit_entry : UnitEntry) (unit : List ℕ) (h : Header) → (header_production notation unit_entry).Spells unit h
-      → (content : List ℕ) × (any_unit notation).Spells unit content × (length unit ≡ initial_length_size h.parameters.encoding.format + h.unit_length)
+  unit_size : (unit_entry : UnitEntry) (unit : List ℕ) (h : Header)
+      → (header_production notation unit_entry).Spells unit h
+      → (content : List ℕ) × (any_unit notation).Spells unit content
+      × (length unit ≡ initial_length_size h.parameters.encoding.format + h.unit_length)
   unit_size unit_entry unit h s =
       let i = s.5 in
       let o = i.5 in
       let f = o.5 in
       let opened = opening_format unit_entry.address_size s.0.1 o.4.1.0 o.0.0 o.4.1.2 in
       let fields = fields_are unit_entry s.0.0 o.0.0 o.0.1 f.4.1.0 f.0.0 f.4.1.2 in
-      let format : h.parameters.encoding.format ≡ s.0.1 = ap (λ (h : Header). h.parameters.encoding.format) f.5.1 ∙ fields.0 ∙ opened in
+      let format : h.parameters.encoding.format ≡ s.0.1 = ap (λ (h : Header). h.parameters.encoding.format) f.5.1
+      ∙ fields.0 ∙ opened in
       let unit_length_is : h.unit_length ≡ s.0.0 = ap (λ (h : Header). h.unit_length) f.5.1 ∙ fields.1 in
-      let after : i.2 ≡ [] = o.3 ∙ ap (λ (xs : List ℕ). xs ++ o.2) o.4.0 ∙ f.3 ∙ ap (λ (xs : List ℕ). xs ++ f.2) f.4.0 ∙ f.5.0 in
+      let after : i.2 ≡ [] = o.3 ∙ ap (λ (xs : List ℕ). xs ++ o.2) o.4.0 ∙ f.3 ∙ ap (λ (xs : List ℕ). xs ++ f.2) f.4.0
+      ∙ f.5.0 in
       let inside : s.2 ≡ i.1 = i.3 ∙ ap (λ (xs : List ℕ). i.1 ++ xs) after ∙ append-nil i.1 in
       let whole : unit ≡ s.1 ++ i.1 = s.3 ∙ ap (λ (xs : List ℕ). s.1 ++ xs) inside in
-      let size : length unit ≡ initial_length_size s.0.1 + s.0.0 = omega (arith, length_exact s.1 s.0 s.4, i.4.0, ap length whole, length-append s.1 i.1) in (
+      let size : length unit
+      ≡ initial_length_size s.0.1
+      + s.0.0 = omega (arith, length_exact s.1 s.0 s.4, i.4.0, ap length whole, length-append s.1 i.1) in (
         i.1,
         (s.0, s.1, i.1, whole, s.4, (i.4.0, refl)),
-        size ∙ sym (ap (λ (n : ℕ). n + h.unit_length) (ap initial_length_size format) ∙ ap (λ (n : ℕ). initial_length_size s.0.1 + n) unit_length_is),
+        size
+            ∙ sym (ap (λ (n : ℕ). n + h.unit_length) (ap initial_length_size format)
+            ∙ ap (λ (n : ℕ). initial_length_size s.0.1 + n) unit_length_is),
       )
 
-  pub unit_ends : (unit_entry : UnitEntry) (offset : ℕ) (bytes : List ℕ) (h : Header) → SpellsUnit notation unit_entry bytes h
+  pub unit_ends : (unit_entry : UnitEntry) (offset : ℕ) (bytes : List ℕ) (h : Header)
+      → SpellsUnit notation unit_entry bytes h
       → offset_after offset h ≤ offset + length bytes
   unit_ends unit_entry offset bytes h u =
       let p = unit_size unit_entry u.0 h u.3 in
       omega (arith, p.2, length-append u.0 u.1, ap length u.2)
 
-  pub unit_follows : (unit_entry : UnitEntry) (offset next : ℕ) (bytes offsets : List ℕ) (h : Header) → SpellsUnit notation unit_entry bytes h
+  pub unit_follows : (unit_entry : UnitEntry) (offset next : ℕ) (bytes offsets : List ℕ) (h : Header)
+      → SpellsUnit notation unit_entry bytes h
       → AreUnits notation offset bytes (offset ∷ next ∷ offsets) → next ≡ offset_after offset h
   unit_follows unit_entry offset next bytes offsets h u s = elim s.1 [
     | inl b ↦
         let p = unit_size unit_entry u.0 h u.3 in
-        let read : any_unit_at notation bytes ≡ (Ok p.0, u.1) = ap (any_unit_at notation) u.2 ∙ reads_any_unit.only u.0 p.0 u.1 p.1 in
+        let read : any_unit_at notation bytes ≡ (Ok p.0, u.1) = ap (any_unit_at notation) u.2
+        ∙ reads_any_unit.only u.0 p.0 u.1 p.1 in
         let again : any_unit_at notation bytes ≡ (Ok b.content, b.rest) = ap (any_unit_at notation) b.parts
         ∙ reads_any_unit.only b.unit b.content b.rest b.spelled in
         let same : u.1 ≡ b.rest = ap (λ (r : Read (List ℕ)). r.1) (sym read ∙ again) in
-        omega (arith, b.follow.0, p.2, ap length same, ap length u.2, ap length b.parts, length-append u.0 u.1, length-append b.unit b.rest)
+        omega (
+          arith,
+          b.follow.0,
+          p.2,
+          ap length same,
+          ap length u.2,
+          ap length b.parts,
+          length-append u.0 u.1,
+          length-append b.unit b.rest,
+        )
     | inr r ↦ absurd cc
   ]
 
   -- ---- a walk through the units of a section
 
   -- what is left after a unit is an end of the section
-  pub rest_is_end : (section : List ℕ) (offset : ℕ) (after : List ℕ) → after ≡ after_unit (any_unit_at notation (drop offset section))
+  pub rest_is_end : (section : List ℕ) (offset : ℕ) (after : List ℕ)
+      → after ≡ after_unit (any_unit_at notation (drop offset section))
       → (front : List ℕ) × (section ≡ front ++ after)
   rest_is_end section offset after is =
       let a = after_end (drop offset section) (any_unit_at notation (drop offset section)) refl in (
@@ -238,12 +295,18 @@ module _ (notation : Notation) where
   -- the first offset is that of the unit in front; the others are those from the offset after it on
   pub offsets_step : (section : List ℕ) (offset next : ℕ) (after : List ℕ) → drop offset section ≢ []
       → after ≡ after_unit (any_unit_at notation (drop offset section)) → next + length after ≡ length section
-      → offsets_at notation (length section) (drop offset section) ≡ offset ∷ offsets_at notation (length section) (drop next section)
+      → offsets_at notation (length section) (drop offset section)
+      ≡ offset ∷ offsets_at notation (length section) (drop next section)
   offsets_step section offset next after some is ends =
       let e = rest_is_end section offset after is in
-      let rest : drop next section ≡ after = ap (drop next) e.1 ∙ drop_at e.0 after next (omega (arith, length-append e.0 after, ap length e.1)) in
-      let within : offset < length section = elim (cases_lt offset (length section)) [ inl lt ↦ lt | inr le ↦ absurd (some (drop_all offset section le)) ] in
+      let rest : drop next section ≡ after = ap (drop next) e.1
+      ∙ drop_at e.0 after next (omega (arith, length-append e.0 after, ap length e.1)) in
+      let within : offset
+      < length section = elim (cases_lt offset (length section))
+      [ inl lt ↦ lt | inr le ↦ absurd (some (drop_all offset section le)) ] in
       let first : length section - length (drop offset section) ≡ offset = omega (arith, length-drop offset section) in
       offsets_some (length section) (drop offset section) some
-      ∙ ap (λ (n : ℕ). n ∷ offsets_at notation (length section) (after_unit (any_unit_at notation (drop offset section)))) first
+      ∙ ap
+      (λ (n : ℕ). n ∷ offsets_at notation (length section) (after_unit (any_unit_at notation (drop offset section))))
+      first
       ∙ ap (λ (xs : List ℕ). offset ∷ offsets_at notation (length section) xs) (sym is ∙ sym rest)

@@ -3,9 +3,17 @@ use Rattle.std.proofs.Common.{◌≡◌, ℕ, Bool, true, false, [], ◌∷◌, 
 use Rattle.std.specs.Prelude.{pos, negsuc}
 use Rattle.gimli_core.specs.declared.common.Format.TheVariants.{Dwarf32}
 use Rattle.gimli_core.specs.declared.error.Error.TheVariants.{AddressOverflow}
-use Rattle.gimli_line.specs.declared.run.instruction.LineInstruction.TheVariants.{Copy, AdvancePc, AdvanceLine, SetFile, SetColumn, NegateStatement}
-use Rattle.gimli_line.specs.declared.run.instruction.LineInstruction.TheVariants.{SetBasicBlock, EndSequence, SetAddress, DefineFile, SetDiscriminator}
-use Rattle.gimli_line.specs.declared.run.instruction.LineInstruction.TheVariants.{FixedAddPc, ConstAddPc, SetPrologueEnd, SetEpilogueBegin}
+use Rattle.gimli_line.specs.declared.run.instruction.LineInstruction.TheVariants.{Copy, AdvancePc, AdvanceLine, SetFile}
+use Rattle.gimli_line.specs.declared.run.instruction.LineInstruction.TheVariants.{SetColumn, NegateStatement}
+use Rattle.gimli_line.specs.declared.run.instruction.LineInstruction.TheVariants.{
+  SetBasicBlock,
+  EndSequence,
+  SetAddress,
+  DefineFile,
+  SetDiscriminator,
+}
+use Rattle.gimli_line.specs.declared.run.instruction.LineInstruction.TheVariants.{FixedAddPc, ConstAddPc}
+use Rattle.gimli_line.specs.declared.run.instruction.LineInstruction.TheVariants.{SetPrologueEnd, SetEpilogueBegin}
 use Rattle.gimli_line.specs.header.Parameters.{Parameters}
 use Rattle.gimli_line.specs.declared.run.row.LineRow.{LineRow}
 use Rattle.gimli_line.specs.header.File.{File}
@@ -53,7 +61,8 @@ pub through_the_last_end : through_last_end (program_events (rules_13 4 1) (Copy
 through_the_last_end = refl
 
 -- the two greatest addresses stand for nothing, the one below them is an address
-pub least_tombstone : program_events (rules_13 4 1) (SetAddress 0xffff_fffe ∷ Copy ∷ EndSequence ∷ SetAddress 0xffff_fffd ∷ Copy ∷ EndSequence ∷ []) None
+pub least_tombstone : program_events (rules_13 4 1)
+    (SetAddress 0xffff_fffe ∷ Copy ∷ EndSequence ∷ SetAddress 0xffff_fffd ∷ Copy ∷ EndSequence ∷ []) None
     ≡ at 0xffff_fffd 0 1 false ∷ at 0xffff_fffd 0 1 true ∷ []
 least_tombstone = refl
 
@@ -64,12 +73,14 @@ pub part_under_tombstone_stands_still : program_events (rules_13 4 1)
 part_under_tombstone_stands_still = refl
 
 -- a set address that is a tombstone is no address: the next one is compared with the address before both
-pub hiding_address_is_none : program_events (rules_13 4 1) (SetAddress 0x10 ∷ Copy ∷ SetAddress 8 ∷ SetAddress 0x0c ∷ Copy ∷ EndSequence ∷ []) None
+pub hiding_address_is_none : program_events (rules_13 4 1)
+    (SetAddress 0x10 ∷ Copy ∷ SetAddress 8 ∷ SetAddress 0x0c ∷ Copy ∷ EndSequence ∷ []) None
     ≡ at 0x10 0 1 false ∷ []
 hiding_address_is_none = refl
 
 -- nothing overflows in a part under a tombstone
-pub part_under_tombstone_overflows_not : program_events (rules_13 1 1) (AdvancePc 0xf0 ∷ Copy ∷ SetAddress 0xff ∷ AdvancePc 0x20 ∷ Copy ∷ EndSequence ∷ []) None
+pub part_under_tombstone_overflows_not : program_events (rules_13 1 1)
+    (AdvancePc 0xf0 ∷ Copy ∷ SetAddress 0xff ∷ AdvancePc 0x20 ∷ Copy ∷ EndSequence ∷ []) None
     ≡ at 0xf0 0 1 false ∷ []
 part_under_tombstone_overflows_not = refl
 
@@ -80,7 +91,8 @@ pub marks_of_a_row_under_tombstone : program_events (rules_13 4 1)
 marks_of_a_row_under_tombstone = refl
 
 -- so does an overflow
-pub marks_of_an_overflow : program_events (rules_13 1 1) (AdvancePc 255 ∷ SetDiscriminator 5 ∷ SetPrologueEnd ∷ SetEpilogueBegin ∷ AdvancePc 1 ∷ Copy ∷ []) None
+pub marks_of_an_overflow : program_events (rules_13 1 1)
+    (AdvancePc 255 ∷ SetDiscriminator 5 ∷ SetPrologueEnd ∷ SetEpilogueBegin ∷ AdvancePc 1 ∷ Copy ∷ []) None
     ≡ fault AddressOverflow ∷ at 255 0 1 false ∷ []
 marks_of_an_overflow = refl
 
@@ -110,7 +122,9 @@ same_address = refl
 
 -- the registers of a sequence start anew after its end, and marks after each row
 pub registers_start_anew : program_events (rules_13 4 1)
-    (SetDiscriminator 5 ∷ SetBasicBlock ∷ SetColumn 7 ∷ SetFile 2 ∷ NegateStatement ∷ AdvanceLine (pos 3) ∷ Copy ∷ EndSequence ∷ Copy ∷ []) None
+    (SetDiscriminator 5 ∷ SetBasicBlock ∷ SetColumn 7 ∷ SetFile 2 ∷ NegateStatement ∷ AdvanceLine (pos 3) ∷ Copy
+    ∷ EndSequence ∷ Copy ∷ [])
+    None
     ≡ row (record (blank 0 0 4) { file = 2; column = 7; is_stmt = false; basic_block = true; discriminator = 5 })
     ∷ row (record (blank 0 0 4) { file = 2; column = 7; is_stmt = false; end_sequence = true })
     ∷ row (blank 0 0 1) ∷ []

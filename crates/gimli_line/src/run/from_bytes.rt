@@ -20,7 +20,11 @@ ghost use Rattle.gimli_line.specs.header.FormReading.{offset_at};
 ghost use Rattle.gimli_line.specs.header.Header.{Header};
 ghost use Rattle.gimli_line.specs.run.Execution.{told_of, ExecutesNext, RefusesNext};
 ghost use Rattle.gimli_line.specs.run.Instruction.{ins_seen, defines_file};
-ghost use Rattle.gimli_line.specs.run.InstructionReading.{extended_at, extended_operands_at, ins_at};
+ghost use Rattle.gimli_line.specs.run.InstructionReading.{
+  extended_at,
+  extended_operands_at,
+  ins_at,
+};
 ghost use Rattle.gimli_line.specs.run.Machine.{IsAllowed};
 
 use crate::header::file_entry::FileEntry;

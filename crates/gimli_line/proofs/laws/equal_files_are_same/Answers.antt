@@ -7,30 +7,27 @@ use Rattle.gimli_line.proofs.laws.equal_files_are_same.Goals as goal
 module _ {R Offset Endian : Type 0} where
   -- a file of these parts
   abbrev rebuilt : FileEntry R Offset Endian → FileEntry R Offset Endian
-  rebuilt f = record { path_name = f.path_name; directory_index = f.directory_index; timestamp = f.timestamp; size = f.size; md5 = f.md5; source = f.source }
+  rebuilt f = record {
+    path_name = f.path_name;
+    directory_index = f.directory_index;
+    timestamp = f.timestamp;
+    size = f.size;
+    md5 = f.md5;
+    source = f.source;
+  }
 
   joined : (x y : FileEntry R Offset Endian)
       → (x.path_name ≡ y.path_name)
-      × ((x.directory_index ≡ y.directory_index) × ((x.timestamp ≡ y.timestamp) × ((x.size ≡ y.size) × ((x.md5 ≡ y.md5) × (x.source ≡ y.source)))))
+      × ((x.directory_index ≡ y.directory_index)
+      × ((x.timestamp ≡ y.timestamp) × ((x.size ≡ y.size) × ((x.md5 ≡ y.md5) × (x.source ≡ y.source)))))
       → x ≡ y
-  joined x y p = let same : rebuilt x ≡ rebuilt y = rw (p.0, p.1.0, p.1.1.0, p.1.1.1.0, p.1.1.1.1.0, p.1.1.1.1.1) refl in same
+  joined x y p = let same : rebuilt x ≡ rebuilt y = cc in same
 
   parted : (x y : FileEntry R Offset Endian) → x ≡ y
       → (x.path_name ≡ y.path_name)
-      × ((x.directory_index ≡ y.directory_index) × ((x.timestamp ≡ y.timestamp) × ((x.size ≡ y.size) × ((x.md5 ≡ y.md5) × (x.source ≡ y.source)))))
-  parted x y e = (
-    ap (λ (f : FileEntry R Offset Endian). f.path_name) e,
-    (
-      ap (λ (f : FileEntry R Offset Endian). f.directory_index) e,
-      (
-        ap (λ (f : FileEntry R Offset Endian). f.timestamp) e,
-        (
-          ap (λ (f : FileEntry R Offset Endian). f.size) e,
-          (ap (λ (f : FileEntry R Offset Endian). f.md5) e, (ap (λ (f : FileEntry R Offset Endian). f.source) e)),
-        ),
-      ),
-    ),
-  )
+      × ((x.directory_index ≡ y.directory_index)
+      × ((x.timestamp ≡ y.timestamp) × ((x.size ≡ y.size) × ((x.md5 ≡ y.md5) × (x.source ≡ y.source)))))
+  parted x y e = rw e (refl, (refl, (refl, (refl, (refl, refl)))))
 
 pub returns : goal.returns
 returns g c readers offsets x y =

@@ -19,14 +19,17 @@ returns g c readers offsets x y =
     (unsigned_Decides x.parameters.opcode_base y.parameters.opcode_base)))
     (joined_parameters x.parameters y.parameters) (parted_parameters x.parameters y.parameters) in
     let offset = whole (offsets x.offset.0 y.offset.0) (joined_offset _ _) (ap (λ (o : DebugLineOffset ℕ). o.0)) in
-    let directory_formats = slice_eq-Decides formats x.directory_entry_format.items y.directory_entry_format.items _ refl in
+    let directory_formats =
+    slice_eq-Decides formats x.directory_entry_format.items y.directory_entry_format.items _ refl in
     let directories = lists_by values x.include_directories.items y.include_directories.items in
     let file_formats = slice_eq-Decides formats x.file_name_entry_format.items y.file_name_entry_format.items _ refl in
     let files_same = lists_by files x.file_names.items y.file_names.items in
     let lists =
     both directory_formats (both directories (both file_formats (both files_same
-    (both (readers x.program_buf y.program_buf) (both (options_by readers x.comp_dir y.comp_dir) (options_by files x.comp_file y.comp_file)))))) in
+    (both (readers x.program_buf y.program_buf)
+    (both (options_by readers x.comp_dir y.comp_dir) (options_by files x.comp_file y.comp_file)))))) in
     whole
     (both parameters (both offset (both (offsets x.unit_length y.unit_length)
-    (both (offsets x.header_length y.header_length) (both (readers x.standard_opcode_lengths y.standard_opcode_lengths) lists)))))
+    (both (offsets x.header_length y.header_length)
+    (both (readers x.standard_opcode_lengths y.standard_opcode_lengths) lists)))))
     (joined _ _) (parted _ _)

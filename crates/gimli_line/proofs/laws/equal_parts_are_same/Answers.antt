@@ -26,55 +26,12 @@ pub returns-clause-rows : goal.returns-clause-rows
 returns-clause-rows c x y =
     whole
     (both (booleans_Decides x.tombstone y.tombstone) (both (unsigned_Decides x.address y.address)
-    (both (unsigned_Decides x.op_index y.op_index) (both (unsigned_Decides x.file y.file) (both (unsigned_Decides x.line y.line)
-    (both (unsigned_Decides x.column y.column) (both (booleans_Decides x.is_stmt y.is_stmt) (both (booleans_Decides x.basic_block y.basic_block)
+    (both (unsigned_Decides x.op_index y.op_index)
+    (both (unsigned_Decides x.file y.file) (both (unsigned_Decides x.line y.line)
+    (both (unsigned_Decides x.column y.column)
+    (both (booleans_Decides x.is_stmt y.is_stmt) (both (booleans_Decides x.basic_block y.basic_block)
     (both (booleans_Decides x.end_sequence y.end_sequence) (both (booleans_Decides x.prologue_end y.prologue_end) (both
-    (booleans_Decides x.epilogue_begin y.epilogue_begin) (both (unsigned_Decides x.isa y.isa) (unsigned_Decides x.discriminator y.discriminator)))))))))))))
-    (λ p. let same : rebuilt x
-    ≡ rebuilt y = rw (
-      p.0,
-      p.1.0,
-      p.1.1.0,
-      p.1.1.1.0,
-      p.1.1.1.1.0,
-      p.1.1.1.1.1.0,
-      p.1.1.1.1.1.1.0,
-      p.1.1.1.1.1.1.1.0,
-      p.1.1.1.1.1.1.1.1.0,
-      p.1.1.1.1.1.1.1.1.1.0,
-      p.1.1.1.1.1.1.1.1.1.1.0,
-      p.1.1.1.1.1.1.1.1.1.1.1.0,
-      p.1.1.1.1.1.1.1.1.1.1.1.1,
-    )
-    refl in same)
-    (λ e. (
-      ap (λ (r : LineRow). r.tombstone) e,
-      (
-        ap (λ (r : LineRow). r.address) e,
-        (
-          ap (λ (r : LineRow). r.op_index) e,
-          (
-            ap (λ (r : LineRow). r.file) e,
-            (
-              ap (λ (r : LineRow). r.line) e,
-              (
-                ap (λ (r : LineRow). r.column) e,
-                (
-                  ap (λ (r : LineRow). r.is_stmt) e,
-                  (
-                    ap (λ (r : LineRow). r.basic_block) e,
-                    (
-                      ap (λ (r : LineRow). r.end_sequence) e,
-                      (
-                        ap (λ (r : LineRow). r.prologue_end) e,
-                        (ap (λ (r : LineRow). r.epilogue_begin) e, (ap (λ (r : LineRow). r.isa) e, (ap (λ (r : LineRow). r.discriminator) e))),
-                      ),
-                    ),
-                  ),
-                ),
-              ),
-            ),
-          ),
-        ),
-      ),
-    ))
+    (booleans_Decides x.epilogue_begin y.epilogue_begin)
+    (both (unsigned_Decides x.isa y.isa) (unsigned_Decides x.discriminator y.discriminator)))))))))))))
+    (λ p. let same : rebuilt x ≡ rebuilt y = cc in same) (λ e.
+    rw e (refl, (refl, (refl, (refl, (refl, (refl, (refl, (refl, (refl, (refl, (refl, (refl, refl)))))))))))))

@@ -9,11 +9,14 @@ use Rattle.gimli_line.proofs.laws.same_parts_say_same.Goals as goal
 
 module _ {R Offset Endian : Type 0} where
   -- what headers say that is told by their parts
-  same_told : {A : Type 0} (told : OwnParts R Offset Endian → A) (say : SeenHeader R Offset Endian → A) (seen x other y : SeenHeader R Offset Endian) → seen ≡ x
+  same_told : {A : Type 0} (told : OwnParts R Offset Endian → A) (say : SeenHeader R Offset Endian → A)
+      (seen x other y : SeenHeader R Offset Endian)
+      → seen ≡ x
       → other ≡ y
       → say seen ≡ told (parts_of seen) → say other ≡ told (parts_of other) → parts_of x ≡ parts_of y → say x ≡ say y
   same_told told say seen x other y is to first second e =
-      sym (ap say is) ∙ first ∙ ap (λ h. told (parts_of h)) is ∙ ap told e ∙ sym (ap (λ h. told (parts_of h)) to) ∙ sym second ∙ ap say to
+      sym (ap say is) ∙ first ∙ ap (λ h. told (parts_of h)) is ∙ ap told e ∙ sym (ap (λ h. told (parts_of h)) to)
+      ∙ sym second ∙ ap say to
 
   abbrev meaning_told : (R → List ℕ) → (Offset → ℕ) → OwnParts R Offset Endian → Header
   meaning_told bytes number p = record {
@@ -34,7 +37,11 @@ module _ {R Offset Endian : Type 0} where
   notation_told big limit p = record { big = big p.program; limit = limit }
 
 pub returns-clause-meaning : goal.returns-clause-meaning
-returns-clause-meaning g c = same_told (meaning_told g.R.Reader.bytes g.R.Offset.ReaderOffset.number) (λ h. h.meaning) _ _ _ _ c.x.view_is c.y.view_is refl refl
+returns-clause-meaning g c =
+    same_told (meaning_told g.R.Reader.bytes g.R.Offset.ReaderOffset.number) (λ h. h.meaning) _ _ _ _ c.x.view_is
+    c.y.view_is refl refl
 
 pub returns-clause-notation : goal.returns-clause-notation
-returns-clause-notation g c = same_told (notation_told g.R.Reader.big g.R.Offset.ReaderOffset.limit) (λ h. h.notation) _ _ _ _ c.x.view_is c.y.view_is refl refl
+returns-clause-notation g c =
+    same_told (notation_told g.R.Reader.big g.R.Offset.ReaderOffset.limit) (λ h. h.notation) _ _ _ _ c.x.view_is
+    c.y.view_is refl refl

@@ -152,7 +152,8 @@ parameters_at encoding bytes =
     )
 
 -- the items of a table of a version: plain ones up to version 4, else seen of its entries
-unfoldable pub table_of : {B : Type 0} → (List ℕ → Read (List B)) → (Entry → B) → Notation → Encoding
+unfoldable pub table_of : {B : Type 0} → (List ℕ → Read (List B)) → (Entry → B) → Notation
+    → Encoding
     → List ℕ → Read (List FileEntryFormat × List B)
 table_of plain view notation encoding bytes =
     if nat_le encoding.version 4 then (plain bytes >>= λ items rest. (Ok ([], items), rest))

@@ -17,12 +17,14 @@ pub returns-then-byte-lt128-clause-read : goal.returns-then-byte-lt128-clause-re
 returns-then-byte-lt128-clause-read g c =
     let back : to_z w64 (of_z w64 c.sign_extended.result) ≡ c.sign_extended.result = omega (arith, ints) in
     rw (back, c.sign_extended.ensures, c.with_group-value.ensures)
-    (ends_ok _ _ _ c.loop-group.group c.in_ok-byte.byte _ c.loop-group.invariant.so_far c.loop-group-test.true c.if-byte-lt128.true c.in_ok-byte.ensures.read)
+    (ends_ok _ _ _ c.loop-group.group c.in_ok-byte.byte _ c.loop-group.invariant.so_far c.loop-group-test.true
+    c.if-byte-lt128.true c.in_ok-byte.ensures.read)
 
 pub loop-group-preserved : goal.loop-group-preserved
 loop-group-preserved g c = record {
   so_far =
-      rw c.with_group-value.ensures (goes_on _ _ _ c.loop-group.group c.in_ok-byte.byte _ c.loop-group.invariant.so_far c.loop-group-test.true
+      rw c.with_group-value.ensures
+      (goes_on _ _ _ c.loop-group.group c.in_ok-byte.byte _ c.loop-group.invariant.so_far c.loop-group-test.true
       c.if-byte-lt128.false c.in_ok-byte.ensures.read);
   order = search rules;
   low = rw c.with_group-value.ensures (low_grows _ _ _ c.loop-group.invariant.low);
@@ -36,4 +38,5 @@ returns-in_err-last-clause-read g c =
 pub returns-clause-read : goal.returns-clause-read
 returns-clause-read g c =
     rw c.with_tenth.ensures
-    (ends_tenth _ _ _ c.loop-group.group c.in_ok-last.last _ c.loop-group.invariant.so_far c.loop-group-test.false (omega arith) c.in_ok-last.ensures.read)
+    (ends_tenth _ _ _ c.loop-group.group c.in_ok-last.last _ c.loop-group.invariant.so_far c.loop-group-test.false
+    (omega arith) c.in_ok-last.ensures.read)

@@ -5,7 +5,8 @@ use Rattle.gimli_core.proofs.reader.Reader.read_sleb128.Given as goal
 
 abbrev pub invariant-loop-group : goal.invariant-loop-group
 invariant-loop-group g l = record {
-  so_far : grown_z (2 ^ (7 * l.group)) l.value (sleb_at (9 - l.group) (g.Self.Reader.bytes l.self)) ≡ signed_at (g.Self.Reader.bytes l.initial.self);
+  so_far : grown_z (2 ^ (7 * l.group)) l.value (sleb_at (9 - l.group) (g.Self.Reader.bytes l.self))
+      ≡ signed_at (g.Self.Reader.bytes l.initial.self);
   order : g.Self.Reader.big l.self ≡ g.Self.Reader.big l.initial.self;
   low : l.value < 2 ^ (7 * l.group);
 }

@@ -5,7 +5,8 @@ use Rattle.gimli_core.proofs.reader.Reader.read_uleb128.Given as goal
 
 abbrev pub invariant-loop-group : goal.invariant-loop-group
 invariant-loop-group g l = record {
-  so_far : grown (2 ^ (7 * l.group)) l.value (uleb_at (9 - l.group) 1 (g.Self.Reader.bytes l.self)) ≡ uleb_at 9 1 (g.Self.Reader.bytes l.initial.self);
+  so_far : grown (2 ^ (7 * l.group)) l.value (uleb_at (9 - l.group) 1 (g.Self.Reader.bytes l.self))
+      ≡ uleb_at 9 1 (g.Self.Reader.bytes l.initial.self);
   order : g.Self.Reader.big l.self ≡ g.Self.Reader.big l.initial.self;
   low : l.value < 2 ^ (7 * l.group);
 }

@@ -9,4 +9,6 @@ returns-in_err-header-clause-refusal g c =
     (reads_header _ _).fault _ _ (c.in_err-header.ensures.read other))
 
 pub returns-clause-unit : goal.returns-clause-unit
-returns-clause-unit g c = rw (← c.input_at-input.ensures.bytes, ← c.input_at-input.ensures.order) (unit_answered _ _ _ _ c.in_ok-header.ensures.read)
+returns-clause-unit g c =
+    rw (← c.input_at-input.ensures.bytes, ← c.input_at-input.ensures.order)
+    (unit_answered _ _ _ _ c.in_ok-header.ensures.read)

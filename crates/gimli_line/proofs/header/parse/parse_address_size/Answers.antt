@@ -10,7 +10,8 @@ unfolding address_size_at
 known [] n rest e = let p = ap (λ (r : Read ℕ). r.0) e in absurd cc
 known (b ∷ bytes) n rest e = at_test (is_address_size b) refl (ap (λ (r : Read ℕ). r.0) e)
   where
-    at_test : (test : Bool) → is_address_size b ≡ test → Ok n ≡ (if test then Ok b else Err (UnsupportedAddressSize b)) → IsTrue (is_address_size n)
+    at_test : (test : Bool) → is_address_size b ≡ test → Ok n ≡ (if test then Ok b else Err (UnsupportedAddressSize b))
+        → IsTrue (is_address_size n)
     at_test true is p = let same : n ≡ b = cc in ap is_address_size same ∙ is
     at_test false is p = absurd cc
 

@@ -9,7 +9,8 @@ use Rattle.gimli_line.proofs.header.tables.parse_directories.Given as goal
 
 abbrev pub invariant-loop-directories : goal.invariant-loop-directories
 invariant-loop-directories g l = record {
-  so_far : collected (map (value_seen g.R.Reader.bytes g.R.Offset.ReaderOffset.number) l.directories.items) String (paths_at (g.R.Reader.bytes l.input))
+  so_far : collected (map (value_seen g.R.Reader.bytes g.R.Offset.ReaderOffset.number) l.directories.items) String
+      (paths_at (g.R.Reader.bytes l.input))
       ≡ read_map (map String) (paths_at (g.R.Reader.bytes l.initial.input));
   order : g.R.Reader.big l.input ≡ g.R.Reader.big l.initial.input;
   parts : All (ValueHasOrder g.R.Reader.big (g.R.Reader.big l.initial.input)) l.directories.items;

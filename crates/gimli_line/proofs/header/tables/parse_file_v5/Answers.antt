@@ -16,7 +16,8 @@ loop-entry_format-init g c = record {
 pub loop-entry_format-preserved : goal.loop-entry_format-preserved
 loop-entry_format-preserved g c = record {
   so_far =
-      entry_goes_on _ _ _ _ file_with _ _ _ _ _ _ _ _ _ c.loop-entry_format-test.true c.loop-entry_format.invariant.order c.in_ok-value.ensures.read c.update.ensures.file
+      entry_goes_on _ _ _ _ file_with _ _ _ _ _ _ _ _ _ c.loop-entry_format-test.true
+      c.loop-entry_format.invariant.order c.in_ok-value.ensures.read c.update.ensures.file
       c.loop-entry_format.invariant.so_far;
   order = c.parse_attribute.ensures.order ∙ c.loop-entry_format.invariant.order;
   part =
@@ -27,8 +28,10 @@ loop-entry_format-preserved g c = record {
 pub returns-in_err-value-clause-read : goal.returns-in_err-value-clause-read
 returns-in_err-value-clause-read g c =
     let p = err_from_is_err_and c.from_residual.result c.from_residual.ensures.1 in
-    rw (p.1, p.2) (entry_ends _ _ _ _ file_with _ _ _ _ _ _ _ _ c.loop-entry_format-test.true c.loop-entry_format.invariant.order c.in_err-value.ensures.read
+    rw (p.1, p.2) (entry_ends _ _ _ _ file_with _ _ _ _ _ _ _ _ c.loop-entry_format-test.true
+    c.loop-entry_format.invariant.order c.in_err-value.ensures.read
     c.loop-entry_format.invariant.so_far)
 
 pub returns-clause-read : goal.returns-clause-read
-returns-clause-read g c = entry_done _ _ file_with _ _ _ _ _ c.loop-entry_format-test.false c.loop-entry_format.invariant.so_far
+returns-clause-read g c =
+    entry_done _ _ file_with _ _ _ _ _ c.loop-entry_format-test.false c.loop-entry_format.invariant.so_far

@@ -11,7 +11,8 @@ abbrev pub invariant-loop-entry_format : goal.invariant-loop-entry_format
 invariant-loop-entry_format g l =
     let notation : Notation = record { big = g.R.Reader.big l.initial.input; limit = g.R.Offset.ReaderOffset.limit } in
     record {
-      so_far : folded_at notation l.format file_with (file_seen g.R.Reader.bytes g.R.Offset.ReaderOffset.number l.file) (drop l.entry_format-index l.formats)
+      so_far : folded_at notation l.format file_with (file_seen g.R.Reader.bytes g.R.Offset.ReaderOffset.number l.file)
+          (drop l.entry_format-index l.formats)
           (g.R.Reader.bytes l.input)
           ≡ read_map file_of_entry (entry_at notation l.format l.formats (g.R.Reader.bytes l.initial.input));
       order : g.R.Reader.big l.input ≡ g.R.Reader.big l.initial.input;

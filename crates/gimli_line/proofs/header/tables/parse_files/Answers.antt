@@ -5,7 +5,8 @@ use Rattle.gimli_line.specs.inside.header.HeaderReading.{named_file_at, files_at
 use Rattle.gimli_line.specs.header.File.{FileHasOrder}
 use Rattle.gimli_line.proofs.Order.{files_pushed}
 use Rattle.gimli_line.proofs.HeaderLaws.{reads_named_file, named_file}
-use Rattle.gimli_line.proofs.Loops.{closed_goes_on, closed_ends, closed_done, closed_smaller, text_closed, text_free, text_refused, named_is, named_fault}
+use Rattle.gimli_line.proofs.Loops.{closed_goes_on, closed_ends, closed_done, closed_smaller, text_closed, text_free}
+use Rattle.gimli_line.proofs.Loops.{text_refused, named_is, named_fault}
 use Rattle.gimli_line.proofs.Loops.{collected_same}
 use Rattle.gimli_line.proofs.Tables.{none_yet}
 use Rattle.gimli_line.proofs.header.tables.parse_files.Goals as goal
@@ -16,12 +17,14 @@ returns-in_err-path_name-clause-read g c =
     rw (p.1, p.2) (λ _.
     closed_ends (λ x. x) named_file named_file_at reads_named_file _ (g.R.Reader.bytes c.loop-files.input) _ _ _
     (text_refused (g.R.Reader.bytes c.loop-files.input) _ _ c.in_err-path_name.ensures.read)
-    (named_fault (g.R.Reader.bytes c.loop-files.input) _ _ c.in_err-path_name.ensures.read) c.loop-files.invariant.so_far)
+    (named_fault (g.R.Reader.bytes c.loop-files.input) _ _ c.in_err-path_name.ensures.read)
+    c.loop-files.invariant.so_far)
 
 pub returns-then-is_empty-clause-read : goal.returns-then-is_empty-clause-read
 returns-then-is_empty-clause-read g c =
     closed_done (λ x. x) named_file named_file_at reads_named_file _ (g.R.Reader.bytes c.loop-files.input) _ _
-    (text_closed (g.R.Reader.bytes c.loop-files.input) _ _ c.if-is_empty.ensures c.in_ok-path_name.ensures.read) c.loop-files.invariant.so_far
+    (text_closed (g.R.Reader.bytes c.loop-files.input) _ _ c.if-is_empty.ensures c.in_ok-path_name.ensures.read)
+    c.loop-files.invariant.so_far
 
 pub returns-in_err-file-clause-read : goal.returns-in_err-file-clause-read
 returns-in_err-file-clause-read g c =
@@ -29,7 +32,8 @@ returns-in_err-file-clause-read g c =
     rw (p.1, p.2) (λ _.
     closed_ends (λ x. x) named_file named_file_at reads_named_file _ (g.R.Reader.bytes c.loop-files.input) _ _ _
     (text_free (g.R.Reader.bytes c.loop-files.input) _ _ c.if-is_empty.ensures c.in_ok-path_name.ensures.read)
-    (named_is (g.R.Reader.bytes c.loop-files.input) _ _ _ c.in_ok-path_name.ensures.read c.in_err-file.ensures.read) c.loop-files.invariant.so_far)
+    (named_is (g.R.Reader.bytes c.loop-files.input) _ _ _ c.in_ok-path_name.ensures.read c.in_err-file.ensures.read)
+    c.loop-files.invariant.so_far)
 
 pub loop-files-smaller : goal.loop-files-smaller
 loop-files-smaller g c =
@@ -40,12 +44,15 @@ loop-files-smaller g c =
 pub loop-files-preserved : goal.loop-files-preserved
 loop-files-preserved g c = record {
   so_far =
-      rw (c.in_ok-push.ensures.ok, map_push) (closed_goes_on (λ x. x) named_file named_file_at reads_named_file _ (g.R.Reader.bytes c.loop-files.input) _ _ _
+      rw (c.in_ok-push.ensures.ok, map_push)
+      (closed_goes_on (λ x. x) named_file named_file_at reads_named_file _ (g.R.Reader.bytes c.loop-files.input) _ _ _
       (text_free (g.R.Reader.bytes c.loop-files.input) _ _ c.if-is_empty.ensures c.in_ok-path_name.ensures.read)
-      (named_is (g.R.Reader.bytes c.loop-files.input) _ _ _ c.in_ok-path_name.ensures.read c.in_ok-file.ensures.read) c.loop-files.invariant.so_far);
+      (named_is (g.R.Reader.bytes c.loop-files.input) _ _ _ c.in_ok-path_name.ensures.read c.in_ok-file.ensures.read)
+      c.loop-files.invariant.so_far);
   order = c.parse.ensures.order ∙ c.read_null_terminated_slice.ensures.order ∙ c.loop-files.invariant.order;
   parts =
-      files_pushed g.R.Reader.big _ _ _ _ _ c.in_ok-push.ensures.ok (c.in_ok-path_name.ensures.part ∙ c.loop-files.invariant.order) c.loop-files.invariant.parts
+      files_pushed g.R.Reader.big _ _ _ _ _ c.in_ok-push.ensures.ok
+      (c.in_ok-path_name.ensures.part ∙ c.loop-files.invariant.order) c.loop-files.invariant.parts
       c.in_ok-file.ensures.file;
 }
 
@@ -62,7 +69,9 @@ returns-in_err-push-clause-read g c =
     rw (p.1, p.2) (λ other. absurd (other c.in_err-push.ensures.err))
 
 pub returns-in_err-push-clause-order : goal.returns-in_err-push-clause-order
-returns-in_err-push-clause-order g c = c.parse.ensures.order ∙ c.read_null_terminated_slice.ensures.order ∙ c.loop-files.invariant.order
+returns-in_err-push-clause-order g c =
+    c.parse.ensures.order ∙ c.read_null_terminated_slice.ensures.order ∙ c.loop-files.invariant.order
 
 pub returns-in_err-file-clause-order : goal.returns-in_err-file-clause-order
-returns-in_err-file-clause-order g c = c.parse.ensures.order ∙ c.read_null_terminated_slice.ensures.order ∙ c.loop-files.invariant.order
+returns-in_err-file-clause-order g c =
+    c.parse.ensures.order ∙ c.read_null_terminated_slice.ensures.order ∙ c.loop-files.invariant.order

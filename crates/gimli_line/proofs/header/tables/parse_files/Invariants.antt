@@ -7,7 +7,8 @@ use Rattle.gimli_line.proofs.header.tables.parse_files.Given as goal
 
 abbrev pub invariant-loop-files : goal.invariant-loop-files
 invariant-loop-files g l = record {
-  so_far : collected (map (file_seen g.R.Reader.bytes g.R.Offset.ReaderOffset.number) l.files.items) (λ x. x) (files_at (g.R.Reader.bytes l.input))
+  so_far : collected (map (file_seen g.R.Reader.bytes g.R.Offset.ReaderOffset.number) l.files.items) (λ x. x)
+      (files_at (g.R.Reader.bytes l.input))
       ≡ files_at (g.R.Reader.bytes l.initial.input);
   order : g.R.Reader.big l.input ≡ g.R.Reader.big l.initial.input;
   parts : All (FileHasOrder g.R.Reader.big (g.R.Reader.big l.initial.input)) l.files.items;

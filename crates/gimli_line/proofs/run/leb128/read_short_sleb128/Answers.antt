@@ -9,5 +9,6 @@ returns-then-first-lt128-clause-read g c =
 pub returns-clause-read : goal.returns-clause-read
 returns-clause-read g c =
     let below : c.in-Ok.first < 256 = search rules in
-    two_signed _ _ c.in-Ok.first c.in-Ok-read_u8.second _ _ _ c.if-first-lt128.false below c.if-second-ge128.false c.from.ensures c.signed_7-2.ensures
+    two_signed _ _ c.in-Ok.first c.in-Ok-read_u8.second _ _ _ c.if-first-lt128.false below c.if-second-ge128.false
+    c.from.ensures c.signed_7-2.ensures
     c.in-Ok.ensures.read c.in-Ok-read_u8.ensures.read

@@ -25,8 +25,11 @@ returns-clause-next g c =
     let after = rw (c.input_at-rest.ensures.bytes, c.input_at-rest.ensures.order) at c.skip_unit.ensures in
     let ends = rw c.reader.ensures at c.offset_from.ensures in
     rw (← c.self.view_is)
-    (offsets_step _ _ _ _ _ (λ none. let t = c.is_empty.ensures.1 (c.input_at-rest.ensures.bytes ∙ none) in absurd (search rules)) after ends)
+    (offsets_step _ _ _ _ _
+    (λ none. let t = c.is_empty.ensures.1 (c.input_at-rest.ensures.bytes ∙ none) in absurd (search rules)) after
+    ends)
 
 pub returns-clause-refusal : goal.returns-clause-refusal
 returns-clause-refusal g c =
-    refusal_is _ _ (λ is. let t = c.is_out_of_memory.ensures.1 is in absurd (search rules)) (rw (← c.self.view_is) c.program-program.ensures.refusal)
+    refusal_is _ _ (λ is. let t = c.is_out_of_memory.ensures.1 is in absurd (search rules))
+    (rw (← c.self.view_is) c.program-program.ensures.refusal)

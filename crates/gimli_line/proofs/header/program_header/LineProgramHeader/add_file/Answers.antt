@@ -11,6 +11,8 @@ returns-clause-source g c =
       order = λ order has are. record {
         operand_counts = are.operand_counts;
         directories = are.directories;
-        files = files_after g.R.Reader.big order c.push.result c.self.inside.file_names.items _ c.args.file c.push.ensures.ok c.push.ensures.kept has are.files;
+        files =
+            files_after g.R.Reader.big order c.push.result c.self.inside.file_names.items _ c.args.file
+            c.push.ensures.ok c.push.ensures.kept has are.files;
       };
     })

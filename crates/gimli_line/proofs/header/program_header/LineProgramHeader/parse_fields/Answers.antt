@@ -15,16 +15,24 @@ returns-clause-order g c =
     let files = c.parse_directory_table.ensures.order ∙ directories in
     record {
       operand_counts = c.in_ok-standard_opcode_lengths.ensures.part ∙ counts;
-      directories = values_mapped g.R.Reader.big _ _ (values_kept g.R.Reader.big _ _ _ directories c.in_ok-directory_entry_format.ensures.parts);
-      files = files_mapped g.R.Reader.big _ _ (files_kept g.R.Reader.big _ _ _ files c.in_ok-file_name_entry_format.ensures.parts);
+      directories =
+          values_mapped g.R.Reader.big _ _
+          (values_kept g.R.Reader.big _ _ _ directories c.in_ok-directory_entry_format.ensures.parts);
+      files =
+          files_mapped g.R.Reader.big _ _
+          (files_kept g.R.Reader.big _ _ _ files c.in_ok-file_name_entry_format.ensures.parts);
     }
 
 pub returns-clause-directory : goal.returns-clause-directory
-returns-clause-directory g c = c.comp_dir_of.ensures.own ∙ ap (λ encoding. handed_value encoding c.args.comp_dir) (sym c.in_ok-parameters.ensures.encoding)
+returns-clause-directory g c =
+    c.comp_dir_of.ensures.own
+    ∙ ap (λ encoding. handed_value encoding c.args.comp_dir) (sym c.in_ok-parameters.ensures.encoding)
 
 pub returns-clause-name : goal.returns-clause-name
 returns-clause-name g c =
-    c.comp_file_of.ensures.path ∙ ap (λ encoding. handed_value encoding (option_map String c.args.comp_name)) (sym c.in_ok-parameters.ensures.encoding)
+    c.comp_file_of.ensures.path
+    ∙ ap (λ encoding. handed_value encoding (option_map String c.args.comp_name))
+    (sym c.in_ok-parameters.ensures.encoding)
 
 pub returns-in_err-parameters-clause-read : goal.returns-in_err-parameters-clause-read
 returns-in_err-parameters-clause-read g c =
@@ -33,29 +41,39 @@ returns-in_err-parameters-clause-read g c =
 
 pub returns-in_err-standard_opcode_lengths-clause-read : goal.returns-in_err-standard_opcode_lengths-clause-read
 returns-in_err-standard_opcode_lengths-clause-read g c =
-    let p = err_from_is_err_and c.from_residual-in_err-standard_opcode_lengths.result c.from_residual-in_err-standard_opcode_lengths.ensures.1 in
+    let p =
+    err_from_is_err_and c.from_residual-in_err-standard_opcode_lengths.result
+    c.from_residual-in_err-standard_opcode_lengths.ensures.1 in
     let counted = c.from_u8.ensures ∙ ap (λ (v : Parameters). v.opcode_base - 1) c.parameters.view_is in
-    rw (p.1, p.2) (λ _. counts_end _ _ _ _ _ _ _ _ _ _ c.in_ok-parameters.ensures.read counted _ _ c.in_err-standard_opcode_lengths.ensures.read)
+    rw (p.1, p.2) (λ _.
+    counts_end _ _ _ _ _ _ _ _ _ _ c.in_ok-parameters.ensures.read counted _ _
+    c.in_err-standard_opcode_lengths.ensures.read)
 
 pub returns-in_err-directory_entry_format-clause-read : goal.returns-in_err-directory_entry_format-clause-read
 returns-in_err-directory_entry_format-clause-read g c =
-    let p = err_from_is_err_and c.from_residual-in_err-directory_entry_format.result c.from_residual-in_err-directory_entry_format.ensures.1 in
+    let p =
+    err_from_is_err_and c.from_residual-in_err-directory_entry_format.result
+    c.from_residual-in_err-directory_entry_format.ensures.1 in
     let counted = c.from_u8.ensures ∙ ap (λ (v : Parameters). v.opcode_base - 1) c.parameters.view_is in
     let counts = c.parse_parameters.ensures.order ∙ c.requires.order in
     let directories = c.split.ensures.order ∙ counts in
     rw (p.1, p.2) (λ other.
-    directories_end _ _ _ _ _ _ _ _ _ _ c.in_ok-parameters.ensures.read counted _ _ _ c.in_ok-standard_opcode_lengths.ensures.read directories _
+    directories_end _ _ _ _ _ _ _ _ _ _ c.in_ok-parameters.ensures.read counted _ _ _
+    c.in_ok-standard_opcode_lengths.ensures.read directories _
     (c.in_err-directory_entry_format.ensures.read other))
 
 pub returns-in_err-file_name_entry_format-clause-read : goal.returns-in_err-file_name_entry_format-clause-read
 returns-in_err-file_name_entry_format-clause-read g c =
-    let p = err_from_is_err_and c.from_residual-in_err-file_name_entry_format.result c.from_residual-in_err-file_name_entry_format.ensures.1 in
+    let p =
+    err_from_is_err_and c.from_residual-in_err-file_name_entry_format.result
+    c.from_residual-in_err-file_name_entry_format.ensures.1 in
     let counted = c.from_u8.ensures ∙ ap (λ (v : Parameters). v.opcode_base - 1) c.parameters.view_is in
     let counts = c.parse_parameters.ensures.order ∙ c.requires.order in
     let directories = c.split.ensures.order ∙ counts in
     let files = c.parse_directory_table.ensures.order ∙ directories in
     rw (p.1, p.2) (λ other.
-    files_end _ _ _ _ _ _ _ _ _ _ c.in_ok-parameters.ensures.read counted _ _ _ c.in_ok-standard_opcode_lengths.ensures.read directories _ _ _ _
+    files_end _ _ _ _ _ _ _ _ _ _ c.in_ok-parameters.ensures.read counted _ _ _
+    c.in_ok-standard_opcode_lengths.ensures.read directories _ _ _ _
     c.in_ok-directory_entry_format.ensures.read files _ (c.in_err-file_name_entry_format.ensures.read other))
 
 pub returns-clause-read : goal.returns-clause-read
@@ -64,6 +82,8 @@ returns-clause-read g c =
     let counts = c.parse_parameters.ensures.order ∙ c.requires.order in
     let directories = c.split.ensures.order ∙ counts in
     let files = c.parse_directory_table.ensures.order ∙ directories in
-    fields_done _ _ _ _ _ _ _ _ _ _ c.in_ok-parameters.ensures.read counted _ _ _ c.in_ok-standard_opcode_lengths.ensures.read directories _ _ _ _
-    c.in_ok-directory_entry_format.ensures.read files _ _ _ _ _ c.in_ok-file_name_entry_format.ensures.read c.comp_dir_of.ensures.bytes
+    fields_done _ _ _ _ _ _ _ _ _ _ c.in_ok-parameters.ensures.read counted _ _ _
+    c.in_ok-standard_opcode_lengths.ensures.read directories _ _ _ _
+    c.in_ok-directory_entry_format.ensures.read files _ _ _ _ _ c.in_ok-file_name_entry_format.ensures.read
+    c.comp_dir_of.ensures.bytes
     c.comp_file_of.ensures.file

@@ -20,7 +20,8 @@ go_past-requires-in-DW_LNS_copy-clause-read g c =
     ap (λ i. i.parameters.opcode_base) c.header-inside.view_is
     ∙ ap (λ (m : Header). m.parameters.opcode_base) (ap (λ v. v.meaning) c.header.view_is) in
     let is : c.in-Ok.opcode ≡ 1 = search rules in
-    rw (← c.self.view_is) (standard_read _ _ _ _ _ _ base c.in-Ok.ensures.read (omega (arith, is)) c.if-opcode-header.false
+    rw (← c.self.view_is)
+    (standard_read _ _ _ _ _ _ base c.in-Ok.ensures.read (omega (arith, is)) c.if-opcode-header.false
     ∙ rw is refl)
 
 pub go_past-requires-in-DW_LNS_advance_line-clause-read : goal.go_past-requires-in-DW_LNS_advance_line-clause-read
@@ -31,7 +32,8 @@ go_past-requires-in-DW_LNS_advance_line-clause-read g c =
     ∙ ap (λ (m : Header). m.parameters.opcode_base) (ap (λ v. v.meaning) c.header.view_is) in
     let is : c.in-Ok.opcode ≡ 3 = search rules in
     let back : to_z w64 (of_z w64 c.in-Some.advance) ≡ c.in-Some.advance = omega (arith, ints) in
-    rw (← c.self.view_is, back) (standard_read _ _ _ _ _ _ base c.in-Ok.ensures.read (omega (arith, is)) c.if-opcode-header.false
+    rw (← c.self.view_is, back)
+    (standard_read _ _ _ _ _ _ base c.in-Ok.ensures.read (omega (arith, is)) c.if-opcode-header.false
     ∙ rw (is, ← c.in-Some.ensures.read) refl)
 
 pub go_past-requires-in-DW_LNS_set_file-clause-read : goal.go_past-requires-in-DW_LNS_set_file-clause-read
@@ -41,7 +43,8 @@ go_past-requires-in-DW_LNS_set_file-clause-read g c =
     ap (λ i. i.parameters.opcode_base) c.header-inside.view_is
     ∙ ap (λ (m : Header). m.parameters.opcode_base) (ap (λ v. v.meaning) c.header.view_is) in
     let is : c.in-Ok.opcode ≡ 4 = search rules in
-    rw (← c.self.view_is) (standard_read _ _ _ _ _ _ base c.in-Ok.ensures.read (omega (arith, is)) c.if-opcode-header.false
+    rw (← c.self.view_is)
+    (standard_read _ _ _ _ _ _ base c.in-Ok.ensures.read (omega (arith, is)) c.if-opcode-header.false
     ∙ rw (is, ← c.in-Some-read_short_uleb128.ensures.read) refl)
 
 pub go_past-requires-in-DW_LNS_set_column-clause-read : goal.go_past-requires-in-DW_LNS_set_column-clause-read
@@ -51,7 +54,8 @@ go_past-requires-in-DW_LNS_set_column-clause-read g c =
     ap (λ i. i.parameters.opcode_base) c.header-inside.view_is
     ∙ ap (λ (m : Header). m.parameters.opcode_base) (ap (λ v. v.meaning) c.header.view_is) in
     let is : c.in-Ok.opcode ≡ 5 = search rules in
-    rw (← c.self.view_is) (standard_read _ _ _ _ _ _ base c.in-Ok.ensures.read (omega (arith, is)) c.if-opcode-header.false
+    rw (← c.self.view_is)
+    (standard_read _ _ _ _ _ _ base c.in-Ok.ensures.read (omega (arith, is)) c.if-opcode-header.false
     ∙ rw (is, ← c.in-Some-read_short_uleb128-2.ensures.read) refl)
 
 pub go_past-requires-in-DW_LNS_negate_stmt-clause-read : goal.go_past-requires-in-DW_LNS_negate_stmt-clause-read
@@ -61,5 +65,6 @@ go_past-requires-in-DW_LNS_negate_stmt-clause-read g c =
     ap (λ i. i.parameters.opcode_base) c.header-inside.view_is
     ∙ ap (λ (m : Header). m.parameters.opcode_base) (ap (λ v. v.meaning) c.header.view_is) in
     let is : c.in-Ok.opcode ≡ 6 = search rules in
-    rw (← c.self.view_is) (standard_read _ _ _ _ _ _ base c.in-Ok.ensures.read (omega (arith, is)) c.if-opcode-header.false
+    rw (← c.self.view_is)
+    (standard_read _ _ _ _ _ _ base c.in-Ok.ensures.read (omega (arith, is)) c.if-opcode-header.false
     ∙ rw is refl)

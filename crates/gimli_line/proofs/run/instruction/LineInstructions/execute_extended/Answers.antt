@@ -9,13 +9,16 @@ pub go_past-requires-clause-read : goal.go_past-requires-clause-read
 unfolding extended_operands_at
 go_past-requires-clause-read g c =
     let is : c.in-Some.opened.0.0 ≡ 1 = search rules in
-    c.requires.read ∙ c.in-Some.ensures.read c.args.self.now.notation c.args.header.now.meaning c.requires.limit ∙ rw is refl
+    c.requires.read ∙ c.in-Some.ensures.read c.args.self.now.notation c.args.header.now.meaning c.requires.limit
+    ∙ rw is refl
 
 pub go_past-requires-in-DW_LNE_set_address-clause-read : goal.go_past-requires-in-DW_LNE_set_address-clause-read
 unfolding extended_operands_at
 go_past-requires-in-DW_LNE_set_address-clause-read g c =
     let is : c.in-Some.opened.0.0 ≡ 2 = search rules in
-    let same = ap (λ i. i.parameters) c.header-inside.view_is ∙ ap (λ (m : Header). m.parameters) (ap (λ v. v.meaning) c.header.view_is) in
+    let same =
+    ap (λ i. i.parameters) c.header-inside.view_is
+    ∙ ap (λ (m : Header). m.parameters) (ap (λ v. v.meaning) c.header.view_is) in
     let order = c.in-Some.ensures.part ∙ c.requires.order in
     let operands = g.R.Reader.bytes c.in-Some.opened.1 in
     let operand =
@@ -25,7 +28,8 @@ go_past-requires-in-DW_LNE_set_address-clause-read g c =
     c.requires.read ∙ c.in-Some.ensures.read c.args.self.now.notation c.args.header.now.meaning c.requires.limit
     ∙ rw is (rw (← operand) refl)
 
-pub go_past-requires-in-DW_LNE_set_discriminator-clause-read : goal.go_past-requires-in-DW_LNE_set_discriminator-clause-read
+pub go_past-requires-in-DW_LNE_set_discriminator-clause-read :
+    goal.go_past-requires-in-DW_LNE_set_discriminator-clause-read
 unfolding extended_operands_at
 go_past-requires-in-DW_LNE_set_discriminator-clause-read g c =
     let is : c.in-Some.opened.0.0 ≡ 4 = search rules in

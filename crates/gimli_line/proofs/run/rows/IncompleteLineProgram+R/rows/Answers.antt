@@ -9,7 +9,9 @@ returns-clause-events g c =
     let s : Unread = record { bytes = c.args.self.meaning.program; notation = c.args.self.notation } in
     rw (
       c.start.ensures,
-      c.instructions-instructions.ensures ∙ ap (λ v. (let s : Unread = record { bytes = v.meaning.program; notation = v.notation } in s)) c.self.view_is,
+      c.instructions-instructions.ensures
+          ∙ ap (λ v. (let s : Unread = record { bytes = v.meaning.program; notation = v.notation } in s))
+          c.self.view_is,
     )
     (started_events true c.args.self.meaning (source_of g.R.Reader.big g.R.Offset.ReaderOffset.number c.args.self) s)
 
@@ -18,7 +20,9 @@ returns-clause-made g c =
     let s : Unread = record { bytes = c.args.self.meaning.program; notation = c.args.self.notation } in
     rw (
       c.start.ensures,
-      c.instructions-instructions.ensures ∙ ap (λ v. (let s : Unread = record { bytes = v.meaning.program; notation = v.notation } in s)) c.self.view_is,
+      c.instructions-instructions.ensures
+          ∙ ap (λ v. (let s : Unread = record { bytes = v.meaning.program; notation = v.notation } in s))
+          c.self.view_is,
     )
     (started_made true c.args.self.meaning (source_of g.R.Reader.big g.R.Offset.ReaderOffset.number c.args.self) s)
 
@@ -27,6 +31,8 @@ returns-clause-files g c =
     let s : Unread = record { bytes = c.args.self.meaning.program; notation = c.args.self.notation } in
     rw (
       c.start.ensures,
-      c.instructions-instructions.ensures ∙ ap (λ v. (let s : Unread = record { bytes = v.meaning.program; notation = v.notation } in s)) c.self.view_is,
+      c.instructions-instructions.ensures
+          ∙ ap (λ v. (let s : Unread = record { bytes = v.meaning.program; notation = v.notation } in s))
+          c.self.view_is,
     )
     (started_files true c.args.self.meaning (source_of g.R.Reader.big g.R.Offset.ReaderOffset.number c.args.self) s)

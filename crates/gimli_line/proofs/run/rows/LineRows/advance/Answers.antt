@@ -22,7 +22,8 @@ returns-in-Err g c =
     record {
       row = tt;
       err =
-          refused_after live_events (with_reset_row c.args.self.now) (with_reset_row c.rows.self) c.advance_any.new.self c.in-Err.e i.events i.passes
+          refused_after live_events (with_reset_row c.args.self.now) (with_reset_row c.rows.self) c.advance_any.new.self
+          c.in-Err.e i.events i.passes
           (fault_given (with_reset_row c.rows.self) c.advance_any.new.self c.in-Err.e c.in-Err.ensures.err);
       keeps = keeps_both _ c.rows.self _ i.keeps c.in-Err.ensures.keeps;
       passes = tt;
@@ -33,15 +34,25 @@ returns-then-not-is_under_tombstone g c =
     let i = c.rows.invariant in
     let next = rw c.in-Ok-true.field-0-test at c.in-Ok-true.ensures.row in
     let passes = rw c.in-Ok-true.field-0-test at c.in-Ok-true.ensures.passes in
-    let shown = ap (λ (r : LineRow). r.tombstone) (sym c.row.ensures) ∙ sym c.is_under_tombstone.ensures ∙ c.if-not-is_under_tombstone.true in
+    let shown =
+    ap (λ (r : LineRow). r.tombstone) (sym c.row.ensures) ∙ sym c.is_under_tombstone.ensures
+    ∙ c.if-not-is_under_tombstone.true in
     let s = seen c.rows.self c.advance_any.new.self _ _ next shown in
     let given : given_row c.advance_any.new.self.row ≡ row c.advance_any.new.self.row ∷ [] = rw shown refl in
     record {
-      row = (i.events ∙ s.0, s.1, s.2 ∙ same_end (with_reset_row c.args.self.now) (with_reset_row c.rows.self) [] i.passes);
+      row = (
+        i.events ∙ s.0,
+        s.1,
+        s.2 ∙ same_end (with_reset_row c.args.self.now) (with_reset_row c.rows.self) [] i.passes,
+      );
       err = tt;
       keeps = keeps_both _ c.rows.self _ i.keeps c.in-Ok-true.ensures.keeps;
-      passes = subst (λ (es : List Event). Progress (with_reset_row c.args.self.now) (with_reset_row c.advance_any.new.self) es) given
-          (passes_both (with_reset_row c.args.self.now) (with_reset_row c.rows.self) (with_reset_row c.advance_any.new.self) []
+      passes =
+          subst
+          (λ (es : List Event). Progress (with_reset_row c.args.self.now) (with_reset_row c.advance_any.new.self) es)
+          given
+          (passes_both (with_reset_row c.args.self.now) (with_reset_row c.rows.self)
+          (with_reset_row c.advance_any.new.self) []
           (given_row c.advance_any.new.self.row) i.passes passes);
     }
 
@@ -55,12 +66,18 @@ rows-preserved g c =
     let i = c.rows.invariant in
     let next = rw c.in-Ok-true.field-0-test at c.in-Ok-true.ensures.row in
     let passes = rw c.in-Ok-true.field-0-test at c.in-Ok-true.ensures.passes in
-    let under = ap (λ (r : LineRow). r.tombstone) (sym c.row.ensures) ∙ sym c.is_under_tombstone.ensures ∙ c.if-not-is_under_tombstone.false in
+    let under =
+    ap (λ (r : LineRow). r.tombstone) (sym c.row.ensures) ∙ sym c.is_under_tombstone.ensures
+    ∙ c.if-not-is_under_tombstone.false in
     let given : given_row c.advance_any.new.self.row ≡ [] = rw under refl in
     record {
       events = i.events ∙ hidden c.rows.self c.advance_any.new.self _ _ next under;
-      passes = subst (λ (es : List Event). Progress (with_reset_row c.args.self.now) (with_reset_row c.advance_any.new.self) es) given
-          (passes_both (with_reset_row c.args.self.now) (with_reset_row c.rows.self) (with_reset_row c.advance_any.new.self) []
+      passes =
+          subst
+          (λ (es : List Event). Progress (with_reset_row c.args.self.now) (with_reset_row c.advance_any.new.self) es)
+          given
+          (passes_both (with_reset_row c.args.self.now) (with_reset_row c.rows.self)
+          (with_reset_row c.advance_any.new.self) []
           (given_row c.advance_any.new.self.row) i.passes passes);
       keeps = keeps_both _ c.rows.self _ i.keeps c.in-Ok-true.ensures.keeps;
     }
@@ -79,5 +96,9 @@ returns-in-Ok-false g c =
       );
       err = tt;
       keeps = keeps_both _ c.rows.self _ i.keeps c.in-Ok-false.ensures.keeps;
-      passes = (passes.0, passes_both (with_reset_row c.args.self.now) (with_reset_row c.rows.self) c.advance_any.new.self [] [] i.passes passes.1);
+      passes = (
+        passes.0,
+        passes_both (with_reset_row c.args.self.now) (with_reset_row c.rows.self) c.advance_any.new.self [] []
+            i.passes passes.1,
+      );
     }

@@ -9,9 +9,11 @@ use Rattle.gimli_line.proofs.run.rows.LineRows.define_file.Goals as goal
 pub returns-in-Ok : goal.returns-in-Ok
 returns-in-Ok g c =
     let n = (reads_instruction _ c.header-header.result.now.meaning).found _ _ _ c.in-Some.ensures.read in
-    rw (← c.self.view_is) (step_quiet _ _ _ c.header-header.ensures.meaning _ _ (refl, refl, refl) _ n c.in-Some.ensures.notation _ c.in-Ok.ensures.ok refl refl
+    rw (← c.self.view_is) (step_quiet _ _ _ c.header-header.ensures.meaning _ _ (refl, refl, refl) _ n
+    c.in-Some.ensures.notation _ c.in-Ok.ensures.ok refl refl
     refl (refl, refl, refl)
-    (keeps_run _ _ _ _ _ (refl, refl, refl) (refl, refl, refl) (ap without_files c.in-Ok.ensures.ok) c.in-Some.ensures.notation
+    (keeps_run _ _ _ _ _ (refl, refl, refl) (refl, refl, refl) (ap without_files c.in-Ok.ensures.ok)
+    c.in-Some.ensures.notation
     (λ big. FileHasOrder g.R.Reader.big big c.in-Some.file) c.in-Ok.ensures.source c.in-Some.ensures.order))
 
 pub returns-in-Err : goal.returns-in-Err
@@ -19,7 +21,8 @@ returns-in-Err g c =
     let n = (reads_instruction _ c.header-header.result.now.meaning).found _ _ _ c.in-Some.ensures.read in
     let m = c.in-Err.ensures.memory in
     rw (m.0, ← c.self.view_is)
-    (step_wants _ _ _ c.header-header.ensures.meaning _ _ (refl, refl, refl) _ c.next_defined_file.new.self n refl _ c.in-Err.ensures.err m.1
+    (step_wants _ _ _ c.header-header.ensures.meaning _ _ (refl, refl, refl) _ c.next_defined_file.new.self n refl _
+    c.in-Err.ensures.err m.1
     (ap (λ (s : Unread). s.bytes) c.clear.ensures) (refl, refl, refl)
     (keeps_run _ _ _ _ _ (refl, refl, refl) (refl, refl, refl) (ap without_files c.in-Err.ensures.err)
     (ap (λ (u : Unread). u.notation) c.clear.ensures ∙ c.in-Some.ensures.notation)

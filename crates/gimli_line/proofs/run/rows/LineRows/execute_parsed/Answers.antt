@@ -3,18 +3,21 @@ use Rattle.gimli_line.specs.header.Header.{without_files}
 use Rattle.gimli_line.specs.run.Instruction.{InsHasOrder}
 use Rattle.gimli_line.specs.run.Unread.{Unread}
 use Rattle.gimli_line.proofs.Runs.{only_overflow, source_same}
-use Rattle.gimli_line.proofs.Steps.{keeps_rest, keeps_run, step_done, step_faults, step_made, step_overflows, step_quiet, step_wants}
+use Rattle.gimli_line.proofs.Steps.{keeps_rest, keeps_run, step_done, step_faults, step_made, step_overflows}
+use Rattle.gimli_line.proofs.Steps.{step_quiet, step_wants}
 use Rattle.gimli_line.proofs.run.rows.LineRows.execute_parsed.Goals as goal
 
 pub returns-in-Err : goal.returns-in-Err
 returns-in-Err g c =
-    rw (← c.self.view_is) (step_faults _ _ _ c.header.ensures.meaning _ _ (refl, refl, refl) _ (refl, refl, refl) c.in-Err.ensures.refusal
+    rw (← c.self.view_is)
+    (step_faults _ _ _ c.header.ensures.meaning _ _ (refl, refl, refl) _ (refl, refl, refl) c.in-Err.ensures.refusal
     (keeps_rest _ _ _ c.in-Err.ensures.notation))
 
 pub returns-in-Ok-None : goal.returns-in-Ok-None
 returns-in-Ok-None g c =
     let n = rw c.in-Ok-None.field-0-is at c.in-Ok-None.ensures.next in
-    let nothing : c.next_instruction.new.self ≡ c.self.inside.instructions = source_same _ _ (n.1 ∙ sym n.0) c.in-Ok-None.ensures.notation in
+    let nothing : c.next_instruction.new.self
+    ≡ c.self.inside.instructions = source_same _ _ (n.1 ∙ sym n.0) c.in-Ok-None.ensures.notation in
     rw (← c.self.view_is) (step_done _ _ (rw nothing refl) n.0)
 
 pub returns-then-not-made : goal.returns-then-not-made
@@ -22,9 +25,11 @@ returns-then-not-made g c =
     let n = rw c.in-Ok-Some.field-0-is at c.in-Ok-Some.ensures.next in
     let operands = rw c.in-Ok-Some.field-0-is at c.in-Ok-Some.ensures.operands in
     rw (← c.self.view_is)
-    (step_quiet _ _ _ c.header.ensures.meaning _ _ (refl, refl, refl) _ n c.in-Ok-Some.ensures.notation _ c.in-Ok.ensures.files c.in-Ok.ensures.fits
+    (step_quiet _ _ _ c.header.ensures.meaning _ _ (refl, refl, refl) _ n c.in-Ok-Some.ensures.notation _
+    c.in-Ok.ensures.files c.in-Ok.ensures.fits
     (sym c.in-Ok.ensures.made ∙ c.if-not-made.true) c.in-Ok.ensures.step (refl, refl, refl)
-    (keeps_run _ _ _ _ _ (refl, refl, refl) (refl, refl, refl) (ap without_files c.in-Ok.ensures.files) c.in-Ok-Some.ensures.notation
+    (keeps_run _ _ _ _ _ (refl, refl, refl) (refl, refl, refl) (ap without_files c.in-Ok.ensures.files)
+    c.in-Ok-Some.ensures.notation
     (λ big. InsHasOrder g.R.Reader.big big c.in-Ok-Some.instruction) c.execute.ensures.source operands))
 
 pub returns : goal.returns
@@ -32,9 +37,11 @@ returns g c =
     let n = rw c.in-Ok-Some.field-0-is at c.in-Ok-Some.ensures.next in
     let operands = rw c.in-Ok-Some.field-0-is at c.in-Ok-Some.ensures.operands in
     rw (← c.self.view_is)
-    (step_made _ _ _ c.header.ensures.meaning _ _ (refl, refl, refl) _ n c.in-Ok-Some.ensures.notation _ c.in-Ok.ensures.files c.in-Ok.ensures.fits
+    (step_made _ _ _ c.header.ensures.meaning _ _ (refl, refl, refl) _ n c.in-Ok-Some.ensures.notation _
+    c.in-Ok.ensures.files c.in-Ok.ensures.fits
     (sym c.in-Ok.ensures.made ∙ c.if-not-made.false) c.in-Ok.ensures.step (refl, refl, refl)
-    (keeps_run _ _ _ _ _ (refl, refl, refl) (refl, refl, refl) (ap without_files c.in-Ok.ensures.files) c.in-Ok-Some.ensures.notation
+    (keeps_run _ _ _ _ _ (refl, refl, refl) (refl, refl, refl) (ap without_files c.in-Ok.ensures.files)
+    c.in-Ok-Some.ensures.notation
     (λ big. InsHasOrder g.R.Reader.big big c.in-Ok-Some.instruction) c.execute.ensures.source operands))
 
 pub returns-in-OutOfMemory : goal.returns-in-OutOfMemory
@@ -43,7 +50,8 @@ returns-in-OutOfMemory g c =
     let operands = rw c.in-Ok-Some.field-0-is at c.in-Ok-Some.ensures.operands in
     let m = c.in-Err-execute.ensures.memory (λ over. absurd cc) in
     rw (c.in-OutOfMemory.is, ← c.self.view_is)
-    (step_wants _ _ _ c.header.ensures.meaning _ _ (refl, refl, refl) _ c.next_instruction.new.self n m.2 _ c.in-Err-execute.ensures.kept m.1
+    (step_wants _ _ _ c.header.ensures.meaning _ _ (refl, refl, refl) _ c.next_instruction.new.self n m.2 _
+    c.in-Err-execute.ensures.kept m.1
     (ap (λ (s : Unread). s.bytes) c.clear.ensures) (refl, refl, refl)
     (keeps_run _ _ _ _ _ (refl, refl, refl) (refl, refl, refl) (ap without_files c.in-Err-execute.ensures.kept)
     (ap (λ (u : Unread). u.notation) c.clear.ensures ∙ c.in-Ok-Some.ensures.notation)
@@ -53,9 +61,12 @@ pub returns-in_default : goal.returns-in_default
 returns-in_default g c =
     let n = rw c.in-Ok-Some.field-0-is at c.in-Ok-Some.ensures.next in
     let operands = rw c.in-Ok-Some.field-0-is at c.in-Ok-Some.ensures.operands in
-    let over = only_overflow c.in-Err-execute.e c.in_default.not-OutOfMemory (λ n. (c.in-Err-execute.ensures.memory n).0) in
+    let over =
+    only_overflow c.in-Err-execute.e c.in_default.not-OutOfMemory (λ n. (c.in-Err-execute.ensures.memory n).0) in
     let o = c.in-Err-execute.ensures.overflow over in
-    rw (over, ← c.self.view_is) (step_overflows _ _ _ c.header.ensures.meaning _ _ (refl, refl, refl) _ n c.in-Ok-Some.ensures.notation _
+    rw (over, ← c.self.view_is)
+    (step_overflows _ _ _ c.header.ensures.meaning _ _ (refl, refl, refl) _ n c.in-Ok-Some.ensures.notation _
     c.in-Err-execute.ensures.kept o.0 o.1 (refl, refl, refl)
-    (keeps_run _ _ _ _ _ (refl, refl, refl) (refl, refl, refl) (ap without_files c.in-Err-execute.ensures.kept) c.in-Ok-Some.ensures.notation
+    (keeps_run _ _ _ _ _ (refl, refl, refl) (refl, refl, refl) (ap without_files c.in-Err-execute.ensures.kept)
+    c.in-Ok-Some.ensures.notation
     (λ big. InsHasOrder g.R.Reader.big big c.in-Ok-Some.instruction) c.execute.ensures.source operands))

@@ -4,19 +4,23 @@ use Rattle.gimli_line.proofs.run.rows.LineRows.execute_uncommon.Goals as goal
 
 pub returns-in-Err : goal.returns-in-Err
 returns-in-Err g c =
-    rw (← c.self.view_is) (executed_refused _ _ _ c.header-header.ensures.meaning _ _ _ (refl, refl, refl) c.in-Err.ensures.notation _ c.in-Err.ensures.err)
+    rw (← c.self.view_is) (executed_refused _ _ _ c.header-header.ensures.meaning _ _ _ (refl, refl, refl)
+    c.in-Err.ensures.notation _ c.in-Err.ensures.err)
 
 pub returns-in-No : goal.returns-in-No
 returns-in-No g c =
     rw (← c.self.view_is)
-    (steps_after _ _ _ (none_executed c.header-header.result.now.meaning _ _ _ (rw c.in-No.is at c.in-Ok.ensures.ok)) _ c.define_file.ensures)
+    (steps_after _ _ _ (none_executed c.header-header.result.now.meaning _ _ _ (rw c.in-No.is at c.in-Ok.ensures.ok)) _
+    c.define_file.ensures)
 
 pub returns-in-Row : goal.returns-in-Row
 returns-in-Row g c =
     rw (← c.self.view_is)
-    (executed_row _ _ _ c.header-header.ensures.meaning _ _ _ (refl, refl, refl) c.in-Ok.ensures.notation (rw c.in-Row.is at c.in-Ok.ensures.ok))
+    (executed_row _ _ _ c.header-header.ensures.meaning _ _ _ (refl, refl, refl) c.in-Ok.ensures.notation
+    (rw c.in-Row.is at c.in-Ok.ensures.ok))
 
 pub returns-in_default : goal.returns-in_default
 returns-in_default g c =
-    rw (← c.self.view_is) (executed_more _ _ _ c.header-header.ensures.meaning _ _ _ (refl, refl, refl) c.in-Ok.ensures.notation _ c.in-Ok.ensures.ok
+    rw (← c.self.view_is) (executed_more _ _ _ c.header-header.ensures.meaning _ _ _ (refl, refl, refl)
+    c.in-Ok.ensures.notation _ c.in-Ok.ensures.ok
     c.in_default.not-No c.in_default.not-Row)

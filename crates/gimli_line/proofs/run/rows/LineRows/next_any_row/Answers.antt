@@ -25,7 +25,9 @@ returns-in-Ok-false g c =
     let none = rw c.in-Ok-false.field-0-test at c.in-Ok-false.ensures.row in
     let keeps : KeepsHeader c.args.self.now c.advance_any.new.self = record {
       run = c.in-Ok-false.ensures.keeps;
-      alone = end_alone c.args.self.now c.advance_any.new.self c.in-Ok-false.ensures.keeps.appends (none_given c.advance_any.new.self none.1);
+      alone =
+          end_alone c.args.self.now c.advance_any.new.self c.in-Ok-false.ensures.keeps.appends
+          (none_given c.advance_any.new.self none.1);
     } in (
       (refl, λ _. tt, (keeps, none)),
       record {

@@ -26,14 +26,20 @@ pub returns-in-Err : goal.returns-in-Err
 returns-in-Err g c =
     let keeps : KeepsHeader c.args.self.now c.advance.new.self = record {
       run = c.in-Err.ensures.keeps;
-      alone = λ alone. absurd (never_refused_alone c.args.self.now c.advance.new.self c.in-Err.e c.in-Err.ensures.keeps.appends c.in-Err.ensures.err alone);
+      alone = λ alone.
+          absurd (never_refused_alone c.args.self.now c.advance.new.self c.in-Err.e c.in-Err.ensures.keeps.appends
+          c.in-Err.ensures.err alone);
     } in (
       (refl, λ _. tt, (keeps, c.in-Err.ensures.err)),
       record {
         after = tt;
         header = tt;
         unrefused =
-            λ alone. absurd (never_refused_alone c.args.self.now c.advance.new.self c.in-Err.e c.in-Err.ensures.keeps.appends c.in-Err.ensures.err alone);
-        ended = λ empty. absurd (never_refused (with_reset_row c.args.self.now) c.advance.new.self c.in-Err.e empty c.in-Err.ensures.err);
+            λ alone.
+            absurd (never_refused_alone c.args.self.now c.advance.new.self c.in-Err.e c.in-Err.ensures.keeps.appends
+            c.in-Err.ensures.err alone);
+        ended = λ empty.
+            absurd
+            (never_refused (with_reset_row c.args.self.now) c.advance.new.self c.in-Err.e empty c.in-Err.ensures.err);
       },
     )

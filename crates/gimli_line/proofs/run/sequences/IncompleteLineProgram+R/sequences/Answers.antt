@@ -7,7 +7,8 @@ use Rattle.gimli_line.specs.run.Unread.{Unread}
 use Rattle.gimli_line.specs.run.Progress.{with_reset_row}
 use Rattle.gimli_line.specs.run.Sequences.{part_of}
 use Rattle.gimli_line.proofs.ResumedRuns.{resume_to_rows}
-use Rattle.gimli_line.proofs.SequenceLaws.{split_starts, split_goes, split_faults, split_source, split_ends, has_front, row_takes}
+use Rattle.gimli_line.proofs.SequenceLaws.{split_starts, split_goes, split_faults, split_source, split_ends, has_front}
+use Rattle.gimli_line.proofs.SequenceLaws.{row_takes}
 use Rattle.gimli_line.proofs.SequenceLaws.{starts_splitting, goes_splitting}
 use Rattle.gimli_line.proofs.run.sequences.IncompleteLineProgram+R.sequences.Goals as goal
 
@@ -27,7 +28,8 @@ pub returns-in_err-advance-clause-err : goal.returns-in_err-advance-clause-err
 returns-in_err-advance-clause-err g c =
     let p = err_from_is_err_and c.from_residual.result c.from_residual.ensures.1 in
     rw (p.1, p.2) (λ other.
-    split_faults _ _ _ _ c.advance.new.self c.rows.invariant c.in_err-advance.ensures.keeps _ other c.in_err-advance.ensures.err)
+    split_faults _ _ _ _ c.advance.new.self c.rows.invariant c.in_err-advance.ensures.keeps _ other
+    c.in_err-advance.ensures.err)
 
 pub returns-in_err-row-clause-err : goal.returns-in_err-row-clause-err
 returns-in_err-row-clause-err g c =
@@ -37,7 +39,8 @@ returns-in_err-row-clause-err g c =
 pub row-requires-in-rows : goal.row-requires-in-rows
 row-requires-in-rows g c =
     let m = rw c.if-branch.true at c.in_ok-advance.ensures.passes in
-    rw c.instructions-in-rows.ensures (has_front c.args.self.meaning c.rows.split _ (with_reset_row c.rows.rows) c.advance.new.self
+    rw c.instructions-in-rows.ensures
+    (has_front c.args.self.meaning c.rows.split _ (with_reset_row c.rows.rows) c.advance.new.self
     c.rows.invariant.split m)
 
 pub rows-smaller : goal.rows-smaller
@@ -58,7 +61,8 @@ returns-clause-ok g c =
     let m = rw c.if-branch.false at c.in_ok-advance.ensures.passes in
     let i = c.rows.invariant in
     rw c.into_sequences.ensures
-    (split_ends _ _ _ c.rows.rows c.advance.new.self i c.in_ok-advance.ensures.keeps c.header.inside.header.meaning c.rows.split i.split m.0 m.1
+    (split_ends _ _ _ c.rows.rows c.advance.new.self i c.in_ok-advance.ensures.keeps c.header.inside.header.meaning
+    c.rows.split i.split m.0 m.1
     (ap (λ v. without_files v.meaning) c.header.view_is ∙ c.into_program.ensures.header)
     (ap (λ v. v.meaning.files) c.header.view_is ∙ c.into_program.ensures.files))
 

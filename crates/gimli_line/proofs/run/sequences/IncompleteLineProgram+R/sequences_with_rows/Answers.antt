@@ -7,7 +7,8 @@ use Rattle.gimli_line.specs.run.Unread.{Unread}
 use Rattle.gimli_line.specs.run.Progress.{with_reset_row}
 use Rattle.gimli_line.specs.run.Sequences.{Part, part_of, HaveRuns}
 use Rattle.gimli_line.proofs.ResumedRuns.{resume_to_rows}
-use Rattle.gimli_line.proofs.SequenceLaws.{split_starts, split_goes, split_faults, split_source, split_ends, has_front, row_takes}
+use Rattle.gimli_line.proofs.SequenceLaws.{split_starts, split_goes, split_faults, split_source, split_ends, has_front}
+use Rattle.gimli_line.proofs.SequenceLaws.{row_takes}
 use Rattle.gimli_line.proofs.SequenceLaws.{starts_keeping, goes_keeping, kept_runs, runs_are_kept}
 use Rattle.gimli_line.proofs.run.sequences.IncompleteLineProgram+R.sequences_with_rows.Goals as goal
 
@@ -28,7 +29,8 @@ pub returns-in_err-advance-clause-err : goal.returns-in_err-advance-clause-err
 returns-in_err-advance-clause-err g c =
     let p = err_from_is_err_and c.from_residual.result c.from_residual.ensures.1 in
     rw (p.1, p.2) (λ other.
-    split_faults _ _ _ _ c.advance.new.self c.run.invariant c.in_err-advance.ensures.keeps _ other c.in_err-advance.ensures.err)
+    split_faults _ _ _ _ c.advance.new.self c.run.invariant c.in_err-advance.ensures.keeps _ other
+    c.in_err-advance.ensures.err)
 
 pub returns-in_err-keep-clause-err : goal.returns-in_err-keep-clause-err
 returns-in_err-keep-clause-err g c =
@@ -43,7 +45,8 @@ returns-in_err-row-clause-err g c =
 pub row-requires : goal.row-requires
 row-requires g c =
     let m = rw c.if-branch.true at c.in_ok-advance.ensures.passes in
-    rw c.instructions-in-run.ensures (has_front c.args.self.meaning c.run.split _ (with_reset_row c.run.run) c.advance.new.self
+    rw c.instructions-in-run.ensures
+    (has_front c.args.self.meaning c.run.split _ (with_reset_row c.run.run) c.advance.new.self
     c.run.invariant.split.splitting m)
 
 pub run-smaller : goal.run-smaller
@@ -65,7 +68,8 @@ returns-clause-ok g c =
     let m = rw c.if-branch.false at c.in_ok-advance.ensures.passes in
     let i = c.run.invariant in
     rw c.into_sequences.ensures
-    (split_ends _ _ _ c.run.run c.advance.new.self i c.in_ok-advance.ensures.keeps c.header.inside.header.meaning c.run.split i.split.splitting m.0 m.1
+    (split_ends _ _ _ c.run.run c.advance.new.self i c.in_ok-advance.ensures.keeps c.header.inside.header.meaning
+    c.run.split i.split.splitting m.0 m.1
     (ap (λ v. without_files v.meaning) c.header.view_is ∙ c.into_program.ensures.header)
     (ap (λ v. v.meaning.files) c.header.view_is ∙ c.into_program.ensures.files))
 
@@ -78,7 +82,8 @@ returns-clause-each g c =
     let have =
     subst (λ (xs : List Part). HaveRuns (without_files h) xs runs) (sym c.into_sequences.ensures)
     (kept_runs h c.run.split c.run.kept i.done (with_reset_row c.run.run) i.split) in
-    rw c.into_rows.ensures (runs_are_kept c.args.self.notation h c.header.inside.header.meaning parts runs (returns-clause-ok g c) have)
+    rw c.into_rows.ensures
+    (runs_are_kept c.args.self.notation h c.header.inside.header.meaning parts runs (returns-clause-ok g c) have)
 
 pub returns-clause-source : goal.returns-clause-source
 returns-clause-source g c =
