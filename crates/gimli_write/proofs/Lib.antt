@@ -22,7 +22,6 @@ pub mod Conversions
 mod TablesAtEnd
 mod KeptFiles
 mod Writable
-mod BuilderCalls
 pub mod Outcomes
 pub mod MappedLaws
 mod WorkedConversions

@@ -1,6 +1,6 @@
 -- A unit that is written and read again: why it is refused, and where it stands.
 use Rattle.std.proofs.Common.{◌≡◌, ◌≢◌, ◌⊎◌, ℕ, Bool, List, ◌++◌, length, drop, refl, ap, ◌∙◌, subst, inl, inr}
-use Rattle.std.specs.Prelude.{Option, Some, None, Result, Ok, Err, IfErr}
+use Rattle.std.specs.Prelude.{Some, None, Result, Ok, Err, IfErr}
 use Rattle.std.proofs.Math.Seq.{drop-append_seam}
 use Rattle.std.proofs.lemmas.Result.{MatchResult-weaker}
 use Rattle.gimli_bytes.specs.Written.{Appends}
@@ -10,7 +10,7 @@ use Rattle.gimli_line.specs.header.Header.{UnitEntry}
 use Rattle.gimli_write.specs.declared.convert_error.ConvertError.{ConvertError}
 use Rattle.gimli_write.specs.declared.convert_error.ConvertError.TheVariants.{Read, Write, OutOfMemory as NoMemory}
 use Rattle.gimli_write.specs.declared.read_back.RoundTrip.{RoundTrip}
-use Rattle.gimli_write.specs.RoundTrip.{RefusesUnit, ToWrite, WasWritten, IsRefusal, IsCausedRefusal, slice_notation}
+use Rattle.gimli_write.specs.RoundTrip.{RefusesUnit, ToWrite, WasWritten, IsRefusal, slice_notation}
 
 -- ---- refusals
 

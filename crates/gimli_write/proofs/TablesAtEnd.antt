@@ -1,5 +1,5 @@
 -- What one instruction of a source does to the tables that the source leaves.
-use Rattle.std.proofs.Common.{◌≡◌, ◌≢◌, ℕ, Bool, true, false, not, ◌&&◌, ◌||◌, if◌then◌else◌, List, [], ◌∷◌, ◌++◌, refl, sym, ap, ◌∙◌, inl, inr}
+use Rattle.std.proofs.Common.{◌≡◌, ◌≢◌, ℕ, Bool, true, false, not, ◌&&◌, ◌||◌, if◌then◌else◌, List, [], ◌∷◌, ◌++◌, refl, sym, ap, ◌∙◌}
 use Rattle.std.specs.Prelude.{Option, Some, Result, Ok, Err, OnOk, IfOk, IfErr}
 use Rattle.gimli_core.specs.Notation.{Notation}
 use Rattle.gimli_core.specs.declared.error.Error.{Error}
@@ -13,10 +13,9 @@ use Rattle.gimli_line.specs.run.Machine.{is_refused}
 use Rattle.gimli_line.specs.run.Unread.{Unread}
 use Rattle.gimli_build.specs.Texts.{Sections}
 use Rattle.gimli_write.specs.declared.convert_error.ConvertError.{ConvertError}
-use Rattle.gimli_write.specs.declared.convert_error.ConvertError.TheVariants.{Read, OutOfMemory}
+use Rattle.gimli_write.specs.declared.convert_error.ConvertError.TheVariants.{Read}
 use Rattle.gimli_write.specs.declared.convert.run.SourceStep.{SourceStep}
 use Rattle.gimli_write.specs.declared.convert.run.SourceStep.TheVariants.{More, Made}
-use Rattle.gimli_write.specs.convert.Texts.{IsRefusedBy}
 use Rattle.gimli_write.specs.convert.SourceTables.{TablesAndTexts, file_added}
 use Rattle.gimli_write.specs.convert.Items.{tables_after_definition}
 use Rattle.gimli_write.specs.convert.SourceRun.{SourceRun, row_made, state_after}

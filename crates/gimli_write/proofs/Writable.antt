@@ -1,6 +1,6 @@
 -- A program can be written still, with longer tables and with more files.
 use Rattle.std.proofs.Common.{◌≡◌, ℕ, ◌≤◌, true, false, List, sym, subst}
-use Rattle.std.specs.Prelude.{Option, Some, None, Result, Ok, Err, OnOk, OnErr, IfSome, All, option_map}
+use Rattle.std.specs.Prelude.{Option, Some, None, IfSome, All, option_map}
 use Rattle.std.proofs.lemmas.List.Elements.{All-weaker}
 use Rattle.gimli_bytes.specs.Texts.{KeepsTexts, StringTables, texts_in}
 use Rattle.gimli_build.specs.Built.{Built}

@@ -6,7 +6,7 @@ use Rattle.gimli_bytes.specs.Hand.{plain}
 use Rattle.gimli_build.specs.Unit.{unit_bytes}
 use Rattle.gimli_build.proofs.refusals.Causes.{no-cause, refused-for}
 use Rattle.gimli_write.specs.RoundTrip.{RefusesUnit, slice_notation, unit_entry_of}
-use Rattle.gimli_write.proofs.RoundTrips.{write_refused, unwritten_refused, memory_refused, unit_not_answered}
+use Rattle.gimli_write.proofs.RoundTrips.{write_refused, unit_not_answered}
 use Rattle.gimli_build.proofs.building.SourceLemmas.{can-write-after}
 use Rattle.gimli_write.proofs.read_back.round_trip.Goals as goal
 

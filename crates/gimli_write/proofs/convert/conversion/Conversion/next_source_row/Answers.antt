@@ -1,13 +1,12 @@
-use Rattle.std.proofs.Common.{List, ℕ, sym, ap, ◌∙◌}
+use Rattle.std.proofs.Common.{sym, ap, ◌∙◌}
 use Rattle.std.proofs.lemmas.Result.{err_from_is_err_and}
 use Rattle.gimli_line.specs.header.File.{file_seen}
-use Rattle.gimli_write.specs.convert.SourceTables.{SourceTables, tables_with, file_added}
+use Rattle.gimli_write.specs.convert.SourceTables.{tables_with}
 use Rattle.gimli_write.specs.convert.TablesAtEnd.{unless_refused, tables_at_end}
 use Rattle.gimli_write.specs.convert.Items.{defines, defines_first, after_definitions}
 use Rattle.gimli_write.specs.convert.Conversion.{without_built, source_left}
-use Rattle.gimli_write.specs.convert.KeptTables.{final_tables_of_source}
 use Rattle.gimli_write.proofs.SourceSteps.{none_left}
-use Rattle.gimli_write.proofs.TablesAtEnd.{none_last, file_stopped}
+use Rattle.gimli_write.proofs.TablesAtEnd.{none_last}
 use Rattle.gimli_write.proofs.ReadLemmas.{reads_then}
 use Rattle.gimli_write.proofs.Conversions.{conversion, file_taken, file_refusal}
 use Rattle.gimli_write.proofs.convert.conversion.Conversion.next_source_row.Goals as goal

@@ -4,7 +4,7 @@ use Rattle.gimli_write.specs.convert.SourceRun.{state_after}
 use Rattle.gimli_write.specs.inside.convert.SourceRun.{step_made}
 use Rattle.gimli_line.specs.run.Instruction.{ins_seen}
 use Rattle.gimli_write.specs.declared.convert_error.ConvertError.TheVariants.{Read}
-use Rattle.gimli_write.proofs.SourceSteps.{state, is_overflow, ready_at_refusal, ready_when_quiet, ready_after_row, header_kept, quiet_state, row_state}
+use Rattle.gimli_write.proofs.SourceSteps.{state, is_overflow, ready_at_refusal, ready_when_quiet, header_kept, quiet_state, row_state}
 use Rattle.gimli_write.proofs.SourceSteps.{made_is}
 use Rattle.gimli_write.proofs.convert.run.SourceRun.execute.Goals as goal
 

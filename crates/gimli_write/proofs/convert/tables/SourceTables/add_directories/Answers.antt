@@ -1,9 +1,7 @@
-use Rattle.std.proofs.Common.{◌<◌, ◌+◌, length, map, drop, arith, refl, sym, ◌∙◌}
-use Rattle.std.proofs.lemmas.Result.{err_from_is_err_and}
+use Rattle.std.proofs.Common.{◌<◌, ◌+◌, length, map, drop, arith, sym, ◌∙◌}
 use Rattle.gimli_core.specs.Values.{value_seen}
-use Rattle.gimli_write.specs.convert.Texts.{◌>>=◌}
 use Rattle.gimli_write.specs.convert.SourceTables.{TablesAndTexts, tables_with, directory_added, all_added}
-use Rattle.gimli_write.proofs.ConvertSteps.{done_first, refused_first, refused_same, next_added, kept_self, kept_then}
+use Rattle.gimli_write.proofs.ConvertSteps.{done_first, next_added, kept_then}
 use Rattle.gimli_write.proofs.convert.tables.SourceTables.add_directories.Goals as goal
 
 pub loop-directory-preserved : goal.loop-directory-preserved
