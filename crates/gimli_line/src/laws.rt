@@ -1,7 +1,7 @@
 //! Laws of the two grammars: a unit has one header or one refusal, a program is decoded in one way.
 //! And laws of what a run gives.
 
-ghost use Rattle.std.specs.Prelude.{◌≡◌, ◌≢◌, ◌≤◌, ◌⊎◌, ◌+◌, ℕ, Bool, true, List, [], ◌∷◌};
+ghost use Rattle.std.specs.Prelude.{◌≡◌, ◌≢◌, ◌≤◌, ◌<◌, ◌⊎◌, ◌+◌, ◌^◌, ℕ, Bool, true, List, [], ◌∷◌};
 ghost use Rattle.std.specs.Prelude.{Option, Some, None, length, nat_eq, option_map};
 ghost use Rattle.std.specs.Ordering.{nat_cmp};
 ghost use Rattle.gimli_core.specs.Equality.{AreAlwaysCloned, ClonesGiveSame, ComparesBy, IsExact};
@@ -29,6 +29,8 @@ ghost use Rattle.gimli_line.specs.run.InstructionGrammar.{
 };
 ghost use Rattle.gimli_line.specs.run.InstructionReading.{decoded_at};
 ghost use Rattle.gimli_line.specs.run.OperationPointer.{is_under_tombstone, overflows};
+ghost use Rattle.gimli_line.specs.run.OperationPointer.{OperationPointer, advanced_by};
+ghost use Rattle.gimli_line.specs.run.OperationPointer.{advanced_by_formula};
 ghost use Rattle.gimli_line.specs.run.RunState.{RunState};
 ghost use Rattle.gimli_line.specs.run.Rows.{events_left, start_of_run};
 ghost use Rattle.gimli_line.specs.run.Started.{GivesEvents, GivesFiles};
@@ -157,6 +159,14 @@ pub fn columns_are_ordered()
 pub fn instruction_refusals()
     ensures { (notation : Notation) (h : Header) (bytes : List ℕ) (e : Error) →
         (instruction_production notation h).Fault bytes e → IsInstructionRefusal notation e }
+{}
+
+/// Each operation advance is the formula of DWARF 5, 6.2.5.1, also where an instruction has one
+/// operation.
+pub fn advances_go_by_the_formula()
+    ensures { (parameters : Parameters) (n : ℕ) (p : OperationPointer) → n < 2 ^ 64
+        → p.op_index < parameters.line_encoding.maximum_operations_per_instruction
+        → advanced_by parameters n p ≡ advanced_by_formula parameters n p }
 {}
 
 /// `==` of the formats of tables, and of rows, holds exactly where all parts of the two agree.

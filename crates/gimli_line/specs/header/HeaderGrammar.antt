@@ -56,7 +56,8 @@ files_production = list_to_zero (do
 
 -- ---- tables of version 5 (DWARF 5, section 6.2.4, parts 13 to 20)
 
--- one format: a content type, those that are too large as ffff, and a form
+-- one format: a content type, and a form. The standard's content types have 16 bits: that a larger
+-- one is ffff is ours, as gimli has it, so that a table with an unknown one can still be read
 abbrev pub format_production : Production FileEntryFormat
 format_production = do
   content ← unsigned
@@ -116,6 +117,9 @@ digest v = None
 abbrev pub path_of : Entry → Value
 path_of entry = last_value DW_LNCT_path Some (String []) entry
 
+-- the file of an entry. The standard names no value for a part that no format has, and says nothing
+-- of two formats of one content type: that the first is 0 or empty, and that the later of two counts,
+-- is ours, as gimli has it
 abbrev pub file_of_entry : Entry → File
 file_of_entry entry = record {
   path_name = path_of entry;

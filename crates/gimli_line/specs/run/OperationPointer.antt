@@ -45,8 +45,22 @@ operation_advance parameters ConstAddPc =
     Some ((255 - parameters.opcode_base) / parameters.line_encoding.line_range)
 operation_advance parameters i = None
 
--- the pointer n operations further on, whatever an address holds; sums and products of operations
--- are modulo 2 ^ 64
+-- the pointer n operations further on, by the formula of 6.2.5.1, whatever an address holds; sums and
+-- products of operations are modulo 2 ^ 64
+abbrev pub advanced_by_formula : Parameters → ℕ → OperationPointer → OperationPointer
+advanced_by_formula parameters n p =
+    let s = (p.op_index + n) % 2 ^ 64 in
+    record {
+      address =
+          p.address
+          + parameters.line_encoding.minimum_instruction_length
+          * (s / parameters.line_encoding.maximum_operations_per_instruction) % 2 ^ 64;
+      op_index = s % parameters.line_encoding.maximum_operations_per_instruction;
+    }
+
+-- the same, where an op_index that is too large for one operation in an instruction is left out: a
+-- row that another program made may have one. Any other pointer goes by the formula
+-- (`laws::advances_go_by_the_formula`)
 abbrev pub advanced_by : Parameters → ℕ → OperationPointer → OperationPointer
 advanced_by parameters n p =
     if nat_eq parameters.line_encoding.maximum_operations_per_instruction 1
@@ -54,14 +68,7 @@ advanced_by parameters n p =
       address = p.address + parameters.line_encoding.minimum_instruction_length * n % 2 ^ 64;
       op_index = 0;
     }
-    else (let s = (p.op_index + n) % 2 ^ 64 in
-    record {
-      address =
-          p.address
-          + parameters.line_encoding.minimum_instruction_length
-          * (s / parameters.line_encoding.maximum_operations_per_instruction) % 2 ^ 64;
-      op_index = s % parameters.line_encoding.maximum_operations_per_instruction;
-    })
+    else advanced_by_formula parameters n p
 
 -- where an instruction advances the pointer to, whatever an address holds
 abbrev pub target_pointer : Parameters → Ins → OperationPointer → Option OperationPointer
@@ -114,7 +121,9 @@ overflows parameters past i =
     [ Some to ↦ is_too_large parameters to | None ↦ false ])
     && not (is_under_tombstone parameters past)
 
--- what stands since the last point that made a row or overflowed
+-- what stands since the last point that made a row, or overflowed: a row clears the marks of the
+-- next one (6.2.5.1). That an overflow does so too is ours, as gimli has it: who asks for the next
+-- row after a refusal begins with cleared marks, as after a row
 abbrev pub since_last_row : Parameters → List Ins → List Ins
 since_last_row parameters [] = []
 since_last_row parameters (i ∷ past) =

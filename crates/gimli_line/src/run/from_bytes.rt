@@ -25,7 +25,9 @@ ghost use Rattle.gimli_line.specs.run.InstructionReading.{
   extended_operands_at,
   ins_at,
 };
-ghost use Rattle.gimli_line.specs.run.Machine.{IsAllowed};
+ghost use Rattle.gimli_line.specs.declared.run.row.LineRow.{LineRow};
+ghost use Rattle.gimli_line.specs.header.Parameters.{Parameters};
+ghost use Rattle.gimli_line.specs.run.Machine.{is_refused, step_of, with_register, IsAllowed};
 
 use crate::header::file_entry::FileEntry;
 use crate::header::program_header::LineProgramHeader;
@@ -185,60 +187,89 @@ impl<R: Reader> LineInstructions<R> {
             );
         }
         match DwLns(opcode) {
-            constants::DW_LNS_copy => self.go_past(
+            constants::DW_LNS_copy => Ok(self.set_past(
                 LineInstruction::Copy,
                 Executed::Row,
                 input,
                 header,
                 row,
-            ),
+            )),
             constants::DW_LNS_advance_line => {
                 let Some(advance) = read_short_sleb128(&mut input) else {
                     return Ok(Executed::No);
                 };
-                self.go_past(
+                Ok(self.set_past(
                     LineInstruction::AdvanceLine(advance),
                     Executed::Quiet,
                     input,
                     header,
                     row,
-                )
+                ))
             }
             constants::DW_LNS_set_file => {
                 let Some(file) = read_short_uleb128(&mut input) else {
                     return Ok(Executed::No);
                 };
-                self.go_past(
+                Ok(self.set_past(
                     LineInstruction::SetFile(file),
                     Executed::Quiet,
                     input,
                     header,
                     row,
-                )
+                ))
             }
             constants::DW_LNS_set_column => {
                 let Some(column) = read_short_uleb128(&mut input) else {
                     return Ok(Executed::No);
                 };
-                self.go_past(
+                Ok(self.set_past(
                     LineInstruction::SetColumn(column),
                     Executed::Quiet,
                     input,
                     header,
                     row,
-                )
+                ))
             }
             constants::DW_LNS_negate_stmt => {
-                self.go_past(
+                Ok(self.set_past(
                     LineInstruction::NegateStatement,
                     Executed::Quiet,
                     input,
                     header,
                     row,
-                )
+                ))
             }
             _ => Ok(Executed::No),
         }
+    }
+
+    /// Executes the instruction that the program begins with, which sets a register by its operand
+    /// alone and of which this is told, and goes on behind its bytes.
+    #[inline(always)]
+    fn set_past(
+        &mut self,
+        instruction: LineInstruction<R>,
+        told: Executed,
+        rest: R,
+        _header: &LineProgramHeader<R>,
+        row: &mut LineRow,
+    ) -> Executed
+        requires read { ins_at self.old.notation _header.now.meaning self.old.bytes
+            ≡ (Ok (ins_seen R.bytes R.Offset.number instruction), R.bytes rest) }
+        requires order { R.big rest ≡ self.old.notation.big }
+        requires file { defines_file (ins_seen R.bytes R.Offset.number instruction) ≡ false }
+        requires register { (k : Parameters) (r : LineRow) →
+            step_of k (ins_seen R.bytes R.Offset.number instruction) r
+            ≡ with_register (ins_seen R.bytes R.Offset.number instruction) r }
+        requires fits { (k : Parameters) (r : LineRow) →
+            is_refused k (ins_seen R.bytes R.Offset.number instruction) r ≡ false }
+        requires told { told ≡ told_of (ins_seen R.bytes R.Offset.number instruction) }
+        ensures executed { ExecutesNext _header.now.meaning self.old self.new row.old row.new result }
+        ensures notation { self.new.notation ≡ self.old.notation }
+    {
+        self.input = rest;
+        row.set_register(instruction);
+        told
     }
 
     /// Executes the instruction that the program begins with, of which this is told, and goes on
@@ -378,13 +409,13 @@ impl<R: Reader> LineInstructions<R> {
         let mut inside = opened.1;
         match opened.0 {
             constants::DW_LNE_end_sequence => {
-                self.go_past(
+                Ok(self.set_past(
                     LineInstruction::EndSequence,
                     Executed::Row,
                     input,
                     header,
                     row,
-                )
+                ))
             }
             constants::DW_LNE_set_address => {
                 let Ok(address) = inside.read_address(header.parameters.encoding.address_size)
@@ -403,13 +434,13 @@ impl<R: Reader> LineInstructions<R> {
                 let Some(discriminator) = read_short_uleb128(&mut inside) else {
                     return Ok(Executed::No);
                 };
-                self.go_past(
+                Ok(self.set_past(
                     LineInstruction::SetDiscriminator(discriminator),
                     Executed::Quiet,
                     input,
                     header,
                     row,
-                )
+                ))
             }
             _ => Ok(Executed::No),
         }

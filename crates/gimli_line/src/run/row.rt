@@ -307,7 +307,7 @@ impl LineRow {
     /// Executes an instruction that sets a register by its operand alone; any other changes
     /// nothing.
     #[inline(always)]
-    fn set_register<R: Reader>(&mut self, instruction: LineInstruction<R>)
+    pub(super) fn set_register<R: Reader>(&mut self, instruction: LineInstruction<R>)
         ensures { self.new ≡ with_register (ins_seen R.bytes R.Offset.number instruction) self.old }
     {
         match instruction {

@@ -13,9 +13,9 @@ go_past-requires-clause-read g c =
     rw (← c.self.view_is) (special_read _ _ _ _ _ _ base c.in-Ok.ensures.read
     (omega (arith, c.header-inside.invariant.base, c.if-opcode-header.true)) c.if-opcode-header.true)
 
-pub go_past-requires-in-DW_LNS_copy-clause-read : goal.go_past-requires-in-DW_LNS_copy-clause-read
+pub set_past-requires-clause-read : goal.set_past-requires-clause-read
 unfolding standard_at
-go_past-requires-in-DW_LNS_copy-clause-read g c =
+set_past-requires-clause-read g c =
     let base =
     ap (λ i. i.parameters.opcode_base) c.header-inside.view_is
     ∙ ap (λ (m : Header). m.parameters.opcode_base) (ap (λ v. v.meaning) c.header.view_is) in
@@ -24,9 +24,9 @@ go_past-requires-in-DW_LNS_copy-clause-read g c =
     (standard_read _ _ _ _ _ _ base c.in-Ok.ensures.read (omega (arith, is)) c.if-opcode-header.false
     ∙ rw is refl)
 
-pub go_past-requires-in-DW_LNS_advance_line-clause-read : goal.go_past-requires-in-DW_LNS_advance_line-clause-read
+pub set_past-requires-in-DW_LNS_advance_line-clause-read : goal.set_past-requires-in-DW_LNS_advance_line-clause-read
 unfolding standard_at
-go_past-requires-in-DW_LNS_advance_line-clause-read g c =
+set_past-requires-in-DW_LNS_advance_line-clause-read g c =
     let base =
     ap (λ i. i.parameters.opcode_base) c.header-inside.view_is
     ∙ ap (λ (m : Header). m.parameters.opcode_base) (ap (λ v. v.meaning) c.header.view_is) in
@@ -36,9 +36,9 @@ go_past-requires-in-DW_LNS_advance_line-clause-read g c =
     (standard_read _ _ _ _ _ _ base c.in-Ok.ensures.read (omega (arith, is)) c.if-opcode-header.false
     ∙ rw (is, ← c.in-Some.ensures.read) refl)
 
-pub go_past-requires-in-DW_LNS_set_file-clause-read : goal.go_past-requires-in-DW_LNS_set_file-clause-read
+pub set_past-requires-in-DW_LNS_set_file-clause-read : goal.set_past-requires-in-DW_LNS_set_file-clause-read
 unfolding standard_at
-go_past-requires-in-DW_LNS_set_file-clause-read g c =
+set_past-requires-in-DW_LNS_set_file-clause-read g c =
     let base =
     ap (λ i. i.parameters.opcode_base) c.header-inside.view_is
     ∙ ap (λ (m : Header). m.parameters.opcode_base) (ap (λ v. v.meaning) c.header.view_is) in
@@ -47,9 +47,9 @@ go_past-requires-in-DW_LNS_set_file-clause-read g c =
     (standard_read _ _ _ _ _ _ base c.in-Ok.ensures.read (omega (arith, is)) c.if-opcode-header.false
     ∙ rw (is, ← c.in-Some-read_short_uleb128.ensures.read) refl)
 
-pub go_past-requires-in-DW_LNS_set_column-clause-read : goal.go_past-requires-in-DW_LNS_set_column-clause-read
+pub set_past-requires-in-DW_LNS_set_column-clause-read : goal.set_past-requires-in-DW_LNS_set_column-clause-read
 unfolding standard_at
-go_past-requires-in-DW_LNS_set_column-clause-read g c =
+set_past-requires-in-DW_LNS_set_column-clause-read g c =
     let base =
     ap (λ i. i.parameters.opcode_base) c.header-inside.view_is
     ∙ ap (λ (m : Header). m.parameters.opcode_base) (ap (λ v. v.meaning) c.header.view_is) in
@@ -58,9 +58,9 @@ go_past-requires-in-DW_LNS_set_column-clause-read g c =
     (standard_read _ _ _ _ _ _ base c.in-Ok.ensures.read (omega (arith, is)) c.if-opcode-header.false
     ∙ rw (is, ← c.in-Some-read_short_uleb128-2.ensures.read) refl)
 
-pub go_past-requires-in-DW_LNS_negate_stmt-clause-read : goal.go_past-requires-in-DW_LNS_negate_stmt-clause-read
+pub set_past-requires-in-DW_LNS_negate_stmt-clause-read : goal.set_past-requires-in-DW_LNS_negate_stmt-clause-read
 unfolding standard_at
-go_past-requires-in-DW_LNS_negate_stmt-clause-read g c =
+set_past-requires-in-DW_LNS_negate_stmt-clause-read g c =
     let base =
     ap (λ i. i.parameters.opcode_base) c.header-inside.view_is
     ∙ ap (λ (m : Header). m.parameters.opcode_base) (ap (λ v. v.meaning) c.header.view_is) in

@@ -5,16 +5,16 @@ use Rattle.gimli_line.specs.header.Parameters.{Parameters}
 use Rattle.gimli_line.specs.run.InstructionReading.{extended_operands_at}
 use Rattle.gimli_line.proofs.run.instruction.LineInstructions.execute_extended.Goals as goal
 
-pub go_past-requires-clause-read : goal.go_past-requires-clause-read
+pub set_past-requires-clause-read : goal.set_past-requires-clause-read
 unfolding extended_operands_at
-go_past-requires-clause-read g c =
+set_past-requires-clause-read g c =
     let is : c.in-Some.opened.0.0 ≡ 1 = search rules in
     c.requires.read ∙ c.in-Some.ensures.read c.args.self.now.notation c.args.header.now.meaning c.requires.limit
     ∙ rw is refl
 
-pub go_past-requires-in-DW_LNE_set_address-clause-read : goal.go_past-requires-in-DW_LNE_set_address-clause-read
+pub go_past-requires-clause-read : goal.go_past-requires-clause-read
 unfolding extended_operands_at
-go_past-requires-in-DW_LNE_set_address-clause-read g c =
+go_past-requires-clause-read g c =
     let is : c.in-Some.opened.0.0 ≡ 2 = search rules in
     let same =
     ap (λ i. i.parameters) c.header-inside.view_is
@@ -28,10 +28,10 @@ go_past-requires-in-DW_LNE_set_address-clause-read g c =
     c.requires.read ∙ c.in-Some.ensures.read c.args.self.now.notation c.args.header.now.meaning c.requires.limit
     ∙ rw is (rw (← operand) refl)
 
-pub go_past-requires-in-DW_LNE_set_discriminator-clause-read :
-    goal.go_past-requires-in-DW_LNE_set_discriminator-clause-read
+pub set_past-requires-in-DW_LNE_set_discriminator-clause-read :
+    goal.set_past-requires-in-DW_LNE_set_discriminator-clause-read
 unfolding extended_operands_at
-go_past-requires-in-DW_LNE_set_discriminator-clause-read g c =
+set_past-requires-in-DW_LNE_set_discriminator-clause-read g c =
     let is : c.in-Some.opened.0.0 ≡ 4 = search rules in
     c.requires.read ∙ c.in-Some.ensures.read c.args.self.now.notation c.args.header.now.meaning c.requires.limit
     ∙ rw is (rw (← c.in-Some-read_short_uleb128.ensures.read) refl)
