@@ -214,18 +214,18 @@ static void two_rooms(void) {
     }
 }
 
-/* The paths of an index, /w/a.c and /w/inc/b.h, have 16 bytes. */
+/* The paths of an index, /w/a.c and /w/inc/b.h, have 18 bytes, each with its zero byte. */
 static void limit_of_paths(void) {
     static const uint8_t none = 0;
     uint8_t index[512];
     size_t size;
     take_version(4);
-    for (size_t limit = 0; limit < 20; limit++) {
+    for (size_t limit = 0; limit < 22; limit++) {
         const gimli_line_proved_options by = {sizeof by, 1, 8, false, limit};
         is(gimli_line_proved_index_write(in.line, in.line_size, &none, 0, &none, 0, in.info, in.info_size, in.abbreviations,
                                          in.abbreviations_size, &none, 0, &by, &none, 0, index, sizeof index,
-                                         &size) == (limit < 16 ? (uint32_t)GIMLI_LINE_INDEX_TOO_LARGE : (uint32_t)GIMLI_LINE_OK) &&
-               (size == 0) == (limit < 16),
+                                         &size) == (limit < 18 ? (uint32_t)GIMLI_LINE_INDEX_TOO_LARGE : (uint32_t)GIMLI_LINE_OK) &&
+               (size == 0) == (limit < 18),
            "the limit of paths");
     }
 }
