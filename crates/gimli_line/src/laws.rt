@@ -1,8 +1,8 @@
 //! Laws of the two grammars: a unit has one header or one refusal, a program is decoded in one way.
 //! And laws of what a run gives.
 
-ghost use Rattle.std.specs.Prelude.{◌≡◌, ◌≢◌, ◌≤◌, ◌<◌, ◌⊎◌, ◌+◌, ◌^◌, ℕ, Bool, true, List, [], ◌∷◌};
-ghost use Rattle.std.specs.Prelude.{Option, Some, None, length, nat_eq, option_map};
+ghost use Rattle.std.specs.Prelude.{◌≡◌, ◌≢◌, ◌≤◌, ◌<◌, ◌⊎◌, ◌+◌, ◌^◌, ℕ, Bool, true, List, []};
+ghost use Rattle.std.specs.Prelude.{◌∷◌, Option, Some, None, length, nat_eq, option_map};
 ghost use Rattle.std.specs.Ordering.{nat_cmp};
 ghost use Rattle.gimli_core.specs.Equality.{AreAlwaysCloned, ClonesGiveSame, ComparesBy, IsExact};
 ghost use Rattle.gimli_core.specs.Equality.{IsSameClone, both};

@@ -118,8 +118,8 @@ abbrev pub path_of : Entry → Value
 path_of entry = last_value DW_LNCT_path Some (String []) entry
 
 -- the file of an entry. The standard names no value for a part that no format has, and says nothing
--- of two formats of one content type: that the first is 0 or empty, and that the later of two counts,
--- is ours, as gimli has it
+-- of two formats of one content type: that the first is 0 or empty, and that the later of two
+-- counts, is ours, as gimli has it
 abbrev pub file_of_entry : Entry → File
 file_of_entry entry = record {
   path_name = path_of entry;

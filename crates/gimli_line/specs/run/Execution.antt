@@ -1,6 +1,6 @@
 -- What is done where an instruction is refused, and instructions that are executed from their
 -- bytes, without a value of their own between.
-use Rattle.std.specs.Prelude.{◌≡◌, ◌≢◌, ℕ, List, Bool, true, false, IfErr, OnOk, Ok, Result}
+use Rattle.std.specs.Prelude.{◌≡◌, ◌≢◌, ℕ, List, Bool, true, false, Ok}
 use Rattle.gimli_core.specs.declared.error.Error.{Error}
 use Rattle.gimli_core.specs.declared.error.Error.TheVariants.{AddressOverflow, OutOfMemory}
 use Rattle.gimli_core.specs.Reading.{Read}
@@ -19,13 +19,6 @@ use Rattle.gimli_line.specs.run.Instruction.{Ins, defines_file}
 use Rattle.gimli_line.specs.run.InstructionReading.{ins_at}
 use Rattle.gimli_line.specs.run.Machine.{step_of, is_refused}
 use Rattle.gimli_line.specs.run.Unread.{Unread}
-
--- an instruction was executed on the registers: it was refused by `AddressOverflow` where the
--- address would pass the greatest one of its size; they go on then, but for the address
-abbrev pub Executes : {A : Type 0} → Parameters → Ins → LineRow → LineRow → Result A Error → Type 0
-Executes parameters i old new answer =
-    (new ≡ step_of parameters i old) × OnOk answer (is_refused parameters i old ≡ false)
-    × IfErr answer (λ e. (e ≡ AddressOverflow) × (is_refused parameters i old ≡ true))
 
 -- a refusal that is `AddressOverflow`: the address would pass the greatest one of its size; the
 -- registers go on, but for the address

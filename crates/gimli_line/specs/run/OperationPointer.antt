@@ -45,8 +45,8 @@ operation_advance parameters ConstAddPc =
     Some ((255 - parameters.opcode_base) / parameters.line_encoding.line_range)
 operation_advance parameters i = None
 
--- the pointer n operations further on, by the formula of 6.2.5.1, whatever an address holds; sums and
--- products of operations are modulo 2 ^ 64
+-- the pointer n operations further on, by the formula of 6.2.5.1, whatever an address holds; sums
+-- and products of operations are modulo 2 ^ 64
 abbrev pub advanced_by_formula : Parameters → ℕ → OperationPointer → OperationPointer
 advanced_by_formula parameters n p =
     let s = (p.op_index + n) % 2 ^ 64 in

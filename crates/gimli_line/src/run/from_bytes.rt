@@ -264,7 +264,7 @@ impl<R: Reader> LineInstructions<R> {
         requires fits { (k : Parameters) (r : LineRow) →
             is_refused k (ins_seen R.bytes R.Offset.number instruction) r ≡ false }
         requires told { told ≡ told_of (ins_seen R.bytes R.Offset.number instruction) }
-        ensures executed { ExecutesNext _header.now.meaning self.old self.new row.old row.new result }
+        ensures ok { ExecutesNext _header.now.meaning self.old self.new row.old row.new result }
         ensures notation { self.new.notation ≡ self.old.notation }
     {
         self.input = rest;

@@ -49,7 +49,8 @@ impl LineRow {
     ghost use Rattle.gimli_line.specs.run.Machine.{initial, reset_row, rebase_of, IsAllowed};
     ghost use Rattle.gimli_line.specs.run.Machine.{is_refused, step_of, with_register};
     ghost use Rattle.gimli_line.specs.run.OperationPointer.{is_too_large};
-    ghost use Rattle.gimli_line.specs.run.Execution.{Executes, OverflowIs, OtherRefusalIs};
+    ghost use Rattle.gimli_line.specs.inside.run.Execution.{Executes};
+    ghost use Rattle.gimli_line.specs.run.Execution.{OverflowIs, OtherRefusalIs};
     ghost use Rattle.gimli_line.specs.run.Row.{column_number};
     ghost use Rattle.gimli_line.specs.run.Registers.{advanced_line};
 
