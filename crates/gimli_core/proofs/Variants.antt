@@ -38,12 +38,3 @@ none x y = (λ _. refl, λ _. refl)
 pub one : {A : Type 0} {p : A → A → Bool} → ((a b : A) → Decides (p a b) (a ≡ b)) → (x y : A × Unit {0})
     → Decides (p x.0 y.0) (x ≡ y)
 one d x y = (λ e. ap (λ a. (a, tt)) ((d x.0 y.0).0 e), λ e. (d x.0 y.0).1 (ap (λ z. z.0) e))
-
-pub two : {A B : Type 0} {p : A → A → Bool} {q : B → B → Bool} → ((a b : A) → Decides (p a b) (a ≡ b))
-    → ((a b : B) → Decides (q a b) (a ≡ b)) → (x y : A × (B × Unit {0}))
-    → Decides (p x.0 y.0 && q x.1.0 y.1.0) (x ≡ y)
-two {p} {q} d k x y = at _ _ (d x.0 y.0) (k x.1.0 y.1.0)
-  where
-    at : (s t : Bool) → Decides s (x.0 ≡ y.0) → Decides t (x.1.0 ≡ y.1.0) → Decides (s && t) (x ≡ y)
-    at true t h j = (λ e. rw (h.0 refl, j.0 e) refl, λ e. j.1 (ap (λ z. z.1.0) e))
-    at false t h j = (λ e. absurd cc, λ e. h.1 (ap (λ z. z.0) e))

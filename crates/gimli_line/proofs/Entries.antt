@@ -1,17 +1,15 @@
 -- Taking in the values of an entry one by one gives the entry's parts.
-use Rattle.std.proofs.Common.{◌≡◌, ℕ, ◌+◌, ◌<◌, Bool, if◌then◌else◌, List, [], ◌∷◌, length, get_or, drop, Option, Some}
+use Rattle.std.proofs.Common.{◌≡◌, ℕ, if◌then◌else◌, List, [], ◌∷◌, Option, Some}
 use Rattle.std.proofs.Common.{None, Ok, Err, refl, sym, ap, ◌∙◌}
-use Rattle.std.proofs.lemmas.List.{drop_more}
 use Rattle.std.specs.Prelude.{nat_eq}
 use Rattle.gimli_core.specs.Notation.{Notation}
 use Rattle.gimli_core.specs.Values.{Value, udata_value}
 use Rattle.gimli_core.specs.Reading.{Read, ◌>>=◌}
 use Rattle.gimli_core.specs.declared.common.Format.{Format}
-use Rattle.gimli_core.specs.declared.attribute_value.AttributeValue.TheVariants.{String}
 use Rattle.gimli_line.specs.inside.header.Outcome.{read_map}
 use Rattle.gimli_line.specs.header.File.{File}
 use Rattle.gimli_line.specs.header.Header.{plain_file}
-use Rattle.gimli_line.specs.header.HeaderGrammar.{Entry, last_value, digest, path_of, file_of_entry}
+use Rattle.gimli_line.specs.header.HeaderGrammar.{Entry, last_value, digest, file_of_entry}
 use Rattle.gimli_line.specs.inside.header.FormReading.{form_at}
 use Rattle.gimli_line.specs.inside.header.HeaderReading.{entry_at}
 use Rattle.gimli_line.specs.inside.header.EntryReading.{value_after, file_with, fold_of, folded_at}
@@ -89,8 +87,3 @@ module _ (notation : Notation) (format : Format) where
       folded_is notation format file_with (plain_file [] 0 0 0) formats bytes
       ∙ viewed_by (fold_of file_with (plain_file [] 0 0 0)) file_of_entry (file_folded (plain_file [] 0 0 0))
       (entry_at notation format formats bytes)
-
--- a directory is the path of such a file
-pub path_is : (r : Read Entry) → read_map (λ (f : File). f.path_name) (read_map file_of_entry r) ≡ read_map path_of r
-path_is (Ok entry, rest) = refl
-path_is (Err e, rest) = refl

@@ -1,6 +1,6 @@
 -- What a row that was the next to be made, and a refusal, mean for what is given.
-use Rattle.std.proofs.Common.{◌≡◌, ◌<◌, Bool, true, false, not, if◌then◌else◌, List, [], ◌∷◌, length, refl, ap, subst}
-use Rattle.std.proofs.Common.{◌∙◌, arith, inl, inr}
+use Rattle.std.proofs.Common.{◌≡◌, Bool, true, false, not, if◌then◌else◌, List, [], ◌∷◌, refl, ap, subst}
+use Rattle.std.proofs.Common.{◌∙◌, inl, inr}
 use Rattle.std.specs.List.{All}
 use Rattle.gimli_core.specs.declared.error.Error.{Error}
 use Rattle.gimli_line.specs.declared.run.row.LineRow.{LineRow}
@@ -17,9 +17,6 @@ none_given a none = ap given_of none
 -- ---- a row that was the next to be made
 
 module _ (old new : RunState) (r : LineRow) (files : List File) (next : RowIs live_made old new r files) where
-  pub fewer_made : length (made_left new) < length (made_left old)
-  fewer_made = omega (arith, ap length next.0)
-
   first_given : (b : Bool) → r.tombstone ≡ b
       → events_left old ≡ (if not b then record { event = row r; files = files } ∷ events_left new else events_left new)
   first_given b is =

@@ -27,5 +27,4 @@ pub mod Order
 pub mod Sources
 pub mod Equality
 pub mod Tables
-pub mod Fields
 pub mod UnitLaws

@@ -3,9 +3,8 @@ use Rattle.std.proofs.Common.{◌≡◌, ℕ, zero, suc, ◌-◌, ◌<◌, ◌�
 use Rattle.std.specs.Prelude.{map, slice_get, Some, None, option_map}
 use Rattle.std.specs.Option.{option_copied}
 use Rattle.std.proofs.Common.{Bor, sym}
-use Rattle.std.proofs.lemmas.Bool.{le-leb, lt-leb}
+use Rattle.std.proofs.lemmas.Bool.{le-leb}
 use Rattle.std.proofs.lemmas.Option.{slice_get-map}
-use Rattle.gimli_core.specs.declared.attribute_value.AttributeValue.TheVariants.{String}
 use Rattle.gimli_line.specs.header.Header.{Header, from_one, entry_of, directory_of, file_of}
 
 above : {A : Type 0} (first : Option A) (entries : List A) (i : ℕ) → 0 < i
@@ -24,34 +23,6 @@ directory_above h i old lt = entry_above h.parameters.encoding.version _ h.direc
 pub file_above : (h : Header) (i : ℕ) → h.parameters.encoding.version ≤ 4 → 0 < i
     → file_of h i ≡ slice_get h.files (i - 1)
 file_above h i old lt = entry_above h.parameters.encoding.version _ h.files i old lt
-
--- from version 5 on, every index; and index 0 up to version 4
-pub entry_new : {A : Type 0} (version : ℕ) (handed : Option A) (entries : List A) (i : ℕ) → 4 < version
-    → entry_of version handed entries i ≡ slice_get entries i
-entry_new version handed entries i new = rw (lt-leb version 4 new) refl
-
-pub entry_first : {A : Type 0} (version : ℕ) (handed : Option A) (entries : List A) (i : ℕ) → version ≤ 4 → i ≤ 0
-    → entry_of version handed entries i ≡ handed
-entry_first version handed entries zero old le = rw (le-leb version 4 old) refl
-entry_first version handed entries (suc i) old le = absurd (omega arith)
-
-pub directory_new : (h : Header) (i : ℕ) → 4 < h.parameters.encoding.version
-    → directory_of h i ≡ slice_get h.directories i
-directory_new h i new = entry_new h.parameters.encoding.version _ h.directories i new
-
-pub directory_first : (h : Header) (i : ℕ) → h.parameters.encoding.version ≤ 4 → i ≤ 0
-    → directory_of h i ≡ option_map String h.comp_dir
-directory_first h i old le = entry_first h.parameters.encoding.version _ h.directories i old le
-
-pub file_new : (h : Header) (i : ℕ) → 4 < h.parameters.encoding.version → file_of h i ≡ slice_get h.files i
-file_new h i new = entry_new h.parameters.encoding.version _ h.files i new
-
-pub file_first : (h : Header) (i : ℕ) → h.parameters.encoding.version ≤ 4 → i ≤ 0 → file_of h i ≡ h.comp_file
-file_first h i old le = entry_first h.parameters.encoding.version _ h.files i old le
-
-pub copied_own : {A : Type 0} (found : Option (Bor A)) → option_copied found ≡ option_map (λ b. b.now) found
-copied_own (Some b) = refl
-copied_own None = refl
 
 -- ---- an entry that was found, seen as a table's
 
@@ -74,8 +45,3 @@ module _ {A B : Type 0} (see : A → B) where
       → option_map (λ b. b.now) found ≡ slice_get items i
       → option_map see (option_copied found) ≡ slice_get (map see items) i
   copied_entry items found i is = copied_seen found ∙ ap (option_map see) is ∙ sym (slice_get-map see items i)
-
-  pub lent_whole : (found : Option (Bor A)) (whole : Option A) → option_copied found ≡ whole
-      → option_map (λ b. see b.now) found ≡ option_map see whole
-  lent_whole (Some b) whole is = ap (option_map see) is
-  lent_whole None whole is = ap (option_map see) is

@@ -3,7 +3,7 @@ use Rattle.std.proofs.Common.{◌≡◌, ◌≢◌, ℕ, zero, suc, ◌+◌, ◌
 use Rattle.std.proofs.Common.{length, map, Ok, Err, refl, sym, ap, ◌∙◌}
 use Rattle.std.proofs.Common.{append_assoc, arith}
 use Rattle.std.specs.Prelude.{nat_eq, IsTrue, ◌↔◌}
-use Rattle.std.proofs.lemmas.Bool.{ne_eqb, le-leb, lt-leb}
+use Rattle.std.proofs.lemmas.Bool.{ne_eqb}
 use Rattle.std.specs.List.{AllByRecursion}
 use Rattle.std.proofs.lemmas.List.{append-nil, length-append}
 use Rattle.gimli_core.specs.declared.error.Error.{Error}
@@ -16,11 +16,9 @@ use Rattle.gimli_core.proofs.ProductionLaws.{reads_text}
 use Rattle.gimli_line.specs.inside.header.Outcome.{read_map}
 use Rattle.gimli_line.specs.inside.header.TableReading.{is_closed, closed_below, list_to_zero_at}
 use Rattle.gimli_line.specs.header.File.{File}
-use Rattle.gimli_line.specs.header.HeaderGrammar.{Entry, file_of_entry}
-use Rattle.gimli_core.specs.declared.common.Encoding.{Encoding}
+use Rattle.gimli_line.specs.header.HeaderGrammar.{Entry}
 use Rattle.gimli_line.specs.header.HeaderReading.{plain_file_at}
-use Rattle.gimli_line.specs.inside.header.HeaderReading.{named_file_at, files_at, formats_at, entry_at, entries_at}
-use Rattle.gimli_line.specs.inside.header.HeaderReading.{table_at, file_names_at}
+use Rattle.gimli_line.specs.inside.header.HeaderReading.{named_file_at, entry_at, entries_at}
 use Rattle.gimli_line.specs.declared.header.file_entry.FileEntryFormat.{FileEntryFormat}
 use Rattle.gimli_line.proofs.Closed.{ReadsOpen}
 
@@ -29,15 +27,6 @@ use Rattle.gimli_line.proofs.Closed.{ReadsOpen}
 -- the items that were read before, and after them those that reading gives, each seen by f
 abbrev pub collected : {A B : Type 0} → List B → (A → B) → Read (List A) → Read (List B)
 collected xs f r = r >>= λ ys rest. (Ok (xs ++ map f ys), rest)
-
--- where nothing is changed
-map_same : {A : Type 0} (xs : List A) → map (λ x. x) xs ≡ xs
-map_same [] = refl
-map_same (x ∷ xs) = ap (λ ys. x ∷ ys) (map_same xs)
-
-pub collected_same : {A : Type 0} (r : Read (List A)) → collected [] (λ x. x) r ≡ r
-collected_same {A} (Ok xs, rest) = ap (λ (ys : List A). let r : Read (List A) = (Ok ys, rest) in r) (map_same xs)
-collected_same (Err e, rest) = refl
 
 pub viewed_same : {A : Type 0} (r : Read A) → read_map (λ x. x) r ≡ r
 viewed_same (Ok x, rest) = refl

@@ -29,10 +29,6 @@ module _ {R Offset Endian : Type 0} (big : R → Bool) where
       → All (FileHasOrder big first) xs → FileHasOrder big now x → All (FileHasOrder big first) longer
   files_pushed = pushed (FileHasOrder big)
 
-  pub value_kept : (first now : Bool) (x : AttributeValue R Offset Endian) → now ≡ first → ValueHasOrder big now x
-      → ValueHasOrder big first x
-  value_kept first now x same = subst (λ order. ValueHasOrder big order x) same
-
   pub file_kept : (first now : Bool) (x : FileEntry R Offset Endian) → now ≡ first → FileHasOrder big now x
       → FileHasOrder big first x
   file_kept first now x same = subst (λ order. FileHasOrder big order x) same

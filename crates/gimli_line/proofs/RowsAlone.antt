@@ -1,7 +1,7 @@
 -- Runs that give rows alone, and are refused for nothing.
-use Rattle.std.proofs.Common.{◌≡◌, true, false, [], ◌∷◌, sym, subst, ◌∙◌, inl, inr}
+use Rattle.std.proofs.Common.{◌≡◌, true, false, ◌∷◌, sym, subst, ◌∙◌, inl, inr}
 use Rattle.std.specs.List.{All}
-use Rattle.std.proofs.lemmas.List.Elements.{All-nil, All-head, All-tail}
+use Rattle.std.proofs.lemmas.List.Elements.{All-head, All-tail}
 use Rattle.gimli_core.specs.declared.error.Error.{Error}
 use Rattle.gimli_line.specs.declared.run.row.LineRow.{LineRow}
 use Rattle.gimli_line.specs.run.Events.{row, fault}
@@ -20,13 +20,6 @@ pub rest_alone : (old new : RunState) (e : EventWithFiles) → new.appends ≡ o
 rest_alone old new e appends first alone = record {
   complete = appends ∙ alone.complete;
   rows = All-tail IsRow e (events_left new) (subst (All IsRow) first alone.rows);
-}
-
-pub end_alone : (old new : RunState) → new.appends ≡ old.appends → events_left new ≡ [] → GivesRowsAlone old
-    → GivesRowsAlone new
-end_alone old new appends none alone = record {
-  complete = appends ∙ alone.complete;
-  rows = subst (All IsRow) (sym none) (All-nil IsRow);
 }
 
 pub never_refused_alone : (old new : RunState) (e : Error) → new.appends ≡ old.appends

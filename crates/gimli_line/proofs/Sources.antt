@@ -1,6 +1,6 @@
 -- A header, and a run, that still come from the same source.
 use Rattle.std.proofs.Common.{◌≡◌, Bool, refl, sym, ap, subst, ◌∙◌}
-use Rattle.gimli_line.specs.header.Header.{Header, SeenHeader, without_files}
+use Rattle.gimli_line.specs.header.Header.{SeenHeader}
 use Rattle.gimli_line.specs.header.Orders.{Source, source_of, KeepsSource}
 use Rattle.gimli_line.specs.run.RunState.{RunState}
 use Rattle.gimli_line.specs.run.Rows.{AddsInOrder, IsOfOneOrder, KeepsRun, SeesHeader}
@@ -46,16 +46,6 @@ keeps_both x y z p q = record {
   unread = q.unread ∙ p.unread;
   source =
       source_both (AddsInOrder x) x.source y.source z.source p.source (fits_less _ _ _ _ (still_adds x y p) q.source);
-}
-
--- the header that was lent
-pub sees_lent : {R Offset Endian : Type 0} (big : R → Bool) (number : Offset → _) (x : RunState)
-    (h : SeenHeader R Offset Endian) (meaning : Header)
-    → x.fixed ≡ without_files meaning
-    → h.meaning ≡ meaning → source_of big number h ≡ x.source → SeesHeader big number x h
-sees_lent big number x h meaning fixed same source = record {
-  fixed = ap without_files same ∙ sym fixed;
-  source = subst (KeepsSource (AddsInOrder x) x.source) (sym source) (source_kept (AddsInOrder x) x.source);
 }
 
 -- a run goes on, and the header is seen then

@@ -1,8 +1,7 @@
-use Rattle.std.proofs.Common.{refl, ◌∙◌, sym}
+use Rattle.std.proofs.Common.{◌∙◌, sym}
 use Rattle.std.proofs.lemmas.Result.{err_from_is_err_and}
 use Rattle.gimli_line.specs.inside.header.HeaderReading.{format_at}
-use Rattle.gimli_line.proofs.Loops.{viewed_same, times_goes_on, times_ends, times_done}
-use Rattle.gimli_line.proofs.Tables.{formats_start}
+use Rattle.gimli_line.proofs.Loops.{viewed_same, times_goes_on, times_ends}
 use Rattle.gimli_line.proofs.header.tables.parse_all_formats.Goals as goal
 
 pub returns-in_err-format-clause-read : goal.returns-in_err-format-clause-read
@@ -21,20 +20,3 @@ loop-preserved g c = record {
       c.loop.invariant.so_far);
   order = c.parse_format.ensures.order ∙ c.loop.invariant.order;
 }
-
-pub loop-init : goal.loop-init
-loop-init g c = record { so_far = rw c.new-formats.ensures.items (formats_start _ _); order = refl }
-
-pub returns-in_err-format-clause-order : goal.returns-in_err-format-clause-order
-returns-in_err-format-clause-order g c = c.parse_format.ensures.order ∙ c.loop.invariant.order
-
-pub returns-in_err-push-clause-order : goal.returns-in_err-push-clause-order
-returns-in_err-push-clause-order g c = c.parse_format.ensures.order ∙ c.loop.invariant.order
-
-pub returns-in_err-push-clause-read : goal.returns-in_err-push-clause-read
-returns-in_err-push-clause-read g c =
-    let p = err_from_is_err_and c.from_residual-in_err-push.result c.from_residual-in_err-push.ensures.1 in
-    rw (p.1, p.2) (λ other. absurd (other c.in_err-push.ensures.err))
-
-pub returns-clause-read : goal.returns-clause-read
-returns-clause-read g c = times_done (λ x. x) format_at _ _ c.loop.counter _ _ c.loop-test.false c.loop.invariant.so_far

@@ -1,13 +1,11 @@
-use Rattle.std.proofs.Common.{refl, ap, ◌∙◌}
+use Rattle.std.proofs.Common.{ap, ◌∙◌}
 use Rattle.std.proofs.lemmas.List.{map_push}
 use Rattle.std.proofs.lemmas.Result.{err_from_is_err_and}
 use Rattle.gimli_core.specs.Reading.{text_at}
-use Rattle.gimli_core.specs.Values.{ValueHasOrder}
 use Rattle.gimli_core.specs.declared.attribute_value.AttributeValue.TheVariants.{String}
 use Rattle.gimli_line.specs.inside.header.Outcome.{read_map}
 use Rattle.gimli_line.specs.header.Productions.{name}
 use Rattle.gimli_line.proofs.Order.{values_pushed}
-use Rattle.gimli_line.proofs.Tables.{none_yet, text_smaller}
 use Rattle.gimli_line.proofs.Closed.{reads_name}
 use Rattle.gimli_line.proofs.Loops.{closed_goes_on, closed_ends, closed_done, text_closed, text_free, text_refused}
 use Rattle.gimli_line.proofs.header.tables.parse_directories.Goals as goal
@@ -40,22 +38,3 @@ loop-directories-preserved g c = record {
       c.loop-directories.invariant.parts
       c.in_ok-directory.ensures.part;
 }
-
-pub loop-directories-init : goal.loop-directories-init
-loop-directories-init g c = record {
-  so_far = rw c.new-directories.ensures.items refl;
-  order = refl;
-  parts = none_yet (ValueHasOrder g.R.Reader.big (g.R.Reader.big c.args.input.now)) _ c.new-directories.ensures.items;
-}
-
-pub loop-directories-smaller : goal.loop-directories-smaller
-loop-directories-smaller g c =
-    text_smaller (g.R.Reader.bytes c.loop-directories.input) _ _ c.if-is_empty.ensures c.in_ok-directory.ensures.read
-
-pub returns-in_err-push-clause-read : goal.returns-in_err-push-clause-read
-returns-in_err-push-clause-read g c =
-    let p = err_from_is_err_and c.from_residual-in_err-push.result c.from_residual-in_err-push.ensures.1 in
-    rw (p.1, p.2) (λ other. absurd (other c.in_err-push.ensures.err))
-
-pub returns-in_err-push-clause-order : goal.returns-in_err-push-clause-order
-returns-in_err-push-clause-order g c = c.read_null_terminated_slice.ensures.order ∙ c.loop-directories.invariant.order

@@ -1,19 +1,10 @@
 use Rattle.std.proofs.Common.{◌∙◌}
 use Rattle.std.proofs.lemmas.List.{map_push}
 use Rattle.std.proofs.lemmas.Result.{err_from_is_err_and}
-use Rattle.gimli_core.specs.Values.{ValueHasOrder}
 use Rattle.gimli_line.specs.header.HeaderGrammar.{path_of}
 use Rattle.gimli_line.proofs.Order.{values_pushed}
-use Rattle.gimli_line.proofs.Loops.{times_goes_on, times_ends, times_done, entries_start, entry_kept}
-use Rattle.gimli_line.proofs.Tables.{none_yet}
+use Rattle.gimli_line.proofs.Loops.{times_goes_on, times_ends, times_done, entry_kept}
 use Rattle.gimli_line.proofs.header.tables.parse_directories_v5.Goals as goal
-
-pub loop-init : goal.loop-init
-loop-init g c = record {
-  so_far = rw c.new-directories.ensures.items (entries_start _ _ path_of _ _ _ _ c.in_ok-count.ensures.read);
-  order = c.read_uleb128.ensures.order;
-  parts = none_yet (ValueHasOrder g.R.Reader.big (g.R.Reader.big c.args.input.now)) _ c.new-directories.ensures.items;
-}
 
 pub returns-in_err-directory-clause-read : goal.returns-in_err-directory-clause-read
 returns-in_err-directory-clause-read g c =
@@ -35,14 +26,3 @@ loop-preserved g c = record {
 
 pub returns-clause-read : goal.returns-clause-read
 returns-clause-read g c = times_done path_of _ _ _ c.loop.counter _ _ c.loop-test.false c.loop.invariant.so_far
-
-pub returns-in_err-directory-clause-order : goal.returns-in_err-directory-clause-order
-returns-in_err-directory-clause-order g c = c.parse_directory_v5.ensures.order ∙ c.loop.invariant.order
-
-pub returns-in_err-push-clause-order : goal.returns-in_err-push-clause-order
-returns-in_err-push-clause-order g c = c.parse_directory_v5.ensures.order ∙ c.loop.invariant.order
-
-pub returns-in_err-push-clause-read : goal.returns-in_err-push-clause-read
-returns-in_err-push-clause-read g c =
-    let p = err_from_is_err_and c.from_residual-in_err-push.result c.from_residual-in_err-push.ensures.1 in
-    rw (p.1, p.2) (λ other. absurd (other c.in_err-push.ensures.err))

@@ -1,7 +1,6 @@
 use Rattle.std.proofs.lemmas.Result.{err_from_is_err_and}
 use Rattle.gimli_line.specs.header.HeaderGrammar.{path_of}
 use Rattle.gimli_line.proofs.Tables.{table_up_to_4, table_4_end, formats_end, table_from_5, table_5_end}
-use Rattle.gimli_line.proofs.Order.{values_kept}
 use Rattle.gimli_line.proofs.header.tables.parse_directory_table.Goals as goal
 
 pub returns-in_err-directories-clause-read : goal.returns-in_err-directories-clause-read
@@ -34,7 +33,3 @@ returns-clause-read g c =
     table_from_5 _ path_of _ _ _ _ _ _ _ _ c.if-encoding-le4.false c.in_ok-formats.ensures.read
     c.parse_formats.ensures.order c.deref.ensures.value _ _
     c.in_ok-directories-2.ensures.read
-
-pub returns-clause-parts : goal.returns-clause-parts
-returns-clause-parts g c =
-    values_kept g.R.Reader.big _ _ _ c.parse_formats.ensures.order c.in_ok-directories-2.ensures.parts

@@ -1,14 +1,11 @@
-use Rattle.std.proofs.Common.{refl, ◌∙◌}
+use Rattle.std.proofs.Common.{◌∙◌}
 use Rattle.std.proofs.lemmas.List.{map_push}
 use Rattle.std.proofs.lemmas.Result.{err_from_is_err_and}
-use Rattle.gimli_line.specs.inside.header.HeaderReading.{named_file_at, files_at}
-use Rattle.gimli_line.specs.header.File.{FileHasOrder}
+use Rattle.gimli_line.specs.inside.header.HeaderReading.{named_file_at}
 use Rattle.gimli_line.proofs.Order.{files_pushed}
 use Rattle.gimli_line.proofs.HeaderLaws.{reads_named_file, named_file}
 use Rattle.gimli_line.proofs.Loops.{closed_goes_on, closed_ends, closed_done, closed_smaller, text_closed, text_free}
 use Rattle.gimli_line.proofs.Loops.{text_refused, named_is, named_fault}
-use Rattle.gimli_line.proofs.Loops.{collected_same}
-use Rattle.gimli_line.proofs.Tables.{none_yet}
 use Rattle.gimli_line.proofs.header.tables.parse_files.Goals as goal
 
 pub returns-in_err-path_name-clause-read : goal.returns-in_err-path_name-clause-read
@@ -55,23 +52,3 @@ loop-files-preserved g c = record {
       (c.in_ok-path_name.ensures.part ∙ c.loop-files.invariant.order) c.loop-files.invariant.parts
       c.in_ok-file.ensures.file;
 }
-
-pub loop-files-init : goal.loop-files-init
-loop-files-init g c = record {
-  so_far = rw c.new-files.ensures.items (collected_same (files_at (g.R.Reader.bytes c.args.input.now)));
-  order = refl;
-  parts = none_yet (FileHasOrder g.R.Reader.big (g.R.Reader.big c.args.input.now)) _ c.new-files.ensures.items;
-}
-
-pub returns-in_err-push-clause-read : goal.returns-in_err-push-clause-read
-returns-in_err-push-clause-read g c =
-    let p = err_from_is_err_and c.from_residual-in_err-push.result c.from_residual-in_err-push.ensures.1 in
-    rw (p.1, p.2) (λ other. absurd (other c.in_err-push.ensures.err))
-
-pub returns-in_err-push-clause-order : goal.returns-in_err-push-clause-order
-returns-in_err-push-clause-order g c =
-    c.parse.ensures.order ∙ c.read_null_terminated_slice.ensures.order ∙ c.loop-files.invariant.order
-
-pub returns-in_err-file-clause-order : goal.returns-in_err-file-clause-order
-returns-in_err-file-clause-order g c =
-    c.parse.ensures.order ∙ c.read_null_terminated_slice.ensures.order ∙ c.loop-files.invariant.order

@@ -1,7 +1,7 @@
-use Rattle.std.proofs.Common.{◌≤◌, ◌<◌, ◌-◌, ◌∙◌, sym, ap, arith}
+use Rattle.std.proofs.Common.{◌≤◌, ◌-◌, ◌∙◌, sym, ap, arith}
 use Rattle.std.specs.Prelude.{slice_get}
-use Rattle.gimli_line.proofs.LookUps.{entry_above, entry_new, entry_first, file_above, file_new, file_first, copied_own}
-use Rattle.gimli_line.proofs.LookUps.{lent_entry, lent_whole}
+use Rattle.gimli_line.proofs.LookUps.{entry_above, file_above}
+use Rattle.gimli_line.proofs.LookUps.{lent_entry}
 use Rattle.gimli_line.proofs.header.program_header.LineProgramHeader.file.Goals as goal
 
 pub returns-then-file-gt0-clause-file : goal.returns-then-file-gt0-clause-file
@@ -25,36 +25,3 @@ returns-then-file-gt0-clause-own g c =
     ∙ sym (entry_above c.args.self.now.meaning.parameters.encoding.version c.args.self.now.comp_file
     c.args.self.now.file_names.items c.args.file old
     c.if-file-gt0.true)
-
-pub returns-then-version-gt4-clause-file : goal.returns-then-version-gt4-clause-file
-returns-then-version-gt4-clause-file g c =
-    let new : 4 < c.args.self.now.meaning.parameters.encoding.version = omega (arith, c.version.ensures) in
-    let there = c.entry.ensures ∙ ap (λ items. slice_get items c.args.file) c.deref.ensures.value in
-    let table = ap (λ h. slice_get h.meaning.files c.args.file) c.self.view_is in
-    lent_entry _ c.self.inside.file_names.items _ c.args.file there ∙ table
-    ∙ sym (file_new c.args.self.now.meaning c.args.file new)
-
-pub returns-then-version-gt4-clause-own : goal.returns-then-version-gt4-clause-own
-returns-then-version-gt4-clause-own g c =
-    let new : 4 < c.args.self.now.meaning.parameters.encoding.version = omega (arith, c.version.ensures) in
-    let there = c.entry.ensures ∙ ap (λ items. slice_get items c.args.file) c.deref.ensures.value in
-    let table = ap (λ h. slice_get h.file_names.items c.args.file) c.self.view_is in
-    there ∙ table
-    ∙ sym (entry_new c.args.self.now.meaning.parameters.encoding.version c.args.self.now.comp_file
-    c.args.self.now.file_names.items c.args.file new)
-
-pub returns-clause-file : goal.returns-clause-file
-returns-clause-file g c =
-    let old : c.args.self.now.meaning.parameters.encoding.version ≤ 4 = omega (arith, c.version.ensures) in
-    let handed = ap (λ h. h.meaning.comp_file) c.self.view_is in
-    lent_whole _ c.as_ref.result _ c.as_ref.ensures.value ∙ handed
-    ∙ sym (file_first c.args.self.now.meaning c.args.file old c.if-file-gt0.false)
-
-pub returns-clause-own : goal.returns-clause-own
-returns-clause-own g c =
-    let old : c.args.self.now.meaning.parameters.encoding.version ≤ 4 = omega (arith, c.version.ensures) in
-    let handed = ap (λ h. h.comp_file) c.self.view_is in
-    sym (copied_own c.as_ref.result) ∙ c.as_ref.ensures.value ∙ handed
-    ∙ sym (entry_first c.args.self.now.meaning.parameters.encoding.version c.args.self.now.comp_file
-    c.args.self.now.file_names.items c.args.file old
-    c.if-file-gt0.false)

@@ -1,11 +1,5 @@
-use Rattle.std.proofs.Common.{◌-◌, sym, ap, ◌∙◌}
-use Rattle.std.specs.Prelude.{option_map}
-use Rattle.std.proofs.lemmas.Result.{err_from_is_err_and}
-use Rattle.gimli_core.specs.declared.attribute_value.AttributeValue.TheVariants.{String}
-use Rattle.gimli_line.specs.header.Parameters.{Parameters}
-use Rattle.gimli_line.specs.header.HeaderGrammar.{handed_value}
+use Rattle.std.proofs.Common.{◌∙◌}
 use Rattle.gimli_line.proofs.Order.{values_kept, files_kept, values_mapped, files_mapped}
-use Rattle.gimli_line.proofs.Fields.{parameters_end, counts_end, directories_end, files_end, fields_done}
 use Rattle.gimli_line.proofs.header.program_header.LineProgramHeader.parse_fields.Goals as goal
 
 pub returns-clause-order : goal.returns-clause-order
@@ -22,68 +16,3 @@ returns-clause-order g c =
           files_mapped g.R.Reader.big _ _
           (files_kept g.R.Reader.big _ _ _ files c.in_ok-file_name_entry_format.ensures.parts);
     }
-
-pub returns-clause-directory : goal.returns-clause-directory
-returns-clause-directory g c =
-    c.comp_dir_of.ensures.own
-    ∙ ap (λ encoding. handed_value encoding c.args.comp_dir) (sym c.in_ok-parameters.ensures.encoding)
-
-pub returns-clause-name : goal.returns-clause-name
-returns-clause-name g c =
-    c.comp_file_of.ensures.path
-    ∙ ap (λ encoding. handed_value encoding (option_map String c.args.comp_name))
-    (sym c.in_ok-parameters.ensures.encoding)
-
-pub returns-in_err-parameters-clause-read : goal.returns-in_err-parameters-clause-read
-returns-in_err-parameters-clause-read g c =
-    let p = err_from_is_err_and c.from_residual.result c.from_residual.ensures.1 in
-    rw (p.1, p.2) (λ _. parameters_end _ _ _ _ _ _ _ _ _ c.in_err-parameters.ensures.read)
-
-pub returns-in_err-standard_opcode_lengths-clause-read : goal.returns-in_err-standard_opcode_lengths-clause-read
-returns-in_err-standard_opcode_lengths-clause-read g c =
-    let p =
-    err_from_is_err_and c.from_residual-in_err-standard_opcode_lengths.result
-    c.from_residual-in_err-standard_opcode_lengths.ensures.1 in
-    let counted = c.from_u8.ensures ∙ ap (λ (v : Parameters). v.opcode_base - 1) c.parameters.view_is in
-    rw (p.1, p.2) (λ _.
-    counts_end _ _ _ _ _ _ _ _ _ _ c.in_ok-parameters.ensures.read counted _ _
-    c.in_err-standard_opcode_lengths.ensures.read)
-
-pub returns-in_err-directory_entry_format-clause-read : goal.returns-in_err-directory_entry_format-clause-read
-returns-in_err-directory_entry_format-clause-read g c =
-    let p =
-    err_from_is_err_and c.from_residual-in_err-directory_entry_format.result
-    c.from_residual-in_err-directory_entry_format.ensures.1 in
-    let counted = c.from_u8.ensures ∙ ap (λ (v : Parameters). v.opcode_base - 1) c.parameters.view_is in
-    let counts = c.parse_parameters.ensures.order ∙ c.requires.order in
-    let directories = c.split.ensures.order ∙ counts in
-    rw (p.1, p.2) (λ other.
-    directories_end _ _ _ _ _ _ _ _ _ _ c.in_ok-parameters.ensures.read counted _ _ _
-    c.in_ok-standard_opcode_lengths.ensures.read directories _
-    (c.in_err-directory_entry_format.ensures.read other))
-
-pub returns-in_err-file_name_entry_format-clause-read : goal.returns-in_err-file_name_entry_format-clause-read
-returns-in_err-file_name_entry_format-clause-read g c =
-    let p =
-    err_from_is_err_and c.from_residual-in_err-file_name_entry_format.result
-    c.from_residual-in_err-file_name_entry_format.ensures.1 in
-    let counted = c.from_u8.ensures ∙ ap (λ (v : Parameters). v.opcode_base - 1) c.parameters.view_is in
-    let counts = c.parse_parameters.ensures.order ∙ c.requires.order in
-    let directories = c.split.ensures.order ∙ counts in
-    let files = c.parse_directory_table.ensures.order ∙ directories in
-    rw (p.1, p.2) (λ other.
-    files_end _ _ _ _ _ _ _ _ _ _ c.in_ok-parameters.ensures.read counted _ _ _
-    c.in_ok-standard_opcode_lengths.ensures.read directories _ _ _ _
-    c.in_ok-directory_entry_format.ensures.read files _ (c.in_err-file_name_entry_format.ensures.read other))
-
-pub returns-clause-read : goal.returns-clause-read
-returns-clause-read g c =
-    let counted = c.from_u8.ensures ∙ ap (λ (v : Parameters). v.opcode_base - 1) c.parameters.view_is in
-    let counts = c.parse_parameters.ensures.order ∙ c.requires.order in
-    let directories = c.split.ensures.order ∙ counts in
-    let files = c.parse_directory_table.ensures.order ∙ directories in
-    fields_done _ _ _ _ _ _ _ _ _ _ c.in_ok-parameters.ensures.read counted _ _ _
-    c.in_ok-standard_opcode_lengths.ensures.read directories _ _ _ _
-    c.in_ok-directory_entry_format.ensures.read files _ _ _ _ _ c.in_ok-file_name_entry_format.ensures.read
-    c.comp_dir_of.ensures.bytes
-    c.comp_file_of.ensures.file

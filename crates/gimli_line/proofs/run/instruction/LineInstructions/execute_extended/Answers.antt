@@ -1,4 +1,4 @@
-use Rattle.std.proofs.Common.{rules, Bool, ◌≡◌, ◌∙◌, refl, sym, ap}
+use Rattle.std.proofs.Common.{rules, Bool, ◌≡◌, ◌∙◌, refl, ap}
 use Rattle.gimli_core.specs.Reading.{number_at}
 use Rattle.gimli_line.specs.header.Header.{Header}
 use Rattle.gimli_line.specs.header.Parameters.{Parameters}

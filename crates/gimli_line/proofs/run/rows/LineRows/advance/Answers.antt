@@ -4,17 +4,10 @@ use Rattle.gimli_line.specs.run.Events.{Event, row}
 use Rattle.gimli_line.specs.inside.run.Rows.{given_row}
 use Rattle.gimli_line.specs.run.Progress.{with_reset_row, Progress}
 use Rattle.gimli_line.specs.run.Rows.{live_events}
-use Rattle.gimli_line.proofs.GivenRows.{fault_given, fewer_made, hidden, none_given, seen}
-use Rattle.gimli_line.proofs.Runs.{passes_none, passes_both, refused_after, same_end}
-use Rattle.gimli_line.proofs.Sources.{keeps_both, keeps_same}
+use Rattle.gimli_line.proofs.GivenRows.{fault_given, hidden, none_given, seen}
+use Rattle.gimli_line.proofs.Runs.{passes_both, refused_after, same_end}
+use Rattle.gimli_line.proofs.Sources.{keeps_both}
 use Rattle.gimli_line.proofs.run.rows.LineRows.advance.Goals as goal
-
-pub rows-init : goal.rows-init
-rows-init g c = record {
-  events = refl;
-  passes = passes_none (with_reset_row c.args.self.now) (with_reset_row c.args.self.now) refl;
-  keeps = keeps_same c.args.self.now c.args.self.now refl;
-}
 
 pub returns-in-Err : goal.returns-in-Err
 returns-in-Err g c =
@@ -55,11 +48,6 @@ returns-then-not-is_under_tombstone g c =
           (with_reset_row c.advance_any.new.self) []
           (given_row c.advance_any.new.self.row) i.passes passes);
     }
-
-pub rows-smaller : goal.rows-smaller
-rows-smaller g c =
-    let next = rw c.in-Ok-true.field-0-test at c.in-Ok-true.ensures.row in
-    fewer_made c.rows.self c.advance_any.new.self _ _ next
 
 pub rows-preserved : goal.rows-preserved
 rows-preserved g c =

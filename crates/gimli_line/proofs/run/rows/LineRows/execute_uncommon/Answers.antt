@@ -1,17 +1,11 @@
 use Rattle.std.proofs.Common.{refl}
-use Rattle.gimli_line.proofs.Steps.{executed_more, executed_refused, executed_row, none_executed, steps_after}
+use Rattle.gimli_line.proofs.Steps.{executed_more, executed_refused, executed_row}
 use Rattle.gimli_line.proofs.run.rows.LineRows.execute_uncommon.Goals as goal
 
 pub returns-in-Err : goal.returns-in-Err
 returns-in-Err g c =
     rw (← c.self.view_is) (executed_refused _ _ _ c.header-header.ensures.meaning _ _ _ (refl, refl, refl)
     c.in-Err.ensures.notation _ c.in-Err.ensures.err)
-
-pub returns-in-No : goal.returns-in-No
-returns-in-No g c =
-    rw (← c.self.view_is)
-    (steps_after _ _ _ (none_executed c.header-header.result.now.meaning _ _ _ (rw c.in-No.is at c.in-Ok.ensures.ok)) _
-    c.define_file.ensures)
 
 pub returns-in-Row : goal.returns-in-Row
 returns-in-Row g c =
