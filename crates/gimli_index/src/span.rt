@@ -121,10 +121,11 @@ impl<'a> LineIndex<'a> {
             return None;
         }
         let source = self.source(number);
-        let column = word(entry, 8);
         let (first, end) = self.range_at(index);
+        let path = self.path_span(source);
+        let column = word(entry, 8);
         Some(PlaceSpan {
-            path: self.path_span(source),
+            path,
             line: word(entry, 4),
             column: column_in(column),
             is_stmt: is_statement_in(column),
