@@ -262,7 +262,8 @@ all_changes : (version : ℕ) (previous built : LineRow) → FitsInstructions ve
 all_changes version previous built fits =
     all_four (differ built.is_statement previous.is_statement) (not (nat_eq built.file previous.file))
     (not (nat_eq built.column previous.column)) (not (nat_eq built.isa previous.isa)) NegateStatement
-    (SetFile (file_number version built.file)) (SetColumn built.column) (SetIsa built.isa) tt fits.file fits.column fits.isa
+    (SetFile (file_number version built.file)) (SetColumn built.column) (SetIsa built.isa) tt fits.file fits.column
+    fits.isa
 
 maker_written : (e : LineEncoding) (s : ℕ) → 13 ≤ s → s ≤ 255 → IsWritten (row_maker e s)
 maker_written e s low high = by (nat_eq s (still_opcode e))
