@@ -39,10 +39,18 @@ when_short : (due : Bool) (i : Ins) → length (when due i) ≤ 1
 when_short true i = lit≤ tt
 when_short false i = lit≤ tt
 
-four_short : (a b c d : List Ins) → length a ≤ 1 → length b ≤ 1 → length c ≤ 1 → length d ≤ 1
-    → length (a ++ b ++ c ++ d) ≤ 4
-four_short a b c d ha hb hc hd =
-    omega (arith, length-append (a ++ b ++ c) d, length-append (a ++ b) c, length-append a b)
+four_short : (a b c d : Bool) (i j k l : Ins) → length (when a i ++ when b j ++ when c k ++ when d l) ≤ 4
+four_short a b c d i j k l =
+    omega (
+      arith,
+      length-append (when a i ++ when b j ++ when c k) (when d l),
+      length-append (when a i ++ when b j) (when c k),
+      length-append (when a i) (when b j),
+      when_short a i,
+      when_short b j,
+      when_short c k,
+      when_short d l,
+    )
 
 line_short : (e : LineEncoding) (d : ℤ) → length (line_part e d) ≤ 1
 line_short e d = by (is_special_advance e d)
@@ -73,20 +81,13 @@ row_short version e previous built =
     let c = changes version previous built in
     let l = line_part e d in
     let o = operation_part e (line_opcode e d) n in
-    let hm : length m
-    ≤ 4 = four_short _ _
-    _ _
-    (when_short (not (nat_eq built.discriminator 0)) (SetDiscriminator built.discriminator))
-    (when_short built.basic_block SetBasicBlock)
-    (when_short built.prologue_end SetPrologueEnd) (when_short built.epilogue_begin SetEpilogueBegin) in
-    let hc : length c
-    ≤ 4 = four_short _
-    _
-    _ _
-    (when_short (differ built.is_statement previous.is_statement) NegateStatement)
-    (when_short (not (nat_eq built.file previous.file)) (SetFile (file_number version built.file)))
-    (when_short (not (nat_eq built.column previous.column)) (SetColumn built.column))
-    (when_short (not (nat_eq built.isa previous.isa)) (SetIsa built.isa)) in
+    let hm =
+    four_short (not (nat_eq built.discriminator 0)) built.basic_block built.prologue_end built.epilogue_begin
+    (SetDiscriminator built.discriminator) SetBasicBlock SetPrologueEnd SetEpilogueBegin in
+    let hc =
+    four_short (differ built.is_statement previous.is_statement) (not (nat_eq built.file previous.file))
+    (not (nat_eq built.column previous.column)) (not (nat_eq built.isa previous.isa)) NegateStatement
+    (SetFile (file_number version built.file)) (SetColumn built.column) (SetIsa built.isa) in
     let hl = line_short e d in
     let ho = operations_short e (line_opcode e d) n in
     omega (arith, hm, hc, hl, ho, length-append (m ++ c ++ l) o, length-append (m ++ c) l, length-append m c)

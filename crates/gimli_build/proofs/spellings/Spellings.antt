@@ -245,30 +245,25 @@ all_when : (due : Bool) (i : Ins) → IsWritten i → AllByRecursion IsWritten (
 all_when true i w = (w, tt)
 all_when false i w = tt
 
+all_four : (a b c d : Bool) (i j k l : Ins) → IsWritten i → IsWritten j → IsWritten k → IsWritten l
+    → AllByRecursion IsWritten (when a i ++ when b j ++ when c k ++ when d l)
+all_four a b c d i j k l p q r s =
+    all_append (when a i ++ when b j ++ when c k) (when d l)
+    (all_append (when a i ++ when b j) (when c k) (all_append (when a i) (when b j) (all_when a i p) (all_when b j q))
+    (all_when c k r)) (all_when d l s)
+
 all_marks : (version : ℕ) (built : LineRow) → FitsInstructions version built → AllByRecursion IsWritten (marks built)
 all_marks version built fits =
-    let w1 = when (not (nat_eq built.discriminator 0)) (SetDiscriminator built.discriminator) in
-    let w2 = when built.basic_block SetBasicBlock in
-    let w3 = when built.prologue_end SetPrologueEnd in
-    let w4 = when built.epilogue_begin SetEpilogueBegin in
-    let a1 = all_when (not (nat_eq built.discriminator 0)) (SetDiscriminator built.discriminator) fits.discriminator in
-    let a2 = all_when built.basic_block SetBasicBlock tt in
-    let a3 = all_when built.prologue_end SetPrologueEnd tt in
-    let a4 = all_when built.epilogue_begin SetEpilogueBegin tt in
-    all_append (w1 ++ w2 ++ w3) w4 (all_append (w1 ++ w2) w3 (all_append w1 w2 a1 a2) a3) a4
+    all_four (not (nat_eq built.discriminator 0)) built.basic_block built.prologue_end built.epilogue_begin
+    (SetDiscriminator built.discriminator) SetBasicBlock SetPrologueEnd SetEpilogueBegin fits.discriminator tt tt tt
 
 all_changes : (version : ℕ) (previous built : LineRow) → FitsInstructions version built
     → AllByRecursion IsWritten (changes version previous built)
 all_changes version previous built fits =
-    let w1 = when (differ built.is_statement previous.is_statement) NegateStatement in
-    let w2 = when (not (nat_eq built.file previous.file)) (SetFile (file_number version built.file)) in
-    let w3 = when (not (nat_eq built.column previous.column)) (SetColumn built.column) in
-    let w4 = when (not (nat_eq built.isa previous.isa)) (SetIsa built.isa) in
-    let a1 = all_when (differ built.is_statement previous.is_statement) NegateStatement tt in
-    let a2 = all_when (not (nat_eq built.file previous.file)) (SetFile (file_number version built.file)) fits.file in
-    let a3 = all_when (not (nat_eq built.column previous.column)) (SetColumn built.column) fits.column in
-    let a4 = all_when (not (nat_eq built.isa previous.isa)) (SetIsa built.isa) fits.isa in
-    all_append (w1 ++ w2 ++ w3) w4 (all_append (w1 ++ w2) w3 (all_append w1 w2 a1 a2) a3) a4
+    all_four (differ built.is_statement previous.is_statement) (not (nat_eq built.file previous.file))
+    (not (nat_eq built.column previous.column)) (not (nat_eq built.isa previous.isa)) NegateStatement
+    (SetFile (file_number version built.file)) (SetColumn built.column) (SetIsa built.isa) tt fits.file fits.column
+    fits.isa
 
 maker_written : (e : LineEncoding) (s : ℕ) → 13 ≤ s → s ≤ 255 → IsWritten (row_maker e s)
 maker_written e s low high = by (nat_eq s (still_opcode e))
