@@ -10,16 +10,7 @@ use Rattle.gimli_bytes.specs.Hand.{plain}
 use Rattle.gimli_bytes.specs.Number.{uleb}
 use Rattle.gimli_bytes.specs.declared.address.Address.TheVariants.{Constant, Symbol}
 use Rattle.gimli_bytes.specs.declared.error.Error.{Error}
-use Rattle.gimli_bytes.specs.declared.error.Error.TheVariants.{
-  OutOfMemory,
-  IncompatibleLineProgramEncoding,
-  UnsupportedVersion,
-  NeedVersion,
-  LineStringFormMismatch,
-  ValueTooLarge,
-  InvalidAddress,
-  InitialLengthOverflow,
-}
+use Rattle.gimli_bytes.specs.declared.error.Error.TheVariants.{IncompatibleLineProgramEncoding, UnsupportedVersion, NeedVersion, LineStringFormMismatch, ValueTooLarge, InvalidAddress, InitialLengthOverflow}
 use Rattle.gimli_bytes.specs.Texts.{offset_of, StringTables}
 use Rattle.gimli_core.specs.FormNumbers.{DW_FORM_string}
 use Rattle.gimli_build.specs.LineText.{LineText, Inline, InStrings, InLineStrings}

@@ -1,4 +1,5 @@
-//! Directories and files as they are written.
+//! The tables of a unit: its directories and its files.
 
+pub(crate) mod unit_input;
 pub(crate) mod version_4;
 pub(crate) mod version_5;

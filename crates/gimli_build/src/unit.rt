@@ -5,10 +5,8 @@ ghost use Rattle.gimli_bytes.specs.Hand.{Placement, plain};
 ghost use Rattle.gimli_bytes.specs.Relocations.{placed};
 ghost use Rattle.gimli_bytes.specs.Written.{AppendsThat};
 ghost use Rattle.gimli_bytes.specs.Texts.{texts_in};
-ghost use Rattle.gimli_build.specs.LineText.{line_text};
 ghost use Rattle.gimli_build.specs.Conditions.{CanWrite};
 ghost use Rattle.gimli_build.specs.inside.Conditions.{IsBuilt};
-ghost use Rattle.gimli_build.specs.inside.EmptySource.{StandsForNone};
 ghost use Rattle.gimli_build.specs.Unit.{version_bytes, opening_bytes, inside_bytes};
 ghost use Rattle.gimli_build.specs.Unit.{whole_bytes, is_incompatible, unit_bytes};
 ghost use Rattle.gimli_build.specs.Cause.{first_cause, refusal};
@@ -22,8 +20,8 @@ mod header;
 mod writable;
 
 use crate::built::line_program::LineProgram;
-use crate::built::line_string::LineString;
 use crate::rows::encode::write_items;
+use crate::tables::unit_input::UnitInput;
 use crate::tables::version_5::add_empty_source;
 use gimli_bytes::{DebugLine, Error, LineStringTable, Result, StringTable, Writer};
 use gimli_core::{DebugLineOffset, Encoding};
@@ -83,7 +81,8 @@ impl LineProgram {
         }
         let offset = w.offset();
         let empty = add_empty_source(self, line_strings, strings)?;
-        write_whole(&mut w.0, self, &empty, line_strings, strings)?;
+        let input = UnitInput::new(self, &empty, line_strings, strings);
+        write_whole(&mut w.0, &input)?;
         Ok(offset)
     }
 }
@@ -97,50 +96,31 @@ fn is_incompatible(unit: Encoding, program: Encoding) -> bool
 }
 
 /// Appends the unit length, and what it counts.
-fn write_whole<W: Writer>(
-    w: &mut W,
-    program: &LineProgram,
-    empty: &LineString,
-    line_strings: &LineStringTable,
-    strings: &StringTable,
-) -> Result<()>
-    requires can { CanWrite program.now (texts_in strings.now line_strings.now) }
-    requires empty { StandsForNone program.now (texts_in strings.now line_strings.now)
-        (line_text empty.now) }
+fn write_whole<W: Writer>(w: &mut W, input: &UnitInput<'_>) -> Result<()>
     ensures writes { Writes W.Sink w.old w.new result
-        (λ hand. whole_bytes hand (W.big w.old) program.now
-        (texts_in strings.now line_strings.now)) }
-    ensures built { OnOk result (IsBuilt program.now) }
+        (λ hand. whole_bytes hand (W.big w.old) input.now.program input.now.texts) }
+    ensures built { OnOk result (IsBuilt input.now.program) }
     ensures short { OnOk result (length (W.contents w.new) < 2 ^ 64) }
     ensures completed_short { (at : Placement) → IsTrue (W.completes w.old) → OnOk result
         (length (W.completed at w.new) < 2 ^ 64) }
 {
-    let format = program.format();
+    let format = input.format();
     let length = w.write_initial_length(format)?;
     let start = w.len();
-    write_inside(w, program, empty, line_strings, strings)?;
+    write_inside(w, input)?;
     let count = (w.len() - start) as u64;
     w.write_initial_length_at(length, count, format)
 }
 
 /// Appends what the unit length counts: the version, the header, and the instructions.
-fn write_inside<W: Writer>(
-    w: &mut W,
-    program: &LineProgram,
-    empty: &LineString,
-    line_strings: &LineStringTable,
-    strings: &StringTable,
-) -> Result<()>
-    requires can { CanWrite program.now (texts_in strings.now line_strings.now) }
-    requires empty { StandsForNone program.now (texts_in strings.now line_strings.now)
-        (line_text empty.now) }
+fn write_inside<W: Writer>(w: &mut W, input: &UnitInput<'_>) -> Result<()>
     ensures writes { Writes W.Sink w.old w.new result
-        (λ hand. inside_bytes hand (W.big w.old) program.now
-        (texts_in strings.now line_strings.now)) }
-    ensures built { OnOk result (IsBuilt program.now) }
+        (λ hand. inside_bytes hand (W.big w.old) input.now.program input.now.texts) }
+    ensures built { OnOk result (IsBuilt input.now.program) }
 {
+    let program = input.program();
     write_opening(w, program.encoding())?;
-    write_header(w, program, empty, line_strings, strings)?;
+    write_header(w, input)?;
     write_items(
         w,
         program.encoding(),

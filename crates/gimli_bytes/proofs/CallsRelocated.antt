@@ -1,5 +1,6 @@
 -- What calls leave, once the relocations are applied.
-use Rattle.std.proofs.Common.{arith, ◌≡◌, ◌≢◌, ◌⊎◌, inl, inr, ℕ, ◌+◌, ◌*◌, ◌%◌, ◌^◌, ◌<◌, ◌≤◌, ℤ, pos, negsuc, Bool, true, false, if◌then◌else◌, List, [], ◌∷◌}
+use Rattle.std.proofs.Common.{arith, ◌≡◌, ◌≢◌, ◌⊎◌, inl, inr, ℕ, ◌+◌, ◌*◌, ◌%◌, ◌^◌, ◌<◌, ◌≤◌, ℤ, pos, negsuc, Bool}
+use Rattle.std.proofs.Common.{true, false, if◌then◌else◌, List, [], ◌∷◌}
 use Rattle.std.proofs.Common.{◌++◌}
 use Rattle.std.proofs.Common.{length, refl, ap, sym, ◌∙◌, subst, Ok, Err, length-append, w64}
 use Rattle.std.specs.Prelude.{All, Result, nat_lt, nat_eq, ◌||◌, ◌+ℤ◌, FitsSigned}
@@ -15,10 +16,13 @@ use Rattle.gimli_bytes.specs.Number.{udata}
 use Rattle.gimli_bytes.specs.Written.{overwrite_of, patch}
 use Rattle.gimli_bytes.specs.Relocatable.{Relocatable}
 use Rattle.gimli_bytes.specs.Hand.{Placement}
-use Rattle.gimli_bytes.specs.Relocations.{Call, Bytes, AddressOf, OffsetInto, ReferenceTo, BytesAt, OffsetAt, place_of, relocated, all_relocated}
-use Rattle.gimli_bytes.specs.Relocations.{applied, touches, number_in_place, addend_in_list, with_place, with_place_at, relocation_at, with_relocation}
+use Rattle.gimli_bytes.specs.Relocations.{Call, Bytes, AddressOf, OffsetInto, ReferenceTo, BytesAt, OffsetAt, place_of}
+use Rattle.gimli_bytes.specs.Relocations.{relocated, all_relocated}
+use Rattle.gimli_bytes.specs.Relocations.{applied, touches, number_in_place, addend_in_list, with_place, with_place_at}
+use Rattle.gimli_bytes.specs.Relocations.{relocation_at, with_relocation}
 use Rattle.gimli_bytes.specs.Relocations.{result_then}
-use Rattle.gimli_bytes.specs.Relocations.{after_call, after_calls, plainly_after, plainly_after_calls, CallFits, CallsFit}
+use Rattle.gimli_bytes.specs.Relocations.{after_call, after_calls, plainly_after, plainly_after_calls, CallFits}
+use Rattle.gimli_bytes.specs.Relocations.{CallsFit}
 use Rattle.gimli_bytes.specs.declared.address.Address.TheVariants.{Constant, Symbol}
 use Rattle.gimli_bytes.specs.declared.error.Error.{Error}
 use Rattle.gimli_bytes.specs.declared.error.Error.TheVariants.{
@@ -138,29 +142,29 @@ puts_place p v w target z size n inside called sum fits =
     by : (u : Result (List ℕ) Error) → udata v.big (number_in_place v.addends z size) size ≡ u
         → result_map (λ word. with_relocation v r (v.bytes ++ word)) u ≡ Ok w → Puts p v w size n
     by (Ok word) is e =
-        let sized = udata_parts v.big (number_in_place v.addends z size) size word is in
+        let sized = udata_parts _ _ _ _ is in
         let long : length word ≡ size = ap length sized.word_is
         ∙ length-number v.big size (number_in_place v.addends z size) in
         let old = all_relocated p v.big v.bytes v.relocations in
         let here : length v.bytes ≡ length old =
-        sym (length-all p v.big v.relocations v.bytes inside) in
+        sym (length-all p v.big _ _ inside) in
         let number : word_at p v.big r word ≡ number_bytes v.big size n =
         ap (word_at p v.big r) sized.word_is
         ∙ sum sized.short sized.small
         in
         let all : length (v.bytes ++ word) ≡ length v.bytes + size =
         omega (arith, length-append v.bytes word, long) in
-        subst (λ x. Puts p v x size n) (same_ok (with_relocation v r (v.bytes ++ word)) w e)
+        subst (λ x. Puts p v x size n) (same_ok _ w e)
         (record {
           wanted = sized.other n fits;
           bytes_are =
               all-last p v.big v.relocations r (v.bytes ++ word)
               ∙ ap (λ (l : List ℕ). relocated p v.big l r)
-              (all-more p v.big v.relocations v.bytes word inside)
-              ∙ relocated-end p v.big old word r here (sym long)
+              (all-more p v.big _ _ word inside)
+              ∙ relocated-end p v.big _ _ r here (sym long)
               ∙ ap (λ (l : List ℕ). old ++ l) number;
-          inside = inside_last (length (v.bytes ++ word)) v.relocations r
-              (inside_more (length v.bytes) (length (v.bytes ++ word)) v.relocations (omega arith)
+          inside = inside_last _ _ r
+              (inside_more _ (length (v.bytes ++ word)) _ (omega arith)
               inside) (omega arith);
           big_is = refl;
         })
@@ -209,14 +213,15 @@ puts_place_at p v w at target z size n inside called sum fits =
     old : List ℕ
     old = all_relocated p v.big v.bytes v.relocations
 
-    over : All (IsApart at size) v.relocations → (word new : List ℕ) → udata v.big (number_in_place v.addends z size) size ≡ Ok word
+    over : All (IsApart at size) v.relocations → (word new : List ℕ)
+        → udata v.big (number_in_place v.addends z size) size ≡ Ok word
         → overwrite_of v.bytes at word ≡ Ok new → Is (with_relocation v r new)
     over apart word new is h =
-        let sized = udata_parts v.big (number_in_place v.addends z size) size word is in
+        let sized = udata_parts _ _ _ _ is in
         let long : length word ≡ size = ap length sized.word_is
         ∙ length-number v.big size (number_in_place v.addends z size) in
         let put = overwrite_parts v.bytes new at word h in
-        let same : length old ≡ length v.bytes = length-all p v.big v.relocations v.bytes inside in
+        let same : length old ≡ length v.bytes = length-all p v.big _ _ inside in
         let number : word_at p v.big r word ≡ number_bytes v.big size n =
         ap (word_at p v.big r) sized.word_is
         ∙ sum sized.short sized.small
@@ -229,7 +234,7 @@ puts_place_at p v w at target z size n inside called sum fits =
         ∙ all-last p v.big v.relocations r (put_over v.bytes at word)
         ∙ ap (λ (l : List ℕ). relocated p v.big l r)
         (all-over p v.big v.relocations v.bytes at word inside put.fits there)
-        ∙ relocated-put p v.big old word r (sym long) (omega (arith, put.fits))
+        ∙ relocated-put p v.big old _ r (sym long) (omega (arith, put.fits))
         ∙ ap (λ (l : List ℕ). put_over old at l) number in
         let size_is = length-number v.big size n in
         let plain : overwrite_of old at (number_bytes v.big size n) ≡ Ok
@@ -240,7 +245,7 @@ puts_place_at p v w at target z size n inside called sum fits =
         let kept : length new ≡ length v.bytes = ap length put.new_is
         ∙ length-put_over v.bytes at word put.fits in (
           rw (sized.other n fits) plain,
-          inside_last (length new) v.relocations r
+          inside_last _ _ r
               (subst (λ k. All (λ r. r.offset + r.size ≤ k) v.relocations) (sym kept) inside)
               (omega (arith, put.fits)),
           refl,
@@ -254,7 +259,7 @@ puts_place_at p v w at target z size n inside called sum fits =
       where
         after : (u : Result (List ℕ) Error) → overwrite_of v.bytes at word ≡ u
             → result_map (with_relocation v r) u ≡ Ok w → Is w
-        after (Ok new) h e = subst Is (same_ok (with_relocation v r new) w e) (over apart word new is h)
+        after (Ok new) h e = subst Is (same_ok _ w e) (over apart word new is h)
         after (Err x) h e = cc
 
     free : (b : Bool) → list_any (touches at size) v.relocations ≡ b
@@ -419,7 +424,7 @@ calls_same p v w (call ∷ calls) inside fit called =
         → result_then r (λ u. after_calls u calls) ≡ Ok w
         → plainly_after_calls p v.big (applied p v) (call ∷ calls) ≡ Ok (applied p w)
     by others (Ok u) is e =
-        let first = call_same p v u call inside (All-head (CallFits p) call calls fit) is in
+        let first = call_same p v u _ inside (All-head (CallFits p) call calls fit) is in
         rw first.same (subst (λ b. ◌≡◌ {A =
         Result (List ℕ) Error} (plainly_after_calls p b (applied p u) calls) (Ok (applied p w)))
         first.big_is (others u is first.inside e))

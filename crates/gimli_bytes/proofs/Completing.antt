@@ -1,5 +1,6 @@
 -- What calls of a section with relocations leave, once a linker has completed it.
-use Rattle.std.proofs.Common.{arith, ◌≡◌, ℕ, ◌+◌, ◌%◌, ◌<◌, ◌≤◌, ◌^◌, ℤ, pos, Bool, true, false, List, ◌++◌, length, take, refl, ap, sym, ◌∙◌}
+use Rattle.std.proofs.Common.{arith, ◌≡◌, ℕ, ◌+◌, ◌%◌, ◌<◌, ◌≤◌, ◌^◌, ℤ, pos, Bool, true, false, List, ◌++◌, length}
+use Rattle.std.proofs.Common.{take, refl, ap, sym, ◌∙◌}
 use Rattle.std.proofs.Common.{Ok, Err, OnOk, OnErr, w64, subst}
 use Rattle.std.specs.Prelude.{Result, nat_lt, if◌then◌else◌}
 use Rattle.std.specs.Int.{cast_unsigned, cast_signed}
@@ -14,8 +15,10 @@ use Rattle.gimli_bytes.specs.Number.{udata}
 use Rattle.gimli_bytes.specs.Hand.{Placement}
 use Rattle.gimli_bytes.specs.Written.{Begins, Appends, Overwrites, overwrite_of, patch}
 use Rattle.gimli_bytes.specs.Relocatable.{Relocatable}
-use Rattle.gimli_bytes.specs.Relocations.{Bytes, AddressOf, OffsetInto, ReferenceTo, BytesAt, OffsetAt, place_of, applied, after_call}
-use Rattle.gimli_bytes.specs.Relocations.{are_inside, with_place, with_relocation, relocation_at, number_in_place, placed_address, placed_offset}
+use Rattle.gimli_bytes.specs.Relocations.{Bytes, AddressOf, OffsetInto, ReferenceTo, BytesAt, OffsetAt, place_of}
+use Rattle.gimli_bytes.specs.Relocations.{applied, after_call}
+use Rattle.gimli_bytes.specs.Relocations.{are_inside, with_place, with_relocation, relocation_at, number_in_place}
+use Rattle.gimli_bytes.specs.Relocations.{placed_address, placed_offset}
 use Rattle.gimli_bytes.specs.Relocations.{placed_reference, touches}
 use Rattle.gimli_bytes.specs.declared.address.Address.{Address}
 use Rattle.gimli_bytes.specs.declared.address.Address.TheVariants.{Constant, Symbol}
@@ -27,7 +30,8 @@ use Rattle.std.proofs.lemmas.Bool.{ltb-false}
 use Rattle.gimli_bytes.proofs.PieceLemmas.{length-put_over, take-before}
 use Rattle.gimli_bytes.proofs.RelocationLemmas.{pow_positive}
 use Rattle.gimli_bytes.proofs.Relocating.{AreInside, inside-from, inside-to}
-use Rattle.gimli_bytes.proofs.CallsRelocated.{Puts, puts_place, puts_place_at, puts_lowest, more_same, number_same, over_same}
+use Rattle.gimli_bytes.proofs.CallsRelocated.{Puts, puts_place, puts_place_at, puts_lowest, more_same, number_same}
+use Rattle.gimli_bytes.proofs.CallsRelocated.{over_same}
 
 -- ---- either answer
 
@@ -63,10 +67,11 @@ begins_more old word = take_at old word (length old) refl
 lowest_fits : (n size : ℕ) → n % 256 ^ size < 256 ^ size
 lowest_fits n size = mod-lt n (pow_positive _)
 
-puts : (p : Placement) (v w : Relocatable) (target : RelocationTarget) (z : ℤ) (size : ℕ) → AreInside v → with_place v target z size ≡ Ok w
+puts : (p : Placement) (v w : Relocatable) (target : RelocationTarget) (z : ℤ) (size : ℕ) → AreInside v
+    → with_place v target z size ≡ Ok w
     → Puts p v w size ((place_of p target + cast_unsigned w64 z) % 256 ^ size)
 puts p v w target z size inside called =
-    puts_place p v w target z size ((place_of p target + cast_unsigned w64 z) % 256 ^ size) inside called (puts_lowest p v target z size)
+    puts_place p v w _ z _ _ inside called (puts_lowest p v target z size)
     (lowest_fits (place_of p target + cast_unsigned w64 z) size)
 
 pub grows_bytes : (v w : Relocatable) (x : List ℕ) → after_call v (Bytes x) ≡ Ok w → Grows v w
@@ -76,37 +81,44 @@ grows_bytes v w x called =
       begins = begins_more v.bytes x;
       big_is = refl;
       stays = λ is.
-          inside-to (length (v.bytes ++ x)) v.relocations (more_same nowhere v u x (inside-from (length v.bytes) v.relocations is) refl).inside;
+          inside-to _ _ (more_same nowhere v u x (inside-from _ _ is) refl).inside;
     })
 
 grows_number : (v w : Relocatable) (n size : ℕ) → after_call v (AddressOf (Constant n) size) ≡ Ok w → Grows v w
 grows_number v w n size called = by (udata v.big n size) called
   where
-    by : (r : Result (List ℕ) Error) → result_map (λ word. let u : Relocatable = record v { bytes = v.bytes ++ word } in u) r ≡ Ok w → Grows v w
-    by (Ok word) e = grows_bytes v w word e
+    by : (r : Result (List ℕ) Error)
+        → result_map (λ word. let u : Relocatable = record v { bytes = v.bytes ++ word } in u) r ≡ Ok w → Grows v w
+    by (Ok word) e = grows_bytes v w _ e
     by (Err d) e = cc
 
-grows_place : (v w : Relocatable) (target : RelocationTarget) (z : ℤ) (size : ℕ) → with_place v target z size ≡ Ok w → Grows v w
+grows_place : (v w : Relocatable) (target : RelocationTarget) (z : ℤ) (size : ℕ) → with_place v target z size ≡ Ok w
+    → Grows v w
 grows_place v w target z size called = record {
   begins = (by (udata v.big (number_in_place v.addends z size) size) called).0;
   big_is = (by (udata v.big (number_in_place v.addends z size) size) called).1;
-  stays = λ is. inside-to (length w.bytes) w.relocations (puts nowhere v w target z size (inside-from (length v.bytes) v.relocations is) called).inside;
+  stays = λ is.
+      inside-to (length w.bytes) w.relocations
+      (puts nowhere v w target z size (inside-from (length v.bytes) v.relocations is) called).inside;
 }
   where
     Is : Relocatable → Type 0
     Is u = Begins v.bytes u.bytes × (u.big ≡ v.big)
 
     by : (r : Result (List ℕ) Error)
-        → result_map (λ word. with_relocation v (relocation_at v (length v.bytes) target z size) (v.bytes ++ word)) r ≡ Ok w → Is w
+        → result_map (λ word. with_relocation v (relocation_at v (length v.bytes) target z size) (v.bytes ++ word)) r
+        ≡ Ok w
+        → Is w
     by (Ok word) e =
-        subst Is (same_ok (with_relocation v (relocation_at v (length v.bytes) target z size) (v.bytes ++ word)) w e) (begins_more v.bytes word, refl)
+        subst Is (same_ok _ w e) (begins_more v.bytes word, refl)
     by (Err d) e = cc
 
 pub grows_address : (v w : Relocatable) (a : Address) (size : ℕ) → after_call v (AddressOf a size) ≡ Ok w → Grows v w
 grows_address v w (Constant n) size called = grows_number v w n size called
 grows_address v w (Symbol symbol addend) size called = grows_place v w (OfSymbol symbol) addend size called
 
-pub grows_offset : (v w : Relocatable) (section : SectionId) (n size : ℕ) → after_call v (OffsetInto section n size) ≡ Ok w → Grows v w
+pub grows_offset : (v w : Relocatable) (section : SectionId) (n size : ℕ)
+    → after_call v (OffsetInto section n size) ≡ Ok w → Grows v w
 grows_offset v w section n size called = grows_place v w (OfSection section) (cast_signed w64 n) size called
 
 pub grows_reference : (v w : Relocatable) (symbol size : ℕ) → after_call v (ReferenceTo symbol size) ≡ Ok w → Grows v w
@@ -114,36 +126,46 @@ grows_reference v w symbol size called = grows_place v w (OfSymbol symbol) (pos 
 
 -- ---- completed
 
-pub completed_bytes : (p : Placement) (v w : Relocatable) (x : List ℕ) → are_inside v ≡ true → after_call v (Bytes x) ≡ Ok w
+pub completed_bytes : (p : Placement) (v w : Relocatable) (x : List ℕ) → are_inside v ≡ true
+    → after_call v (Bytes x) ≡ Ok w
     → Appends (Ok x) (applied p v) (applied p w)
 completed_bytes p v w x is called =
     let u : Relocatable = record v { bytes = v.bytes ++ x } in
-    let more = more_same p v w x (inside-from (length v.bytes) v.relocations is) (same_ok u w called) in
-    sym (same_ok (applied p v ++ x) (applied p w) more.same)
+    let more = more_same p v w x (inside-from _ _ is) (same_ok u w called) in
+    sym (same_ok _ _ more.same)
 
-mapped : (r : Result (List ℕ) Error) (old new : List ℕ) → result_map (λ word. old ++ word) r ≡ Ok new → Appends r old new
-mapped (Ok word) old new e = sym (same_ok (old ++ word) new e)
+mapped : (r : Result (List ℕ) Error) (old new : List ℕ) → result_map (λ word. old ++ word) r ≡ Ok new
+    → Appends r old new
+mapped (Ok word) old new e = sym (same_ok _ _ e)
 mapped (Err d) old new e = cc
 
-put_there : (p : Placement) (v w : Relocatable) (size n : ℕ) → Puts p v w size n → Appends (udata v.big n size) (applied p v) (applied p w)
+put_there : (p : Placement) (v w : Relocatable) (size n : ℕ) → Puts p v w size n
+    → Appends (udata v.big n size) (applied p v) (applied p w)
 put_there p v w size n so = rw so.wanted so.bytes_are
 
-pub completed_address : (p : Placement) (v w : Relocatable) (a : Address) (size : ℕ) → are_inside v ≡ true → after_call v (AddressOf a size) ≡ Ok w
+pub completed_address : (p : Placement) (v w : Relocatable) (a : Address) (size : ℕ) → are_inside v ≡ true
+    → after_call v (AddressOf a size) ≡ Ok w
     → Appends (placed_address p v.big a size) (applied p v) (applied p w)
 completed_address p v w (Constant n) size is called =
-    mapped (udata v.big n size) (applied p v) (applied p w) (number_same p v w n size (inside-from (length v.bytes) v.relocations is) called).same
+    mapped (udata v.big n size) (applied p v) (applied p w)
+    (number_same p v w n size (inside-from (length v.bytes) v.relocations is) called).same
 completed_address p v w (Symbol symbol addend) size is called =
     put_there p v w size ((p.symbol symbol + cast_unsigned w64 addend) % 256 ^ size)
     (puts p v w (OfSymbol symbol) addend size (inside-from (length v.bytes) v.relocations is) called)
 
-pub completed_offset : (p : Placement) (v w : Relocatable) (section : SectionId) (n size : ℕ) → n < 2 ^ 64 → are_inside v ≡ true
-    → after_call v (OffsetInto section n size) ≡ Ok w → Appends (placed_offset p v.big section n size) (applied p v) (applied p w)
+pub completed_offset : (p : Placement) (v w : Relocatable) (section : SectionId) (n size : ℕ) → n < 2 ^ 64
+    → are_inside v ≡ true
+    → after_call v (OffsetInto section n size) ≡ Ok w
+    → Appends (placed_offset p v.big section n size) (applied p v) (applied p w)
 completed_offset p v w section n size small is called =
     let bits : cast_unsigned w64 (cast_signed w64 n) ≡ n = of_z-to_z w64 n small in
-    let so = puts p v w (OfSection section) (cast_signed w64 n) size (inside-from (length v.bytes) v.relocations is) called in
+    let so =
+    puts p v w (OfSection section) (cast_signed w64 n) size (inside-from (length v.bytes) v.relocations is)
+    called in
     put_there p v w size ((p.section section + n) % 256 ^ size) (rw bits at so)
 
-pub completed_reference : (p : Placement) (v w : Relocatable) (symbol size : ℕ) → are_inside v ≡ true → after_call v (ReferenceTo symbol size) ≡ Ok w
+pub completed_reference : (p : Placement) (v w : Relocatable) (symbol size : ℕ) → are_inside v ≡ true
+    → after_call v (ReferenceTo symbol size) ≡ Ok w
     → Appends (placed_reference p v.big symbol size) (applied p v) (applied p w)
 completed_reference p v w symbol size is called =
     let none : p.symbol symbol + 0 ≡ p.symbol symbol = omega arith in
@@ -157,50 +179,60 @@ pub record Stays (v w : Relocatable) (at : ℕ) : Type 0 where
   pub before : take at w.bytes ≡ take at v.bytes
   pub big_is : w.big ≡ v.big
 
-pub stays_inside : (v w : Relocatable) (x : List ℕ) (at : ℕ) → after_call v (BytesAt at x) ≡ Ok w → are_inside v ≡ true → are_inside w ≡ true
+pub stays_inside : (v w : Relocatable) (x : List ℕ) (at : ℕ) → after_call v (BytesAt at x) ≡ Ok w → are_inside v ≡ true
+    → are_inside w ≡ true
 stays_inside v w x at called is =
-    inside-to (length w.bytes) w.relocations (over_same nowhere v w at x (inside-from (length v.bytes) v.relocations is) called).inside
+    inside-to _ _ (over_same nowhere v w at x (inside-from _ _ is) called).inside
 
-pub completed_over : (p : Placement) (v w : Relocatable) (x : List ℕ) (at : ℕ) → are_inside v ≡ true → after_call v (BytesAt at x) ≡ Ok w
+pub completed_over : (p : Placement) (v w : Relocatable) (x : List ℕ) (at : ℕ) → are_inside v ≡ true
+    → after_call v (BytesAt at x) ≡ Ok w
     → Overwrites at (Ok x) (applied p v) (applied p w)
-completed_over p v w x at is called = (over_same p v w at x (inside-from (length v.bytes) v.relocations is) called).same
+completed_over p v w x at is called = (over_same p v w at x (inside-from _ _ is) called).same
 
-puts_at : (p : Placement) (v w : Relocatable) (at : ℕ) (section : SectionId) (n size : ℕ) → n < 2 ^ 64 → are_inside v ≡ true
+puts_at : (p : Placement) (v w : Relocatable) (at : ℕ) (section : SectionId) (n size : ℕ) → n < 2 ^ 64
+    → are_inside v ≡ true
     → after_call v (OffsetAt at section n size) ≡ Ok w
     → (patch (placed_offset p v.big section n size) (applied p v) at ≡ Ok (applied p w)) × AreInside w × (w.big ≡ v.big)
 puts_at p v w at section n size small is called =
     let bits : cast_unsigned w64 (cast_signed w64 n) ≡ n = of_z-to_z w64 n small in
     let sum = (p.section section + cast_unsigned w64 (cast_signed w64 n)) % 256 ^ size in
     let so =
-    puts_place_at p v w at (OfSection section) (cast_signed w64 n) size sum (inside-from (length v.bytes) v.relocations is) called
-    (puts_lowest p v (OfSection section) (cast_signed w64 n) size) (lowest_fits (p.section section + cast_unsigned w64 (cast_signed w64 n)) size) in
+    puts_place_at p v w at (OfSection section) (cast_signed w64 n) size sum (inside-from _ _ is) called
+    (puts_lowest p v (OfSection section) (cast_signed w64 n) size)
+    (lowest_fits (p.section section + cast_unsigned w64 (cast_signed w64 n)) size) in
     rw bits at so
 
-pub stays_inside_at : (v w : Relocatable) (at : ℕ) (section : SectionId) (n size : ℕ) → n < 2 ^ 64 → after_call v (OffsetAt at section n size) ≡ Ok w
+pub stays_inside_at : (v w : Relocatable) (at : ℕ) (section : SectionId) (n size : ℕ) → n < 2 ^ 64
+    → after_call v (OffsetAt at section n size) ≡ Ok w
     → are_inside v ≡ true → are_inside w ≡ true
 stays_inside_at v w at section n size small called is =
-    inside-to (length w.bytes) w.relocations (puts_at nowhere v w at section n size small is called).1
+    inside-to _ _ (puts_at nowhere v w at section n size small is called).1
 
-pub completed_offset_at : (p : Placement) (v w : Relocatable) (at : ℕ) (section : SectionId) (n size : ℕ) → n < 2 ^ 64 → are_inside v ≡ true
-    → after_call v (OffsetAt at section n size) ≡ Ok w → Overwrites at (placed_offset p v.big section n size) (applied p v) (applied p w)
+pub completed_offset_at : (p : Placement) (v w : Relocatable) (at : ℕ) (section : SectionId) (n size : ℕ) → n < 2 ^ 64
+    → are_inside v ≡ true
+    → after_call v (OffsetAt at section n size) ≡ Ok w
+    → Overwrites at (placed_offset p v.big section n size) (applied p v) (applied p w)
 completed_offset_at p v w at section n size small is called = (puts_at p v w at section n size small is called).0
 
 -- what an overwrite leaves
 pub over_stays : (v w : Relocatable) (x : List ℕ) (at : ℕ) → after_call v (BytesAt at x) ≡ Ok w → Stays v w at
 over_stays v w x at called = free (list_any (touches at (length x)) v.relocations) called
   where
-    put : (new : List ℕ) → overwrite_of v.bytes at x ≡ Ok new → (length new ≡ length v.bytes) × (take at new ≡ take at v.bytes)
+    put : (new : List ℕ) → overwrite_of v.bytes at x ≡ Ok new
+        → (length new ≡ length v.bytes) × (take at new ≡ take at v.bytes)
     put new e = by (nat_lt (length v.bytes) at) (nat_lt (length v.bytes) (at + length x)) refl refl e
       where
         by : (a b : Bool) → nat_lt (length v.bytes) at ≡ a → nat_lt (length v.bytes) (at + length x) ≡ b
-            → (let r : Result (List ℕ) Error = if a then Err OffsetOutOfBounds else (if b then Err LengthOutOfBounds else Ok (put_over v.bytes at x)) in r)
+            → (let r : Result (List ℕ) Error = if a then Err OffsetOutOfBounds
+            else (if b then Err LengthOutOfBounds else Ok (put_over v.bytes at x)) in
+            r)
             ≡ Ok new
             → (length new ≡ length v.bytes) × (take at new ≡ take at v.bytes)
         by true b e f h = cc
         by false true e f h = cc
         by false false e f h =
             let fits : at + length x ≤ length v.bytes = ltb-false (length v.bytes) (at + length x) f in
-            let same : put_over v.bytes at x ≡ new = same_ok (put_over v.bytes at x) new h in (
+            let same : put_over v.bytes at x ≡ new = same_ok _ _ h in (
               sym (ap length same) ∙ length-put_over v.bytes at x fits,
               sym (ap (λ (l : List ℕ). take at l) same) ∙ take-before v.bytes at x (omega arith),
             )
@@ -214,7 +246,9 @@ over_stays v w x at called = free (list_any (touches at (length x)) v.relocation
     over (Err d) is e = cc
 
     free : (b : Bool)
-        → result_map (λ new. let u : Relocatable = record v { bytes = new } in u) (if b then Err InvalidRange else overwrite_of v.bytes at x) ≡ Ok w
+        → result_map (λ new. let u : Relocatable = record v { bytes = new } in u)
+        (if b then Err InvalidRange else overwrite_of v.bytes at x)
+        ≡ Ok w
         → Stays v w at
     free true e = cc
     free false e = over (overwrite_of v.bytes at x) refl e

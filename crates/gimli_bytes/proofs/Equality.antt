@@ -4,11 +4,7 @@ use Rattle.std.specs.Bool.{Decides}
 use Rattle.std.proofs.lemmas.Bool.Decides.{Decides-eqb, Decides-int_eq, Decides-like, Decides-and}
 use Rattle.gimli_bytes.specs.declared.address.Address.{Address}
 use Rattle.gimli_bytes.specs.declared.address.Address.TheVariants.{Constant, Symbol}
-use Rattle.gimli_bytes.specs.declared.str.StringId.{StringId}
-use Rattle.gimli_bytes.specs.declared.str.LineStringId.{LineStringId}
 use Rattle.gimli_bytes.specs.contracts.address.AddressPartialEq.TheImpl.{ghosts as addresses}
-use Rattle.gimli_bytes.specs.contracts.str.StringIdPartialEq.TheImpl.{ghosts as string_ids}
-use Rattle.gimli_bytes.specs.contracts.str.LineStringIdPartialEq.TheImpl.{ghosts as line_string_ids}
 
 pub address-Decides : (a b : Address) → Decides (addresses.eq a b) (a ≡ b)
 address-Decides (Constant m) (Constant n) = Decides-like _ (λ same. ap Constant same) (λ same. cc) (Decides-eqb m n)
@@ -17,13 +13,3 @@ address-Decides (Symbol s d) (Constant m) = (λ h. absurd (true≢false (sym h))
 address-Decides (Symbol s d) (Symbol t e) =
     Decides-like _ (λ same. (let first = same.0 in let second = same.1 in cc)) (λ same. (cc, cc))
     (Decides-and _ _ (Decides-eqb s t) (Decides-int_eq d e))
-
-pub string_id-Decides : (a b : StringId) → Decides (string_ids.eq a b) (a ≡ b)
-string_id-Decides a b =
-    Decides-like _ (λ same. ap (λ n. let id : StringId = record { 0 = n } in id) same) (λ same. ap (λ id. id.0) same)
-    (Decides-eqb a.0 b.0)
-
-pub line_string_id-Decides : (a b : LineStringId) → Decides (line_string_ids.eq a b) (a ≡ b)
-line_string_id-Decides a b =
-    Decides-like _ (λ same. ap (λ n. let id : LineStringId = record { 0 = n } in id) same)
-    (λ same. ap (λ id. id.0) same) (Decides-eqb a.0 b.0)

@@ -1,5 +1,6 @@
 -- The groups of a number, one at a time.
-use Rattle.std.proofs.Common.{◌≡◌, ℕ, zero, suc, ◌+◌, ◌-◌, ◌/◌, ◌%◌, ◌<◌, ◌≤◌, true, false, List, [], ◌∷◌, ◌++◌, length, take, set, refl, sym, ap, ◌∙◌, arith}
+use Rattle.std.proofs.Common.{◌≡◌, ℕ, zero, suc, ◌+◌, ◌-◌, ◌/◌, ◌%◌, ◌<◌, ◌≤◌, true, false, List, [], ◌∷◌, ◌++◌, length}
+use Rattle.std.proofs.Common.{take, set, refl, sym, ap, ◌∙◌, arith}
 use Rattle.std.proofs.Common.{if◌then◌else◌, append_assoc, ℤ, pos, negsuc}
 use Rattle.std.proofs.Math.Nat.{mod-eq_of_lt}
 use Rattle.std.proofs.lemmas.List.{take_more_set}
@@ -21,7 +22,8 @@ pub uleb_more : (k v : ℕ) → 128 ≤ v → uleb_within (suc k) v ≡ (v % 128
 uleb_more k v h = ap (λ b. if b then v ∷ [] else (v % 128 + 128) ∷ uleb_within k (v / 128)) (le-ltb v 128 h)
 
 -- one more byte in the buffer
-pub uleb_step : (bytes : List ℕ) (i v : ℕ) (all : List ℕ) → i < length bytes → i < 9 → 128 ≤ v → take i bytes ++ uleb_within (9 - i) v ≡ all
+pub uleb_step : (bytes : List ℕ) (i v : ℕ) (all : List ℕ) → i < length bytes → i < 9 → 128 ≤ v
+    → take i bytes ++ uleb_within (9 - i) v ≡ all
     → take (i + 1) (set bytes i (v % 128 + 128)) ++ uleb_within (9 - (i + 1)) (v / 128) ≡ all
 uleb_step bytes i v all short low high so =
     let down : 9 - i ≡ suc (9 - (i + 1)) = omega arith in
@@ -32,7 +34,8 @@ uleb_step bytes i v all short low high so =
     ∙ so
 
 -- the last byte in the buffer
-pub uleb_end : (bytes : List ℕ) (i v : ℕ) (all : List ℕ) → i < length bytes → v < 128 → take i bytes ++ uleb_within (9 - i) v ≡ all
+pub uleb_end : (bytes : List ℕ) (i v : ℕ) (all : List ℕ) → i < length bytes → v < 128
+    → take i bytes ++ uleb_within (9 - i) v ≡ all
     → take (i + 1) (set bytes i v) ≡ all
 uleb_end bytes i v all short low so =
     take_more_set _ i v short ∙ ap (λ t. take i bytes ++ t) (sym (uleb_last _ v low)) ∙ so
@@ -51,7 +54,8 @@ pub sleb_one : (z : ℤ) → has_seven_bits z ≡ true → sleb z ≡ low_bits z
 unfolding sleb
 sleb_one z h = sleb_last 9 z h
 
-pub sleb_more : (k : ℕ) (z : ℤ) → has_seven_bits z ≡ false → sleb_within (suc k) z ≡ (low_bits z + 128) ∷ sleb_within k (high_bits z)
+pub sleb_more : (k : ℕ) (z : ℤ) → has_seven_bits z ≡ false
+    → sleb_within (suc k) z ≡ (low_bits z + 128) ∷ sleb_within k (high_bits z)
 unfolding sleb_within
 sleb_more k z h = ap (λ b. if b then low_bits z ∷ [] else (low_bits z + 128) ∷ sleb_within k (high_bits z)) h
 
@@ -67,7 +71,8 @@ sleb_step bytes i z all short low high so =
     ∙ ap (λ k. take i bytes ++ sleb_within k z) (sym down)
     ∙ so
 
-pub sleb_end : (bytes : List ℕ) (i : ℕ) (z : ℤ) (all : List ℕ) → i < length bytes → has_seven_bits z ≡ true → take i bytes ++ sleb_within (9 - i) z ≡ all
+pub sleb_end : (bytes : List ℕ) (i : ℕ) (z : ℤ) (all : List ℕ) → i < length bytes → has_seven_bits z ≡ true
+    → take i bytes ++ sleb_within (9 - i) z ≡ all
     → take (i + 1) (set bytes i (low_bits z)) ≡ all
 sleb_end bytes i z all short low so =
     take_more_set _ i _ short ∙ ap (λ t. take i bytes ++ t) (sym (sleb_last (9 - i) z low)) ∙ so

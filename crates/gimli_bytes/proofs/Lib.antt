@@ -6,10 +6,7 @@ pub mod Equality
 pub mod PieceLemmas
 pub mod Parts
 pub mod WrittenAs
-mod UnsignedAs
 pub mod SectionWords
-pub mod InitialLengths
-pub mod TablesWritten
 pub mod RelocationLemmas
 pub mod Relocating
 pub mod CallsRelocated

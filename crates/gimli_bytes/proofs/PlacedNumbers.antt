@@ -30,7 +30,8 @@ placed-address at big (Symbol symbol addend) size fits =
     let sum = wraps _ _ n fits.0.1 fits.1 in
     rw fits.0.1 (by n sum.0 sum.1 fits.0.2 (is_size size) refl)
   where
-    by : (n q : ℕ) → at.symbol symbol + cast_unsigned w64 addend ≡ n + q * 2 ^ 64 → n < 256 ^ size → (b : Bool) → is_size size ≡ b
+    by : (n q : ℕ) → at.symbol symbol + cast_unsigned w64 addend ≡ n + q * 2 ^ 64 → n < 256 ^ size → (b : Bool)
+        → is_size size ≡ b
         → lowest_bytes big (at.symbol symbol + cast_unsigned w64 addend) size ≡ udata big n size
     by n q sum small true is =
         ap (λ k. udata big k size) (sum_low _ _ _ n q (size_short _ is) sum small)

@@ -1,5 +1,6 @@
 -- What calls of a section with relocations are refused with.
-use Rattle.std.proofs.Common.{◌≡◌, ◌⊎◌, inl, inr, ℕ, ◌+◌, ◌^◌, ◌<◌, ℤ, Bool, true, false, List, length, refl, sym, subst, Ok, Err, IfErr}
+use Rattle.std.proofs.Common.{◌≡◌, ◌⊎◌, inl, inr, ℕ, ◌+◌, ◌^◌, ◌<◌, ℤ, Bool, true, false, List, length, refl, sym}
+use Rattle.std.proofs.Common.{subst, Ok, Err, IfErr}
 use Rattle.std.specs.Prelude.{Result, nat_lt, if◌then◌else◌}
 use Rattle.std.specs.List.{list_any}
 use Rattle.std.proofs.Math.Nat.{mod-lt}
@@ -11,7 +12,8 @@ use Rattle.gimli_bytes.specs.Number.{udata, address_bytes}
 use Rattle.gimli_bytes.specs.Hand.{Placement}
 use Rattle.gimli_bytes.specs.Written.{overwrite_of, patch}
 use Rattle.gimli_bytes.specs.Relocatable.{Relocatable}
-use Rattle.gimli_bytes.specs.Relocations.{Bytes, AddressOf, BytesAt, IsRefusal, IsRelocatableRefusal, number_in_place, touches}
+use Rattle.gimli_bytes.specs.Relocations.{Bytes, AddressOf, BytesAt, IsRefusal, IsRelocatableRefusal, number_in_place}
+use Rattle.gimli_bytes.specs.Relocations.{touches}
 use Rattle.gimli_bytes.specs.Relocations.{with_place, with_place_at, placed_address}
 use Rattle.gimli_bytes.specs.declared.address.Address.{Address}
 use Rattle.gimli_bytes.specs.declared.address.Address.TheVariants.{Constant, Symbol}
@@ -30,7 +32,8 @@ use Rattle.gimli_bytes.specs.declared.relocation.Addends.TheVariants.{Listed, In
 use Rattle.gimli_bytes.proofs.RelocationLemmas.{pow_positive}
 use Rattle.gimli_bytes.proofs.CallsRelocated.{is_size}
 
-pub if_err : {X : Type 0} (r : Result X Error) {P Q : Error → Type 0} → ((e : Error) → P e → Q e) → IfErr r P → IfErr r Q
+pub if_err : {X : Type 0} (r : Result X Error) {P Q : Error → Type 0} → ((e : Error) → P e → Q e) → IfErr r P
+    → IfErr r Q
 if_err (Ok x) f p = tt
 if_err (Err e) f p = f e p
 
@@ -46,17 +49,21 @@ in_place_fits : (addends : Addends) (z : ℤ) (size : ℕ) → number_in_place a
 in_place_fits Listed z size = pow_positive _
 in_place_fits InPlace z size = mod-lt _ (pow_positive _)
 
-size_refused : (big : Bool) (n size : ℕ) (e : Error) → n < 256 ^ size → udata big n size ≡ Err e → IsRelocatableRefusal e
+size_refused : (big : Bool) (n size : ℕ) (e : Error) → n < 256 ^ size → udata big n size ≡ Err e
+    → IsRelocatableRefusal e
 size_refused big n size e fits h = by (is_size size) refl h
   where
     by : (b : Bool) → is_size size ≡ b
         → (let r : Result (List ℕ) Error =
-        if b then (if nat_lt n (256 ^ size) then Ok (number_bytes big size n) else Err ValueTooLarge) else Err (UnsupportedWordSize size) in r) ≡ Err e
+        if b then (if nat_lt n (256 ^ size) then Ok (number_bytes big size n) else Err ValueTooLarge)
+        else Err (UnsupportedWordSize size) in r)
+        ≡ Err e
         → IsRelocatableRefusal e
     by true is h = never (rw (lt-ltb n (256 ^ size) fits) at h)
     by false is h = subst IsRelocatableRefusal (same_err _ e h) tt
 
-mapped_refused : {A : Type 0} (f : List ℕ → A) (r : Result (List ℕ) Error) (e : Error) → result_map f r ≡ Err e → r ≡ Err e
+mapped_refused : {A : Type 0} (f : List ℕ → A) (r : Result (List ℕ) Error) (e : Error) → result_map f r ≡ Err e
+    → r ≡ Err e
 mapped_refused f (Ok word) e h = never h
 mapped_refused f (Err d) e h = let is : d ≡ e = cc in rw is refl
 
@@ -89,7 +96,8 @@ pub address_refused : (v : Relocatable) (a : Address) (size : ℕ) (e : Error) �
 address_refused v (Constant n) size e refused = number_refused v n size e refused
 address_refused v (Symbol symbol addend) size e refused = inl (place_refused v _ addend size e refused)
 
-pub placed_refused : (at : Placement) (v : Relocatable) (a : Address) (size : ℕ) (e : Error) → IsRefusal v (AddressOf a size) e
+pub placed_refused : (at : Placement) (v : Relocatable) (a : Address) (size : ℕ) (e : Error)
+    → IsRefusal v (AddressOf a size) e
     → IsRelocatableRefusal e ⊎ (placed_address at v.big a size ≡ Err e)
 placed_refused at v (Constant n) size e refused = number_refused v n size e refused
 placed_refused at v (Symbol symbol addend) size e refused = inl (place_refused v _ addend size e refused)
@@ -100,28 +108,35 @@ over_refused : (old : List ℕ) (at : ℕ) (x : List ℕ) (e : Error) → overwr
 over_refused old at x e h = by (nat_lt (length old) at) (nat_lt (length old) (at + length x)) h
   where
     by : (a b : Bool)
-        → (let r : Result (List ℕ) Error = if a then Err OffsetOutOfBounds else (if b then Err LengthOutOfBounds else Ok (put_over old at x)) in r) ≡ Err e
+        → (let r : Result (List ℕ) Error = if a then Err OffsetOutOfBounds
+        else (if b then Err LengthOutOfBounds else Ok (put_over old at x)) in
+        r)
+        ≡ Err e
         → IsRelocatableRefusal e
     by true b h = subst IsRelocatableRefusal (same_err _ e h) tt
     by false true h = subst IsRelocatableRefusal (same_err _ e h) tt
     by false false h = never h
 
 -- unless a place has one of them
-free_refused : (touched : Bool) (written : Result (List ℕ) Error) (e : Error) → (written ≡ Err e → IsRelocatableRefusal e)
-    → (let r : Result (List ℕ) Error = if touched then Err InvalidRange else written in r) ≡ Err e → IsRelocatableRefusal e
+free_refused : (touched : Bool) (written : Result (List ℕ) Error) (e : Error)
+    → (written ≡ Err e → IsRelocatableRefusal e)
+    → (let r : Result (List ℕ) Error = if touched then Err InvalidRange else written in r) ≡ Err e
+    → IsRelocatableRefusal e
 free_refused true written e others h = subst IsRelocatableRefusal (same_err _ e h) tt
 free_refused false written e others h = others h
 
-pub bytes_at_refused : (v : Relocatable) (at : ℕ) (x : List ℕ) (e : Error) → IsRefusal v (BytesAt at x) e → IsRelocatableRefusal e
+pub bytes_at_refused : (v : Relocatable) (at : ℕ) (x : List ℕ) (e : Error) → IsRefusal v (BytesAt at x) e
+    → IsRelocatableRefusal e
 bytes_at_refused v at x e (inl memory) = memory_is e memory
 bytes_at_refused v at x e (inr is) =
     let touched = list_any (touches at (length x)) v.relocations in
     let written = overwrite_of v.bytes at x in
     let free : Result (List ℕ) Error = if touched then Err InvalidRange else written in
-    free_refused touched _ e (over_refused v.bytes at x e)
+    free_refused _ _ e (over_refused v.bytes at x e)
     (mapped_refused _ _ e is)
 
-patch_refused : (wanted : Result (List ℕ) Error) (old : List ℕ) (at : ℕ) (e : Error) → (wanted ≡ Err e → IsRelocatableRefusal e)
+patch_refused : (wanted : Result (List ℕ) Error) (old : List ℕ) (at : ℕ) (e : Error)
+    → (wanted ≡ Err e → IsRelocatableRefusal e)
     → patch wanted old at ≡ Err e → IsRelocatableRefusal e
 patch_refused (Ok x) old at e refused h = over_refused old at x e h
 patch_refused (Err d) old at e refused h = refused h

@@ -1,5 +1,6 @@
 -- Relocations that are applied, call by call.
-use Rattle.std.proofs.Common.{arith, ◌≡◌, inl, inr, ℕ, ◌+◌, ◌-◌, ◌*◌, ◌/◌, ◌%◌, ◌^◌, ◌<◌, ◌≤◌, ℤ, Bool, List, [], ◌∷◌, ◌++◌, length, take, drop, refl, ap, sym}
+use Rattle.std.proofs.Common.{arith, ◌≡◌, inl, inr, ℕ, ◌+◌, ◌-◌, ◌*◌, ◌/◌, ◌%◌, ◌^◌, ◌<◌, ◌≤◌, ℤ, Bool, List, [], ◌∷◌}
+use Rattle.std.proofs.Common.{◌++◌, length, take, drop, refl, ap, sym}
 use Rattle.std.proofs.Common.{◌∙◌, subst, w64}
 use Rattle.std.specs.Prelude.{All, ◌⊎◌, ◌&&◌, ◌||◌, true, false, nat_le, nat_lt}
 use Rattle.std.specs.List.{list_any}
@@ -14,7 +15,8 @@ use Rattle.gimli_core.proofs.Written.{number_spelled}
 use Rattle.gimli_bytes.specs.inside.Pieces.{put_over}
 use Rattle.gimli_bytes.specs.Hand.{Placement}
 use Rattle.gimli_bytes.specs.Relocatable.{Relocatable}
-use Rattle.gimli_bytes.specs.Relocations.{place_of, relocated, all_relocated, are_within, touches, number_in_place, addend_in_list}
+use Rattle.gimli_bytes.specs.Relocations.{place_of, relocated, all_relocated, are_within, touches, number_in_place}
+use Rattle.gimli_bytes.specs.Relocations.{addend_in_list}
 use Rattle.gimli_bytes.specs.declared.relocation.Relocation.{Relocation}
 use Rattle.gimli_bytes.specs.declared.relocation.Addends.{Addends}
 use Rattle.gimli_bytes.specs.declared.relocation.Addends.TheVariants.{Listed, InPlace}
@@ -167,9 +169,9 @@ all-more p big [] bytes more inside = refl
 all-more p big (r ∷ rs) bytes more inside =
     let first = All-head (λ r. r.offset + r.size ≤ length bytes) r rs inside in
     let others = All-tail (λ r. r.offset + r.size ≤ length bytes) r rs inside in
-    ap (λ (l : List ℕ). all_relocated p big l rs) (relocated-more p big bytes more r first)
+    ap (λ (l : List ℕ). all_relocated p big l rs) (relocated-more p big _ more r first)
     ∙ all-more p big rs (relocated p big bytes r) more
-    (subst (λ n. Inside n rs) (sym (length-relocated p big bytes r first)) others)
+    (subst (λ n. Inside n rs) (sym (length-relocated p big _ r first)) others)
 
 pub length-all : (p : Placement) (big : Bool) (rs : List Relocation) (bytes : List ℕ)
     → Inside (length bytes) rs → length (all_relocated p big bytes rs) ≡ length bytes
@@ -178,8 +180,8 @@ length-all p big (r ∷ rs) bytes inside =
     let first = All-head (λ r. r.offset + r.size ≤ length bytes) r rs inside in
     let others = All-tail (λ r. r.offset + r.size ≤ length bytes) r rs inside in
     length-all p big rs (relocated p big bytes r)
-    (subst (λ n. Inside n rs) (sym (length-relocated p big bytes r first)) others)
-    ∙ length-relocated p big bytes r first
+    (subst (λ n. Inside n rs) (sym (length-relocated p big _ r first)) others)
+    ∙ length-relocated p big _ r first
 
 pub all-over : (p : Placement) (big : Bool) (rs : List Relocation) (bytes : List ℕ) (at : ℕ)
     (x : List ℕ) → Inside (length bytes) rs → at + length x ≤ length bytes
@@ -189,7 +191,7 @@ all-over p big [] bytes at x inside fits apart = refl
 all-over p big (r ∷ rs) bytes at x inside fits apart =
     let first = All-head (λ r. r.offset + r.size ≤ length bytes) r rs inside in
     let others = All-tail (λ r. r.offset + r.size ≤ length bytes) r rs inside in
-    let same = length-relocated p big bytes r first in
+    let same = length-relocated p big _ r first in
     ap (λ (l : List ℕ). all_relocated p big l rs)
     (relocated-over p big bytes at x r first fits (All-head (IsApart at (length x)) r rs apart))
     ∙ all-over p big rs (relocated p big bytes r) at x (subst (λ n. Inside n rs) (sym same) others)

@@ -1,5 +1,6 @@
 -- The written spelling of a signed number is the shortest.
-use Rattle.std.proofs.Common.{◌≡◌, ℕ, zero, suc, ◌+◌, ◌-◌, ◌*◌, ◌/◌, ◌%◌, ◌^◌, ◌<◌, ◌≤◌, Bool, true, false, List, [], ◌∷◌, length, refl, sym, ap, ◌∙◌, arith}
+use Rattle.std.proofs.Common.{◌≡◌, ℕ, zero, suc, ◌+◌, ◌-◌, ◌*◌, ◌/◌, ◌%◌, ◌^◌, ◌<◌, ◌≤◌, Bool, true, false, List, []}
+use Rattle.std.proofs.Common.{◌∷◌, length, refl, sym, ap, ◌∙◌, arith}
 use Rattle.std.proofs.Common.{inl, inr, ℤ, pos, negsuc, ◌-ℤ◌, if◌then◌else◌, w64}
 use Rattle.std.specs.Prelude.{FitsSigned}
 use Rattle.std.proofs.Math.Nat.{pow-succ', mod-eq_of_lt}
@@ -22,14 +23,16 @@ power_of_128 (suc k) =
 
 -- ---- any spelling: the last byte is the sign, and the number is within what the bytes hold
 
-Groups-positive : (b : ℕ) (bytes : List ℕ) (n : ℕ) → Groups (b ∷ bytes) n → is_negative (b ∷ bytes) ≡ false → n < 64 * 128 ^ length bytes
+Groups-positive : (b : ℕ) (bytes : List ℕ) (n : ℕ) → Groups (b ∷ bytes) n → is_negative (b ∷ bytes) ≡ false
+    → n < 64 * 128 ^ length bytes
 Groups-positive b [] n h sign = omega (arith, leb-false 64 b sign, h.1)
 Groups-positive b (c ∷ bytes) n h sign =
     let high : h.1 < 64 * 128 ^ length bytes = Groups-positive c bytes h.1 h.3 sign in
     let power : 128 ^ suc (length bytes) ≡ 128 * 128 ^ length bytes = pow-succ' 128 (length bytes) in
     omega (arith, high, power, h.2)
 
-Groups-negative : (b : ℕ) (bytes : List ℕ) (n : ℕ) → Groups (b ∷ bytes) n → is_negative (b ∷ bytes) ≡ true → 64 * 128 ^ length bytes ≤ n
+Groups-negative : (b : ℕ) (bytes : List ℕ) (n : ℕ) → Groups (b ∷ bytes) n → is_negative (b ∷ bytes) ≡ true
+    → 64 * 128 ^ length bytes ≤ n
 Groups-negative b [] n h sign = omega (arith, leb-true 64 b sign, h.1)
 Groups-negative b (c ∷ bytes) n h sign =
     let high : 64 * 128 ^ length bytes ≤ h.1 = Groups-negative c bytes h.1 h.3 sign in
@@ -45,19 +48,24 @@ within_negative n k (pos m) h below e = absurd (omega (arith, ints, e))
 within_negative n k (negsuc m) h below e = omega (arith, ints, e)
 
 -- what the sign takes, and nothing where it isn't set
-sign_taken : (negative : Bool) (n p : ℕ) → pos n -ℤ pos (if negative then p else 0) ≡ (if negative then pos n -ℤ pos p else pos n)
+sign_taken : (negative : Bool) (n p : ℕ)
+    → pos n -ℤ pos (if negative then p else 0) ≡ (if negative then pos n -ℤ pos p else pos n)
 sign_taken true n p = refl
 sign_taken false n p = omega (arith, ints)
 
-within : (b : ℕ) (bytes : List ℕ) (n : ℕ) (z : ℤ) → Groups (b ∷ bytes) n → signed_value (b ∷ bytes) n ≡ z → mag z < 64 * 128 ^ length bytes
+within : (b : ℕ) (bytes : List ℕ) (n : ℕ) (z : ℤ) → Groups (b ∷ bytes) n → signed_value (b ∷ bytes) n ≡ z
+    → mag z < 64 * 128 ^ length bytes
 within b bytes n z h value = by (is_negative (b ∷ bytes)) refl (sym (sign_taken _ n _) ∙ value)
   where
-    by : (sign : Bool) → is_negative (b ∷ bytes) ≡ sign → (if sign then pos n -ℤ pos (2 ^ (7 * suc (length bytes))) else pos n) ≡ z
+    by : (sign : Bool) → is_negative (b ∷ bytes) ≡ sign
+        → (if sign then pos n -ℤ pos (2 ^ (7 * suc (length bytes))) else pos n) ≡ z
         → mag z < 64 * 128 ^ length bytes
     by false sign e = within_positive n _ z (Groups-positive b _ n h sign) e
     by true sign e =
-        let power : 2 ^ (7 * suc (length bytes)) ≡ 128 * 128 ^ length bytes = power_of_128 _ ∙ pow-succ' 128 (length bytes) in
-        let below : n < 128 * 128 ^ length bytes = omega (arith, Groups-below (b ∷ bytes) n h, pow-succ' 128 (length bytes)) in
+        let power : 2 ^ (7 * suc (length bytes)) ≡ 128 * 128 ^ length bytes = power_of_128 _
+        ∙ pow-succ' 128 (length bytes) in
+        let below : n
+        < 128 * 128 ^ length bytes = omega (arith, Groups-below (b ∷ bytes) n h, pow-succ' 128 (length bytes)) in
         within_negative n _ z (Groups-negative b _ n h sign) below (ap (λ p. pos n -ℤ pos p) (sym power) ∙ e)
 
 -- ---- the written one: no more groups than hold the number
@@ -106,13 +114,14 @@ positive : (more n : ℕ) → n < 64 * 128 ^ more → Positive n (sleb_within mo
 unfolding sleb_within
 positive zero n h = positive_last n (omega (arith, h))
 positive (suc more) n h = elim (cases_lt n 64) [
-  | inl low ↦ rw (sleb_last (suc more) (pos n) (lt-ltb n 64 low)) (positive_last n low)
+  | inl low ↦ rw (sleb_last (suc more) _ (lt-ltb n 64 low)) (positive_last n low)
   | inr high ↦
       let power : 128 ^ suc more ≡ 128 * 128 ^ more = pow-succ' 128 more in
-      let rest : Positive (n / 128) (sleb_within more (pos (n / 128))) = positive more (n / 128) (omega (arith, h, power)) in
-      rw (sleb_more more (pos n) (le-ltb n 64 high)) (record {
-        groups = Groups-cons (n % 128 + 128) (sleb_within more (pos (n / 128))) n (n / 128) (omega arith) (omega arith) rest.groups;
-        sign = sign-cons (n % 128 + 128) (sleb_within more (pos (n / 128))) (n / 128) rest.groups ∙ rest.sign;
+      let rest : Positive (n / 128) (sleb_within more (pos (n / 128))) =
+      positive more (n / 128) (omega (arith, h, power)) in
+      rw (sleb_more more _ (le-ltb n 64 high)) (record {
+        groups = Groups-cons (n % 128 + 128) _ n _ (omega arith) (omega arith) rest.groups;
+        sign = sign-cons (n % 128 + 128) _ _ rest.groups ∙ rest.sign;
       })
 ]
 
@@ -126,23 +135,30 @@ record Negative (n : ℕ) (bytes : List ℕ) : Type 0 where
 negative_last : (n : ℕ) → n < 64 → Negative n ((127 - n % 128) ∷ [])
 negative_last n h =
     let same : n % 128 ≡ n = mod-eq_of_lt (omega arith) in
-    record { unsigned = 127 - n % 128; groups = (omega arith, refl); short_by = omega (arith, same); sign = le-leb 64 (127 - n % 128) (omega (arith, same)) }
+    record {
+      unsigned = 127 - n % 128;
+      groups = (omega arith, refl);
+      short_by = omega (arith, same);
+      sign = le-leb 64 (127 - n % 128) (omega (arith, same));
+    }
 
 negative : (more n : ℕ) → n < 64 * 128 ^ more → Negative n (sleb_within more (negsuc n))
 unfolding sleb_within
 negative zero n h = negative_last n (omega (arith, h))
 negative (suc more) n h = elim (cases_lt n 64) [
-  | inl low ↦ rw (sleb_last (suc more) (negsuc n) (lt-ltb n 64 low)) (negative_last n low)
+  | inl low ↦ rw (sleb_last (suc more) _ (lt-ltb n 64 low)) (negative_last n low)
   | inr high ↦
       let power : 128 ^ suc more ≡ 128 * 128 ^ more = pow-succ' 128 more in
       let tail : List ℕ = sleb_within more (negsuc (n / 128)) in
       let rest : Negative (n / 128) tail = negative more (n / 128) (omega (arith, h, power)) in
       let next : 128 ^ suc (length tail) ≡ 128 * 128 ^ length tail = pow-succ' 128 (length tail) in
-      rw (sleb_more more (negsuc n) (le-ltb n 64 high)) (record {
+      rw (sleb_more more _ (le-ltb n 64 high)) (record {
         unsigned = 127 - n % 128 + 128 * rest.unsigned;
-        groups = Groups-cons (127 - n % 128 + 128) tail (127 - n % 128 + 128 * rest.unsigned) rest.unsigned (omega arith) (omega arith) rest.groups;
+        groups =
+            Groups-cons (127 - n % 128 + 128) _ (127 - n % 128 + 128 * rest.unsigned) _ (omega arith) (omega arith)
+            rest.groups;
         short_by = omega (arith, next, rest.short_by);
-        sign = sign-cons (127 - n % 128 + 128) tail rest.unsigned rest.groups ∙ rest.sign;
+        sign = sign-cons (127 - n % 128 + 128) _ _ rest.groups ∙ rest.sign;
       })
 ]
 
@@ -156,7 +172,7 @@ spells (pos n) h =
       value_is =
           sign_taken _ n _
           ∙ ap (λ b. if b then pos n -ℤ pos (2 ^ (7 * length (sleb_within 9 (pos n)))) else pos n) p.sign;
-      short = length-sleb_within 9 9 (pos n) size;
+      short = length-sleb_within 9 9 _ size;
       fits = h;
     }
 spells (negsuc n) h =
@@ -172,15 +188,15 @@ spells (negsuc n) h =
           ∙ ap (λ b. if b then pos p.unsigned -ℤ pos (2 ^ (7 * length bytes)) else pos p.unsigned) p.sign
           ∙ ap (λ k. pos p.unsigned -ℤ pos k) power
           ∙ (let e : pos p.unsigned -ℤ pos (p.unsigned + suc n) ≡ negsuc n = omega (arith, ints) in e);
-      short = length-sleb_within 9 9 (negsuc n) size;
+      short = length-sleb_within 9 9 _ size;
       fits = h;
     }
 
 -- any spelling is at least as long
 least : (other : List ℕ) (z : ℤ) → SpellsSleb128 other z → length (sleb_within 9 z) ≤ length other
 least [] z s = absurd s.groups
-least (b ∷ bytes) z s = length-sleb_within 9 (length bytes) z (within b _ _ z s.groups s.value_is)
+least (b ∷ bytes) z s = length-sleb_within 9 _ z (within b _ _ z s.groups s.value_is)
 
 pub sleb_shortest : (z : ℤ) → FitsSigned w64 z → IsShortest SpellsSleb128 (sleb z) z
 unfolding sleb
-sleb_shortest z h = record { spells = spells z h; least = λ other s. least other z s }
+sleb_shortest z h = record { spells = spells z h; least = λ other s. least _ z s }

@@ -1,5 +1,6 @@
 -- The written spelling of an unsigned number is the shortest.
-use Rattle.std.proofs.Common.{◌≡◌, ℕ, zero, suc, ◌+◌, ◌*◌, ◌/◌, ◌%◌, ◌^◌, ◌<◌, ◌≤◌, List, [], ◌∷◌, length, refl, sym, ap, arith, inl, inr}
+use Rattle.std.proofs.Common.{◌≡◌, ℕ, zero, suc, ◌+◌, ◌*◌, ◌/◌, ◌%◌, ◌^◌, ◌<◌, ◌≤◌, List, [], ◌∷◌, length, refl, sym}
+use Rattle.std.proofs.Common.{ap, arith, inl, inr}
 use Rattle.std.proofs.Math.Nat.{pow-succ', mod-eq_of_lt}
 use Rattle.std.proofs.lemmas.Bool.{cases_lt}
 use Rattle.gimli_core.specs.Numbers.{Groups, SpellsUleb128, IsShortest}
@@ -16,7 +17,8 @@ Groups-below (b ∷ c ∷ bytes) n h =
     omega (arith, high, power, h.2)
 
 -- one more group in front
-pub Groups-cons : (b : ℕ) (bytes : List ℕ) (n high : ℕ) → 128 ≤ b → n ≡ b % 128 + 128 * high → Groups bytes high → Groups (b ∷ bytes) n
+pub Groups-cons : (b : ℕ) (bytes : List ℕ) (n high : ℕ) → 128 ≤ b → n ≡ b % 128 + 128 * high → Groups bytes high
+    → Groups (b ∷ bytes) n
 Groups-cons b [] n high more so h = absurd h
 Groups-cons b (c ∷ bytes) n high more so h = (more, high, so, h)
 
@@ -45,7 +47,7 @@ Groups-uleb_within (suc more) n h = elim (cases_lt n 128) [
       let power : 128 ^ suc (suc more) ≡ 128 * 128 ^ suc more = pow-succ' 128 (suc more) in
       let rest : n / 128 < 128 ^ suc more = omega (arith, power, h) in
       rw (uleb_more _ n high)
-      (Groups-cons (n % 128 + 128) (uleb_within more (n / 128)) n (n / 128) (omega arith) (omega arith) (Groups-uleb_within more (n / 128) rest))
+      (Groups-cons (n % 128 + 128) _ n _ (omega arith) (omega arith) (Groups-uleb_within more (n / 128) rest))
 ]
 
 -- any spelling is at least as long
@@ -60,5 +62,5 @@ uleb_shortest n h =
     let ten : length (uleb_within 9 n) ≤ 10 = length-uleb_within 9 9 n below in
     record {
       spells = record { groups = Groups-uleb_within 9 n below; short = omega (arith, ten); fits = h };
-      least = λ other s. least_uleb n other s.groups;
+      least = λ other s. least_uleb n _ s.groups;
     }

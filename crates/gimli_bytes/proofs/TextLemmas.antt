@@ -1,6 +1,8 @@
 -- The keys of a table, seen as texts.
-use Rattle.std.proofs.Common.{◌≡◌, ◌≢◌, ℕ, zero, suc, ◌+◌, Bool, true, false, cond, not, ◌||◌, List, [], ◌∷◌, ◌++◌, map, length, take, drop, get_or, Some, None}
-use Rattle.std.proofs.Common.{refl, sym, ap, ◌∙◌, arith, true≢false, position, nat_lt, if◌then◌else◌, ◌<◌, ◌≤◌, append_assoc, length-append}
+use Rattle.std.proofs.Common.{◌≡◌, ◌≢◌, ℕ, zero, suc, ◌+◌, Bool, true, false, cond, not, ◌||◌, List, [], ◌∷◌, ◌++◌, map}
+use Rattle.std.proofs.Common.{length, take, drop, get_or, Some, None}
+use Rattle.std.proofs.Common.{refl, sym, ap, ◌∙◌, arith, true≢false, position, nat_lt, if◌then◌else◌, ◌<◌, ◌≤◌}
+use Rattle.std.proofs.Common.{append_assoc, length-append}
 use Rattle.std.specs.Prelude.{bytes_eq, All, Contains, slice_get}
 use Rattle.std.specs.List.{list_any, position_or_len, prefix_len}
 use Rattle.std.specs.declared.vec.Vec.{Vec}
@@ -16,11 +18,13 @@ use Rattle.gimli_bytes.specs.inside.TextFields.{texts_of}
 
 -- ---- from keys to texts
 
-pub any-map : {A B : Type 0} (p : B → Bool) (h : A → B) (ks : List A) → list_any p (map h ks) ≡ list_any (λ k. p (h k)) ks
+pub any-map : {A B : Type 0} (p : B → Bool) (h : A → B) (ks : List A)
+    → list_any p (map h ks) ≡ list_any (λ k. p (h k)) ks
 any-map p h [] = refl
 any-map p h (k ∷ ks) = ap (λ b. p (h k) || b) (any-map p h ks)
 
-prefix-map : {A B : Type 0} (p : B → Bool) (h : A → B) (ks : List A) → prefix_len p (map h ks) ≡ prefix_len (λ k. p (h k)) ks
+prefix-map : {A B : Type 0} (p : B → Bool) (h : A → B) (ks : List A)
+    → prefix_len p (map h ks) ≡ prefix_len (λ k. p (h k)) ks
 prefix-map p h [] = refl
 prefix-map p h (k ∷ ks) = ap (λ n. cond (p (h k)) (1 + n) 0) (prefix-map p h ks)
 
@@ -33,35 +37,43 @@ index_found p ks i e = by (nat_lt (position_or_len p ks) (length ks)) e
     by false h = cc
 
 -- whether a text is there
-pub is_there : (ks : List (Vec ℕ Global)) (t : List ℕ) (b : Bool) → b ≡ list_any (λ k. bytes_eq t k.items) ks → list_any (bytes_eq t) (texts_of ks) ≡ b
+pub is_there : (ks : List (Vec ℕ Global)) (t : List ℕ) (b : Bool) → b ≡ list_any (λ k. bytes_eq t k.items) ks
+    → list_any (bytes_eq t) (texts_of ks) ≡ b
 is_there ks t b e = any-map (bytes_eq t) (λ k. k.items) ks ∙ sym e
 
-place_is : (ks : List (Vec ℕ Global)) (t : List ℕ) → position_or_len (λ k. bytes_eq t k.items) ks ≡ index_of_text (texts_of ks) t
+place_is : (ks : List (Vec ℕ Global)) (t : List ℕ)
+    → position_or_len (λ k. bytes_eq t k.items) ks ≡ index_of_text (texts_of ks) t
 place_is ks t = sym (prefix-map (λ x. not (bytes_eq t x)) (λ k. k.items) ks)
 
 -- a text that a search doesn't find is none of them
-pub not_there : (ks : List (Vec ℕ Global)) (t : List ℕ) → false ≡ list_any (λ k. bytes_eq t k.items) ks → Contains (texts_of ks) t → ⊥
+pub not_there : (ks : List (Vec ℕ Global)) (t : List ℕ) → false ≡ list_any (λ k. bytes_eq t k.items) ks
+    → Contains (texts_of ks) t → ⊥
 not_there ks t e h =
-    true≢false (sym (list_any_at (bytes_eq t) (texts_of ks) h.0 t h.1 ((bytes_eq-Decides t (get_or (texts_of ks) h.0 t)).1 (sym h.2))) ∙ is_there ks t false e)
+    true≢false (sym
+    (list_any_at (bytes_eq t) (texts_of ks) h.0 t h.1 ((bytes_eq-Decides t (get_or (texts_of ks) h.0 t)).1 (sym h.2)))
+    ∙ is_there _ t _ e)
 
 -- the place of a text that is there
-pub index_there : (ks : List (Vec ℕ Global)) (t : List ℕ) (i : ℕ) → Some i ≡ position (λ k. bytes_eq t k.items) ks → i ≡ index_of_text (texts_of ks) t
+pub index_there : (ks : List (Vec ℕ Global)) (t : List ℕ) (i : ℕ) → Some i ≡ position (λ k. bytes_eq t k.items) ks
+    → i ≡ index_of_text (texts_of ks) t
 index_there ks t i e = index_found (λ k. bytes_eq t k.items) ks i e ∙ place_is ks t
 
 -- the place of a new text
 pub place_new : (ks : List (Vec ℕ Global)) (t : List ℕ) (v : Vec ℕ Global) → v.items ≡ t
     → position_or_len (λ k. bytes_eq v.items k.items) ks ≡ index_of_text (texts_of ks) t
-place_new ks t v e = ap (λ (x : List ℕ). position_or_len (λ (k : Vec ℕ Global). bytes_eq x k.items) ks) e ∙ place_is ks t
+place_new ks t v e =
+    ap (λ (x : List ℕ). position_or_len (λ (k : Vec ℕ Global). bytes_eq x k.items) ks) e ∙ place_is ks t
 
 -- the keys after a new one
-pub texts_new : (ks : List (Vec ℕ Global)) (t : List ℕ) (v : Vec ℕ Global) → v.items ≡ t → false ≡ list_any (λ k. bytes_eq t k.items) ks
+pub texts_new : (ks : List (Vec ℕ Global)) (t : List ℕ) (v : Vec ℕ Global) → v.items ≡ t
+    → false ≡ list_any (λ k. bytes_eq t k.items) ks
     → texts_of (if list_any (λ k. bytes_eq v.items k.items) ks then ks else ks ++ v ∷ []) ≡ with_text (texts_of ks) t
 texts_new ks t v e absent =
     ap (λ (x : List ℕ). texts_of (if list_any (λ k. bytes_eq x k.items) ks then ks else ks ++ v ∷ [])) e
     ∙ ap (λ b. texts_of (if b then ks else ks ++ v ∷ [])) (sym absent)
     ∙ map-append (λ k. k.items) ks (v ∷ [])
     ∙ ap (λ x. texts_of ks ++ x ∷ []) e
-    ∙ ap (λ b. if b then texts_of ks else texts_of ks ++ t ∷ []) (sym (is_there ks t false absent))
+    ∙ ap (λ b. if b then texts_of ks else texts_of ks ++ t ∷ []) (sym (is_there _ t _ absent))
 
 -- ---- a text is added
 
@@ -72,11 +84,14 @@ with_text-there ts t h = ap (λ b. if b then ts else ts ++ t ∷ []) h
 pub with_text-new : (ts : List (List ℕ)) (t : List ℕ) → list_any (bytes_eq t) ts ≡ false → with_text ts t ≡ ts ++ t ∷ []
 with_text-new ts t h = ap (λ b. if b then ts else ts ++ t ∷ []) h
 
-pub byte_count-new : (ts : List (List ℕ)) (t : List ℕ) → list_any (bytes_eq t) ts ≡ false → byte_count (with_text ts t) ≡ byte_count ts + length t + 1
+pub byte_count-new : (ts : List (List ℕ)) (t : List ℕ) → list_any (bytes_eq t) ts ≡ false
+    → byte_count (with_text ts t) ≡ byte_count ts + length t + 1
 byte_count-new ts t absent =
-    ap byte_count (with_text-new ts t absent) ∙ (let e = sum_by-append (λ (x : List ℕ). length x + 1) ts (t ∷ []) in omega (arith, e))
+    ap byte_count (with_text-new _ t absent)
+    ∙ (let e = sum_by-append (λ (x : List ℕ). length x + 1) ts (t ∷ []) in omega (arith, e))
 
-pub with_text-AreTexts : (ts : List (List ℕ)) (t : List ℕ) → AreTexts ts → All (λ b. b ≢ 0) t → AreTexts (with_text ts t)
+pub with_text-AreTexts : (ts : List (List ℕ)) (t : List ℕ) → AreTexts ts → All (λ b. b ≢ 0) t
+    → AreTexts (with_text ts t)
 with_text-AreTexts ts t so clean = by (list_any (bytes_eq t) ts) refl
   where
     by : (b : Bool) → list_any (bytes_eq t) ts ≡ b → AreTexts (if b then ts else ts ++ t ∷ [])
@@ -84,26 +99,31 @@ with_text-AreTexts ts t so clean = by (list_any (bytes_eq t) ts) refl
     by false h = record {
       distinct =
           all_pairs_push (λ s u. s ≢ u) ts t so.distinct (λ k d short same.
-          true≢false (sym (list_any_at (bytes_eq t) ts k d short ((bytes_eq-Decides t (get_or ts k d)).1 (sym same))) ∙ h));
+          true≢false
+          (sym (list_any_at (bytes_eq t) ts k d short ((bytes_eq-Decides t (get_or ts k d)).1 (sym same))) ∙ h));
       no_zero = All-push (λ u. All (λ b. b ≢ 0) u) ts t so.no_zero clean;
     }
 
-found-there : (ts : List (List ℕ)) (t : List ℕ) → list_any (bytes_eq t) ts ≡ true → slice_get ts (index_of_text ts t) ≡ Some t
+found-there : (ts : List (List ℕ)) (t : List ℕ) → list_any (bytes_eq t) ts ≡ true
+    → slice_get ts (index_of_text ts t) ≡ Some t
 found-there [] t h = cc
 found-there (s ∷ ts) t h = at (bytes_eq t s) refl (found-there ts t) h
   where
-    at : (b : Bool) → bytes_eq t s ≡ b → (list_any (bytes_eq t) ts ≡ true → slice_get ts (index_of_text ts t) ≡ Some t) → (b || list_any (bytes_eq t) ts) ≡ true
+    at : (b : Bool) → bytes_eq t s ≡ b → (list_any (bytes_eq t) ts ≡ true → slice_get ts (index_of_text ts t) ≡ Some t)
+        → (b || list_any (bytes_eq t) ts) ≡ true
         → slice_get (s ∷ ts) (cond (not b) (1 + index_of_text ts t) 0) ≡ Some t
     at true e rest h = ap Some (sym ((bytes_eq-Decides t s).0 e))
     at false e rest h =
         let one : 1 + index_of_text ts t ≡ suc (index_of_text ts t) = omega arith in
         ap (slice_get (s ∷ ts)) one ∙ rest h
 
-found-new : (ts : List (List ℕ)) (t : List ℕ) → list_any (bytes_eq t) ts ≡ false → slice_get (ts ++ t ∷ []) (index_of_text ts t) ≡ Some t
+found-new : (ts : List (List ℕ)) (t : List ℕ) → list_any (bytes_eq t) ts ≡ false
+    → slice_get (ts ++ t ∷ []) (index_of_text ts t) ≡ Some t
 found-new [] t h = refl
 found-new (s ∷ ts) t h = at (bytes_eq t s) (found-new ts t) h
   where
-    at : (b : Bool) → (list_any (bytes_eq t) ts ≡ false → slice_get (ts ++ t ∷ []) (index_of_text ts t) ≡ Some t) → (b || list_any (bytes_eq t) ts) ≡ false
+    at : (b : Bool) → (list_any (bytes_eq t) ts ≡ false → slice_get (ts ++ t ∷ []) (index_of_text ts t) ≡ Some t)
+        → (b || list_any (bytes_eq t) ts) ≡ false
         → slice_get (s ∷ ts ++ t ∷ []) (cond (not b) (1 + index_of_text ts t) 0) ≡ Some t
     at true rest h = cc
     at false rest h =
@@ -114,9 +134,10 @@ found-new (s ∷ ts) t h = at (bytes_eq t s) (found-new ts t) h
 pub with_text-found : (ts : List (List ℕ)) (t : List ℕ) → slice_get (with_text ts t) (index_of_text ts t) ≡ Some t
 with_text-found ts t = by (list_any (bytes_eq t) ts) refl
   where
-    by : (b : Bool) → list_any (bytes_eq t) ts ≡ b → slice_get (if b then ts else ts ++ t ∷ []) (index_of_text ts t) ≡ Some t
-    by true h = found-there ts t h
-    by false h = found-new ts t h
+    by : (b : Bool) → list_any (bytes_eq t) ts ≡ b
+        → slice_get (if b then ts else ts ++ t ∷ []) (index_of_text ts t) ≡ Some t
+    by true h = found-there _ t h
+    by false h = found-new _ t h
 
 slice_get-kept : (ts us : List (List ℕ)) (i : ℕ) → i < length ts → slice_get (ts ++ us) i ≡ slice_get ts i
 slice_get-kept [] us i h = absurd (omega arith)
@@ -139,8 +160,13 @@ with_text-KeepsTexts ts t = by (list_any (bytes_eq t) ts)
 pub length-table_bytes : (ts : List (List ℕ)) → length (table_bytes ts) ≡ byte_count ts
 length-table_bytes [] = refl
 length-table_bytes (t ∷ ts) =
-    omega
-    (arith, length-append (t ++ 0 ∷ []) (table_bytes ts), length-append t (0 ∷ []), sum_by-cons (λ (x : List ℕ). length x + 1) t ts, length-table_bytes ts)
+    omega (
+      arith,
+      length-append (t ++ 0 ∷ []) (table_bytes ts),
+      length-append t (0 ∷ []),
+      sum_by-cons (λ (x : List ℕ). length x + 1) t ts,
+      length-table_bytes ts,
+    )
 
 pub table_bytes-at : (ts : List (List ℕ)) (i : ℕ) (t : List ℕ) → slice_get ts i ≡ Some t
     → drop (offset_of ts i) (table_bytes ts) ≡ t ++ 0 ∷ table_bytes (drop (i + 1) ts)

@@ -1,6 +1,6 @@
 -- The empty text that stands for the source of a file that has none, and the tables that have it.
-use Rattle.std.proofs.Common.{◌≡◌, ℕ, zero, suc, ◌≤◌, Bool, true, false, ◌&&◌, ◌||◌, slice_get, List, [], ◌∷◌, Option, Some, None, refl, ap, ◌∙◌}
-use Rattle.std.specs.Prelude.{IfSome}
+use Rattle.std.proofs.Common.{◌≡◌, ℕ, zero, suc, ◌≤◌, ◌<◌, Bool, true, false, ◌&&◌, ◌||◌, length, List, [], ◌∷◌, Option, Some, None, refl, ap, ◌∙◌, arith}
+use Rattle.std.specs.Prelude.{IfSome, Contains, slice_index_or}
 use Rattle.std.specs.Option.{is_none}
 use Rattle.std.specs.List.{list_any}
 use Rattle.std.proofs.lemmas.Bool.{le-leb}
@@ -36,19 +36,19 @@ can-write-after p texts can =
 
 -- ---- where it is needed
 
-any-at : {A : Type 0} (test : A → Bool) (xs : List A) (i : ℕ) (x : A) → slice_get xs i ≡ Some x → test x ≡ true → list_any test xs ≡ true
-any-at test [] i x at is = absurd cc
-any-at test (y ∷ xs) zero x at is = let same : y ≡ x = cc in ap (λ b. b || list_any test xs) (ap test same ∙ is)
-any-at test (y ∷ xs) (suc i) x at is = ap (λ b. test y || b) (any-at test xs i x at is) ∙ by _
+any-at : {A : Type 0} (test : A → Bool) (xs : List A) (i : ℕ) (x : A) → i < length xs → slice_index_or xs i x ≡ x → test x ≡ true → list_any test xs ≡ true
+any-at test [] i x lt at is = absurd (omega arith)
+any-at test (y ∷ xs) zero x lt at is = ap (λ b. b || list_any test xs) (ap test at ∙ is)
+any-at test (y ∷ xs) (suc i) x lt at is = ap (λ b. test y || b) (any-at test xs i x (omega arith) at is) ∙ by _
   where
     by : (b : Bool) → (b || true) ≡ true
     by true = refl
     by false = refl
 
 -- a file has no source
-pub needs-empty : (p : Built) (i : ℕ) (f : File) → 5 ≤ p.encoding.version → slice_get p.files i ≡ Some f → p.file_has_source ≡ true → f.1.source ≡ None
+pub needs-empty : (p : Built) (f : File) → 5 ≤ p.encoding.version → Contains p.files f → p.file_has_source ≡ true → f.1.source ≡ None
     → needs_empty p ≡ true
-needs-empty p i f new at has without =
+needs-empty p f new there has without =
     let one = le-leb 5 p.encoding.version new in
-    let any = any-at _ _ i f at (ap is_none without) in
+    let any = any-at _ _ there.0 f there.1 there.2 (ap is_none without) in
     λ j. one j && has j && any j

@@ -1,82 +1,14 @@
 -- Texts, ids, files, rows and items are equal by `==` exactly where all their parts agree; and equal texts hash alike.
-use Rattle.std.proofs.Common.{◌≡◌, ℕ, Bool, ◌&&◌, Option, Some, None, option_map, refl, sym, ap, true≢false}
+use Rattle.std.proofs.Common.{◌≡◌, Bool, ◌&&◌, sym, ap, true≢false}
 use Rattle.std.specs.Bool.{Decides}
 use Rattle.std.specs.Cmp.{booleans_Decides}
-use Rattle.std.specs.Option.{option_eq}
-use Rattle.std.proofs.lemmas.Bool.Decides.{Decides-eqb, Decides-like, Decides-and, Decides-at}
-use Rattle.std.proofs.lemmas.Slice.Eq.{bytes_eq-Decides}
+use Rattle.std.proofs.lemmas.Bool.Decides.{Decides-eqb, Decides-like, Decides-and}
 use Rattle.gimli_bytes.proofs.Equality.{address-Decides}
-use Rattle.gimli_build.specs.declared.built.line_string.LineString.{LineString}
-use Rattle.gimli_build.specs.declared.built.files.FileInfo.{FileInfo}
 use Rattle.gimli_build.specs.declared.built.row.LineRow.{LineRow}
 use Rattle.gimli_build.specs.declared.built.items.BuiltItem.{BuiltItem}
 use Rattle.gimli_build.specs.declared.built.items.BuiltItem.TheVariants.{SetAddress, Row, End}
-use Rattle.gimli_build.specs.contracts.built.line_string.LineStringPartialEq.TheImpl.{ghosts as texts}
-use Rattle.gimli_build.specs.contracts.built.files.FileInfoPartialEq.TheImpl.{ghosts as infos}
-use Rattle.gimli_build.specs.contracts.built.files.FileIdPartialEq.TheImpl.{ghosts as files}
-use Rattle.gimli_build.specs.contracts.built.files.DirectoryIdPartialEq.TheImpl.{ghosts as directories}
 use Rattle.gimli_build.specs.contracts.built.row.LineRowPartialEq.TheImpl.{ghosts as rows}
 use Rattle.gimli_build.specs.contracts.built.items.BuiltItemPartialEq.TheImpl.{ghosts as items}
-use Rattle.gimli_build.specs.contracts.built.line_string.LineStringHash.TheImpl.{ghosts as hashes}
-use Rattle.gimli_build.specs.contracts.built.line_string.LineStringHash.TheImpl.Laws.{respects_eq-law}
-use Rattle.gimli_build.specs.LineText.{LineText, Inline, InStrings, InLineStrings, line_text, line_text_eq}
-use Rattle.gimli_build.specs.TableFields.{details}
-use Rattle.gimli_build.proofs.building.TableLemmas.{line_eq}
-
--- ---- texts
-
-line_text-Decides : (s t : LineText) → Decides (line_text_eq s t) (s ≡ t)
-line_text-Decides (Inline a) (Inline b) = Decides-like _ (λ same. ap Inline same) (λ same. cc) (bytes_eq-Decides a b)
-line_text-Decides (InStrings i) (InStrings j) = Decides-like _ (λ same. ap InStrings same) (λ same. cc) (Decides-eqb i j)
-line_text-Decides (InLineStrings i) (InLineStrings j) = Decides-like _ (λ same. ap InLineStrings same) (λ same. cc) (Decides-eqb i j)
-line_text-Decides (Inline a) (InStrings j) = (λ h. absurd (true≢false (sym h)), λ same. absurd cc)
-line_text-Decides (Inline a) (InLineStrings j) = (λ h. absurd (true≢false (sym h)), λ same. absurd cc)
-line_text-Decides (InStrings i) (Inline b) = (λ h. absurd (true≢false (sym h)), λ same. absurd cc)
-line_text-Decides (InStrings i) (InLineStrings j) = (λ h. absurd (true≢false (sym h)), λ same. absurd cc)
-line_text-Decides (InLineStrings i) (Inline b) = (λ h. absurd (true≢false (sym h)), λ same. absurd cc)
-line_text-Decides (InLineStrings i) (InStrings j) = (λ h. absurd (true≢false (sym h)), λ same. absurd cc)
-
-pub text-Decides : (s t : LineString) → Decides (texts.eq s t) (line_text s ≡ line_text t)
-text-Decides s t = Decides-at _ _ (line_eq s t) (line_text-Decides _ _)
-
--- the same text hashes alike, wherever it lies in memory
-pub text-alike : (s t : LineString) → line_text s ≡ line_text t → hashes.hash_input s ≡ hashes.hash_input t
-text-alike s t same = respects_eq-law s t ((text-Decides s t).1 same)
-
--- ---- files
-
-source-Decides : (s t : Option LineString) → Decides (option_eq texts.eq s t) (option_map line_text s ≡ option_map line_text t)
-source-Decides (Some s) (Some t) =
-    Decides-like _ (λ same. ap (λ x. let o : Option LineText = Some x in o) same) (λ same. cc) (text-Decides s t)
-source-Decides (Some s) None = (λ h. absurd (true≢false (sym h)), λ same. absurd cc)
-source-Decides None (Some t) = (λ h. absurd (true≢false (sym h)), λ same. absurd cc)
-source-Decides None None = (λ h. refl, λ same. refl)
-
-pub info-Decides : (a b : FileInfo) → Decides (infos.eq a b) (details a ≡ details b)
-info-Decides a b =
-    Decides-like _ there back
-    (Decides-and _ _
-    (Decides-eqb a.timestamp b.timestamp)
-    (Decides-and _ _ (Decides-eqb a.size b.size)
-    (Decides-and _ _ (bytes_eq-Decides _ _) (source-Decides _ _))))
-  where
-    Parts : Type 0
-    Parts = (a.timestamp ≡ b.timestamp) × ((a.size ≡ b.size) × ((a.md5 ≡ b.md5) × (option_map line_text a.source ≡ option_map line_text b.source)))
-
-    there : Parts → details a ≡ details b
-    there (timestamp, (size, (md5, source))) = λ i. record { timestamp = timestamp i; size = size i; md5 = md5 i; source = source i }
-
-    back : details a ≡ details b → Parts
-    back same =
-        (ap (λ d. d.timestamp) same, (ap (λ d. d.size) same, (ap (λ d. d.md5) same, ap (λ d. d.source) same)))
-
--- ---- ids
-
-pub directory-Decides : (i j : ℕ) → Decides (directories.eq i j) (i ≡ j)
-directory-Decides i j = Decides-eqb i j
-
-pub file-Decides : (i j : ℕ) → Decides (files.eq i j) (i ≡ j)
-file-Decides i j = Decides-eqb i j
 
 -- ---- rows and items
 

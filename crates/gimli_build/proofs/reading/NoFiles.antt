@@ -1,5 +1,5 @@
 -- The instructions of items define no file; and what a run is refused for that defines none.
-use Rattle.std.proofs.Common.{◌≡◌, ℕ, Bool, true, false, not, ◌&&◌, List, [], ◌∷◌, ◌++◌, map, refl, sym, ap, ◌∙◌, append_assoc, if◌then◌else◌, nat_eq, nat_le}
+use Rattle.std.proofs.Common.{◌≡◌, ℕ, Bool, true, false, not, List, [], ◌∷◌, ◌++◌, refl, sym, ap, ◌∙◌, append_assoc, if◌then◌else◌, nat_eq, nat_le}
 use Rattle.std.proofs.Common.{inl, inr, true≢false}
 use Rattle.std.specs.Prelude.{All, None, ℤ, pos, ◌-ℤ◌, ◌*◌, ◌+◌, ◌-◌}
 use Rattle.std.proofs.lemmas.List.{append-nil}

@@ -1,5 +1,5 @@
 -- An entry of the files of version 5: its bytes spell it, and a file is read of it.
-use Rattle.std.proofs.Common.{◌≡◌, ℕ, ◌<◌, ◌^◌, Bool, true, false, List, [], ◌∷◌, ◌++◌, length, map, Option, Some, None, refl, sym, ap, ◌∙◌, subst}
+use Rattle.std.proofs.Common.{◌≡◌, ℕ, ◌<◌, ◌^◌, Bool, true, false, List, [], ◌∷◌, ◌++◌, length, map, Some, None, refl, sym, ap, ◌∙◌, subst}
 use Rattle.std.proofs.Common.{append_assoc, if◌then◌else◌}
 use Rattle.std.specs.Prelude.{nat_eq, replicate}
 use Rattle.std.proofs.lemmas.List.{append-nil}
@@ -34,40 +34,37 @@ file_with time size has_digest source path directory timestamp bytes md5 text = 
 }
 
 -- a digest of sixteen bytes is read as it is
-digest_read : (md5 : List ℕ) → length md5 ≡ 16 → digest (Block md5) ≡ Some md5
-digest_read md5 whole = ap (λ n. if nat_eq n 16 then Some md5 else None) whole
-
-with_digest : (o : Option (List ℕ)) (md5 : List ℕ) (f : ReadFile) → o ≡ Some md5
-    → record f { md5 = elim o [ Some x ↦ x | None ↦ replicate 16 0 ] } ≡ record f { md5 = md5 }
-with_digest o md5 f is = ap (λ x. record f { md5 = elim x [ Some y ↦ y | None ↦ replicate 16 0 ] }) is
-
-pub file-read : (time size has_digest source : Bool) (path : Value) (directory timestamp bytes : ℕ) (md5 : List ℕ) (text : Value) → length md5 ≡ 16
+pub file-read : (time size has_digest source : Bool) (path : Value) (directory timestamp bytes : ℕ) (md5 : List ℕ) (text : Value)
+    → length md5 ≡ 16
     → file_of_entry (entry_of time size has_digest source path directory timestamp bytes md5 text)
     ≡ file_with time size has_digest source path directory timestamp bytes md5 text
-file-read true true true true path directory timestamp bytes md5 text whole =
-    with_digest _ _ (file_with true true true true path directory timestamp bytes md5 text) (digest_read _ whole)
-file-read true true true false path directory timestamp bytes md5 text whole =
-    with_digest _ _ (file_with true true true false path directory timestamp bytes md5 text) (digest_read _ whole)
-file-read true true false true path directory timestamp bytes md5 text whole = refl
-file-read true true false false path directory timestamp bytes md5 text whole = refl
-file-read true false true true path directory timestamp bytes md5 text whole =
-    with_digest _ _ (file_with true false true true path directory timestamp bytes md5 text) (digest_read _ whole)
-file-read true false true false path directory timestamp bytes md5 text whole =
-    with_digest _ _ (file_with true false true false path directory timestamp bytes md5 text) (digest_read _ whole)
-file-read true false false true path directory timestamp bytes md5 text whole = refl
-file-read true false false false path directory timestamp bytes md5 text whole = refl
-file-read false true true true path directory timestamp bytes md5 text whole =
-    with_digest _ _ (file_with false true true true path directory timestamp bytes md5 text) (digest_read _ whole)
-file-read false true true false path directory timestamp bytes md5 text whole =
-    with_digest _ _ (file_with false true true false path directory timestamp bytes md5 text) (digest_read _ whole)
-file-read false true false true path directory timestamp bytes md5 text whole = refl
-file-read false true false false path directory timestamp bytes md5 text whole = refl
-file-read false false true true path directory timestamp bytes md5 text whole =
-    with_digest _ _ (file_with false false true true path directory timestamp bytes md5 text) (digest_read _ whole)
-file-read false false true false path directory timestamp bytes md5 text whole =
-    with_digest _ _ (file_with false false true false path directory timestamp bytes md5 text) (digest_read _ whole)
-file-read false false false true path directory timestamp bytes md5 text whole = refl
-file-read false false false false path directory timestamp bytes md5 text whole = refl
+file-read time size has_digest source path directory timestamp bytes md5 text whole = by time size has_digest source
+  where
+    digested : (t s o : Bool)
+        → file_with t s true o path directory timestamp bytes (elim (digest (Block md5)) [ Some x ↦ x | None ↦ replicate 16 0 ]) text
+        ≡ file_with t s true o path directory timestamp bytes md5 text
+    digested t s o =
+        ap (λ n. file_with t s true o path directory timestamp bytes
+        (elim (if nat_eq n 16 then Some md5 else None) [ Some x ↦ x | None ↦ replicate 16 0 ]) text) whole
+
+    by : (t s d o : Bool) → file_of_entry (entry_of t s d o path directory timestamp bytes md5 text)
+        ≡ file_with t s d o path directory timestamp bytes md5 text
+    by true true true true = digested true true true
+    by true true true false = digested true true false
+    by true true false true = refl
+    by true true false false = refl
+    by true false true true = digested true false true
+    by true false true false = digested true false false
+    by true false false true = refl
+    by true false false false = refl
+    by false true true true = digested false true true
+    by false true true false = digested false true false
+    by false true false true = refl
+    by false true false false = refl
+    by false false true true = digested false false true
+    by false false true false = digested false false false
+    by false false false true = refl
+    by false false false false = refl
 
 -- ---- what spells it
 

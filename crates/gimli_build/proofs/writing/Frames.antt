@@ -1,20 +1,24 @@
 -- A length that is written once what it counts is there.
-use Rattle.std.proofs.Common.{◌≡◌, ℕ, ◌+◌, ◌-◌, ◌<◌, ◌^◌, Bool, true, false, List, [], ◌++◌, length, take, drop, refl, sym, ap, ◌∙◌, arith, append_assoc}
-use Rattle.std.proofs.Common.{length-append, nat_lt, if◌then◌else◌, Ok, Err, OnOk, IfErr, ◌⊎◌}
+use Rattle.std.proofs.Common.{◌≡◌, ℕ, ◌+◌, ◌-◌, ◌<◌, ◌≤◌, ◌^◌, Bool, true, false, List, [], ◌++◌, length, take, drop, refl, sym, ap, ◌∙◌, arith, append_assoc}
+use Rattle.std.proofs.Common.{length-append, nat_lt, if◌then◌else◌, Ok, Err, OnOk, IfErr, IsTrue, ◌⊎◌, inr}
 use Rattle.std.proofs.lemmas.Bool.{le-ltb, lt-ltb}
 use Rattle.std.proofs.lemmas.List.{take_at, drop_at}
 use Rattle.std.specs.Prelude.{Result}
 use Rattle.gimli_core.specs.Numbers.{number_bytes, word_size}
 use Rattle.gimli_core.specs.declared.common.Format.{Format}
 use Rattle.gimli_core.specs.declared.common.Format.TheVariants.{Dwarf32, Dwarf64}
-use Rattle.gimli_bytes.specs.Written.{Appends, overwrite_of, patch}
+use Rattle.gimli_bytes.specs.Hand.{Hand, Placement, plain}
+use Rattle.gimli_bytes.specs.Written.{Begins, Appends, IsOverwrite, overwrite_of, patch}
+use Rattle.gimli_bytes.specs.declared.sink.Sink.{Ghosts}
+use Rattle.gimli_bytes.specs.declared.error.Error.TheVariants.{OutOfMemory}
+use Rattle.gimli_build.specs.inside.Writes.{Writes}
 use Rattle.gimli_bytes.specs.Number.{udata, open_length, escape_size, length_word}
 use Rattle.gimli_bytes.specs.declared.error.Error.{Error}
 use Rattle.gimli_build.specs.FormatWord.{format_word}
 use Rattle.gimli_build.specs.Joined.{result_append, after_length}
 use Rattle.gimli_build.specs.Unit.{escape_bytes}
-use Rattle.gimli_build.proofs.writing.Joined.{on_ok, if_err, or_wanted}
-use Rattle.gimli_build.proofs.writing.Writes.{Leaves}
+use Rattle.gimli_build.proofs.writing.Joined.{on_ok, if_err, or_wanted, begins_then, begins_before}
+use Rattle.gimli_build.proofs.writing.Writes.{Leaves, writes_in}
 
 -- other bytes in the middle, as long as those that stand there
 patched_middle : (a b other c : List ℕ) (at : ℕ) → length other ≡ length b → length a ≡ at → overwrite_of (a ++ b ++ c) at other ≡ Ok (a ++ other ++ c)
@@ -78,9 +82,58 @@ module _ (full length_of : ℕ → Result (List ℕ) Error) (escape blank old c1
       by (Ok bytes) is (Ok word) so h = absurd (let never = sym (put _ _ is so) ∙ h in cc)
 
   -- so much of one view of a writer
-  pub framed_leaves : {X : Type 0} {Own : Error → Type 0} {r : Result X Error} → OnOk r (patch (length_of n) c2 position ≡ Ok new)
+  pub framed_leaves : {X : Type 0} {Own : Error → Type 0} {r : Result X Error}
+      → OnOk r (patch (length_of n) c2 position ≡ Ok new)
       → IfErr r (λ e. Own e ⊎ (patch (length_of n) c2 position ≡ Err e)) → Leaves Own r (after_length full body) old new
   framed_leaves {r = r} ok err = record { ok = on_ok r framed ok; err = if_err r (λ e. or_wanted (frame_refused e)) err }
+
+-- a blank word stands at the end, after `escape`
+pub record Blank (escape blank old new : List ℕ) (position : ℕ) : Type 0 where
+  pub opened : new ≡ old ++ escape ++ blank
+  pub at : position ≡ length old + length escape
+
+-- a blank word is written, and then what a number counts, which is due over the word
+pub record Counts {W : Type 0} (sink : Ghosts W) (escape blank : List ℕ) (position n : ℕ) (old opened filled : W) : Type 0 where
+  pub keeps : Begins (sink.contents old) (sink.contents opened)
+  pub ordered : sink.big opened ≡ sink.big old
+  pub stays : IsTrue (sink.completes old) → IsTrue (sink.completes opened)
+  pub after : length (sink.contents old) ≤ position
+  pub held : IsTrue sink.keeps_bytes → Blank escape blank (sink.contents old) (sink.contents opened) position
+  pub linked : (at : Placement) → IsTrue (sink.completes old)
+      → Blank escape blank (sink.completed at old) (sink.completed at opened) position
+  pub count : n ≡ length (sink.contents filled) - length (sink.contents opened)
+  pub count_linked : (at : Placement) → IsTrue (sink.completes old)
+      → n ≡ length (sink.completed at filled) - length (sink.completed at opened)
+
+pub counted_written : {W X Y : Type 0} {sink : Ghosts W} {old opened filled closed : W} {x : X} {r : Result Y Error}
+    {escape blank : List ℕ} {position n : ℕ} {body : Hand → Result (List ℕ) Error} (full length_of : ℕ → Result (List ℕ) Error)
+    → ((k : ℕ) → full k ≡ result_append (Ok escape) (length_of k))
+    → ((word : List ℕ) → length_of n ≡ Ok word → length word ≡ length blank)
+    → Counts sink escape blank position n old opened filled → Writes sink opened filled (Ok x) body
+    → IsOverwrite sink filled closed r position (λ hand. length_of n)
+    → Writes sink old closed r (λ hand. after_length full (body hand))
+counted_written {sink = sink} {r = r} {escape = escape} {blank = blank} {position = position} {n = n} {body = body} full length_of is_full
+    as_long so inside call =
+    let leaves = λ (own : Error → Type 0) (hand : Hand) (old c1 c2 new : List ℕ) (at : Blank escape blank old c1 position)
+    (written : Appends (body hand) c1 c2) (counted : n ≡ length c2 - length c1).
+    framed_leaves full length_of escape blank old c1 c2 new position n (body hand) is_full at.opened at.at written counted as_long
+    {Own = own} {r = r} in
+    writes_in (record {
+      keeps = begins_before _ _ _ position (begins_then _ _ _ so.keeps inside.keeps) so.after call.before;
+      ordered = call.ordered ∙ inside.ordered ∙ so.ordered;
+      stays = λ completes. call.stays (inside.stays (so.stays completes));
+      held = λ keeps_bytes.
+          leaves sink.refuses plain _ _ _ _ (so.held keeps_bytes) (inside.ok keeps_bytes) so.count
+          (call.ok keeps_bytes) call.own;
+      memory = λ keeps_bytes memory_alone.
+          leaves (λ e. e ≡ OutOfMemory) plain _ _ _ _ (so.held keeps_bytes) (inside.ok keeps_bytes) so.count
+          (call.ok keeps_bytes) (if_err r (λ e. inr) (call.err memory_alone));
+      linked = λ at completes.
+          let opened = so.stays completes in
+          leaves sink.refuses (sink.hand at) _ _ _ _ (so.linked at completes) (inside.completed at opened)
+          (so.count_linked at completes) (call.completed at (inside.stays opened))
+          (call.completed_own at (inside.stays opened));
+    })
 
 -- ---- words
 

@@ -20,7 +20,6 @@ use Rattle.gimli_build.specs.inside.Writes.{Writes}
 use Rattle.gimli_build.specs.Items.{item_bytes, items_bytes, next_previous, FitsItem, AreFit}
 use Rattle.gimli_build.proofs.reading.ItemRuns.{start_position}
 use Rattle.gimli_build.proofs.writing.Joined.{appended_bytes, joined-joined, begins_self, begins_then}
-use Rattle.gimli_build.proofs.writing.Writes.{later_unwritten, done_written}
 
 -- these bytes stand for the items so far, and those are left
 pub record Standing (hand : Hand) (big : Bool) (encoding : Encoding) (e : LineEncoding) (whole : Result (List ℕ) Error) (old new : List ℕ) (previous : LineRow)
@@ -43,25 +42,6 @@ standing_more hand big encoding e whole old new newer previous item left so more
       written = a.2 ∙ ap (λ l. l ++ a.0) so.written ∙ append_assoc old so.done a.0;
       parts = so.parts ∙ ap (λ r. result_append (Ok so.done) (result_append r rest)) a.1 ∙ joined-joined _ _ _;
     }
-
--- a refused item is what refuses
-pub standing_refused : (hand : Hand) (big : Bool) (encoding : Encoding) (e : LineEncoding) (whole : Result (List ℕ) Error) (old new : List ℕ)
-    (previous : LineRow)
-    (item : BuiltItem) (left : List BuiltItem) (d : Error)
-    → Standing hand big encoding e whole old new previous (item ∷ left) → item_bytes hand big encoding e previous item ≡ Err d → whole ≡ Err d
-standing_refused hand big encoding e whole old new previous item left d so refused =
-    so.parts
-    ∙ ap
-    (λ r. result_append (Ok so.done)
-    (result_append r (items_bytes hand big encoding e (next_previous encoding.version e.default_is_stmt previous item) left)))
-    refused
-
--- all of them
-pub standing_end : (hand : Hand) (big : Bool) (encoding : Encoding) (e : LineEncoding) (whole : Result (List ℕ) Error) (old new : List ℕ) (previous : LineRow)
-    → Standing hand big encoding e whole old new previous [] → Appends whole old new
-standing_end hand big encoding e whole old new previous so =
-    let all : whole ≡ Ok so.done = so.parts ∙ ap (λ l. let s : Result (List ℕ) Error = Ok l in s) (append-nil so.done) in
-    rw all so.written
 
 pub standing_start : (hand : Hand) (big : Bool) (encoding : Encoding) (e : LineEncoding) (old : List ℕ) (previous : LineRow) (items : List BuiltItem)
     → Standing hand big encoding e (items_bytes hand big encoding e previous items) old old previous items
@@ -99,23 +79,6 @@ written_more {sink = sink} {big = big} {encoding = encoding} {e = e} {whole = wh
       standing_more _ _ _ e _ _ _ _ _ _ _ (so.linked at completes)
       (more.completed at (so.stays completes));
 }
-
--- a refused item, after those so far
-pub items_unwritten : {W X Y : Type 0} {sink : Ghosts W} {old mid new : W} {d : Error} {big : Bool} {encoding : Encoding} {e : LineEncoding}
-    {whole : Hand → Result (List ℕ) Error} {previous : LineRow} {item : BuiltItem} {left : List BuiltItem}
-    → Written sink big encoding e whole old mid previous (item ∷ left)
-    → Writes {X = X} sink mid new (Err d) (λ hand. item_bytes hand big encoding e previous item) → Writes {X = Y} sink old new (Err d) whole
-items_unwritten {sink = sink} {d = d} {big = big} {encoding = encoding} {e = e} {whole = whole} {previous = previous} {item = item} {left = left} so refused =
-    later_unwritten _ _ so.keeps so.ordered so.stays
-    (λ keeps_bytes. standing_refused _ _ _ e _ _ _ _ _ _ d (so.held keeps_bytes))
-    (λ at completes. standing_refused _ _ _ e _ _ _ _ _ _ d (so.linked at completes)) refused
-
--- all items
-pub items_written : {W X : Type 0} {sink : Ghosts W} {old new : W} {x : X} {big : Bool} {encoding : Encoding} {e : LineEncoding}
-    {whole : Hand → Result (List ℕ) Error} {previous : LineRow} → Written sink big encoding e whole old new previous [] → Writes sink old new (Ok x) whole
-items_written {sink = sink} {big = big} {encoding = encoding} {e = e} {whole = whole} {previous = previous} so =
-    done_written so.keeps so.ordered so.stays (λ keeps_bytes. standing_end _ _ _ e _ _ _ _ (so.held keeps_bytes))
-    (λ at completes. standing_end _ _ _ e _ _ _ _ (so.linked at completes))
 
 pub none_standing : {W : Type 0} (sink : Ghosts W) (big : Bool) (encoding : Encoding) (e : LineEncoding) (old : W) (previous : LineRow) (items : List BuiltItem)
     → Written sink big encoding e (λ hand. items_bytes hand big encoding e previous items) old old previous items

@@ -4,7 +4,7 @@ use Rattle.std.proofs.Common.{Err, OnOk, IfErr, refl, sym, ap, ◌∙◌, append
 use Rattle.std.proofs.lemmas.List.{append-nil, drop-map, take-take, length-take}
 use Rattle.std.proofs.lemmas.Option.{slice_get_within, get_or_from_slice_get}
 use Rattle.std.proofs.Math.Seq.{take-length, take-suc}
-use Rattle.std.specs.Prelude.{Result, All}
+use Rattle.std.specs.Prelude.{Result, All, Contains}
 use Rattle.std.proofs.lemmas.List.Elements.{All-head, All-drop}
 use Rattle.gimli_bytes.specs.Written.{Begins, Appends}
 use Rattle.gimli_bytes.specs.declared.error.Error.{Error}
@@ -13,10 +13,6 @@ use Rattle.gimli_build.specs.Joined.{result_append, result_concat}
 pub on_ok : {X : Type 0} (r : Result X Error) {P Q : Type 0} → (P → Q) → OnOk r P → OnOk r Q
 on_ok (Ok x) f p = f p
 on_ok (Err e) f p = tt
-
-pub always_ok : {X : Type 0} (r : Result X Error) {P : Type 0} → P → OnOk r P
-always_ok (Ok x) p = p
-always_ok (Err e) p = tt
 
 pub if_err : {X : Type 0} (r : Result X Error) {P Q : Error → Type 0} → ((e : Error) → P e → Q e) → IfErr r P → IfErr r Q
 if_err (Ok x) f p = tt
@@ -82,12 +78,6 @@ pub part_refused : {A : Type 0} (part : A → Result (List ℕ) Error) (all left
 part_refused part all left x old new e so is =
     so.parts ∙ ap (λ r. result_append (Ok so.done) (result_append r (result_concat part left))) is
 
-pub all_done : {A : Type 0} (part : A → Result (List ℕ) Error) (all : List A) (old new : List ℕ) → SoFar part all [] old new
-    → Appends (result_concat part all) old new
-all_done part all old new so =
-    let is : result_concat part all ≡ Ok so.done = so.parts ∙ ap (λ l. let s : Result (List ℕ) Error = Ok l in s) (append-nil so.done) in
-    rw is so.written
-
 -- what is left begins with the next element
 pub next_left : {A : Type 0} (xs : List A) (i : ℕ) (x : A) → i < length xs → x ≡ get_or xs i x → drop i xs ≡ x ∷ drop (i + 1) xs
 next_left xs i x lt is = rw add-one (drop-cons xs i x lt ∙ ap (λ y. y ∷ drop (suc i) xs) (sym is))
@@ -101,6 +91,9 @@ next_seen {B = B} f xs i x lt is =
 pub next_at : {A : Type 0} (xs : List A) (i : ℕ) (x : A) → slice_get xs i ≡ Some x → drop i xs ≡ x ∷ drop (i + 1) xs
 next_at xs i x is =
     rw add-one (drop-cons xs i x (slice_get_within xs i x is) ∙ ap (λ y. y ∷ drop (suc i) xs) (get_or_from_slice_get _ i x x is))
+
+pub contains-at : {A : Type 0} (xs : List A) (i : ℕ) (x : A) → slice_get xs i ≡ Some x → Contains xs x
+contains-at xs i x is = (i, slice_get_within xs i x is, get_or_from_slice_get _ i x x is)
 
 pub taken_at : {A : Type 0} (xs : List A) (i : ℕ) (x : A) → slice_get xs i ≡ Some x → take (i + 1) xs ≡ take i xs ++ x ∷ []
 taken_at xs i x is =

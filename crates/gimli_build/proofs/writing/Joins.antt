@@ -5,7 +5,7 @@ use Rattle.std.proofs.lemmas.Option.{none-some}
 use Rattle.std.proofs.lemmas.List.Concat.{flat_map-append}
 use Rattle.gimli_core.specs.declared.common.LineEncoding.{LineEncoding}
 use Rattle.gimli_line.specs.run.Instruction.{Ins}
-use Rattle.gimli_line.specs.declared.run.instruction.LineInstruction.TheVariants.{AdvancePc, ConstAddPc}
+use Rattle.gimli_line.specs.declared.run.instruction.LineInstruction.TheVariants.{ConstAddPc}
 use Rattle.gimli_build.specs.Encode.{operation_part, row_maker, constant_advance}
 use Rattle.gimli_build.specs.InstructionBytes.{instruction_bytes, instructions_bytes}
 
@@ -27,8 +27,3 @@ pub by_constant : (e : LineEncoding) (s n : ℕ) → nat_le (s + n * e.line_rang
     → nat_le (s + (n - constant_advance e) * e.line_range) 255 ≡ true
     → operation_part e s n ≡ ConstAddPc ∷ row_maker e (s + (n - constant_advance e) * e.line_range) ∷ []
 by_constant e s n over rest = rw (over, rest) refl
-
--- with const_add_pc neither
-pub by_advance : (e : LineEncoding) (s n : ℕ) → nat_le (s + n * e.line_range) 255 ≡ false → nat_le (s + (n - constant_advance e) * e.line_range) 255 ≡ false
-    → operation_part e s n ≡ AdvancePc n ∷ row_maker e s ∷ []
-by_advance e s n over rest = rw (over, rest) refl

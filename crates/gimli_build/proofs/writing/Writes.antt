@@ -1,16 +1,17 @@
 -- Calls that append, one after the other.
-use Rattle.std.proofs.Common.{◌≡◌, ◌⊎◌, List, [], ◌∷◌, ℕ, Ok, Err, IsTrue, refl, sym, ap, ◌∙◌, inl, inr, subst, OnOk, IfErr}
+use Rattle.std.proofs.Common.{◌≡◌, ◌⊎◌, List, ◌∷◌, ℕ, Ok, Err, IsTrue, refl, sym, ap, ◌∙◌, inl, inr, subst, OnOk, IfErr}
 use Rattle.std.specs.Prelude.{Result}
-use Rattle.std.proofs.lemmas.List.{append-nil}
+use Rattle.std.specs.Result.{IsErrAnd}
+use Rattle.std.proofs.lemmas.Result.{err_from_is_err_and}
 use Rattle.gimli_bytes.specs.Hand.{Hand, Placement, plain}
-use Rattle.gimli_bytes.specs.Written.{Begins, Appends, Refuses, IsAppend, IsAppendInParts}
+use Rattle.gimli_bytes.specs.Written.{Begins, Appends, Refuses, IsAppend}
 use Rattle.gimli_bytes.specs.declared.error.Error.{Error}
 use Rattle.gimli_bytes.specs.declared.error.Error.TheVariants.{OutOfMemory}
 use Rattle.gimli_bytes.specs.declared.sink.Sink.{Ghosts}
 use Rattle.gimli_build.specs.Joined.{result_append, result_concat, after_length}
 use Rattle.gimli_build.specs.Writes.{WritesOr, OfMemoryOr}
 use Rattle.gimli_build.specs.inside.Writes.{Writes, always}
-use Rattle.gimli_build.proofs.writing.Joined.{SoFar, none_so_far, one_more, all_done, on_ok, if_err, or_wanted, part_refused}
+use Rattle.gimli_build.proofs.writing.Joined.{SoFar, none_so_far, one_more, on_ok, if_err, or_wanted, part_refused}
 use Rattle.gimli_build.proofs.writing.Joined.{first_refused, second_refused, appends_joined, begins_self, begins_then}
 
 -- what a call leaves in one view of the writer, before and after
@@ -118,35 +119,12 @@ pub same_bytes : {W X : Type 0} {sink : Ghosts W} {old new : W} {r : Result X Er
     → Writes sink old new r (always (Ok ys))
 same_bytes {sink = sink} {old = old} {new = new} {r = r} same so = subst (λ l. Writes sink old new r (always (Ok l))) same so
 
--- what is there of all
-pub done_written : {W X : Type 0} {sink : Ghosts W} {old new : W} {y : X} {wanted : Hand → Result (List ℕ) Error}
-    → Begins (sink.contents old) (sink.contents new) → sink.big new ≡ sink.big old → (IsTrue (sink.completes old) → IsTrue (sink.completes new))
-    → (IsTrue sink.keeps_bytes → Appends (wanted plain) (sink.contents old) (sink.contents new))
-    → ((at : Placement) → IsTrue (sink.completes old) → Appends (wanted (sink.hand at)) (sink.completed at old) (sink.completed at new))
-    → Writes sink old new (Ok y) wanted
-done_written begins same stays held linked = record {
-  keeps = begins;
-  ordered = same;
-  stays = stays;
-  ok = held;
-  err = λ keeps_bytes memory_alone. tt;
-  own = λ keeps_bytes. tt;
-  completed = linked;
-  completed_own = λ at completes. tt;
-}
-
--- the same bytes under another answer
-pub answered : {W X Y : Type 0} {sink : Ghosts W} {old new : W} {x : X} {y : Y} {wanted : Hand → Result (List ℕ) Error}
-    → Writes sink old new (Ok x) wanted → Writes sink old new (Ok y) wanted
-answered so = done_written so.keeps so.ordered so.stays so.ok so.completed
-
--- where nothing is wanted, nothing is called
-pub none_called : {W X : Type 0} {sink : Ghosts W} {w : W} {x : X} → Writes sink w w (Ok x) (always (Ok []))
-none_called {sink = sink} {w = w} =
-    done_written (begins_self _) refl (λ completes. completes) (λ keeps_bytes. sym (append-nil (sink.contents w)))
-    (λ at completes. sym (append-nil (sink.completed at w)))
-
 -- ---- refused
+
+-- at the exit of a `?`
+pub passed_on : {W X : Type 0} {sink : Ghosts W} {old new : W} {e : Error} {wanted : Hand → Result (List ℕ) Error} {r : Result X Error}
+    → IsErrAnd r (λ d. d ≡ e) → Writes {X = X} sink old new (Err e) wanted → Writes sink old new r wanted
+passed_on {r = r} is refused = let p = err_from_is_err_and r is in rw (p.1, p.2) refused
 
 -- after what is written so far: what refuses it, refuses the whole
 pub later_unwritten : {W X Y : Type 0} {sink : Ghosts W} {old mid new : W} {e : Error} (part whole : Hand → Result (List ℕ) Error)
@@ -188,27 +166,9 @@ pub bytes_unwritten : {W X Y : Type 0} {sink : Ghosts W} {old new : W} {e : Erro
     → Writes {X = X} sink old new (Err e) (always (Ok xs)) → Writes {X = Y} sink old new (Err e) wanted
 bytes_unwritten {xs = xs} {wanted = wanted} refused = only_unwritten _ _ (λ hand. never) refused
 
-pub refused_alike : {W X Y : Type 0} {sink : Ghosts W} {old new : W} {e : Error} {xs : List ℕ} (ys : List ℕ)
-    → Writes {X = X} sink old new (Err e) (always (Ok xs)) → Writes {X = Y} sink old new (Err e) (always (Ok ys))
-refused_alike ys refused = bytes_unwritten refused
-
-pub parts_unwritten : {W X Y : Type 0} {sink : Ghosts W} {old new : W} {e : Error} {xs : List ℕ} {wanted : Hand → Result (List ℕ) Error}
-    → IsAppendInParts {X = X} sink old new (Err e) xs → Writes {X = Y} sink old new (Err e) wanted
-parts_unwritten refused = record {
-  keeps = refused.keeps;
-  ordered = refused.ordered;
-  stays = refused.stays;
-  ok = λ keeps_bytes. tt;
-  err = λ keeps_bytes memory_alone. inl (refused.err memory_alone);
-  own = λ keeps_bytes. inl refused.own;
-  completed = λ at completes. tt;
-  completed_own = λ at completes. inl refused.own;
-}
-
-pub unwritten : {W X Y Z : Type 0} {sink : Ghosts W} {old mid new : W} {x : X} {e : Error} {first_wanted : Hand → Result (List ℕ) Error} {ys : List ℕ}
-    (zs : List ℕ) → Writes sink old mid (Ok x) first_wanted → Writes {X = Y} sink mid new (Err e) (always (Ok ys))
-    → Writes {X = Z} sink old new (Err e) (always (Ok zs))
-unwritten {ys = ys} zs first refused =
+pub unwritten : {W X Y Z : Type 0} {sink : Ghosts W} {old mid new : W} {x : X} {e : Error} {ys : List ℕ} {first_wanted wanted : Hand → Result (List ℕ) Error}
+    → Writes sink old mid (Ok x) first_wanted → Writes {X = Y} sink mid new (Err e) (always (Ok ys)) → Writes {X = Z} sink old new (Err e) wanted
+unwritten first refused =
     later_unwritten _ _ first.keeps first.ordered first.stays (λ keeps_bytes. never) (λ at completes. never) refused
 
 -- what a length counts
@@ -258,30 +218,11 @@ one_unwritten {sink = sink} {part = part} {all = all} {left = left} {x = x} {e =
     (λ keeps_bytes. part_refused _ _ _ x _ _ e (so.held keeps_bytes))
     (λ at completes. part_refused _ _ _ x _ _ e (so.linked at completes)) refused
 
-pub all_written : {W A X : Type 0} {sink : Ghosts W} {part : Hand → A → Result (List ℕ) Error} {all : List A} {old new : W} {y : X}
-    → WritesSoFar sink part all [] old new → Writes sink old new (Ok y) (λ hand. result_concat (part hand) all)
-all_written {sink = sink} {part = part} {all = all} so =
-    done_written so.keeps so.ordered so.stays (λ keeps_bytes. all_done _ _ _ _ (so.held keeps_bytes))
-    (λ at completes. all_done _ _ _ _ (so.linked at completes))
-
 -- ---- a call that may be refused for memory of its own
 
 own_or_memory : {A B C : Type 0} → B ⊎ C → (A ⊎ B) ⊎ C
 own_or_memory (inl own) = inl (inr own)
 own_or_memory (inr wanted) = inr wanted
-
-pub written_or_memory : {W X Y : Type 0} {sink : Ghosts W} {old new : W} {x : X} {y : Y} {wanted : Hand → Result (List ℕ) Error}
-    → Writes sink old new (Ok x) wanted → WritesOr sink (OfMemoryOr sink.refuses) old new (Ok y) wanted
-written_or_memory so = record {
-  keeps = so.keeps;
-  ordered = so.ordered;
-  stays = so.stays;
-  ok = so.ok;
-  err = λ keeps_bytes memory_alone. tt;
-  own = λ keeps_bytes. tt;
-  completed = so.completed;
-  completed_own = λ at completes. tt;
-}
 
 pub refused_or_memory : {W X Y : Type 0} {sink : Ghosts W} {old new : W} {e : Error} {wanted : Hand → Result (List ℕ) Error}
     → Writes {X = X} sink old new (Err e) wanted → WritesOr {X = Y} sink (OfMemoryOr sink.refuses) old new (Err e) wanted
@@ -295,21 +236,3 @@ refused_or_memory so = record {
   completed = λ at completes. tt;
   completed_own = λ at completes. own_or_memory (so.completed_own at completes);
 }
-
--- before anything is written
-pub nothing_written : {W X : Type 0} (sink : Ghosts W) (w : W) (e : Error) (wanted : Hand → Result (List ℕ) Error)
-    → ((hand : Hand) → (e ≡ OutOfMemory) ⊎ (wanted hand ≡ Err e)) → WritesOr {X = X} sink (OfMemoryOr sink.refuses) w w (Err e) wanted
-nothing_written sink w e wanted why = record {
-  keeps = begins_self _;
-  ordered = refl;
-  stays = λ completes. completes;
-  ok = λ keeps_bytes. tt;
-  err = λ keeps_bytes memory_alone. why plain;
-  own = λ keeps_bytes. own (why plain);
-  completed = λ at completes. tt;
-  completed_own = λ at completes. own (why (sink.hand at));
-}
-  where
-    own : {A B C : Type 0} → A ⊎ C → (A ⊎ B) ⊎ C
-    own (inl memory) = inl (inl memory)
-    own (inr wanted) = inr wanted

@@ -1,8 +1,9 @@
--- The text that stands for the source of a file that has none.
+-- What a unit is written from, and the text that stands for the source of a file that has none.
 use Rattle.std.specs.Prelude.{◌≡◌, true}
 use Rattle.gimli_bytes.specs.Texts.{StringTables}
 use Rattle.gimli_build.specs.LineText.{LineText, IsWithin}
 use Rattle.gimli_build.specs.Built.{Built}
+use Rattle.gimli_build.specs.Conditions.{CanWrite}
 use Rattle.gimli_build.specs.Version5Tables.{first_form, sources, needs_empty, empty_text}
 
 -- it is the empty text in the form of the other sources, and is in these tables
@@ -13,3 +14,13 @@ pub record IsEmptySource (p : Built) (texts : StringTables) (t : LineText) : Typ
 -- so it is where the program needs one
 abbrev pub StandsForNone : Built → StringTables → LineText → Type 0
 StandsForNone p texts t = needs_empty p ≡ true → IsEmptySource p texts t
+
+-- a program, and the tables that its texts are in
+pub record Input : Type 0 where
+  pub program : Built
+  pub texts : StringTables
+
+-- the program can be written with these tables and this text
+pub record IsInput (p : Built) (texts : StringTables) (t : LineText) : Type 0 where
+  pub can : CanWrite p texts
+  pub empty : StandsForNone p texts t

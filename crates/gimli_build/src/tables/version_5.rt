@@ -3,7 +3,7 @@
 
 ghost use Rattle.std.specs.Prelude.{◌≡◌, ◌<◌, ◌≤◌, ◌^◌, true, [], ◌∷◌, ◌++◌, length, map};
 ghost use Rattle.std.specs.Prelude.{if◌then◌else◌, nat_eq, IfOk, IfErr, IfSome, OnOk, OnErr, Ok};
-ghost use Rattle.std.specs.Prelude.{Err, Some, None, All, unwrap_or};
+ghost use Rattle.std.specs.Prelude.{Err, Some, None, All, Contains, unwrap_or};
 ghost use Rattle.std.specs.Option.{is_none};
 ghost use Rattle.std.specs.List.{list_any};
 ghost use Rattle.gimli_bytes.specs.Number.{uleb};
@@ -12,7 +12,6 @@ ghost use Rattle.gimli_bytes.specs.declared.error.Error.TheVariants.{OutOfMemory
 ghost use Rattle.gimli_build.specs.LineText.{Inline, line_text, IsWithin};
 ghost use Rattle.gimli_build.specs.inside.Tables.{FitsFile};
 ghost use Rattle.gimli_build.specs.TableFields.{details};
-ghost use Rattle.gimli_build.specs.Conditions.{CanWrite};
 ghost use Rattle.gimli_build.specs.Joined.{result_append, result_concat};
 ghost use Rattle.gimli_build.specs.Version5Tables.{first_form, path_texts, sources, needs_empty};
 ghost use Rattle.gimli_build.specs.Version5Tables.{empty_text, formats_bytes, file_formats};
@@ -20,15 +19,16 @@ ghost use Rattle.gimli_build.specs.Version5Tables.{text_in_form, directory_table
 ghost use Rattle.gimli_build.specs.Version5Tables.{source_bytes, file_entry_bytes};
 ghost use Rattle.gimli_build.specs.Version5Tables.{file_table_bytes};
 ghost use Rattle.gimli_build.specs.WrittenTables.{HaveEmptySource};
-ghost use Rattle.gimli_build.specs.inside.EmptySource.{IsEmptySource, StandsForNone};
+ghost use Rattle.gimli_build.specs.inside.EmptySource.{StandsForNone};
 ghost use Rattle.gimli_build.specs.inside.Writes.{Writes, always};
 
 use crate::built::files::{DirectoryId, FileInfo, FileTable};
 use crate::built::line_program::LineProgram;
 use crate::built::line_string::LineString;
 use crate::bytes::{write_byte, write_section_offset, write_text};
+use crate::tables::unit_input::UnitInput;
 use gimli_bytes::{Error, LineStringTable, Result, StringTable, Writer};
-use gimli_core::{DwForm, DwLnct, Format, SectionId, constants};
+use gimli_core::{DwForm, DwLnct, SectionId, constants};
 
 /// Makes the empty text that stands for the source of a file that has none, where sources are
 /// written and a file has none: in the form of the other sources, in whose table it is then. Fails
@@ -151,51 +151,28 @@ fn directory_form(directories: &[LineString]) -> DwForm
 }
 
 /// Appends the directories and the files.
-pub(crate) fn write_version_5_tables<W: Writer>(
-    w: &mut W,
-    program: &LineProgram,
-    empty: &LineString,
-    line_strings: &LineStringTable,
-    strings: &StringTable,
-) -> Result<()>
-    requires can { CanWrite program.now (texts_in strings.now line_strings.now) }
-    requires empty { StandsForNone program.now (texts_in strings.now line_strings.now)
-        (line_text empty.now) }
-    requires version { 5 ≤ program.now.encoding.version }
+pub(crate) fn write_version_5_tables<W: Writer>(w: &mut W, input: &UnitInput<'_>) -> Result<()>
+    requires version { 5 ≤ input.now.program.encoding.version }
     ensures writes { Writes W.Sink w.old w.new result
-        (λ hand. let texts = texts_in strings.now line_strings.now in
-        let format = program.now.encoding.format in
-        result_append (directory_table_bytes hand (W.big w.old) format texts program.now)
-        (file_table_bytes hand (W.big w.old) format texts program.now)) }
-    ensures fit { OnOk result (All FitsFile program.now.files) }
+        (λ hand. let program = input.now.program in let format = program.encoding.format in
+        result_append (directory_table_bytes hand (W.big w.old) format input.now.texts program)
+        (file_table_bytes hand (W.big w.old) format input.now.texts program)) }
+    ensures fit { OnOk result (All FitsFile input.now.program.files) }
 {
-    write_directory_table(w, program, line_strings, strings)?;
-    write_file_table(w, program, empty, line_strings, strings)
+    write_directory_table(w, input)?;
+    write_file_table(w, input)
 }
 
 /// Appends the directories.
-fn write_directory_table<W: Writer>(
-    w: &mut W,
-    program: &LineProgram,
-    line_strings: &LineStringTable,
-    strings: &StringTable,
-) -> Result<()>
-    requires { All (IsWithin (texts_in strings.now line_strings.now)) program.now.directories }
+fn write_directory_table<W: Writer>(w: &mut W, input: &UnitInput<'_>) -> Result<()>
     ensures { Writes W.Sink w.old w.new result
-        (λ hand. directory_table_bytes hand (W.big w.old) program.now.encoding.format
-        (texts_in strings.now line_strings.now) program.now) }
+        (λ hand. directory_table_bytes hand (W.big w.old) input.now.program.encoding.format
+        input.now.texts input.now.program) }
 {
-    let directories = program.tables().directories();
+    let directories = input.program().tables().directories();
     let form = directory_form(directories);
     write_directory_formats(w, form, directories.len())?;
-    write_texts(
-        w,
-        program.format(),
-        form,
-        directories,
-        line_strings,
-        strings,
-    )
+    write_texts(w, input, form, directories)
 }
 
 /// Appends the formats of directories, and their number.
@@ -219,19 +196,17 @@ fn write_format<W: Writer>(w: &mut W, content: DwLnct, form: DwForm) -> Result<(
 /// Appends texts of a form one after the other.
 fn write_texts<W: Writer>(
     w: &mut W,
-    format: Format,
+    input: &UnitInput<'_>,
     form: DwForm,
     texts: &[LineString],
-    line_strings: &LineStringTable,
-    strings: &StringTable,
 ) -> Result<()>
-    requires { All (IsWithin (texts_in strings.now line_strings.now)) (map line_text texts.now) }
+    requires { All (IsWithin input.now.texts) (map line_text texts.now) }
     ensures { Writes W.Sink w.old w.new result
-        (λ hand. result_concat (text_in_form hand (W.big w.old) format
-        (texts_in strings.now line_strings.now) form.0) (map line_text texts.now)) }
+        (λ hand. result_concat (text_in_form hand (W.big w.old) input.now.program.encoding.format
+        input.now.texts form.0) (map line_text texts.now)) }
 {
     for text in texts {
-        write_line_string(w, format, form, text, line_strings, strings)?;
+        write_line_string(w, input, form, text)?;
     }
     Ok(())
 }
@@ -240,16 +215,14 @@ fn write_texts<W: Writer>(
 /// section of its table.
 fn write_line_string<W: Writer>(
     w: &mut W,
-    format: Format,
+    input: &UnitInput<'_>,
     form: DwForm,
     text: &LineString,
-    line_strings: &LineStringTable,
-    strings: &StringTable,
 ) -> Result<()>
-    requires { IsWithin (texts_in strings.now line_strings.now) (line_text text.now) }
+    requires { IsWithin input.now.texts (line_text text.now) }
     ensures { Writes W.Sink w.old w.new result
-        (λ hand. text_in_form hand (W.big w.old) format
-        (texts_in strings.now line_strings.now) form.0 (line_text text.now)) }
+        (λ hand. text_in_form hand (W.big w.old) input.now.program.encoding.format input.now.texts
+        form.0 (line_text text.now)) }
 {
     if text.form() != form {
         return Err(Error::LineStringFormMismatch);
@@ -257,36 +230,28 @@ fn write_line_string<W: Writer>(
     match text {
         LineString::String(text) => write_text(w, text.as_slice()),
         LineString::StringRef(id) => {
-            let offset = strings.offset(*id);
-            write_section_offset(w, format, offset.0, SectionId::DebugStr)
+            let offset = input.strings().offset(*id);
+            write_section_offset(w, input.format(), offset.0, SectionId::DebugStr)
         }
         LineString::LineStringRef(id) => {
-            let offset = line_strings.offset(*id);
-            write_section_offset(w, format, offset.0, SectionId::DebugLineStr)
+            let offset = input.line_strings().offset(*id);
+            write_section_offset(w, input.format(), offset.0, SectionId::DebugLineStr)
         }
     }
 }
 
 /// Appends the files.
-fn write_file_table<W: Writer>(
-    w: &mut W,
-    program: &LineProgram,
-    empty: &LineString,
-    line_strings: &LineStringTable,
-    strings: &StringTable,
-) -> Result<()>
-    requires can { CanWrite program.now (texts_in strings.now line_strings.now) }
-    requires empty { StandsForNone program.now (texts_in strings.now line_strings.now)
-        (line_text empty.now) }
-    requires version { 5 ≤ program.now.encoding.version }
+fn write_file_table<W: Writer>(w: &mut W, input: &UnitInput<'_>) -> Result<()>
+    requires version { 5 ≤ input.now.program.encoding.version }
     ensures writes { Writes W.Sink w.old w.new result
-        (λ hand. file_table_bytes hand (W.big w.old) program.now.encoding.format
-        (texts_in strings.now line_strings.now) program.now) }
-    ensures fit { OnOk result (All FitsFile program.now.files) }
+        (λ hand. file_table_bytes hand (W.big w.old) input.now.program.encoding.format
+        input.now.texts input.now.program) }
+    ensures fit { OnOk result (All FitsFile input.now.program.files) }
 {
+    let program = input.program();
     let form = source_form(program.tables());
     write_file_formats(w, program, form)?;
-    write_file_entries(w, program, form, empty, line_strings, strings)
+    write_file_entries(w, input, form)
 }
 
 /// Appends the formats of files, and their number.
@@ -370,26 +335,21 @@ fn write_format_if<W: Writer>(w: &mut W, due: bool, content: DwLnct, form: DwFor
 /// Appends files one after the other.
 fn write_file_entries<W: Writer>(
     w: &mut W,
-    program: &LineProgram,
+    input: &UnitInput<'_>,
     source_form: DwForm,
-    empty: &LineString,
-    line_strings: &LineStringTable,
-    strings: &StringTable,
 ) -> Result<()>
-    requires can { CanWrite program.now (texts_in strings.now line_strings.now) }
-    requires empty { StandsForNone program.now (texts_in strings.now line_strings.now)
-        (line_text empty.now) }
-    requires version { 5 ≤ program.now.encoding.version }
-    requires source_form { source_form.0 ≡ first_form (sources program.now.files) }
+    requires version { 5 ≤ input.now.program.encoding.version }
+    requires source_form { source_form.0 ≡ first_form (sources input.now.program.files) }
     ensures writes { Writes W.Sink w.old w.new result
-        (λ hand. result_concat (file_entry_bytes hand (W.big w.old) program.now.encoding.format
-        (texts_in strings.now line_strings.now) program.now) program.now.files) }
-    ensures fit { OnOk result (All FitsFile program.now.files) }
+        (λ hand. let program = input.now.program in
+        result_concat (file_entry_bytes hand (W.big w.old) program.encoding.format
+        input.now.texts program) program.files) }
+    ensures fit { OnOk result (All FitsFile input.now.program.files) }
 {
-    let tables = program.tables();
+    let tables = input.program().tables();
     for index in 0..tables.file_count() {
         let file = tables.file(index);
-        write_file_entry(w, program, source_form, empty, file, line_strings, strings)?;
+        write_file_entry(w, input, source_form, file)?;
     }
     Ok(())
 }
@@ -397,38 +357,25 @@ fn write_file_entries<W: Writer>(
 /// Appends a file: its path, its directory, and what the program's flags say.
 fn write_file_entry<W: Writer>(
     w: &mut W,
-    program: &LineProgram,
+    input: &UnitInput<'_>,
     source_form: DwForm,
-    empty: &LineString,
     file: (&LineString, DirectoryId, &FileInfo),
-    line_strings: &LineStringTable,
-    strings: &StringTable,
 ) -> Result<()>
-    requires path { IsWithin (texts_in strings.now line_strings.now) (line_text file.0.now) }
-    requires source { IfSome (details file.2.now).source
-        (IsWithin (texts_in strings.now line_strings.now)) }
-    requires empty { program.now.file_has_source ≡ true → (details file.2.now).source ≡ None
-        → IsEmptySource program.now (texts_in strings.now line_strings.now) (line_text empty.now) }
-    requires source_form { source_form.0 ≡ first_form (sources program.now.files) }
+    requires version { 5 ≤ input.now.program.encoding.version }
+    requires there { Contains input.now.program.files
+        ((line_text file.0.now, file.1), details file.2.now) }
+    requires source_form { source_form.0 ≡ first_form (sources input.now.program.files) }
     ensures writes { Writes W.Sink w.old w.new result
-        (λ hand. file_entry_bytes hand (W.big w.old) program.now.encoding.format
-        (texts_in strings.now line_strings.now) program.now
+        (λ hand. file_entry_bytes hand (W.big w.old) input.now.program.encoding.format
+        input.now.texts input.now.program
         ((line_text file.entry.0.now, file.entry.1), details file.entry.2.now)) }
     ensures fit { OnOk result
         (FitsFile ((line_text file.entry.0.now, file.entry.1), details file.entry.2.now)) }
 {
-    let form = path_form(program.tables());
-    write_line_string(w, program.format(), form, file.0, line_strings, strings)?;
+    let program = input.program();
+    write_line_string(w, input, path_form(program.tables()), file.0)?;
     write_details(w, program, file.1, file.2)?;
-    write_source(
-        w,
-        program,
-        source_form,
-        empty,
-        file.2,
-        line_strings,
-        strings,
-    )
+    write_source(w, input, source_form, file.2)
 }
 
 /// Appends a file's directory, timestamp, size and digest, the last three where the program's flags
@@ -475,27 +422,22 @@ fn write_digest_if<W: Writer>(w: &mut W, due: bool, digest: &[u8; 16]) -> Result
 /// Appends a file's source, or the empty text, where the program's flags say so.
 fn write_source<W: Writer>(
     w: &mut W,
-    program: &LineProgram,
+    input: &UnitInput<'_>,
     form: DwForm,
-    empty: &LineString,
     info: &FileInfo,
-    line_strings: &LineStringTable,
-    strings: &StringTable,
 ) -> Result<()>
-    requires source { IfSome (details info.now).source
-        (IsWithin (texts_in strings.now line_strings.now)) }
-    requires empty { program.now.file_has_source ≡ true → (details info.now).source ≡ None
-        → IsEmptySource program.now (texts_in strings.now line_strings.now) (line_text empty.now) }
-    requires form { form.0 ≡ first_form (sources program.now.files) }
+    requires source { IfSome (details info.now).source (IsWithin input.now.texts) }
+    requires none { input.now.program.file_has_source ≡ true → (details info.now).source ≡ None
+        → needs_empty input.now.program ≡ true }
+    requires form { form.0 ≡ first_form (sources input.now.program.files) }
     ensures { Writes W.Sink w.old w.new result
-        (λ hand. source_bytes hand (W.big w.old) program.now.encoding.format
-        (texts_in strings.now line_strings.now) program.now ((Inline [], 0), details info.now)) }
+        (λ hand. source_bytes hand (W.big w.old) input.now.program.encoding.format
+        input.now.texts input.now.program ((Inline [], 0), details info.now)) }
 {
-    if !program.file_has_source {
+    if !input.program().file_has_source {
         return Ok(());
     }
-    let text = source_or(info, empty);
-    write_line_string(w, program.format(), form, text, line_strings, strings)
+    write_line_string(w, input, form, source_or(info, input.empty()))
 }
 
 /// A file's source, or this text where it has none.

@@ -1,68 +1,44 @@
 //! The header of a unit.
 
 ghost use Rattle.std.specs.Prelude.{All, OnOk};
-ghost use Rattle.gimli_bytes.specs.Texts.{texts_in};
-ghost use Rattle.gimli_build.specs.LineText.{line_text};
 ghost use Rattle.gimli_build.specs.inside.Tables.{FitsFile};
-ghost use Rattle.gimli_build.specs.Conditions.{CanWrite};
-ghost use Rattle.gimli_build.specs.inside.EmptySource.{StandsForNone};
 ghost use Rattle.gimli_build.specs.Unit.{operations_bytes, line_encoding_bytes, tables_bytes};
 ghost use Rattle.gimli_build.specs.Unit.{fields_bytes, header_bytes};
 ghost use Rattle.gimli_build.specs.inside.Writes.{Writes, always};
 
-use crate::built::line_program::LineProgram;
-use crate::built::line_string::LineString;
 use crate::bytes::write_byte;
 use crate::rows::encode::OPCODE_BASE;
+use crate::tables::unit_input::UnitInput;
 use crate::tables::version_4::write_version_4_tables;
 use crate::tables::version_5::write_version_5_tables;
-use gimli_bytes::{Error, LineStringTable, Result, StringTable, Writer};
+use gimli_bytes::{Error, Result, Writer};
 use gimli_core::LineEncoding;
 
 /// Appends the header length, and what it counts.
-pub(crate) fn write_header<W: Writer>(
-    w: &mut W,
-    program: &LineProgram,
-    empty: &LineString,
-    line_strings: &LineStringTable,
-    strings: &StringTable,
-) -> Result<()>
-    requires can { CanWrite program.now (texts_in strings.now line_strings.now) }
-    requires empty { StandsForNone program.now (texts_in strings.now line_strings.now)
-        (line_text empty.now) }
+pub(crate) fn write_header<W: Writer>(w: &mut W, input: &UnitInput<'_>) -> Result<()>
     ensures writes { Writes W.Sink w.old w.new result
-        (λ hand. header_bytes hand (W.big w.old) program.now
-        (texts_in strings.now line_strings.now)) }
-    ensures fit { OnOk result (All FitsFile program.now.files) }
+        (λ hand. header_bytes hand (W.big w.old) input.now.program input.now.texts) }
+    ensures fit { OnOk result (All FitsFile input.now.program.files) }
 {
-    let size = program.format().word_size();
+    let size = input.format().word_size();
     let length = w.len();
     w.write_udata(0, size)?;
     let start = w.len();
-    write_fields(w, program, empty, line_strings, strings)?;
+    write_fields(w, input)?;
     let count = (w.len() - start) as u64;
     w.write_udata_at(length, count, size)
 }
 
 /// Appends what the header length counts.
-fn write_fields<W: Writer>(
-    w: &mut W,
-    program: &LineProgram,
-    empty: &LineString,
-    line_strings: &LineStringTable,
-    strings: &StringTable,
-) -> Result<()>
-    requires can { CanWrite program.now (texts_in strings.now line_strings.now) }
-    requires empty { StandsForNone program.now (texts_in strings.now line_strings.now)
-        (line_text empty.now) }
+fn write_fields<W: Writer>(w: &mut W, input: &UnitInput<'_>) -> Result<()>
     ensures writes { Writes W.Sink w.old w.new result
-        (λ hand. fields_bytes hand (W.big w.old) program.now
-        (texts_in strings.now line_strings.now)) }
-    ensures fit { OnOk result (All FitsFile program.now.files) }
+        (λ hand. fields_bytes hand (W.big w.old) input.now.program input.now.texts) }
+    ensures fit { OnOk result (All FitsFile input.now.program.files) }
 {
+    let program = input.program();
     write_line_encoding(w, program.version(), program.line_encoding())?;
     w.write(&[OPCODE_BASE, 0, 1, 1, 1, 1, 0, 0, 0, 1, 0, 0, 1])?;
-    write_tables(w, program, empty, line_strings, strings)
+    write_tables(w, input)
 }
 
 /// Appends how lines and operations are encoded.
@@ -97,23 +73,14 @@ fn write_operation_count<W: Writer>(w: &mut W, version: u16, operations: u8) -> 
 }
 
 /// Appends the directories and the files.
-fn write_tables<W: Writer>(
-    w: &mut W,
-    program: &LineProgram,
-    empty: &LineString,
-    line_strings: &LineStringTable,
-    strings: &StringTable,
-) -> Result<()>
-    requires can { CanWrite program.now (texts_in strings.now line_strings.now) }
-    requires empty { StandsForNone program.now (texts_in strings.now line_strings.now)
-        (line_text empty.now) }
+fn write_tables<W: Writer>(w: &mut W, input: &UnitInput<'_>) -> Result<()>
     ensures writes { Writes W.Sink w.old w.new result
-        (λ hand. tables_bytes hand (W.big w.old) program.now
-        (texts_in strings.now line_strings.now)) }
-    ensures fit { OnOk result (All FitsFile program.now.files) }
+        (λ hand. tables_bytes hand (W.big w.old) input.now.program input.now.texts) }
+    ensures fit { OnOk result (All FitsFile input.now.program.files) }
 {
+    let program = input.program();
     if program.version() <= 4 {
         return write_version_4_tables(w, program.tables());
     }
-    write_version_5_tables(w, program, empty, line_strings, strings)
+    write_version_5_tables(w, input)
 }

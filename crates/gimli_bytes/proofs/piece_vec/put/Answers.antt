@@ -1,4 +1,5 @@
-use Rattle.std.proofs.Common.{arith, ◌≡◌, ◌∙◌, ◌+◌, ◌<◌, ◌≤◌, ◌++◌, ◌/◌, ◌%◌, length, List, ℕ, ap, length-set, length-append, slice_set}
+use Rattle.std.proofs.Common.{arith, ◌≡◌, ◌∙◌, ◌+◌, ◌<◌, ◌≤◌, ◌++◌, ◌/◌, ◌%◌, length, List, ℕ, ap, length-set}
+use Rattle.std.proofs.Common.{length-append, slice_set}
 use Rattle.std.proofs.lemmas.Grind.{common_steps}
 use Rattle.std.proofs.lemmas.List.{take-append-drop}
 use Rattle.std.proofs.lemmas.List.Elements.{All-set}
@@ -11,7 +12,7 @@ pub index_mut-piece-requires : goal.index_mut-piece-requires
 index_mut-piece-requires c =
     let some : 0 < length c.loop-rest.rest.now = grind (arith, common_steps) in
     let inside =
-    piece-inside c.args.size c.loop-rest.at c.loop-rest.pieces.items c.requires.size c.loop-rest.invariant.sizes
+    piece-inside _ c.loop-rest.at _ c.requires.size c.loop-rest.invariant.sizes
     (omega (arith, c.loop-rest.invariant.fits)) in
     omega (arith, c.loop-rest.pieces.ok.0)
 
@@ -23,10 +24,14 @@ put-requires c =
     (omega (arith, c.loop-rest.invariant.fits)) in
     let size = c.loop-rest.invariant.sizes (c.loop-rest.at / c.args.size) c.index_mut-piece.result.now inside in
     let same = ap (λ l. length l) c.index_mut-piece.ensures.value in
-    omega (arith, size, same, c.split_at.ensures.front_len, c.min.ensures, mod_below c.loop-rest.at c.args.size c.requires.size)
-
-pub overflow_add-at : goal.overflow_add-at
-overflow_add-at c = omega (arith, c.loop-rest.invariant.end, c.requires.end, c.split_at.ensures.front_len, c.min.ensures)
+    omega (
+      arith,
+      size,
+      same,
+      c.split_at.ensures.front_len,
+      c.min.ensures,
+      mod_below c.loop-rest.at c.args.size c.requires.size,
+    )
 
 pub loop-rest-preserved : goal.loop-rest-preserved
 loop-rest-preserved c =
@@ -35,27 +40,35 @@ loop-rest-preserved c =
     let ps = c.loop-rest.pieces.items in
     let piece = c.index_mut-piece.result.now in
     let some : 0 < length c.loop-rest.rest.now = grind (arith, common_steps) in
-    let inside = piece-inside n at ps c.requires.size c.loop-rest.invariant.sizes (omega (arith, c.loop-rest.invariant.fits)) in
-    let size = ap (λ (l : List ℕ). length l) c.index_mut-piece.ensures.value ∙ c.loop-rest.invariant.sizes (at / n) piece inside in
-    let fits : at % n + length c.split_at.result.0.now ≤ n = omega (arith, c.split_at.ensures.front_len, c.min.ensures, mod_below at n c.requires.size) in
+    let inside =
+    piece-inside n at ps c.requires.size c.loop-rest.invariant.sizes (omega (arith, c.loop-rest.invariant.fits)) in
+    let size =
+    ap (λ (l : List ℕ). length l) c.index_mut-piece.ensures.value
+    ∙ c.loop-rest.invariant.sizes (at / n) piece inside in
+    let fits : at % n + length c.split_at.result.0.now
+    ≤ n = omega (arith, c.split_at.ensures.front_len, c.min.ensures, mod_below at n c.requires.size) in
     let parts : c.split_at.result.0.now ++ c.split_at.result.1.now ≡ c.loop-rest.rest.now =
     rw (c.split_at.ensures.front, c.split_at.ensures.back) (take-append-drop c.min.result c.loop-rest.rest.now) in
     let counted = length-append c.split_at.result.0.now c.split_at.result.1.now in
     let whole = ap (λ (l : List ℕ). length l) parts in
     let same : length c.put.new.self ≡ n =
-    ap (λ (l : List ℕ). length l) c.put.ensures ∙ length-put_over piece (at % n) c.split_at.result.0.now (omega arith) ∙ size in
+    ap (λ (l : List ℕ). length l) c.put.ensures ∙ length-put_over piece (at % n) c.split_at.result.0.now (omega arith)
+    ∙ size in
     let sizes = All-set (λ piece. length piece ≡ n) ps (at / n) c.put.new.self same c.loop-rest.invariant.sizes in
     let count = length-set ps (at / n) c.put.new.self in
-    let before = length-concat n ps c.loop-rest.invariant.sizes in
-    let after = length-concat n (slice_set ps (at / n) c.put.new.self) sizes in
-    let is = c.put.ensures ∙ ap (λ (q : List ℕ). put_over q (at % n) c.split_at.result.0.now) c.index_mut-piece.ensures.value in
+    let before = length-concat n _ c.loop-rest.invariant.sizes in
+    let after = length-concat n _ sizes in
+    let is =
+    c.put.ensures
+    ∙ ap (λ (q : List ℕ). put_over q (at % n) c.split_at.result.0.now) c.index_mut-piece.ensures.value in
     record {
       sizes = sizes;
       count = count ∙ c.loop-rest.invariant.count;
       fits = rw (after, count) (omega (arith, c.loop-rest.invariant.fits));
       end = omega (arith, c.loop-rest.invariant.end);
       bytes =
-          put-step n at ps piece c.split_at.result.0.now c.split_at.result.1.now c.loop-rest.rest.now c.put.new.self c.loop-rest.invariant.sizes inside parts
+          put-step n at ps piece c.split_at.result.0.now c.split_at.result.1.now c.loop-rest.rest.now c.put.new.self
+          c.loop-rest.invariant.sizes inside parts
           c.loop-rest.invariant.fits fits is
           ∙ c.loop-rest.invariant.bytes;
     }

@@ -1,15 +1,12 @@
 use Rattle.std.proofs.Common.{[], ◌∷◌, nat_eq, not}
-use Rattle.std.proofs.lemmas.Result.{err_from_is_err_and}
 use Rattle.gimli_line.specs.declared.run.instruction.LineInstruction.TheVariants.{AdvancePc, EndSequence}
 use Rattle.gimli_build.specs.Due.{when}
 use Rattle.gimli_build.proofs.writing.Joins.{bytes_append}
-use Rattle.gimli_build.proofs.writing.Writes.{bytes_unwritten, joins}
+use Rattle.gimli_build.proofs.writing.Writes.{bytes_unwritten, joins, passed_on}
 use Rattle.gimli_build.proofs.rows.encode.write_end.Goals as goal
 
 pub returns-in_err-write_if : goal.returns-in_err-write_if
-returns-in_err-write_if g c =
-    let p = err_from_is_err_and c.from_residual.result c.from_residual.ensures.1 in
-    rw (p.1, p.2) (bytes_unwritten c.in_err-write_if.ensures)
+returns-in_err-write_if g c = passed_on c.from_residual.ensures.1 (bytes_unwritten c.in_err-write_if.ensures)
 
 pub returns : goal.returns
 returns g c =

@@ -1,10 +1,8 @@
-use Rattle.std.proofs.Common.{◌≡◌, ◌≤◌, ap, ◌<◌, length, ◌∙◌, arith, lit<}
-use Rattle.std.proofs.lemmas.Result.{err_from_is_err_and}
-use Rattle.std.proofs.lemmas.List.{drop_all}
+use Rattle.std.proofs.Common.{◌≡◌, ap, ◌<◌, length, ◌∙◌, arith, lit<}
 use Rattle.gimli_build.specs.Rows.{at_position}
 use Rattle.gimli_build.specs.Items.{next_previous}
 use Rattle.gimli_build.proofs.reading.ItemRuns.{start_position}
-use Rattle.gimli_build.proofs.writing.ItemsWritten.{taken_next, fit_more, way_on, none_standing, written_more, items_unwritten, items_written}
+use Rattle.gimli_build.proofs.writing.ItemsWritten.{taken_next, fit_more, way_on, none_standing, written_more}
 use Rattle.gimli_build.proofs.writing.Joined.{next_left}
 use Rattle.gimli_build.proofs.rows.encode.write_items.Goals as goal
 
@@ -39,19 +37,3 @@ loop-item-preserved g c =
       way = rw moved (way_on _ e c.requires.can _ _ _ way);
       so = rw moved (written_more so (rw so.ordered at c.in_ok-write_item.ensures.writes));
     }
-
-pub returns-in_err-write_item-clause-writes : goal.returns-in_err-write_item-clause-writes
-returns-in_err-write_item-clause-writes g c =
-    let items = c.args.items.now in
-    let i = c.loop-item.item-index in
-    let lt : i < length items = omega arith in
-    let so = rw (next_left items i c.item-item.result lt c.item-item.is) at c.loop-item.invariant.so in
-    let p = err_from_is_err_and c.from_residual.result c.from_residual.ensures.1 in
-    rw (p.1, p.2) (items_unwritten so (rw so.ordered at c.in_err-write_item.ensures.writes))
-
-pub returns-clause-writes : goal.returns-clause-writes
-returns-clause-writes g c =
-    let items = c.args.items.now in
-    let i = c.loop-item.item-index in
-    let end : length items ≤ i = omega arith in
-    items_written (rw (drop_all i items end) at c.loop-item.invariant.so)

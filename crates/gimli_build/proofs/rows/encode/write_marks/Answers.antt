@@ -1,29 +1,21 @@
 use Rattle.std.proofs.Common.{nat_eq, not}
-use Rattle.std.proofs.lemmas.Result.{err_from_is_err_and}
 use Rattle.gimli_line.specs.declared.run.instruction.LineInstruction.TheVariants.{SetDiscriminator, SetBasicBlock, SetPrologueEnd, SetEpilogueBegin}
 use Rattle.gimli_build.specs.Due.{when}
-use Rattle.gimli_build.specs.Encode.{marks}
-use Rattle.gimli_build.specs.InstructionBytes.{instructions_bytes}
 use Rattle.gimli_build.proofs.writing.InstructionsWritten.{four_parts}
-use Rattle.gimli_build.proofs.writing.Writes.{bytes_unwritten, joins, unwritten}
+use Rattle.gimli_build.proofs.writing.Writes.{bytes_unwritten, joins, unwritten, passed_on}
 use Rattle.gimli_build.proofs.rows.encode.write_marks.Goals as goal
 
 pub returns-in_err-write_if-2-clause-writes : goal.returns-in_err-write_if-2-clause-writes
 returns-in_err-write_if-2-clause-writes g c =
-    let p = err_from_is_err_and c.from_residual-in_err-write_if-2.result c.from_residual-in_err-write_if-2.ensures.1 in
-    rw (p.1, p.2) (unwritten (instructions_bytes (marks c.args.row.now)) c.in_ok-write_if.ensures c.in_err-write_if-2.ensures)
+    passed_on c.from_residual-in_err-write_if-2.ensures.1 (unwritten c.in_ok-write_if.ensures c.in_err-write_if-2.ensures)
 
 pub returns-in_err-write_if-3-clause-writes : goal.returns-in_err-write_if-3-clause-writes
 returns-in_err-write_if-3-clause-writes g c =
-    let p = err_from_is_err_and c.from_residual-in_err-write_if-3.result c.from_residual-in_err-write_if-3.ensures.1 in
-    rw (p.1, p.2)
-    (unwritten (instructions_bytes (marks c.args.row.now)) (joins c.in_ok-write_if.ensures c.in_ok-write_if-2.ensures) c.in_err-write_if-3.ensures)
+    passed_on c.from_residual-in_err-write_if-3.ensures.1 (unwritten (joins c.in_ok-write_if.ensures c.in_ok-write_if-2.ensures) c.in_err-write_if-3.ensures)
 
 pub returns-in_err-write_if-4-clause-writes : goal.returns-in_err-write_if-4-clause-writes
 returns-in_err-write_if-4-clause-writes g c =
-    let p = err_from_is_err_and c.from_residual-in_err-write_if-4.result c.from_residual-in_err-write_if-4.ensures.1 in
-    rw (p.1, p.2) (unwritten (instructions_bytes (marks c.args.row.now))
-    (joins (joins c.in_ok-write_if.ensures c.in_ok-write_if-2.ensures) c.in_ok-write_if-3.ensures) c.in_err-write_if-4.ensures)
+    passed_on c.from_residual-in_err-write_if-4.ensures.1 (unwritten (joins (joins c.in_ok-write_if.ensures c.in_ok-write_if-2.ensures) c.in_ok-write_if-3.ensures) c.in_err-write_if-4.ensures)
 
 pub returns-clause-writes : goal.returns-clause-writes
 returns-clause-writes g c =
@@ -34,5 +26,4 @@ returns-clause-writes g c =
 
 pub returns-in_err-write_if-clause-writes : goal.returns-in_err-write_if-clause-writes
 returns-in_err-write_if-clause-writes g c =
-    let p = err_from_is_err_and c.from_residual.result c.from_residual.ensures.1 in
-    rw (p.1, p.2) (bytes_unwritten c.in_err-write_if.ensures)
+    passed_on c.from_residual.ensures.1 (bytes_unwritten c.in_err-write_if.ensures)

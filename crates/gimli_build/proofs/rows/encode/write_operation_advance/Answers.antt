@@ -1,41 +1,22 @@
 use Rattle.std.proofs.Common.{◌≡◌, ◌+◌, ◌-◌, ◌*◌, nat_le, false}
 use Rattle.std.proofs.lemmas.List.{append-nil}
-use Rattle.std.proofs.lemmas.Result.{err_from_is_err_and}
-use Rattle.gimli_build.specs.Encode.{row_maker, constant_advance, operation_part}
-use Rattle.gimli_build.specs.InstructionBytes.{instruction_bytes, instructions_bytes}
-use Rattle.gimli_build.proofs.writing.Writes.{refused_alike}
-use Rattle.gimli_build.proofs.writing.Joins.{past, found, by_advance, by_constant}
-use Rattle.gimli_build.proofs.writing.Writes.{joins, unwritten}
+use Rattle.gimli_build.specs.Encode.{row_maker, constant_advance}
+use Rattle.gimli_build.specs.InstructionBytes.{instruction_bytes}
+use Rattle.gimli_build.proofs.writing.Writes.{passed_on, joins, unwritten, bytes_unwritten}
+use Rattle.gimli_build.proofs.writing.Joins.{past, found, by_constant}
 use Rattle.gimli_build.proofs.rows.encode.write_operation_advance.Goals as goal
-
-pub returns : goal.returns
-returns g c =
-    let e = c.args.line_encoding.now in
-    let s = c.args.opcode in
-    let n = c.args.count in
-    let over : nat_le (s + n * e.line_range) 255
-    ≡ false = past _ _ (rw (c.special_opcode.ensures, c.from-range.ensures) at c.in_default.is) in
-    let m = n - constant_advance e in
-    let rest : nat_le (s + m * e.line_range) 255
-    ≡ false = past _ _
-    (rw c.from-range.ensures at (rw (c.special_opcode-2.ensures, c.saturating_sub-rest.ensures, c.from.ensures) at c.in_default-special_opcode.is)) in
-    let last = rw c.maker-2.ensures at c.in_ok-write_instruction-3.ensures in
-    rw (by_advance e s n over rest, append-nil (instruction_bytes (row_maker e s))) (joins c.in_ok-write_instruction-2.ensures last)
 
 pub returns-in_err-write_instruction : goal.returns-in_err-write_instruction
 returns-in_err-write_instruction g c =
-    let p = err_from_is_err_and c.from_residual.result c.from_residual.ensures.1 in
-    rw (p.1, p.2) (refused_alike (instructions_bytes (operation_part c.args.line_encoding.now c.args.opcode c.args.count)) c.in_err-write_instruction.ensures)
+    passed_on c.from_residual.ensures.1 (bytes_unwritten c.in_err-write_instruction.ensures)
 
 pub returns-in_err-write_instruction-2 : goal.returns-in_err-write_instruction-2
 returns-in_err-write_instruction-2 g c =
-    let p = err_from_is_err_and c.from_residual-in_err-write_instruction-2.result c.from_residual-in_err-write_instruction-2.ensures.1 in
-    rw (p.1, p.2) (refused_alike (instructions_bytes (operation_part c.args.line_encoding.now c.args.opcode c.args.count)) c.in_err-write_instruction-2.ensures)
+    passed_on c.from_residual-in_err-write_instruction-2.ensures.1 (bytes_unwritten c.in_err-write_instruction-2.ensures)
 
 pub returns-in_err-write_instruction-3 : goal.returns-in_err-write_instruction-3
 returns-in_err-write_instruction-3 g c =
-    let p = err_from_is_err_and c.from_residual-in_err-write_instruction-3.result c.from_residual-in_err-write_instruction-3.ensures.1 in
-    rw (p.1, p.2) (unwritten (instructions_bytes (operation_part c.args.line_encoding.now c.args.opcode c.args.count)) c.in_ok-write_instruction-2.ensures
+    passed_on c.from_residual-in_err-write_instruction-3.ensures.1 (unwritten c.in_ok-write_instruction-2.ensures
     c.in_err-write_instruction-3.ensures)
 
 pub returns-in-Some-special_opcode : goal.returns-in-Some-special_opcode

@@ -1,34 +1,23 @@
 use Rattle.std.proofs.Common.{◌≡◌, arith, to_z, of_z, w64, pos, ◌-ℤ◌, ◌∙◌}
 use Rattle.std.proofs.lemmas.Int.{ints}
-use Rattle.std.proofs.lemmas.Result.{err_from_is_err_and}
 use Rattle.gimli_build.specs.Advance.{operations}
-use Rattle.gimli_build.specs.Encode.{marks, changes, line_part, line_opcode, operation_part, row_instructions}
+use Rattle.gimli_build.specs.Encode.{marks, changes, line_part, line_opcode, operation_part}
 use Rattle.gimli_build.specs.Rows.{at_position}
-use Rattle.gimli_build.specs.InstructionBytes.{instructions_bytes}
 use Rattle.gimli_build.proofs.writing.InstructionsWritten.{four_parts}
-use Rattle.gimli_build.proofs.writing.Writes.{bytes_unwritten, joins, unwritten}
+use Rattle.gimli_build.proofs.writing.Writes.{bytes_unwritten, joins, unwritten, passed_on}
 use Rattle.gimli_build.proofs.rows.encode.write_row.Goals as goal
 
 pub returns-in_err-write_changes-clause-writes : goal.returns-in_err-write_changes-clause-writes
 returns-in_err-write_changes-clause-writes g c =
-    let bytes =
-    instructions_bytes (row_instructions c.args.encoding.version c.args.line_encoding (at_position c.args.position c.args.previous.now) c.args.row.now) in
-    let p = err_from_is_err_and c.from_residual-in_err-write_changes.result c.from_residual-in_err-write_changes.ensures.1 in
-    rw (p.1, p.2) (unwritten bytes c.in_ok-write_marks.ensures.writes c.in_err-write_changes.ensures.writes)
+    passed_on c.from_residual-in_err-write_changes.ensures.1 (unwritten c.in_ok-write_marks.ensures.writes c.in_err-write_changes.ensures.writes)
 
 pub returns-in_err-opcode-clause-writes : goal.returns-in_err-opcode-clause-writes
 returns-in_err-opcode-clause-writes g c =
-    let bytes =
-    instructions_bytes (row_instructions c.args.encoding.version c.args.line_encoding (at_position c.args.position c.args.previous.now) c.args.row.now) in
-    let p = err_from_is_err_and c.from_residual-in_err-opcode.result c.from_residual-in_err-opcode.ensures.1 in
-    rw (p.1, p.2) (unwritten bytes (joins c.in_ok-write_marks.ensures.writes c.in_ok-write_changes.ensures.writes) c.in_err-opcode.ensures.writes)
+    passed_on c.from_residual-in_err-opcode.ensures.1 (unwritten (joins c.in_ok-write_marks.ensures.writes c.in_ok-write_changes.ensures.writes) c.in_err-opcode.ensures.writes)
 
 pub returns-in_err-write_operation_advance-clause-writes : goal.returns-in_err-write_operation_advance-clause-writes
 returns-in_err-write_operation_advance-clause-writes g c =
-    let bytes =
-    instructions_bytes (row_instructions c.args.encoding.version c.args.line_encoding (at_position c.args.position c.args.previous.now) c.args.row.now) in
-    let p = err_from_is_err_and c.from_residual-in_err-write_operation_advance.result c.from_residual-in_err-write_operation_advance.ensures.1 in
-    rw (p.1, p.2) (unwritten bytes (joins c.in_ok-write_marks.ensures.writes (joins c.in_ok-write_changes.ensures.writes c.in_ok-opcode.ensures.writes))
+    passed_on c.from_residual-in_err-write_operation_advance.ensures.1 (unwritten (joins c.in_ok-write_marks.ensures.writes (joins c.in_ok-write_changes.ensures.writes c.in_ok-opcode.ensures.writes))
     c.in_err-write_operation_advance.ensures)
 
 pub returns-clause-writes : goal.returns-clause-writes
@@ -49,5 +38,4 @@ returns-clause-writes g c =
 
 pub returns-in_err-write_marks-clause-writes : goal.returns-in_err-write_marks-clause-writes
 returns-in_err-write_marks-clause-writes g c =
-    let p = err_from_is_err_and c.from_residual.result c.from_residual.ensures.1 in
-    rw (p.1, p.2) (bytes_unwritten c.in_err-write_marks.ensures.writes)
+    passed_on c.from_residual.ensures.1 (bytes_unwritten c.in_err-write_marks.ensures.writes)

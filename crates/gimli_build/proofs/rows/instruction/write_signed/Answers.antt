@@ -2,8 +2,7 @@ use Rattle.std.proofs.Common.{◌≡◌, true, sym, ap, ◌∙◌, arith, to_z, 
 use Rattle.std.proofs.lemmas.Int.{ints}
 use Rattle.gimli_bytes.specs.Number.{low_bits, has_seven_bits}
 use Rattle.gimli_bytes.proofs.LebLemmas.{sleb_one}
-use Rattle.std.proofs.lemmas.Result.{err_from_is_err_and}
-use Rattle.gimli_build.proofs.writing.Writes.{bytes_unwritten, joins, writes}
+use Rattle.gimli_build.proofs.writing.Writes.{bytes_unwritten, joins, writes, passed_on}
 use Rattle.gimli_build.proofs.rows.instruction.write_signed.Goals as goal
 
 pub returns-then-has_seven_bits : goal.returns-then-has_seven_bits
@@ -23,5 +22,4 @@ returns g c =
 
 pub returns-in_err-write_byte : goal.returns-in_err-write_byte
 returns-in_err-write_byte g c =
-    let p = err_from_is_err_and c.from_residual.result c.from_residual.ensures.1 in
-    rw (p.1, p.2) (bytes_unwritten c.in_err-write_byte.ensures)
+    passed_on c.from_residual.ensures.1 (bytes_unwritten c.in_err-write_byte.ensures)

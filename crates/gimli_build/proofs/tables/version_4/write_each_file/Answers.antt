@@ -1,17 +1,13 @@
 use Rattle.std.proofs.Common.{◌≤◌, length, arith}
-use Rattle.std.proofs.lemmas.Result.{err_from_is_err_and}
-use Rattle.std.proofs.lemmas.List.{take_all, drop_all}
-use Rattle.std.proofs.lemmas.List.Elements.{All-nil, All-push}
+use Rattle.std.proofs.lemmas.List.{take_all}
+use Rattle.std.proofs.lemmas.List.Elements.{All-push}
 use Rattle.gimli_build.specs.LineText.{line_text}
 use Rattle.gimli_build.specs.Tables.{File}
 use Rattle.gimli_build.specs.inside.Tables.{FitsFile}
 use Rattle.gimli_build.specs.TableFields.{details}
 use Rattle.gimli_build.proofs.writing.Joined.{next_at, taken_at}
-use Rattle.gimli_build.proofs.writing.Writes.{none_written, one_written, one_unwritten, all_written}
+use Rattle.gimli_build.proofs.writing.Writes.{one_written, one_unwritten, passed_on}
 use Rattle.gimli_build.proofs.tables.version_4.write_each_file.Goals as goal
-
-pub loop-index-init : goal.loop-index-init
-loop-index-init g c = record { so = none_written _ _ _ _; fit = All-nil FitsFile }
 
 pub returns-in_err-write_file-clause-writes : goal.returns-in_err-write_file-clause-writes
 returns-in_err-write_file-clause-writes g c =
@@ -19,8 +15,7 @@ returns-in_err-write_file-clause-writes g c =
     let i = c.loop-index.index in
     let file : File = ((line_text c.file-directory.result.0.now, c.file-directory.result.1), details c.file-directory.result.2.now) in
     let so = rw (next_at files i file c.file-directory.ensures) at c.loop-index.invariant.so in
-    let p = err_from_is_err_and c.from_residual.result c.from_residual.ensures.1 in
-    rw (p.1, p.2) (one_unwritten so c.in_err-write_file.ensures.writes)
+    passed_on c.from_residual.ensures.1 (one_unwritten so c.in_err-write_file.ensures.writes)
 
 pub loop-index-preserved : goal.loop-index-preserved
 loop-index-preserved g c =
@@ -33,13 +28,6 @@ loop-index-preserved g c =
       fit =
           rw (taken_at files i file c.file-directory.ensures) (All-push FitsFile _ _ c.loop-index.invariant.fit c.in_ok-write_file.ensures.fit);
     }
-
-pub returns-clause-writes : goal.returns-clause-writes
-returns-clause-writes g c =
-    let files = c.args.tables.now.files in
-    let i = c.loop-index.index in
-    let end : length files ≤ i = omega (arith, c.loop-index-test.false, c.file_count-index-end.ensures.count) in
-    (all_written (rw (drop_all i files end) at c.loop-index.invariant.so))
 
 pub returns-clause-fit : goal.returns-clause-fit
 returns-clause-fit g c =

@@ -1,5 +1,4 @@
-use Rattle.std.proofs.lemmas.Result.{err_from_is_err_and}
-use Rattle.gimli_build.proofs.writing.Writes.{first_unwritten, joins}
+use Rattle.gimli_build.proofs.writing.Writes.{first_unwritten, joins, passed_on}
 use Rattle.gimli_build.proofs.tables.version_4.write_file.Goals as goal
 
 pub returns-clause-writes : goal.returns-clause-writes
@@ -7,5 +6,4 @@ returns-clause-writes g c = joins c.in_ok-write_name.ensures c.write_numbers.ens
 
 pub returns-in_err-write_name-clause-writes : goal.returns-in_err-write_name-clause-writes
 returns-in_err-write_name-clause-writes g c =
-    let p = err_from_is_err_and c.from_residual.result c.from_residual.ensures.1 in
-    rw (p.1, p.2) (first_unwritten _ c.in_err-write_name.ensures)
+    passed_on c.from_residual.ensures.1 (first_unwritten _ c.in_err-write_name.ensures)

@@ -1,5 +1,4 @@
-use Rattle.std.proofs.lemmas.Result.{err_from_is_err_and}
-use Rattle.gimli_build.proofs.writing.Writes.{first_unwritten, joins}
+use Rattle.gimli_build.proofs.writing.Writes.{first_unwritten, joins, passed_on}
 use Rattle.gimli_build.proofs.tables.version_4.write_version_4_tables.Goals as goal
 
 pub returns-clause-writes : goal.returns-clause-writes
@@ -9,5 +8,4 @@ returns-clause-writes g c =
 
 pub returns-in_err-write_directories-clause-writes : goal.returns-in_err-write_directories-clause-writes
 returns-in_err-write_directories-clause-writes g c =
-    let p = err_from_is_err_and c.from_residual.result c.from_residual.ensures.1 in
-    rw (p.1, p.2) (first_unwritten _ (rw c.directories.ensures at c.in_err-write_directories.ensures))
+    passed_on c.from_residual.ensures.1 (first_unwritten _ (rw c.directories.ensures at c.in_err-write_directories.ensures))

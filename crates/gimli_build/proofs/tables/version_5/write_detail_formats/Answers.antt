@@ -1,6 +1,4 @@
-use Rattle.gimli_build.proofs.writing.Writes.{joins, unwritten}
-use Rattle.std.proofs.lemmas.Result.{err_from_is_err_and}
-use Rattle.gimli_build.proofs.writing.Writes.{refused_alike}
+use Rattle.gimli_build.proofs.writing.Writes.{joins, unwritten, passed_on, bytes_unwritten}
 use Rattle.gimli_build.proofs.tables.version_5.write_detail_formats.Goals as goal
 
 pub returns : goal.returns
@@ -9,10 +7,8 @@ returns g c =
 
 pub returns-in_err-write_format_if : goal.returns-in_err-write_format_if
 returns-in_err-write_format_if g c =
-    let p = err_from_is_err_and c.from_residual.result c.from_residual.ensures.1 in
-    rw (p.1, p.2) (refused_alike _ c.in_err-write_format_if.ensures)
+    passed_on c.from_residual.ensures.1 (bytes_unwritten c.in_err-write_format_if.ensures)
 
 pub returns-in_err-write_format_if-2 : goal.returns-in_err-write_format_if-2
 returns-in_err-write_format_if-2 g c =
-    let p = err_from_is_err_and c.from_residual-in_err-write_format_if-2.result c.from_residual-in_err-write_format_if-2.ensures.1 in
-    rw (p.1, p.2) (unwritten _ c.in_ok-write_format_if.ensures c.in_err-write_format_if-2.ensures)
+    passed_on c.from_residual-in_err-write_format_if-2.ensures.1 (unwritten c.in_ok-write_format_if.ensures c.in_err-write_format_if-2.ensures)

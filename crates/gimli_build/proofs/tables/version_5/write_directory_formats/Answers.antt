@@ -1,9 +1,7 @@
 use Rattle.std.proofs.Common.{◌∷◌, ◌++◌, ap, sym}
 use Rattle.std.proofs.lemmas.List.{append-nil}
 use Rattle.gimli_bytes.specs.Number.{uleb}
-use Rattle.gimli_build.proofs.writing.Writes.{joins, same_bytes, unwritten, writes}
-use Rattle.std.proofs.lemmas.Result.{err_from_is_err_and}
-use Rattle.gimli_build.proofs.writing.Writes.{refused_alike}
+use Rattle.gimli_build.proofs.writing.Writes.{joins, same_bytes, unwritten, writes, passed_on, bytes_unwritten}
 use Rattle.gimli_build.proofs.tables.version_5.write_directory_formats.Goals as goal
 
 pub returns : goal.returns
@@ -16,11 +14,8 @@ returns g c =
     (joins (joins c.in_ok-write_byte.ensures c.in_ok-write_format.ensures) third)
 
 pub returns-in_err-write_byte : goal.returns-in_err-write_byte
-returns-in_err-write_byte g c =
-    let p = err_from_is_err_and c.from_residual.result c.from_residual.ensures.1 in
-    rw (p.1, p.2) (refused_alike _ c.in_err-write_byte.ensures)
+returns-in_err-write_byte g c = passed_on c.from_residual.ensures.1 (bytes_unwritten c.in_err-write_byte.ensures)
 
 pub returns-in_err-write_format : goal.returns-in_err-write_format
 returns-in_err-write_format g c =
-    let p = err_from_is_err_and c.from_residual-in_err-write_format.result c.from_residual-in_err-write_format.ensures.1 in
-    rw (p.1, p.2) (unwritten _ c.in_ok-write_byte.ensures c.in_err-write_format.ensures)
+    passed_on c.from_residual-in_err-write_format.ensures.1 (unwritten c.in_ok-write_byte.ensures c.in_err-write_format.ensures)

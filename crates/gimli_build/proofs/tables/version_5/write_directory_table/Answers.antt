@@ -1,27 +1,25 @@
 use Rattle.std.proofs.Common.{◌≡◌, length, map, ap, sym, ◌∙◌}
 use Rattle.std.proofs.lemmas.List.{length-map}
-use Rattle.std.proofs.lemmas.Result.{err_from_is_err_and}
 use Rattle.gimli_build.specs.LineText.{line_text}
 use Rattle.gimli_build.specs.Version5Tables.{first_form}
-use Rattle.gimli_build.proofs.writing.Writes.{bytes_unwritten, joins}
+use Rattle.gimli_build.proofs.writing.Writes.{bytes_unwritten, joins, passed_on}
 use Rattle.gimli_build.proofs.tables.version_5.write_directory_table.Goals as goal
 
 pub returns-in_err-write_directory_formats : goal.returns-in_err-write_directory_formats
 returns-in_err-write_directory_formats g c =
-    let p = err_from_is_err_and c.from_residual.result c.from_residual.ensures.1 in
-    let list = c.args.program.now.directories in
-    let same : map line_text c.directories-directories.result.now ≡ list = c.directories-directories.ensures ∙ c.tables.ensures.directories in
+    let list = c.args.input.now.program.directories in
+    let same : map line_text c.directories-directories.result.now ≡ list = c.directories-directories.ensures ∙ c.tables.ensures.directories ∙ ap (λ q. q.directories) c.program.ensures.program in
     let form : c.directory_form-form.result.0 ≡ first_form list = c.directory_form-form.ensures ∙ ap first_form same in
     let count : length c.directories-directories.result.now ≡ length list = sym (length-map c.directories-directories.result.now line_text) ∙ ap length same in
-    rw (p.1, p.2) (bytes_unwritten (rw (form, count) at c.in_err-write_directory_formats.ensures))
+    passed_on c.from_residual.ensures.1 (bytes_unwritten (rw (form, count) at c.in_err-write_directory_formats.ensures))
 
 pub returns : goal.returns
 returns g c =
-    let p = c.args.program.now in
-    let same : map line_text c.directories-directories.result.now ≡ p.directories = c.directories-directories.ensures ∙ c.tables.ensures.directories in
+    let p = c.args.input.now.program in
+    let same : map line_text c.directories-directories.result.now ≡ p.directories = c.directories-directories.ensures ∙ c.tables.ensures.directories ∙ ap (λ q. q.directories) c.program.ensures.program in
     let form : c.directory_form-form.result.0 ≡ first_form p.directories = c.directory_form-form.ensures ∙ ap first_form same in
     let count : length c.directories-directories.result.now ≡ length p.directories = sym (length-map c.directories-directories.result.now line_text)
     ∙ ap length same in
     let first = rw (form, count) at c.in_ok-write_directory_formats.ensures in
-    let second = rw (first.ordered, form, c.format.ensures, same) at c.write_texts.ensures in
+    let second = rw (first.ordered, form, same) at c.write_texts.ensures in
     joins first second

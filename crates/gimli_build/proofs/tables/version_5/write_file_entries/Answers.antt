@@ -1,70 +1,53 @@
 use Rattle.std.proofs.Common.{◌≡◌, ◌≤◌, length, slice_get, Some, sym, ap, ◌∙◌, arith}
 use Rattle.std.specs.Prelude.{List}
-use Rattle.std.proofs.lemmas.Result.{err_from_is_err_and}
-use Rattle.std.proofs.lemmas.List.{take_all, drop_all}
+use Rattle.std.proofs.lemmas.List.{take_all}
 use Rattle.std.proofs.lemmas.List.Elements.{All-nil, All-push}
-use Rattle.gimli_bytes.specs.Hand.{Hand}
-use Rattle.gimli_bytes.specs.Texts.{texts_in}
 use Rattle.gimli_build.specs.LineText.{line_text}
 use Rattle.gimli_build.specs.Tables.{File}
 use Rattle.gimli_build.specs.inside.Tables.{FitsFile}
 use Rattle.gimli_build.specs.TableFields.{details}
-use Rattle.gimli_build.specs.Version5Tables.{file_entry_bytes}
 use Rattle.gimli_build.proofs.writing.Joined.{next_at, taken_at}
-use Rattle.gimli_build.proofs.writing.Writes.{none_written, one_written, one_unwritten, all_written}
-use Rattle.gimli_build.proofs.building.EmptySource.{needs-empty}
+use Rattle.gimli_build.proofs.writing.Writes.{none_written, one_written, one_unwritten, passed_on}
+use Rattle.gimli_build.proofs.writing.Joined.{contains-at}
 use Rattle.gimli_build.proofs.tables.version_5.write_file_entries.Goals as goal
 
-pub write_file_entry-requires-clause-empty : goal.write_file_entry-requires-clause-empty
-write_file_entry-requires-clause-empty g c = λ has without.
-    let p = c.args.program.now in
+pub write_file_entry-requires-clause-there : goal.write_file_entry-requires-clause-there
+write_file_entry-requires-clause-there g c =
+    let p = c.args.input.now.program in
     let file : File = ((line_text c.file-file.result.0.now, c.file-file.result.1), details c.file-file.result.2.now) in
-    let there : slice_get p.files c.loop-index.index ≡ Some file = ap (λ l. slice_get l c.loop-index.index) (sym c.tables-tables.ensures.files)
+    let there : slice_get p.files c.loop-index.index ≡ Some file = ap (λ l. slice_get l c.loop-index.index) (sym (c.tables-tables.ensures.files ∙ ap (λ q. q.files) c.program.ensures.program))
     ∙ c.file-file.ensures in
-    c.requires.empty (needs-empty p _ _ c.requires.version there has without)
+    contains-at p.files c.loop-index.index file there
 
 pub loop-index-init : goal.loop-index-init
-loop-index-init g c =
-    let p = c.args.program.now in
-    let part =
-    λ (hand : Hand). file_entry_bytes hand (g.W.Sink.big c.args.w.now) p.encoding.format (texts_in c.args.strings.now c.args.line_strings.now) p in
-    record { so = none_written _ _ _ _; fit = All-nil FitsFile }
+loop-index-init g c = record { so = none_written _ _ _ _; fit = All-nil FitsFile }
 
 pub returns-in_err-write_file_entry-clause-writes : goal.returns-in_err-write_file_entry-clause-writes
 returns-in_err-write_file_entry-clause-writes g c =
-    let p = c.args.program.now in
+    let p = c.args.input.now.program in
     let i = c.loop-index.index in
     let file : File = ((line_text c.file-file.result.0.now, c.file-file.result.1), details c.file-file.result.2.now) in
-    let there : slice_get p.files i ≡ Some file = ap (λ (l : List File). slice_get l i) (sym c.tables-tables.ensures.files) ∙ c.file-file.ensures in
+    let there : slice_get p.files i ≡ Some file = ap (λ (l : List File). slice_get l i) (sym (c.tables-tables.ensures.files ∙ ap (λ q. q.files) c.program.ensures.program)) ∙ c.file-file.ensures in
     let so = rw (next_at p.files i file there) at c.loop-index.invariant.so in
     let refused = rw c.loop-index.invariant.so.ordered at c.in_err-write_file_entry.ensures.writes in
-    let q = err_from_is_err_and c.from_residual.result c.from_residual.ensures.1 in
-    rw (q.1, q.2) (one_unwritten so refused)
+    passed_on c.from_residual.ensures.1 (one_unwritten so refused)
 
 pub loop-index-preserved : goal.loop-index-preserved
 loop-index-preserved g c =
-    let p = c.args.program.now in
+    let p = c.args.input.now.program in
     let i = c.loop-index.index in
     let file : File = ((line_text c.file-file.result.0.now, c.file-file.result.1), details c.file-file.result.2.now) in
-    let there : slice_get p.files i ≡ Some file = ap (λ l. slice_get l i) (sym c.tables-tables.ensures.files) ∙ c.file-file.ensures in
+    let there : slice_get p.files i ≡ Some file = ap (λ l. slice_get l i) (sym (c.tables-tables.ensures.files ∙ ap (λ q. q.files) c.program.ensures.program)) ∙ c.file-file.ensures in
     let so = rw (next_at p.files i file there) at c.loop-index.invariant.so in
     record {
       so = one_written so (rw c.loop-index.invariant.so.ordered at c.in_ok-write_file_entry.ensures.writes);
       fit = rw (taken_at p.files i file there) (All-push FitsFile _ _ c.loop-index.invariant.fit c.in_ok-write_file_entry.ensures.fit);
     }
 
-pub returns-clause-writes : goal.returns-clause-writes
-returns-clause-writes g c =
-    let files = c.args.program.now.files in
-    let i = c.loop-index.index in
-    let count = c.file_count-index-end.ensures.count ∙ ap length c.tables-tables.ensures.files in
-    let end : length files ≤ i = omega (arith, c.loop-index-test.false, count) in
-    all_written (rw (drop_all i files end) at c.loop-index.invariant.so)
-
 pub returns-clause-fit : goal.returns-clause-fit
 returns-clause-fit g c =
-    let files = c.args.program.now.files in
+    let files = c.args.input.now.program.files in
     let i = c.loop-index.index in
-    let count = c.file_count-index-end.ensures.count ∙ ap length c.tables-tables.ensures.files in
+    let count = c.file_count-index-end.ensures.count ∙ ap length (c.tables-tables.ensures.files ∙ ap (λ q. q.files) c.program.ensures.program) in
     let end : length files ≤ i = omega (arith, c.loop-index-test.false, count) in
     rw (take_all i files end) at c.loop-index.invariant.fit

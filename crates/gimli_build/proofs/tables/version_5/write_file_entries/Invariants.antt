@@ -1,6 +1,5 @@
 use Rattle.std.proofs.Common.{drop, take, All}
 use Rattle.gimli_bytes.specs.Hand.{Hand}
-use Rattle.gimli_bytes.specs.Texts.{texts_in}
 use Rattle.gimli_build.specs.inside.Tables.{FitsFile}
 use Rattle.gimli_build.specs.Version5Tables.{file_entry_bytes}
 use Rattle.gimli_build.proofs.writing.Writes.{WritesSoFar}
@@ -9,7 +8,7 @@ use Rattle.gimli_build.proofs.tables.version_5.write_file_entries.Given as goal
 abbrev pub invariant-loop-index : goal.invariant-loop-index
 invariant-loop-index g l = record {
   so : WritesSoFar g.W.Sink
-      (λ (hand : Hand). file_entry_bytes hand (g.W.Sink.big l.fn.w) l.program.encoding.format (texts_in l.strings l.line_strings) l.program) l.program.files
-      (drop l.index l.program.files) l.fn.w l.w;
-  fit : All FitsFile (take l.index l.program.files);
+      (λ (hand : Hand). file_entry_bytes hand (g.W.Sink.big l.fn.w) l.input.program.encoding.format l.input.texts l.input.program) l.input.program.files
+      (drop l.index l.input.program.files) l.fn.w l.w;
+  fit : All FitsFile (take l.index l.input.program.files);
 }

@@ -1,33 +1,36 @@
 use Rattle.std.proofs.Common.{ap, ◌∙◌, List}
+use Rattle.std.proofs.lemmas.List.Elements.{All-contains}
+use Rattle.gimli_build.specs.LineText.{IsWithin}
+use Rattle.std.specs.Prelude.{IfSome}
+use Rattle.gimli_build.proofs.building.EmptySource.{needs-empty}
 use Rattle.gimli_build.specs.Tables.{File}
 use Rattle.gimli_build.specs.Version5Tables.{first_form, path_texts}
-use Rattle.std.proofs.lemmas.Result.{err_from_is_err_and}
-use Rattle.gimli_build.proofs.writing.Joined.{always_ok}
-use Rattle.gimli_build.proofs.writing.Writes.{first_unwritten, joins}
+use Rattle.gimli_build.proofs.writing.Writes.{first_unwritten, joins, passed_on}
 use Rattle.gimli_build.proofs.tables.version_5.write_file_entry.Goals as goal
+
+pub write_line_string-requires : goal.write_line_string-requires
+write_line_string-requires g c =
+    All-contains (λ f. IsWithin c.args.input.now.texts f.0.0) _ _ c.program-program.ensures.can.paths c.requires.there
+
+pub write_source-requires-clause-source : goal.write_source-requires-clause-source
+write_source-requires-clause-source g c =
+    All-contains (λ f. IfSome f.1.source (IsWithin c.args.input.now.texts)) _ _ c.program-program.ensures.can.sources c.requires.there
+
+pub write_source-requires-clause-none : goal.write_source-requires-clause-none
+write_source-requires-clause-none g c = needs-empty c.args.input.now.program _ c.requires.version c.requires.there
 
 pub returns-clause-writes : goal.returns-clause-writes
 returns-clause-writes g c =
-    let form = c.path_form-form.ensures ∙ ap (λ files. first_form (path_texts files)) c.tables.ensures.files in
-    let first = rw (form, c.format.ensures) at c.in_ok-write_line_string.ensures in
-    let third = rw (c.in_ok-write_details.ensures.writes.ordered ∙ c.in_ok-write_line_string.ensures.ordered) at c.write_source.ensures in
-    joins first (joins c.in_ok-write_details.ensures.writes third)
-
-pub returns-clause-fit : goal.returns-clause-fit
-returns-clause-fit g c =
-    let fit = c.in_ok-write_details.ensures.fit in
-    always_ok c.write_source.result (record { directory = fit.directory; timestamp = fit.timestamp; size = fit.size; md5 = fit.md5 })
-
-pub returns-in_err-write_line_string-clause-writes : goal.returns-in_err-write_line_string-clause-writes
-returns-in_err-write_line_string-clause-writes g c =
-    let p = err_from_is_err_and c.from_residual.result c.from_residual.ensures.1 in
-    let form = c.path_form-form.ensures ∙ ap (λ (files : List File). first_form (path_texts files)) c.tables.ensures.files in
-    let refused = rw (form, c.format.ensures) at c.in_err-write_line_string.ensures in
-    rw (p.1, p.2) (first_unwritten _ refused)
+    let files = c.tables.ensures.files ∙ ap (λ q. q.files) c.program-program.ensures.program in
+    let form = c.path_form.ensures ∙ ap (λ (files : List File). first_form (path_texts files)) files in
+    let first = rw form at c.in_ok-write_line_string.ensures in
+    let second = rw c.program-program.ensures.program at c.in_ok-write_details.ensures.writes in
+    let third = rw (second.ordered ∙ first.ordered) at c.write_source.ensures in
+    joins first (joins second third)
 
 pub returns-in_err-write_details-clause-writes : goal.returns-in_err-write_details-clause-writes
 returns-in_err-write_details-clause-writes g c =
-    let p = err_from_is_err_and c.from_residual-in_err-write_details.result c.from_residual-in_err-write_details.ensures.1 in
-    let form = c.path_form-form.ensures ∙ ap (λ (files : List File). first_form (path_texts files)) c.tables.ensures.files in
-    let first = rw (form, c.format.ensures) at c.in_ok-write_line_string.ensures in
-    rw (p.1, p.2) (joins first (first_unwritten _ c.in_err-write_details.ensures.writes))
+    let files = c.tables.ensures.files ∙ ap (λ q. q.files) c.program-program.ensures.program in
+    let form = c.path_form.ensures ∙ ap (λ (files : List File). first_form (path_texts files)) files in
+    let first = rw form at c.in_ok-write_line_string.ensures in
+    passed_on c.from_residual-in_err-write_details.ensures.1 (joins first (first_unwritten _ (rw c.program-program.ensures.program at c.in_err-write_details.ensures.writes)))

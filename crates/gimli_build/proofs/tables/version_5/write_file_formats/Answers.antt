@@ -2,9 +2,7 @@ use Rattle.std.proofs.Common.{length, ap}
 use Rattle.gimli_bytes.specs.Number.{uleb}
 use Rattle.gimli_build.specs.Version5Tables.{first_form, path_texts, sources}
 use Rattle.gimli_build.proofs.building.FormatLemmas.{formats-grouped}
-use Rattle.gimli_build.proofs.writing.Writes.{joins, unwritten, writes}
-use Rattle.std.proofs.lemmas.Result.{err_from_is_err_and}
-use Rattle.gimli_build.proofs.writing.Writes.{refused_alike}
+use Rattle.gimli_build.proofs.writing.Writes.{joins, unwritten, writes, passed_on, bytes_unwritten}
 use Rattle.gimli_build.proofs.tables.version_5.write_file_formats.Goals as goal
 
 pub returns : goal.returns
@@ -23,15 +21,12 @@ returns g c =
 
 pub returns-in_err-write_key_formats : goal.returns-in_err-write_key_formats
 returns-in_err-write_key_formats g c =
-    let p = err_from_is_err_and c.from_residual.result c.from_residual.ensures.1 in
-    rw (p.1, p.2) (refused_alike _ c.in_err-write_key_formats.ensures)
+    passed_on c.from_residual.ensures.1 (bytes_unwritten c.in_err-write_key_formats.ensures)
 
 pub returns-in_err-write_detail_formats : goal.returns-in_err-write_detail_formats
 returns-in_err-write_detail_formats g c =
-    let p = err_from_is_err_and c.from_residual-in_err-write_detail_formats.result c.from_residual-in_err-write_detail_formats.ensures.1 in
-    rw (p.1, p.2) (unwritten _ c.in_ok-write_key_formats.ensures c.in_err-write_detail_formats.ensures)
+    passed_on c.from_residual-in_err-write_detail_formats.ensures.1 (unwritten c.in_ok-write_key_formats.ensures c.in_err-write_detail_formats.ensures)
 
 pub returns-in_err-write_format_if : goal.returns-in_err-write_format_if
 returns-in_err-write_format_if g c =
-    let p = err_from_is_err_and c.from_residual-in_err-write_format_if.result c.from_residual-in_err-write_format_if.ensures.1 in
-    rw (p.1, p.2) (unwritten _ (joins c.in_ok-write_key_formats.ensures c.in_ok-write_detail_formats.ensures) c.in_err-write_format_if.ensures)
+    passed_on c.from_residual-in_err-write_format_if.ensures.1 (unwritten (joins c.in_ok-write_key_formats.ensures c.in_ok-write_detail_formats.ensures) c.in_err-write_format_if.ensures)

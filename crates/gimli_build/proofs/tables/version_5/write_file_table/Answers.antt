@@ -1,12 +1,11 @@
-use Rattle.std.proofs.lemmas.Result.{err_from_is_err_and}
-use Rattle.gimli_build.proofs.writing.Writes.{first_unwritten, joins}
+use Rattle.gimli_build.proofs.writing.Writes.{first_unwritten, joins, passed_on}
 use Rattle.gimli_build.proofs.tables.version_5.write_file_table.Goals as goal
 
 pub returns-clause-writes : goal.returns-clause-writes
 returns-clause-writes g c =
-    joins c.in_ok-write_file_formats.ensures (rw c.in_ok-write_file_formats.ensures.ordered at c.write_file_entries.ensures.writes)
+    let formats = rw c.program-program.ensures.program at c.in_ok-write_file_formats.ensures in
+    joins formats (rw formats.ordered at c.write_file_entries.ensures.writes)
 
 pub returns-in_err-write_file_formats-clause-writes : goal.returns-in_err-write_file_formats-clause-writes
 returns-in_err-write_file_formats-clause-writes g c =
-    let p = err_from_is_err_and c.from_residual.result c.from_residual.ensures.1 in
-    rw (p.1, p.2) (first_unwritten _ c.in_err-write_file_formats.ensures)
+    passed_on c.from_residual.ensures.1 (first_unwritten _ (rw c.program-program.ensures.program at c.in_err-write_file_formats.ensures))

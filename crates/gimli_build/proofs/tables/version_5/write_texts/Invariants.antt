@@ -1,6 +1,5 @@
 use Rattle.std.proofs.Common.{drop, map}
 use Rattle.gimli_bytes.specs.Hand.{Hand}
-use Rattle.gimli_bytes.specs.Texts.{texts_in}
 use Rattle.gimli_build.specs.LineText.{line_text}
 use Rattle.gimli_build.specs.Version5Tables.{text_in_form}
 use Rattle.gimli_build.proofs.writing.Writes.{WritesSoFar}
@@ -8,7 +7,7 @@ use Rattle.gimli_build.proofs.tables.version_5.write_texts.Given as goal
 
 abbrev pub invariant-loop-text : goal.invariant-loop-text
 invariant-loop-text g l = record {
-  so : WritesSoFar g.W.Sink (λ (hand : Hand). text_in_form hand (g.W.Sink.big l.fn.w) l.format (texts_in l.strings l.line_strings) l.form.0)
+  so : WritesSoFar g.W.Sink (λ (hand : Hand). text_in_form hand (g.W.Sink.big l.fn.w) l.input.program.encoding.format l.input.texts l.form.0)
       (map line_text l.texts)
       (drop l.text-index (map line_text l.texts)) l.fn.w l.w;
 }

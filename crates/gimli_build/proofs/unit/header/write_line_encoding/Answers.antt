@@ -1,8 +1,7 @@
 use Rattle.std.proofs.Common.{◌≡◌, [], ◌∷◌, Ok, rules}
-use Rattle.std.proofs.lemmas.Result.{err_from_is_err_and}
 use Rattle.gimli_build.specs.Unit.{flag_byte, base_byte}
 use Rattle.gimli_build.specs.inside.Writes.{always}
-use Rattle.gimli_build.proofs.writing.Writes.{first_unwritten, joins, writes}
+use Rattle.gimli_build.proofs.writing.Writes.{first_unwritten, joins, writes, passed_on}
 use Rattle.gimli_build.proofs.unit.header.write_line_encoding.Goals as goal
 
 pub returns : goal.returns
@@ -17,11 +16,8 @@ returns g c =
     joins c.in_ok-write_byte.ensures (joins c.in_ok-write_operation_count.ensures third)
 
 pub returns-in_err-write_byte : goal.returns-in_err-write_byte
-returns-in_err-write_byte g c =
-    let p = err_from_is_err_and c.from_residual.result c.from_residual.ensures.1 in
-    rw (p.1, p.2) (first_unwritten _ c.in_err-write_byte.ensures)
+returns-in_err-write_byte g c = passed_on c.from_residual.ensures.1 (first_unwritten _ c.in_err-write_byte.ensures)
 
 pub returns-in_err-write_operation_count : goal.returns-in_err-write_operation_count
 returns-in_err-write_operation_count g c =
-    let p = err_from_is_err_and c.from_residual-in_err-write_operation_count.result c.from_residual-in_err-write_operation_count.ensures.1 in
-    rw (p.1, p.2) (joins c.in_ok-write_byte.ensures (first_unwritten _ c.in_err-write_operation_count.ensures))
+    passed_on c.from_residual-in_err-write_operation_count.ensures.1 (joins c.in_ok-write_byte.ensures (first_unwritten _ c.in_err-write_operation_count.ensures))

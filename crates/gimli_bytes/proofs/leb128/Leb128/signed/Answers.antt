@@ -10,20 +10,23 @@ pub returns-then-has_seven_bits : goal.returns-then-has_seven_bits
 unfolding sleb
 returns-then-has_seven_bits c =
     let back : to_z w64 (of_z w64 c.args.val) ≡ c.args.val = omega (arith, ints) in
-    rw c.low_bits-low.ensures.value (sleb_end c.loop-len.bytes c.loop-len.len (to_z w64 c.loop-len.rest-bits) (sleb_within 9 (to_z w64 (of_z w64 c.args.val)))
+    rw c.low_bits-low.ensures.value (sleb_end _ _ _ _
     (omega (arith, c.loop-len.invariant.ten)) (sym c.if-has_seven_bits.ensures) c.loop-len.invariant.so
     ∙ ap (sleb_within 9) back)
 
 pub loop-len-preserved : goal.loop-len-preserved
 loop-len-preserved c =
     let wide : to_z w64 (of_z w64 c.div_euclid-rest.result) ≡ c.div_euclid-rest.result = omega (arith, ints) in
-    let back : to_z w64 (of_z w64 c.div_euclid-rest.result) ≡ int_div_euclid (to_z w64 c.loop-len.rest-bits) (pos 128) = wide ∙ c.div_euclid-rest.ensures in
+    let back : to_z w64 (of_z w64 c.div_euclid-rest.result)
+    ≡ int_div_euclid (to_z w64 c.loop-len.rest-bits) (pos 128) = wide
+    ∙ c.div_euclid-rest.ensures in
     record {
       ten = length-set c.loop-len.bytes c.loop-len.len (c.low_bits-low.result + 128) ∙ c.loop-len.invariant.ten;
       so =
           rw (back, c.low_bits-low.ensures.value)
           (sleb_step _ _ _ _
-          (omega (arith, c.loop-len.invariant.ten)) (omega arith) (sym c.if-has_seven_bits.ensures) c.loop-len.invariant.so);
+          (omega (arith, c.loop-len.invariant.ten)) (omega arith) (sym c.if-has_seven_bits.ensures)
+          c.loop-len.invariant.so);
     }
 
 pub returns : goal.returns

@@ -1,6 +1,7 @@
 use Rattle.std.proofs.Common.{rules, ◌≡◌, ◌≤◌, ◌+◌, ◌-◌, ◌++◌, length, refl, sym, arith, false, true≢false}
 use Rattle.std.specs.Vec.{vec_len, vec_capacity}
-use Rattle.gimli_bytes.proofs.PieceLemmas.{count-below, HoldPieces-grown, HoldPieces-same, bytes-within, bytes-length, bytes-more, no_piece}
+use Rattle.gimli_bytes.proofs.PieceLemmas.{count-below, HoldPieces-grown, HoldPieces-same, bytes-within, bytes-length}
+use Rattle.gimli_bytes.proofs.PieceLemmas.{bytes-more, no_piece}
 use Rattle.gimli_bytes.proofs.piece_vec.PieceVec.write.Goals as goal
 
 pub overflow_sub-div_ceil : goal.overflow_sub-div_ceil
@@ -13,14 +14,16 @@ pub put-requires-clause-sizes : goal.put-requires-clause-sizes
 put-requires-clause-sizes g c =
     let size : c.len.result ≡ length c.self.inside.pieces.items = search rules in
     let items : c.append.new.self.items ≡ c.self.inside.pieces.items ++ c.in_ok-added.added.items = search rules in
-    (HoldPieces-grown _ _ _ _ _ _ _ _ c.self.invariant items c.in_ok-added.ensures.sizes c.in_ok-added.ensures.count c.div_ceil.ensures
+    (HoldPieces-grown _ _ _ _ _ _ _ _ c.self.invariant items c.in_ok-added.ensures.sizes c.in_ok-added.ensures.count
+    c.div_ceil.ensures
     size).sizes
 
 pub put-requires-clause-fits : goal.put-requires-clause-fits
 put-requires-clause-fits g c =
     let size : c.len.result ≡ length c.self.inside.pieces.items = search rules in
     let items : c.append.new.self.items ≡ c.self.inside.pieces.items ++ c.in_ok-added.added.items = search rules in
-    bytes-within _ _ _ (HoldPieces-grown _ _ _ _ _ _ _ _ c.self.invariant items c.in_ok-added.ensures.sizes c.in_ok-added.ensures.count
+    bytes-within _ _ _
+    (HoldPieces-grown _ _ _ _ _ _ _ _ c.self.invariant items c.in_ok-added.ensures.sizes c.in_ok-added.ensures.count
     c.div_ceil.ensures size)
 
 pub invariant_of-self-2 : goal.invariant_of-self-2
@@ -55,7 +58,8 @@ returns-in_err-append-clause-room g c =
     let size : c.len.result ≡ length c.self.inside.pieces.items = search rules in
     rw (← c.self.view_is) (λ short none.
     let same = no_piece _ _ _ _ c.self.invariant none in
-    let added : vec_len c.in_ok-added.added ≡ 0 = omega (arith, c.in_ok-added.added.ok.0, c.in_ok-added.ensures.count, c.div_ceil.ensures, size, same) in
+    let added : vec_len c.in_ok-added.added
+    ≡ 0 = omega (arith, c.in_ok-added.added.ok.0, c.in_ok-added.ensures.count, c.div_ceil.ensures, size, same) in
     let fits : vec_len c.self.inside.pieces + vec_len c.in_ok-added.added
     ≤ vec_capacity c.self.inside.pieces = omega (arith, c.self.inside.pieces.ok.1, added) in
     absurd (true≢false (sym {a = false} (c.in_err-append.ensures.succeeds fits))))

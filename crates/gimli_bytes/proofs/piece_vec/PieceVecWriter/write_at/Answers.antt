@@ -1,6 +1,7 @@
 use Rattle.std.proofs.Common.{arith, ◌≡◌, ◌∙◌, ◌+◌, ◌≤◌, length, take, List, ℕ, refl, ap, sym, inr}
 use Rattle.std.specs.List.{concat}
-use Rattle.gimli_bytes.proofs.PieceLemmas.{HoldPieces-same, bytes-within, bytes-length, bytes-over, take-before, patched-inside, patched-past}
+use Rattle.gimli_bytes.proofs.PieceLemmas.{HoldPieces-same, bytes-within, bytes-length, bytes-over, take-before}
+use Rattle.gimli_bytes.proofs.PieceLemmas.{patched-inside, patched-past}
 use Rattle.gimli_bytes.proofs.WrittenAs.{no_truth}
 use Rattle.gimli_bytes.proofs.piece_vec.PieceVecWriter.write_at.Goals as goal
 
@@ -15,8 +16,12 @@ returns-then-bytes-self g c =
       refused = refl;
       ok = λ _. tt;
       completed = λ _ completes. absurd (no_truth completes);
-      err = λ _. patched-past (take c.self.inside.len (concat c.self.inside.pieces.items)) c.args.offset c.args.bytes.now (omega arith) (omega arith);
-      own = inr (patched-past (take c.self.inside.len (concat c.self.inside.pieces.items)) c.args.offset c.args.bytes.now (omega arith) (omega arith));
+      err = λ _.
+          patched-past (take c.self.inside.len (concat c.self.inside.pieces.items)) c.args.offset c.args.bytes.now
+          (omega arith) (omega arith);
+      own =
+          inr (patched-past (take c.self.inside.len (concat c.self.inside.pieces.items)) c.args.offset c.args.bytes.now
+          (omega arith) (omega arith));
       completed_own = λ _ completes. absurd (no_truth completes);
     })
 
@@ -28,16 +33,21 @@ returns g c =
     let old = take c.self.inside.len (concat c.self.inside.pieces.items) in
     let size : length old ≡ c.self.inside.len = bytes-length _ _ _ c.self.invariant in
     let fits : c.args.offset + length c.args.bytes.now ≤ c.self.inside.len = omega arith in
-    let over = bytes-over _ _ c.args.offset _ c.put.new.pieces.items c.args.bytes.now c.self.invariant fits c.put.ensures.bytes in
+    let over =
+    bytes-over _ _ c.args.offset _ c.put.new.pieces.items c.args.bytes.now c.self.invariant fits
+    c.put.ensures.bytes in
     let same = HoldPieces-same _ _ _ _ c.self.invariant c.put.ensures.sizes c.put.ensures.count in
     rw (← c.self.view_is) (record {
       len = bytes-length _ _ _ same ∙ sym (bytes-length _ _ _ c.self.invariant);
-      before = ap (λ (l : List ℕ). take c.args.offset l) over ∙ take-before old c.args.offset c.args.bytes.now (omega arith);
+      before =
+          ap (λ (l : List ℕ). take c.args.offset l) over ∙ take-before old c.args.offset c.args.bytes.now (omega arith);
       ordered = refl;
       stays = λ completes. completes;
       refused = tt;
       completed = λ _ completes. absurd (no_truth completes);
-      ok = λ _. patched-inside old c.args.offset c.args.bytes.now (take c.self.inside.len (concat c.put.new.pieces.items)) (omega arith) over;
+      ok = λ _.
+          patched-inside old c.args.offset c.args.bytes.now (take c.self.inside.len (concat c.put.new.pieces.items))
+          (omega arith) over;
       err = λ _. tt;
       own = tt;
       completed_own = λ _ completes. absurd (no_truth completes);

@@ -12,14 +12,14 @@ returns g c =
     let r = c.write.result in
     let e = c.write.ensures in
     record {
-      keeps = either r e.ok e.err (λ is. (grows_bytes v w c.args.bytes.now is).begins) (λ same. rw same (begins_self v.bytes));
-      ordered = either r e.ok e.err (λ is. (grows_bytes v w c.args.bytes.now is).big_is) (λ same. rw same refl);
-      stays = λ inside. either r e.ok e.err (λ is. (grows_bytes v w c.args.bytes.now is).stays inside) (λ same. rw same inside);
+      keeps = either r e.ok e.err (λ is. (grows_bytes v w _ is).begins) (λ same. rw same (begins_self v.bytes));
+      ordered = either r e.ok e.err (λ is. (grows_bytes v w _ is).big_is) (λ same. rw same refl);
+      stays = λ inside. either r e.ok e.err (λ is. (grows_bytes v w _ is).stays inside) (λ same. rw same inside);
       ok = λ keeps. absurd (no_truth keeps);
       completed = λ at inside. on_ok r (λ is. completed_bytes at v w c.args.bytes.now inside is) e.ok;
       err = λ memory. absurd (no_truth memory);
-      own = if_err r (λ d is. inl (bytes_refused v c.args.bytes.now d is)) e.cause;
-      completed_own = λ at inside. if_err r (λ d is. inl (bytes_refused v c.args.bytes.now d is)) e.cause;
+      own = if_err r (λ d is. inl (bytes_refused v _ d is)) e.cause;
+      completed_own = λ at inside. if_err r (λ d is. inl (bytes_refused v _ d is)) e.cause;
       untouched = λ keeps. absurd (no_truth keeps);
       none = λ all. on_err r (λ same. rw same refl) e.err;
     }

@@ -12,9 +12,14 @@ returns g c =
     let r = c.write_address.result in
     let e = c.write_address.ensures in
     record {
-      keeps = either r e.ok e.err (λ is. (grows_address v w c.args.address c.args.size is).begins) (λ same. rw same (begins_self v.bytes));
-      ordered = either r e.ok e.err (λ is. (grows_address v w c.args.address c.args.size is).big_is) (λ same. rw same refl);
-      stays = λ inside. either r e.ok e.err (λ is. (grows_address v w c.args.address c.args.size is).stays inside) (λ same. rw same inside);
+      keeps =
+          either r e.ok e.err (λ is. (grows_address v w c.args.address c.args.size is).begins) (λ same.
+          rw same (begins_self v.bytes));
+      ordered =
+          either r e.ok e.err (λ is. (grows_address v w c.args.address c.args.size is).big_is) (λ same. rw same refl);
+      stays = λ inside.
+          either r e.ok e.err (λ is. (grows_address v w c.args.address c.args.size is).stays inside) (λ same.
+          rw same inside);
       ok = λ keeps. absurd (no_truth keeps);
       completed = λ at inside. on_ok r (λ is. completed_address at v w c.args.address c.args.size inside is) e.ok;
       err = λ memory. absurd (no_truth memory);

@@ -16,16 +16,22 @@ returns g c =
     let at = c.args.offset in
     let small : n < 2 ^ 64 = omega arith in
     let call = c.cast_signed-addend in
-    let passed : cast_signed w64 n ≡ to_z w64 (of_z w64 call.result) = ap (to_z w64) (sym (of_z-to_z w64 n small) ∙ ap (of_z w64) (sym call.ensures)) in
+    let passed : cast_signed w64 n
+    ≡ to_z w64 (of_z w64 call.result) = ap (to_z w64)
+    (sym (of_z-to_z w64 n small) ∙ ap (of_z w64) (sym call.ensures)) in
     let ok = rw (← passed) at e.ok in
     record {
       len = e.len;
       before = e.before;
       ordered = e.ordered;
-      stays = λ inside. either r ok e.err (λ is. stays_inside_at v w at c.args.section n c.args.size small is inside) (λ same. rw same inside);
+      stays = λ inside.
+          either r ok e.err (λ is. stays_inside_at v w at c.args.section n c.args.size small is inside) (λ same.
+          rw same inside);
       refused = on_err r (λ same. rw same refl) e.err;
       ok = λ keeps. absurd (no_truth keeps);
-      completed = λ places inside. on_ok r (λ is. completed_offset_at places v w at c.args.section n c.args.size small inside is) ok;
+      completed =
+          λ places inside.
+          on_ok r (λ is. completed_offset_at places v w at c.args.section n c.args.size small inside is) ok;
       err = λ memory. absurd (no_truth memory);
       own = if_err r (λ d is. inl (place_at_refused v at _ _ c.args.size d is)) e.cause;
       completed_own = λ places inside. if_err r (λ d is. inl (place_at_refused v at _ _ c.args.size d is)) e.cause;

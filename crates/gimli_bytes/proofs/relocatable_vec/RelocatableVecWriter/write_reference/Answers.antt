@@ -13,14 +13,21 @@ returns g c =
     let r = c.write_reference.result in
     let e = c.write_reference.ensures in
     record {
-      keeps = either r e.ok e.err (λ is. (grows_reference v w c.args.symbol c.args.size is).begins) (λ same. rw same (begins_self v.bytes));
-      ordered = either r e.ok e.err (λ is. (grows_reference v w c.args.symbol c.args.size is).big_is) (λ same. rw same refl);
-      stays = λ inside. either r e.ok e.err (λ is. (grows_reference v w c.args.symbol c.args.size is).stays inside) (λ same. rw same inside);
+      keeps =
+          either r e.ok e.err (λ is. (grows_reference v w c.args.symbol c.args.size is).begins) (λ same.
+          rw same (begins_self v.bytes));
+      ordered =
+          either r e.ok e.err (λ is. (grows_reference v w c.args.symbol c.args.size is).big_is) (λ same. rw same refl);
+      stays = λ inside.
+          either r e.ok e.err (λ is. (grows_reference v w c.args.symbol c.args.size is).stays inside) (λ same.
+          rw same inside);
       ok = λ keeps. absurd (no_truth keeps);
       completed = λ at inside. on_ok r (λ is. completed_reference at v w c.args.symbol c.args.size inside is) e.ok;
       err = λ memory. absurd (no_truth memory);
       own = if_err r (λ d is. inl (place_refused v (OfSymbol c.args.symbol) (pos 0) c.args.size d is)) e.cause;
-      completed_own = λ at inside. if_err r (λ d is. inl (place_refused v (OfSymbol c.args.symbol) (pos 0) c.args.size d is)) e.cause;
+      completed_own =
+          λ at inside.
+          if_err r (λ d is. inl (place_refused v (OfSymbol c.args.symbol) (pos 0) c.args.size d is)) e.cause;
       untouched = λ keeps. absurd (no_truth keeps);
       none = λ all. on_err r (λ same. rw same refl) e.err;
     }

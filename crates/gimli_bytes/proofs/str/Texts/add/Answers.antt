@@ -2,30 +2,41 @@ use Rattle.std.proofs.Common.{rules, ◌≡◌, sym, ap, ◌∙◌, false, true,
 use Rattle.std.specs.Prelude.{slice_get}
 use Rattle.gimli_bytes.specs.Texts.{with_text, index_of_text}
 use Rattle.gimli_bytes.specs.inside.TextFields.{texts_of}
-use Rattle.gimli_bytes.proofs.TextLemmas.{is_there, not_there, index_there, place_new, texts_new, with_text-there, byte_count-new, with_text-AreTexts}
+use Rattle.gimli_bytes.proofs.TextLemmas.{is_there, not_there, index_there, place_new, texts_new, with_text-there}
+use Rattle.gimli_bytes.proofs.TextLemmas.{byte_count-new, with_text-AreTexts}
 use Rattle.gimli_bytes.proofs.TextLemmas.{with_text-found, with_text-KeepsTexts}
 use Rattle.gimli_bytes.proofs.str.Texts.add.Goals as goal
 
 pub returns-in-Some-clause-ok : goal.returns-in-Some-clause-ok
 returns-in-Some-clause-ok c =
     rw (← c.self.view_is) (sym
-    (with_text-there (texts_of c.self.inside.strings.keys) c.args.text.now (is_there c.self.inside.strings.keys c.args.text.now true c.in-Some.ensures.found)))
+    (with_text-there (texts_of c.self.inside.strings.keys) c.args.text.now
+    (is_there c.self.inside.strings.keys c.args.text.now true c.in-Some.ensures.found)))
 
 pub returns-in-Some-clause-id : goal.returns-in-Some-clause-id
 returns-in-Some-clause-id c =
-    rw (← c.self.view_is) (index_there c.self.inside.strings.keys c.args.text.now c.in-Some.index c.in-Some.ensures.index)
+    rw (← c.self.view_is)
+    (index_there c.self.inside.strings.keys c.args.text.now c.in-Some.index c.in-Some.ensures.index)
 
-added : (c : goal.After-self-1) → texts_of c.insert_full.new.self.keys ≡ with_text (texts_of c.self.inside.strings.keys) c.args.text.now
+added : (c : goal.After-self-1)
+    → texts_of c.insert_full.new.self.keys ≡ with_text (texts_of c.self.inside.strings.keys) c.args.text.now
 added c =
     ap texts_of c.in_ok-index.ensures.keys
-    ∙ texts_new c.self.inside.strings.keys c.args.text.now c.in_ok-copy.copy (search rules) c.in_default.ensures.found
+    ∙ texts_new _ _ c.in_ok-copy.copy (search rules) c.in_default.ensures.found
 
 pub invariant_of-self-2 : goal.invariant_of-self-2
 invariant_of-self-2 c =
     let absent = is_there c.self.inside.strings.keys c.args.text.now false c.in_default.ensures.found in
     rw (added c) (record {
-      are_texts = with_text-AreTexts (texts_of c.self.inside.strings.keys) c.args.text.now c.self.invariant.are_texts c.requires;
-      counted = omega (arith, byte_count-new (texts_of c.self.inside.strings.keys) c.args.text.now absent, c.self.invariant.counted);
+      are_texts =
+          with_text-AreTexts (texts_of c.self.inside.strings.keys) c.args.text.now c.self.invariant.are_texts
+          c.requires;
+      counted =
+          omega (
+            arith,
+            byte_count-new (texts_of c.self.inside.strings.keys) c.args.text.now absent,
+            c.self.invariant.counted,
+          );
     })
 
 pub returns-clause-ok : goal.returns-clause-ok
@@ -34,7 +45,8 @@ returns-clause-ok c = rw (← c.self.view_is) (added c)
 pub returns-clause-id : goal.returns-clause-id
 returns-clause-id c =
     let same : c.in_ok-copy.copy.items ≡ c.args.text.now = search rules in
-    rw (← c.self.view_is) (c.in_ok-index.ensures.index ∙ place_new c.self.inside.strings.keys c.args.text.now c.in_ok-copy.copy same)
+    rw (← c.self.view_is)
+    (c.in_ok-index.ensures.index ∙ place_new c.self.inside.strings.keys c.args.text.now c.in_ok-copy.copy same)
 
 pub returns-in-Some-clause-found : goal.returns-in-Some-clause-found
 returns-in-Some-clause-found c =
@@ -49,7 +61,8 @@ returns-in-Some-clause-found c =
 pub returns-clause-found : goal.returns-clause-found
 returns-clause-found c =
     let same : c.in_ok-copy.copy.items ≡ c.args.text.now = search rules in
-    let place = c.in_ok-index.ensures.index ∙ place_new c.self.inside.strings.keys c.args.text.now c.in_ok-copy.copy same in
+    let place =
+    c.in_ok-index.ensures.index ∙ place_new c.self.inside.strings.keys c.args.text.now c.in_ok-copy.copy same in
     rw (added c) (ap (slice_get (with_text (texts_of c.self.inside.strings.keys) c.args.text.now)) place
     ∙ with_text-found (texts_of c.self.inside.strings.keys) c.args.text.now)
 

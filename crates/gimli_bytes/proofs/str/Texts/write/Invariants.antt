@@ -13,6 +13,8 @@ invariant-loop-text g l =
       ordered : g.W.Sink.big l.w ≡ g.W.Sink.big l.fn.w;
       stays : IsTrue (g.W.Sink.completes l.fn.w) → IsTrue (g.W.Sink.completes l.w);
       completed : (at : Placement) → IsTrue (g.W.Sink.completes l.fn.w)
-          → g.W.Sink.completed at l.w ≡ g.W.Sink.completed at l.fn.w ++ table_bytes (texts_of (take l.text-index l.text-items));
-      put : IsTrue g.W.Sink.keeps_bytes → contents l.w ≡ contents l.fn.w ++ table_bytes (texts_of (take l.text-index l.text-items));
+          → g.W.Sink.completed at l.w
+          ≡ g.W.Sink.completed at l.fn.w ++ table_bytes (texts_of (take l.text-index l.text-items));
+      put : IsTrue g.W.Sink.keeps_bytes
+          → contents l.w ≡ contents l.fn.w ++ table_bytes (texts_of (take l.text-index l.text-items));
     }

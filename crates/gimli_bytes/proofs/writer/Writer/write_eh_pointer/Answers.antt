@@ -1,4 +1,4 @@
-use Rattle.std.proofs.Common.{◌≡◌, ◌≢◌, refl, sym, ◌∙◌, arith}
+use Rattle.std.proofs.Common.{◌≡◌, ◌≢◌, sym, ◌∙◌, arith}
 use Rattle.gimli_bytes.proofs.WrittenAs.{append_as, refused_at_once, absolute_pointer, relative_pointer, other_pointer}
 use Rattle.gimli_bytes.proofs.writer.Writer.write_eh_pointer.Goals as goal
 
@@ -28,6 +28,3 @@ returns-in_default g c =
     refused_at_once _ (other_pointer _ _ _ _
     _ _ c.in-Constant.is
     (rw (← c.application.ensures) not_absolute) (rw (← c.application.ensures) not_relative))
-
-pub returns-in-Symbol : goal.returns-in-Symbol
-returns-in-Symbol g c = refused_at_once _ (rw c.in-Symbol.is refl)

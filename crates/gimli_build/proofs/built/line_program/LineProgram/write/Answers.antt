@@ -1,5 +1,4 @@
-use Rattle.std.proofs.Common.{rules, ◌≡◌, true, false, inl, inr, refl, subst}
-use Rattle.std.proofs.lemmas.Result.{err_from_is_err_and}
+use Rattle.std.proofs.Common.{rules, ◌≡◌, false, subst}
 use Rattle.gimli_bytes.specs.Hand.{plain}
 use Rattle.gimli_bytes.specs.Written.{Appends}
 use Rattle.gimli_bytes.specs.Texts.{texts_in}
@@ -7,15 +6,16 @@ use Rattle.gimli_build.specs.Version5Tables.{texts_after}
 use Rattle.gimli_bytes.specs.Relocations.{placed}
 use Rattle.gimli_build.specs.Linked.{placed_program, SumsFit}
 use Rattle.gimli_build.specs.Unit.{unit_bytes, is_incompatible}
-use Rattle.gimli_build.proofs.writing.Writes.{written_or_memory, refused_or_memory, nothing_written}
 use Rattle.gimli_build.proofs.building.EmptySource.{can-write-after}
 use Rattle.gimli_build.proofs.reading.ReadBack.{appended-back}
 use Rattle.gimli_build.proofs.linking.PlacedUnits.{placed-plain, is-built, can-write}
+use Rattle.std.proofs.lemmas.Result.{err_from_is_err_and}
+use Rattle.gimli_build.proofs.writing.Writes.{refused_or_memory}
 use Rattle.gimli_build.proofs.refusals.Causes.{cause-is}
 use Rattle.gimli_build.proofs.built.line_program.LineProgram.write.Goals as goal
 
-pub write_whole-requires-clause-can : goal.write_whole-requires-clause-can
-write_whole-requires-clause-can g c =
+pub new-input-requires-clause-can : goal.new-input-requires-clause-can
+new-input-requires-clause-can g c =
     rw (c.in_ok-empty.ensures.tables.strings, c.in_ok-empty.ensures.tables.line_strings)
     (can-write-after _ _ c.requires)
 
@@ -30,9 +30,9 @@ returns-clause-reads_back g c = λ keeps_bytes.
     let same = empty.tables.strings in
     let line_same = empty.tables.line_strings in
     let compatible : is_incompatible c.args.encoding p.encoding ≡ false = search rules in
-    let written = rw (same, line_same) at (whole.writes.ok keeps_bytes) in
+    let written = rw (c.new-input.ensures.program, c.new-input.ensures.texts, same, line_same) at (whole.writes.ok keeps_bytes) in
     let appended : Appends (unit_bytes plain big c.args.encoding p texts) (contents c.args.w.now.0) (contents c.write_whole.new.w) = rw compatible written in
-    rw (same, line_same) (appended-back big c.args.encoding p texts _ _ whole.short whole.built c.requires (rw same at empty.texts)
+    rw (same, line_same) (appended-back big c.args.encoding p texts _ _ whole.short (rw c.new-input.ensures.program at whole.built) c.requires (rw same at empty.texts)
     (rw line_same at empty.line_texts) (rw same at empty.short) (rw line_same at empty.line_short) appended)
 
 pub returns-clause-linked : goal.returns-clause-linked
@@ -48,36 +48,22 @@ returns-clause-linked g c = λ at completes is_placed fit zero.
     let line_same = empty.tables.line_strings in
     let compatible : is_incompatible c.args.encoding p.encoding ≡ false = search rules in
     let sums : SumsFit at p (texts_after p texts) = rw (same, line_same) at fit in
-    let written = rw (same, line_same, is_placed) at (whole.writes.completed at completes) in
+    let written = rw (c.new-input.ensures.program, c.new-input.ensures.texts, same, line_same, is_placed) at (whole.writes.completed at completes) in
     let by_hand : Appends (unit_bytes (placed at) big c.args.encoding p texts) old new = rw compatible written in
     let appended : Appends (unit_bytes plain big c.args.encoding (placed_program at p) texts) old new =
     subst (λ r. Appends r old new) (placed-plain at big c.args.encoding p texts sums zero) by_hand in
     rw (same, line_same) (appended-back big c.args.encoding (placed_program at p) texts old new (whole.completed_short at completes)
-    (is-built at p whole.built) (can-write at p texts c.requires) (rw same at empty.texts) (rw line_same at empty.line_texts) (rw same at empty.short)
+    (is-built at p (rw c.new-input.ensures.program at whole.built)) (can-write at p texts c.requires) (rw same at empty.texts) (rw line_same at empty.line_texts) (rw same at empty.short)
     (rw line_same at empty.line_short) appended)
-
-pub returns-clause-writes : goal.returns-clause-writes
-returns-clause-writes g c =
-    let compatible : is_incompatible c.args.encoding c.args.self.now.encoding ≡ false = search rules in
-    let written = rw (c.in_ok-empty.ensures.tables.strings, c.in_ok-empty.ensures.tables.line_strings) at c.in_ok-write_whole.ensures.writes in
-    rw compatible (written_or_memory written)
 
 pub returns-in_err-write_whole-clause-writes : goal.returns-in_err-write_whole-clause-writes
 returns-in_err-write_whole-clause-writes g c =
     let compatible : is_incompatible c.args.encoding c.args.self.now.encoding ≡ false = search rules in
     let q = err_from_is_err_and c.from_residual-in_err-write_whole.result c.from_residual-in_err-write_whole.ensures.1 in
-    let refused = rw (c.in_ok-empty.ensures.tables.strings, c.in_ok-empty.ensures.tables.line_strings) at c.in_err-write_whole.ensures.writes in
+    let input = c.new-input.ensures in
+    let tables = c.in_ok-empty.ensures.tables in
+    let refused = rw (input.program, input.texts, tables.strings, tables.line_strings) at c.in_err-write_whole.ensures.writes in
     rw (q.1, q.2, compatible) (refused_or_memory refused)
-
-pub returns-in_err-empty-clause-writes : goal.returns-in_err-empty-clause-writes
-returns-in_err-empty-clause-writes g c =
-    let q = err_from_is_err_and c.from_residual.result c.from_residual.ensures.1 in
-    rw (q.1, q.2) (nothing_written g.W.Sink c.args.w.now.0 c.in_err-empty.field-0.0 _ (λ hand. inl c.in_err-empty.ensures.memory))
-
-pub returns-then-is_incompatible-clause-writes : goal.returns-then-is_incompatible-clause-writes
-returns-then-is_incompatible-clause-writes g c =
-    let barred : is_incompatible c.args.encoding c.args.self.now.encoding ≡ true = search rules in
-    nothing_written _ _ _ _ (λ hand. inr (rw barred refl))
 
 pub returns-clause-cause : goal.returns-clause-cause
 returns-clause-cause g c =
@@ -91,10 +77,5 @@ returns-in_err-write_whole-clause-cause g c =
 
 pub returns-in_err-empty-clause-cause : goal.returns-in_err-empty-clause-cause
 returns-in_err-empty-clause-cause g c =
-    cause-is _ c.args.encoding c.args.self.now (texts_in c.args.strings.now c.args.line_strings.now)
-    (c.encoding.ensures.accepted c.requires.program).address_size
-
-pub returns-then-is_incompatible-clause-cause : goal.returns-then-is_incompatible-clause-cause
-returns-then-is_incompatible-clause-cause g c =
     cause-is _ c.args.encoding c.args.self.now (texts_in c.args.strings.now c.args.line_strings.now)
     (c.encoding.ensures.accepted c.requires.program).address_size
