@@ -1,14 +1,13 @@
 //! Where `write` refuses a program.
 
-ghost use Rattle.std.specs.Prelude.{◌≡◌, ◌<◌, ◌≤◌, false, true, IsTrue, All, IfSome};
+ghost use Rattle.std.specs.Prelude.{◌≡◌, ◌<◌, ◌+◌, ◌^◌, false, IsTrue, IfSome, length, option_map};
 ghost use Rattle.gimli_core.specs.Numbers.{is_address_size};
 ghost use Rattle.gimli_bytes.specs.Texts.{texts_in};
 ghost use Rattle.gimli_build.specs.LineText.{line_text, IsWithin};
-ghost use Rattle.gimli_build.specs.TableFields.{details};
 ghost use Rattle.gimli_build.specs.Conditions.{CanWrite};
 ghost use Rattle.gimli_build.specs.Cause.{item_cause, text_cause, word_cause};
 ghost use Rattle.gimli_build.specs.Refused.{FindsFirst, cause_of_directory, cause_of_file};
-ghost use Rattle.gimli_build.specs.Refused.{cause_of_item, wanted_form};
+ghost use Rattle.gimli_build.specs.Refused.{cause_of_item, source_cause, wanted_form};
 
 use crate::built::items::BuiltItem;
 use crate::built::line_program::LineProgram;
@@ -30,18 +29,33 @@ impl LineProgram {
         ensures { FindsFirst
             (cause_of_directory self.now (texts_in strings.now line_strings.now)) result }
     {
-        let directories = self.tables().directories();
-        let form = wanted_form(self.version(), directory_form(directories));
-        for (index, directory) in directories.iter().enumerate() {
-            let is_written = self.version() > 4 || index > 0;
-            let cause = text_cause(self.format(), form, directory, line_strings, strings);
-            if let Some(cause) = cause {
-                if is_written {
-                    return Some((index, cause));
-                }
+        for index in 0..self.tables().directories().len() {
+            if let Some(cause) = self.directory_cause(index, line_strings, strings) {
+                return Some((index, cause));
             }
         }
         None
+    }
+
+    /// Why the directory with an index is refused.
+    fn directory_cause(
+        &self,
+        index: usize,
+        line_strings: &LineStringTable,
+        strings: &StringTable,
+    ) -> Option<Error>
+        requires can { CanWrite self.now (texts_in strings.now line_strings.now) }
+        requires there { index < length self.now.directories }
+        ensures { result
+            ≡ cause_of_directory self.now (texts_in strings.now line_strings.now) index }
+    {
+        let directories = self.tables().directories();
+        let form = wanted_form(self.version(), directory_form(directories));
+        let cause = text_cause(self.format(), form, &directories[index], line_strings, strings);
+        if self.version() <= 4 && index == 0 {
+            return None;
+        }
+        cause
     }
 
     /// The first file that `write` refuses, by its index, and why: its path is refused as a
@@ -56,24 +70,56 @@ impl LineProgram {
         ensures { FindsFirst
             (cause_of_file self.now (texts_in strings.now line_strings.now)) result }
     {
-        let tables = self.tables();
-        let format = self.format();
-        let form = wanted_form(self.version(), path_form(tables));
-        let source = source_form(tables);
-        let writes_sources = self.version() >= 5 && self.file_has_source;
-        for index in 0..tables.file_count() {
-            let (path, _, info) = tables.file(index);
-            let mut cause = text_cause(format, form, path, line_strings, strings);
-            if cause.is_none() && writes_sources {
-                if let Some(text) = &info.source {
-                    cause = text_cause(format, source, text, line_strings, strings);
-                }
-            }
-            if let Some(cause) = cause {
+        for index in 0..self.tables().file_count() {
+            if let Some(cause) = self.file_cause(index, line_strings, strings) {
                 return Some((index, cause));
             }
         }
         None
+    }
+
+    /// Why the file with an index is refused.
+    fn file_cause(
+        &self,
+        index: usize,
+        line_strings: &LineStringTable,
+        strings: &StringTable,
+    ) -> Option<Error>
+        requires can { CanWrite self.now (texts_in strings.now line_strings.now) }
+        requires there { index < length self.now.files }
+        ensures { result ≡ cause_of_file self.now (texts_in strings.now line_strings.now) index }
+    {
+        let tables = self.tables();
+        let (path, _, info) = tables.file(index);
+        let form = wanted_form(self.version(), path_form(tables));
+        match text_cause(self.format(), form, path, line_strings, strings) {
+            Some(cause) => Some(cause),
+            None => self.source_cause(&info.source, line_strings, strings),
+        }
+    }
+
+    /// Why a source is refused, if there is one and it is written.
+    fn source_cause(
+        &self,
+        source: &Option<LineString>,
+        line_strings: &LineStringTable,
+        strings: &StringTable,
+    ) -> Option<Error>
+        requires { IfSome source.now (λ text.
+            IsWithin (texts_in strings.now line_strings.now) (line_text text)) }
+        ensures { result ≡ source_cause self.now (texts_in strings.now line_strings.now)
+            (option_map line_text source.now) }
+    {
+        if self.version() < 5 || !self.file_has_source {
+            return None;
+        }
+        match source {
+            Some(text) => {
+                let form = source_form(self.tables());
+                text_cause(self.format(), form, text, line_strings, strings)
+            }
+            None => None,
+        }
     }
 
     /// The first set address that a writer without relocations refuses, by its index among the
@@ -83,13 +129,22 @@ impl LineProgram {
         requires { self.now.is_none ≡ false }
         ensures { FindsFirst (cause_of_item self.now) result }
     {
-        let size = self.address_size();
-        for (index, item) in self.built_items().iter().enumerate() {
-            if let Some(cause) = item_cause(size, item) {
+        for index in 0..self.built_items().len() {
+            if let Some(cause) = self.item_cause(index) {
                 return Some((index, cause));
             }
         }
         None
+    }
+
+    /// Why the item with an index is refused.
+    fn item_cause(&self, index: usize) -> Option<Error>
+        requires program { self.now.is_none ≡ false }
+        requires there { index < length self.now.items }
+        ensures { result ≡ cause_of_item self.now index }
+    {
+        let encoding = self.encoding();
+        item_cause(encoding.address_size, &self.built_items()[index])
     }
 }
 
@@ -141,10 +196,22 @@ fn item_cause(size: u8, item: &BuiltItem) -> Option<Error>
 {
     match item {
         BuiltItem::SetAddress(Address::Constant(address)) => {
-            let is_wide = size < 8 && *address >> (8 * size) != 0;
-            is_wide.then_some(Error::ValueTooLarge)
+            (*address > greatest_address(size)).then_some(Error::ValueTooLarge)
         }
         BuiltItem::SetAddress(Address::Symbol { .. }) => Some(Error::InvalidAddress),
         _ => None,
+    }
+}
+
+/// The greatest address of so many bytes.
+fn greatest_address(size: u8) -> u64
+    requires { IsTrue (is_address_size size) }
+    ensures { result + 1 ≡ 256 ^ size }
+{
+    match size {
+        1 => 0xff,
+        2 => 0xffff,
+        4 => 0xffff_ffff,
+        _ => 0xffff_ffff_ffff_ffff,
     }
 }
