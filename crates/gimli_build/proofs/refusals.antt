@@ -3,3 +3,4 @@ pub mod Refusals
 pub mod NumberRefusals
 pub mod TableRefusals
 pub mod Causes
+pub mod FirstCauses
