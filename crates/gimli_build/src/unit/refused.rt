@@ -1,6 +1,7 @@
 //! Where `write` refuses a program.
 
 ghost use Rattle.std.specs.Prelude.{◌≡◌, ◌<◌, ◌+◌, ◌^◌, false, IsTrue, IfSome, length, option_map};
+ghost use Rattle.std.specs.Prelude.{◌&&◌, nat_eq, nat_le};
 ghost use Rattle.gimli_core.specs.Numbers.{is_address_size};
 ghost use Rattle.gimli_bytes.specs.Texts.{texts_in};
 ghost use Rattle.gimli_build.specs.LineText.{line_text, IsWithin};
@@ -52,7 +53,7 @@ impl LineProgram {
         let directories = self.tables().directories();
         let form = wanted_form(self.version(), directory_form(directories));
         let cause = text_cause(self.format(), form, &directories[index], line_strings, strings);
-        if self.version() <= 4 && index == 0 {
+        if is_handed(self.version(), index) {
             return None;
         }
         cause
@@ -146,6 +147,13 @@ impl LineProgram {
         let encoding = self.encoding();
         item_cause(encoding.address_size, &self.built_items()[index])
     }
+}
+
+/// Whether a directory is the working directory, which isn't written up to version 4.
+fn is_handed(version: u16, index: usize) -> bool
+    ensures { result ≡ (nat_le version 4 && nat_eq index 0) }
+{
+    version <= 4 && index == 0
 }
 
 /// The form that texts have to have, where the first of their table has this one.
