@@ -28,10 +28,8 @@ pub fn rewrite(alloc: Global, section: &[u8], lines: &mut Vec<u8>) -> ConvertRes
         let Some(end) = source.header().next_unit_offset() else {
             return Err(ConvertError::InvalidLineRef);
         };
-        let rows = end
-            .0
-            .saturating_sub(source.header().raw_program_buf().len());
-        let Some(header) = section.get(lines.len()..rows) else {
+        let rows = source.header().raw_program_buf().len();
+        let Some(header) = section.get(lines.len()..end.0.saturating_sub(rows)) else {
             return Err(ConvertError::InvalidLineRef);
         };
         lines.extend_from_slice(header)?;
@@ -76,9 +74,8 @@ fn started<R: Reader>(alloc: Global, header: &LineProgramHeader<R>) -> ConvertRe
     }
     let directory = LineString::String(Vec::new(alloc));
     let path = LineString::String(Vec::new(alloc));
-    LineProgram::new(alloc, encoding, line_encoding, directory, None, path, None).map_err(
-        ConvertError::Write,
-    )
+    let program = LineProgram::new(alloc, encoding, line_encoding, directory, None, path, None);
+    program.map_err(ConvertError::Write)
 }
 
 /// Adds so many files, with names of their own, so that each has the number that it has in the
@@ -194,12 +191,8 @@ fn written(
     if !program.can_write(&line_strings, &strings) {
         return Err(ConvertError::UnsupportedUnitType);
     }
-    match program.write(
-        &mut lines,
-        program.encoding(),
-        &mut line_strings,
-        &mut strings,
-    ) {
+    let of = program.encoding();
+    match program.write(&mut lines, of, &mut line_strings, &mut strings) {
         Ok(_) => Ok(lines),
         Err(e) => Err(ConvertError::Write(e)),
     }
