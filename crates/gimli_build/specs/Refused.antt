@@ -27,7 +27,8 @@ module _ (p : Built) (texts : StringTables) where
   abbrev pub directory_cause : ℕ → LineText → Option Error
   directory_cause i t =
       if nat_le p.encoding.version 4 && nat_eq i 0 then None
-      else text_cause p.encoding.format texts (wanted_form p.encoding.version (first_form p.directories), t)
+      else text_cause p.encoding.format texts
+      (wanted_form p.encoding.version (first_form p.directories), t)
 
   -- why a file is refused: for its path, else for its source where sources are written
   abbrev pub source_cause : Option LineText → Option Error

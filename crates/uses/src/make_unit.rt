@@ -129,7 +129,7 @@ fn add_function(
     program.end_sequence(6)
 }
 
-/// Prints what `write` refuses of a program: it has a file whose path isn't in a table as that of the
+/// Prints what `write` refuses of a program: a file whose path isn't in a table, as that of the
 /// first one is, and a symbol as address.
 pub fn start_refused(alloc: Global, text: &mut String) -> Result<()> {
     let mut line_strings = LineStringTable::default(alloc);

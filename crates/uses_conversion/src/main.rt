@@ -1,5 +1,5 @@
-//! A unit up to version 4, written in version 5; or a section whose rows are written anew. After the
-//! word `then` another command may follow; it is run where one is refused too.
+//! A unit up to version 4, written in version 5; or a section whose rows are written anew. After
+//! the word `then` another command may follow; it is run where one is refused too.
 #![tactic(auto)]
 
 mod rewrite;

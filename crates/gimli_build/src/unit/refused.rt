@@ -52,7 +52,13 @@ impl LineProgram {
     {
         let directories = self.tables().directories();
         let form = wanted_form(self.version(), directory_form(directories));
-        let cause = text_cause(self.format(), form, &directories[index], line_strings, strings);
+        let cause = text_cause(
+            self.format(),
+            form,
+            &directories[index],
+            line_strings,
+            strings,
+        );
         if is_handed(self.version(), index) {
             return None;
         }
