@@ -42,7 +42,8 @@ fn run(rt: &HostRuntime, words: &[String], text: &mut String) -> Result<()> {
     }
     let section = fs::read(rt, lines.as_str())?;
     let mut lines = Vec::new(rt.alloc());
-    rewrite::rewrite(rt.alloc(), &section, &mut lines)?;
+    let reader = DebugLine::new(&section, LittleEndian);
+    rewrite::rewrite(rt.alloc(), &reader, &section, &mut lines)?;
     for byte in &lines {
         write!(text, "{byte:02x}")?;
     }
