@@ -42,8 +42,7 @@ fn run(rt: &HostRuntime, words: &[String], text: &mut String) -> Result<()> {
     }
     let section = fs::read(rt, lines.as_str())?;
     let mut lines = Vec::new(rt.alloc());
-    let reader = DebugLine::new(&section, LittleEndian);
-    rewrite::rewrite(rt.alloc(), &reader, &section, &mut lines)?;
+    rewrite::rewrite(rt.alloc(), &section, &mut lines)?;
     for byte in &lines {
         write!(text, "{byte:02x}")?;
     }

@@ -3,10 +3,8 @@
 //! which a builder's table can't hold, and texts keep their offsets.
 #![tactic(auto)]
 
-use gimli_core::{DebugLineOffset, Error, Format, LittleEndian, Reader, ReaderOffset, Result};
-use gimli_line::{
-    ColumnType, IncompleteLineProgram, LineProgramHeader, LineRow, LineUnit, OneShotLineRows,
-};
+use gimli_core::{DebugLineOffset, Error, Format, LittleEndian, Reader, Result};
+use gimli_line::{ColumnType, IncompleteLineProgram, LineProgramHeader, LineRow, OneShotLineRows};
 use gimli_write::{
     Address, ConvertError, ConvertResult, DebugLine, EndianVec, FileId, LineProgram, LineString,
     LineStringTable, StringTable,
@@ -16,51 +14,32 @@ use std::alloc::Global;
 /// How many operands the opcodes of a builder have (DWARF 5, section 6.2.5.2).
 const OPERANDS: &[u8] = &[0, 1, 1, 1, 1, 0, 0, 0, 1, 0, 0, 1];
 
-/// Appends each unit of a section of these bytes, with its rows written anew.
-pub fn rewrite<R: Reader>(
-    alloc: Global,
-    section: &gimli_line::DebugLine<R>,
-    bytes: &[u8],
-    lines: &mut Vec<u8>,
-) -> ConvertResult<()> {
-    let mut units = section.units(alloc, 8);
+/// Appends each unit of a section, with its rows written anew.
+pub fn rewrite(alloc: Global, section: &[u8], lines: &mut Vec<u8>) -> ConvertResult<()> {
+    let reader = gimli_line::DebugLine::new(section, LittleEndian);
+    let mut units = reader.units(alloc, 8);
     'units: loop {
-        match units.next() {
-            Ok(Some(unit)) => rewrite_unit(alloc, unit, bytes, lines)?,
+        let unit = match units.next() {
+            Ok(Some(unit)) => unit,
             Ok(None) => return Ok(()),
             Err(refusal) => return Err(ConvertError::Read(refusal)),
+        };
+        let source = unit.program.map_err(ConvertError::Read)?;
+        let Some(end) = source.header().next_unit_offset() else {
+            return Err(ConvertError::InvalidLineRef);
+        };
+        let rows = source.header().raw_program_buf().len();
+        let Some(header) = section.get(lines.len()..end.0.saturating_sub(rows)) else {
+            return Err(ConvertError::InvalidLineRef);
+        };
+        lines.extend_from_slice(header)?;
+        add_rows_anew(alloc, source, lines)?;
+        if lines.len() > end.0 {
+            return Err(ConvertError::UnsupportedUnitType);
         }
+        // DW_LNS_set_basic_block says nothing if no row comes after it.
+        lines.resize(end.0, 7)?;
     }
-}
-
-/// Appends a unit: its header as it is, its rows, and what fills it.
-fn rewrite_unit<R: Reader>(
-    alloc: Global,
-    unit: LineUnit<R>,
-    bytes: &[u8],
-    lines: &mut Vec<u8>,
-) -> ConvertResult<()> {
-    let source = unit.program.map_err(ConvertError::Read)?;
-    let size = usize_of(source.header().raw_program_buf().len());
-    let end = source
-        .header()
-        .next_unit_offset()
-        .map_or(0, |end| usize_of(end.0));
-    let Some(header) = bytes.get(lines.len()..end.saturating_sub(size)) else {
-        return Err(ConvertError::InvalidLineRef);
-    };
-    lines.extend_from_slice(header)?;
-    add_rows_anew(alloc, source, lines)?;
-    if lines.len() > end {
-        return Err(ConvertError::UnsupportedUnitType);
-    }
-    // DW_LNS_set_basic_block says nothing if no row comes after it.
-    Ok(lines.resize(end, 7)?)
-}
-
-/// An offset of a section that is in memory.
-fn usize_of<O: ReaderOffset>(offset: O) -> usize {
-    usize::try_from(offset.into_u64()).unwrap_or(usize::MAX)
 }
 
 /// Appends the instructions of the rows of a source, as they are written with its encodings.

@@ -3,4 +3,4 @@ use Rattle.std.proofs.Common.{length}
 use Rattle.uses_conversion.proofs.rewrite.rewrite.Given as goal
 
 abbrev pub decreases-units : goal.decreases-units
-decreases-units g l = length l.units.offsets
+decreases-units l = length l.units.offsets
