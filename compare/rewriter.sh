@@ -25,8 +25,8 @@ bad=0
 same() {
     local what=$1
     shift
-    "$@" old 2>&1 | sed 's/^old:/of:/' >wanted
-    "$@" new 2>&1 | sed 's/^new:/of:/' >found
+    "$@" old 2>&1 | sed "s/^\(Verifying \)\?old:/of:/" >wanted
+    "$@" new 2>&1 | sed "s/^\(Verifying \)\?new:/of:/" >found
     if [ -s wanted ] && cmp -s wanted found; then
         good=$((good + 1))
     else

@@ -2,3 +2,4 @@
 pub mod Refusals
 pub mod TableRefusals
 pub mod Causes
+pub mod FirstCauses

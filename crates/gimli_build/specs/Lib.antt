@@ -26,6 +26,7 @@ pub mod Version4Tables
 pub mod Version5Tables
 pub mod Unit
 pub mod Cause
+pub mod Refused
 pub mod Linked
 pub mod NoFiles
 pub mod Traps

@@ -17,6 +17,7 @@ ghost use Rattle.gimli_build.specs.Writes.{WritesOr, OfMemoryOr};
 ghost use Rattle.gimli_build.specs.inside.Writes.{Writes, always};
 
 mod header;
+mod refused;
 mod writable;
 
 use crate::built::line_program::LineProgram;

@@ -7,7 +7,8 @@ use gimli_core::SectionId;
 pub enum RelocationTarget {
     /// A symbol, by the number that [`Address::Symbol`](crate::Address::Symbol) has.
     OfSymbol(usize),
-    /// The beginning of a section.
+    /// The beginning of a section. Where a linker merges the texts of a section, this has to be the
+    /// section's own symbol, and never a label: linkers move each text by itself.
     OfSection(SectionId),
 }
 

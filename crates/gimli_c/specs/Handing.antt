@@ -109,7 +109,8 @@ pub record GivesUnitOf (h : Handed) (old new : List ℕ) (size : ℕ)
   pub fits : length bytes ≤ length old
   pub written_is : new ≡ slots_with bytes old
   pub size_is : size ≡ length bytes
-  pub numbers_are : numbers_new ≡ slots_with (numbers_of h.encoding.version built.file_ids) numbers_old
+  pub numbers_are : numbers_new
+      ≡ slots_with (numbers_of h.encoding.version built.file_ids) numbers_old
 
 -- the unit is longer than the room
 pub record NeedsRoom (h : Handed) (old : List ℕ) (size : ℕ) : Type 0 where

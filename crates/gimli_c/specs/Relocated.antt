@@ -76,7 +76,8 @@ pub record GivesRelocatable (h : Handed) (old new : List ℕ) (size : ℕ)
   pub few : length section.relocations ≤ length slots_old
   pub relocations_are : slots_new ≡ slots_with (map relocation_seen section.relocations) slots_old
   pub count_is : count ≡ length section.relocations
-  pub numbers_are : numbers_new ≡ slots_with (numbers_of h.encoding.version built.file_ids) numbers_old
+  pub numbers_are : numbers_new
+      ≡ slots_with (numbers_of h.encoding.version built.file_ids) numbers_old
 
 -- the unit or its relocations are more than the room
 pub record NeedsRelocatableRoom (h : Handed) (old : List ℕ) (size : ℕ)

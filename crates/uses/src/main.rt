@@ -38,6 +38,7 @@ fn run(rt: &HostRuntime, command: &[String], text: &mut String) -> Result<()> {
         "where_is" => where_is::start(rt, words, text),
         "line_index" => line_index::start(rt, words, text),
         "make_unit" => Ok(make_unit::start(rt.alloc(), text)?),
+        "refused" => Ok(make_unit::start_refused(rt.alloc(), text)?),
         "make_object" => Ok(make_object::start(rt.alloc(), text)?),
         "own" => own::start(rt.alloc(), text),
         _ => bail!("no command {program}"),

@@ -129,6 +129,52 @@ fn add_function(
     program.end_sequence(6)
 }
 
+/// Prints what `write` refuses of a program: a file whose path isn't in a table, as that of the
+/// first one is, and a symbol as address.
+pub fn start_refused(alloc: Global, text: &mut String) -> Result<()> {
+    let mut line_strings = LineStringTable::default(alloc);
+    let mut program = with_source(alloc, &mut line_strings)?;
+    print_refused(alloc, &mut program, &line_strings, text)
+}
+
+/// Adds a line for the first directory, the first file and the first item that are refused.
+fn print_refused(
+    alloc: Global,
+    program: &mut LineProgram,
+    line_strings: &LineStringTable,
+    text: &mut String,
+) -> Result<()> {
+    let path = LineString::String(b"b.c".to_vec(alloc)?);
+    let strings = StringTable::default(alloc);
+    if program.is_none() || !path.has_no_zero() || program.version() < 5 {
+        return Err(Error::InvalidRange);
+    }
+    program.add_file(path, program.default_directory(), None)?;
+    let symbol = Address::Symbol {
+        symbol: 1,
+        addend: 0,
+    };
+    program.set_address(symbol)?;
+    if !program.can_write(line_strings, &strings) {
+        return Err(Error::InvalidRange);
+    }
+    print_part(
+        "directory",
+        program.refused_directory(line_strings, &strings),
+        text,
+    )?;
+    print_part("file", program.refused_file(line_strings, &strings), text)?;
+    print_part("item", program.refused_item(), text)
+}
+
+/// Adds a line for what is refused, if something is.
+fn print_part(kind: &str, refused: Option<(usize, Error)>, text: &mut String) -> Result<()> {
+    match refused {
+        Some((index, cause)) => Ok(writeln!(text, "{kind} {index}: {cause}")?),
+        None => Ok(writeln!(text, "no {kind}")?),
+    }
+}
+
 /// Adds a row, if it can follow the one before it.
 fn add_row(program: &mut LineProgram, file: FileId, offset: u64, line: u64) -> Result<()> {
     let row = program.row();

@@ -1,5 +1,5 @@
-//! A unit up to version 4, written in version 5; or a section whose rows are written anew. After the
-//! word `then` another command may follow; it is run where one is refused too.
+//! A unit up to version 4, written in version 5; or a section whose rows are written anew. After
+//! the word `then` another command may follow; it is run where one is refused too.
 #![tactic(auto)]
 
 mod rewrite;
@@ -8,8 +8,8 @@ use anyhow::{Result, bail};
 use gimli_core::{DebugLineOffset, Encoding, EndianSlice, LittleEndian, Reader};
 use gimli_line::{DebugLine, IncompleteLineProgram};
 use gimli_write::{
-    Address, ConvertError, ConvertResult, EndianVec, Error, LineProgram, LineStringTable,
-    RoundTrip, StringTable, convert_program, round_trip,
+    Address, ConvertError, ConvertResult, EndianVec, Error, FileId, LineProgram, LineStringTable,
+    RoundTrip, StringTable, convert_program, keeps_numbers, round_trip, written_number,
 };
 use std::alloc::Global;
 use std::fmt::Write;
@@ -74,7 +74,7 @@ fn print_converted<'i>(
     let section = DebugLine::new(section, LittleEndian);
     let source = section.program(alloc, DebugLineOffset(offset), 8, directory, None)?;
     let empty = EndianSlice::new(b"", LittleEndian);
-    let converted = convert(alloc, source, name, empty)?;
+    let converted = convert(alloc, source, name, empty, text)?;
     for row in &converted.rows {
         let line = row.line().map_or(0, |line| line.get());
         let end = if row.end_sequence() { " end" } else { "" };
@@ -96,10 +96,19 @@ fn convert<R: Reader>(
     source: IncompleteLineProgram<R>,
     name: Option<R>,
     empty: R,
+    text: &mut String,
 ) -> ConvertResult<RoundTrip> {
     let mut strings = StringTable::default(alloc);
     let mut line_strings = LineStringTable::default(alloc);
-    convert_with(alloc, source, name, empty, &mut line_strings, &mut strings)
+    convert_with(
+        alloc,
+        source,
+        name,
+        empty,
+        &mut line_strings,
+        &mut strings,
+        text,
+    )
 }
 
 /// Converts with the tables of texts that a program has.
@@ -110,10 +119,11 @@ fn convert_with<R: Reader>(
     empty: R,
     line_strings: &mut LineStringTable,
     strings: &mut StringTable,
+    text: &mut String,
 ) -> ConvertResult<RoundTrip> {
     let from = source.header().encoding();
     let encoding = Encoding { version: 5, ..from };
-    let (program, _files) = convert_program(
+    let (program, files) = convert_program(
         empty,
         empty,
         source,
@@ -124,7 +134,21 @@ fn convert_with<R: Reader>(
         strings,
         |address| Some(Address::Constant(address)),
     )?;
+    print_numbers(&program, &files, from.version, text)?;
     read_back(alloc, &program, line_strings, strings)
+}
+
+/// Adds whether each file of a source of this version has its old number, and the new number of
+/// file 1.
+fn print_numbers(
+    program: &LineProgram,
+    files: &[FileId],
+    version: u16,
+    text: &mut String,
+) -> ConvertResult<()> {
+    let kept = keeps_numbers(program, files, version);
+    let number = written_number(program, files, version, 1).map_or(u64::MAX, |number| number);
+    Ok(writeln!(text, "numbers are kept: {kept}; file 1 is file {number}")?)
 }
 
 /// What is read of a program after it was written.

@@ -3,7 +3,7 @@
 //! which a builder's table can't hold, and texts keep their offsets.
 #![tactic(auto)]
 
-use gimli_core::{DebugLineOffset, EndianSlice, Format, LittleEndian, Reader, ReaderOffset};
+use gimli_core::{DebugLineOffset, Error, Format, LittleEndian, Reader, Result};
 use gimli_line::{ColumnType, IncompleteLineProgram, LineProgramHeader, LineRow, OneShotLineRows};
 use gimli_write::{
     Address, ConvertError, ConvertResult, DebugLine, EndianVec, FileId, LineProgram, LineString,
@@ -11,24 +11,25 @@ use gimli_write::{
 };
 use std::alloc::Global;
 
-/// The operands of the opcodes that a builder writes with (DWARF 5, section 6.2.5.2).
+/// How many operands the opcodes of a builder have (DWARF 5, section 6.2.5.2).
 const OPERANDS: &[u8] = &[0, 1, 1, 1, 1, 0, 0, 0, 1, 0, 0, 1];
-
-/// DW_LNS_set_basic_block. Without a row after it, it says nothing, so it fills a unit.
-const FILLER: u8 = 7;
 
 /// Appends each unit of a section, with its rows written anew.
 pub fn rewrite(alloc: Global, section: &[u8], lines: &mut Vec<u8>) -> ConvertResult<()> {
     let reader = gimli_line::DebugLine::new(section, LittleEndian);
     let mut units = reader.units(alloc, 8);
-    'units: while let Some(unit) = units.next().map_err(ConvertError::Read)? {
+    'units: loop {
+        let unit = match units.next() {
+            Ok(Some(unit)) => unit,
+            Ok(None) => return Ok(()),
+            Err(refusal) => return Err(ConvertError::Read(refusal)),
+        };
         let source = unit.program.map_err(ConvertError::Read)?;
         let Some(end) = source.header().next_unit_offset() else {
             return Err(ConvertError::InvalidLineRef);
         };
         let rows = source.header().raw_program_buf().len();
-        let rows_begin = end.0.saturating_sub(rows);
-        let Some(header) = section.get(lines.len()..rows_begin) else {
+        let Some(header) = section.get(lines.len()..end.0.saturating_sub(rows)) else {
             return Err(ConvertError::InvalidLineRef);
         };
         lines.extend_from_slice(header)?;
@@ -36,9 +37,9 @@ pub fn rewrite(alloc: Global, section: &[u8], lines: &mut Vec<u8>) -> ConvertRes
         if lines.len() > end.0 {
             return Err(ConvertError::UnsupportedUnitType);
         }
-        lines.resize(end.0, FILLER)?;
+        // DW_LNS_set_basic_block says nothing if no row comes after it.
+        lines.resize(end.0, 7)?;
     }
-    Ok(())
 }
 
 /// Appends the instructions of the rows of a source, as they are written with its encodings.
@@ -54,12 +55,13 @@ fn add_rows_anew<R: Reader>(
     }
     let mut program = started(alloc, header)?;
     let files = add_files(alloc, &mut program, header.file_names().len())?;
-    add_rows(&mut program, &files, source.rows())?;
+    let rows = rows_of(alloc, source.rows()).map_err(ConvertError::Read)?;
+    add_rows(&mut program, &files, &rows)?;
     let unit = written(alloc, &program)?;
     let unit = gimli_line::DebugLine::new(unit.0.slice(), LittleEndian);
     let unit = unit.program(alloc, DebugLineOffset(0), 8, None, None);
-    let rows = unit.map_err(ConvertError::Read)?.header().raw_program_buf();
-    lines.extend_from_slice(rows.slice())?;
+    let bytes = unit.map_err(ConvertError::Read)?.header().raw_program_buf();
+    lines.extend_from_slice(bytes.slice())?;
     Ok(())
 }
 
@@ -72,8 +74,8 @@ fn started<R: Reader>(alloc: Global, header: &LineProgramHeader<R>) -> ConvertRe
     }
     let directory = LineString::String(Vec::new(alloc));
     let path = LineString::String(Vec::new(alloc));
-    LineProgram::new(alloc, encoding, line_encoding, directory, None, path, None)
-        .map_err(ConvertError::Write)
+    let program = LineProgram::new(alloc, encoding, line_encoding, directory, None, path, None);
+    program.map_err(ConvertError::Write)
 }
 
 /// Adds so many files, with names of their own, so that each has the number that it has in the
@@ -95,25 +97,32 @@ fn add_files(alloc: Global, program: &mut LineProgram, count: usize) -> ConvertR
     Ok(files)
 }
 
-/// Adds the rows of a source, whose files have these ids.
-fn add_rows<R: Reader>(
-    program: &mut LineProgram,
-    files: &[FileId],
-    rows: OneShotLineRows<R>,
-) -> ConvertResult<()> {
+/// The rows of a source.
+fn rows_of<R: Reader>(alloc: Global, rows: OneShotLineRows<R>) -> Result<Vec<LineRow>> {
     let mut rows = rows;
-    let mut base = 0;
+    let mut list = Vec::new(alloc);
     'rows: loop {
-        let row = match rows.next_row().map_err(ConvertError::Read)? {
+        let row = match rows.next_row()? {
             Some((_header, row)) => *row,
-            None => return Ok(()),
+            None => return Ok(list),
         };
+        if list.push(row).is_err() {
+            return Err(Error::OutOfMemory);
+        }
+    }
+}
+
+/// Adds the rows of a source, whose files have these ids.
+fn add_rows(program: &mut LineProgram, files: &[FileId], rows: &[LineRow]) -> ConvertResult<()> {
+    let mut base = 0;
+    for row in rows {
         if !program.in_sequence() {
             base = row.address();
             begin(program, base)?;
         }
-        add_row(program, files, row.address().saturating_sub(base), &row)?;
+        add_row(program, files, row.address().saturating_sub(base), row)?;
     }
+    Ok(())
 }
 
 /// Begins a sequence at an address.

@@ -118,7 +118,7 @@ fn lacks_source(tables: &FileTable) -> bool
 }
 
 /// The form of sources: that of the first.
-fn source_form(tables: &FileTable) -> DwForm
+pub(crate) fn source_form(tables: &FileTable) -> DwForm
     ensures { result.0 ≡ first_form (sources tables.now.files) }
 {
     for index in 0..tables.file_count() {
@@ -131,7 +131,7 @@ fn source_form(tables: &FileTable) -> DwForm
 }
 
 /// The form of paths: that of the first.
-fn path_form(tables: &FileTable) -> DwForm
+pub(crate) fn path_form(tables: &FileTable) -> DwForm
     ensures { result.0 ≡ first_form (path_texts tables.now.files) }
 {
     if tables.file_count() == 0 {
@@ -142,7 +142,7 @@ fn path_form(tables: &FileTable) -> DwForm
 }
 
 /// The form of directories: that of the first.
-fn directory_form(directories: &[LineString]) -> DwForm
+pub(crate) fn directory_form(directories: &[LineString]) -> DwForm
     ensures { result.0 ≡ first_form (map line_text directories.now) }
 {
     match directories.first() {

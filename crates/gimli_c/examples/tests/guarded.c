@@ -138,6 +138,7 @@ static void write_unit(size_t offset, const gimli_line_unit *unit) {
     static gimli_line_file_name files[64];
     static char texts[64 * 3 + 1];
     static const gimli_line_name directory = {0, 1};
+    static uint64_t numbers[64];
     uint64_t first = gimli_line_first_number(unit), count;
     is(rows_in(offset, 0, rows, 4096, &count) == GIMLI_LINE_OK && count <= 4096 && unit->files <= 64, "the rows of a unit");
     gimli_line_contents contents = {.struct_size = sizeof contents,
@@ -149,7 +150,9 @@ static void write_unit(size_t offset, const gimli_line_unit *unit) {
                                     .files = files,
                                     .file_count = unit->files,
                                     .rows = rows,
-                                    .row_count = count};
+                                    .row_count = count,
+                                    .numbers = numbers,
+                                    .number_room = unit->files};
     contents.encoding.offset_size = (uint8_t)unit->offset_size;
     texts[0] = 'd';
     for (uint64_t i = 0; i < unit->files; i++) {
@@ -173,6 +176,7 @@ static void write_unit(size_t offset, const gimli_line_unit *unit) {
     for (uint64_t i = 0; i < unit->files; i++) {
         gimli_line_file file;
         uint8_t name[2];
+        is(numbers[i] == i + first, "the number of a file that was written");
         is(file_path_in(0, i + first, name, 2, &file) == GIMLI_LINE_OK && memcmp(name, texts + files[i].path.first, 2) == 0 &&
                file.timestamp == files[i].timestamp && file.size == files[i].size && memcmp(file.md5, files[i].md5, sizeof file.md5) == 0 &&
                file.directory_number == first && file.directory.size == 1,

@@ -1,6 +1,6 @@
 -- The numbers that the files of a source have once it is converted.
-use Rattle.std.specs.Prelude.{◌≡◌, ℕ, Bool, ◌&&◌, ◌||◌, nat_eq, nat_le, if◌then◌else◌, List, Option}
-use Rattle.std.specs.Prelude.{None, option_map, slice_get, IfSome}
+use Rattle.std.specs.Prelude.{◌≡◌, ℕ, ◌&&◌, nat_eq, nat_le, if◌then◌else◌, List, Option, None}
+use Rattle.std.specs.Prelude.{option_map, slice_get, IfSome}
 use Rattle.gimli_build.specs.FileNumber.{file_number}
 
 -- the number in a program of a version that a file of a source has, by the ids of the source's
@@ -14,8 +14,3 @@ written_number source_version version file_ids number =
 abbrev pub AreNumbersKept : ℕ → ℕ → List ℕ → Type 0
 AreNumbersKept source_version version file_ids =
     (n : ℕ) → IfSome (written_number source_version version file_ids n) (λ m. m ≡ n)
-
--- the file with this id has this number, or it is the one that stands at number 0 up to version 4
-abbrev pub is_kept : ℕ → ℕ → ℕ → ℕ → Bool
-is_kept source_version version number id =
-    (nat_le source_version 4 && nat_eq number 0) || nat_eq (file_number version id) number

@@ -1,8 +1,8 @@
 //! The numbers that the files of a source have once it is converted.
 
-ghost use Rattle.std.specs.Prelude.{ℕ, IsTrue, ◌≡◌, ◌↔◌, ◌≤◌, nat_le, nat_eq, ◌&&◌, ◌||◌};
+ghost use Rattle.std.specs.Prelude.{IsTrue, ◌≡◌, ◌↔◌, nat_le, nat_eq, ◌&&◌, ◌||◌};
 ghost use Rattle.gimli_build.specs.FileNumber.{file_number};
-ghost use Rattle.gimli_write.specs.convert.FileNumbers.{written_number, AreNumbersKept, is_kept};
+ghost use Rattle.gimli_write.specs.convert.FileNumbers.{written_number, AreNumbersKept};
 
 use crate::convert::tables::file_at;
 use gimli_build::{FileId, LineProgram};
@@ -45,7 +45,8 @@ pub fn keeps_numbers(program: &LineProgram, files: &[FileId], source_version: u1
 /// Whether a file of this id has its old number, or is the one at 0 up to version 4, which no
 /// number names.
 fn is_kept(source_version: u16, version: u16, number: u64, id: FileId) -> bool
-    ensures { result ≡ is_kept source_version version number id }
+    ensures { result ≡ ((nat_le source_version 4 && nat_eq number 0)
+        || nat_eq (file_number version id) number) }
 {
     source_version <= 4 && number == 0 || id.raw(version) == number
 }

@@ -28,27 +28,28 @@ returns-clause-ok c = λ big.
     c.as_slice.ensures.value c.in_ok-file_ids.ensures.ok in
     record {
       built = record {
-          start = c.in_ok-start.start;
-          is_start = record {
-            program_is = c.in_ok-start.ensures.start
-                ∙ ap (λ (e : Encoding). start_program e c.in_ok-units.lines c.args.texts.now c.args.directories.now c.args.files.now) c.in_ok-units.ensures.encoding
-                ∙ ap (λ (l : LineEncoding). start_program (encoding_of c.args.encoding.now) l c.args.texts.now c.args.directories.now c.args.files.now)
-                c.in_ok-units.ensures.lines;
-            can = c.in_ok-start.ensures.can;
-          };
-          directory_ids = c.in_ok-ids.ids.items;
-          file_ids = c.in_ok-file_ids.file_ids.items;
-          between = between;
-          after = after;
-          directories = directories;
-          files = files;
-          items =
-              items_built c.args.details c.args.encoding.now c.in_ok-start.start between after c.add_rows.new.program _ _ _ _ _ _ c.as_slice-2.result.now
-              c.args.symbols.now c.args.rows.now
-              (ap (λ (q : Built). q.items) c.in_ok-start.ensures.start) encoding directories files c.as_slice-2.ensures.value c.in_ok-add_rows.ensures.ok;
-          others = c.in_ok-add_rows.ensures.ok.others;
-          can = c.in_ok-add_rows.ensures.can;
+        start = c.in_ok-start.start;
+        is_start = record {
+          program_is = c.in_ok-start.ensures.start
+              ∙ ap (λ (e : Encoding). start_program e c.in_ok-units.lines c.args.texts.now c.args.directories.now c.args.files.now)
+              c.in_ok-units.ensures.encoding
+              ∙ ap (λ (l : LineEncoding). start_program (encoding_of c.args.encoding.now) l c.args.texts.now c.args.directories.now c.args.files.now)
+              c.in_ok-units.ensures.lines;
+          can = c.in_ok-start.ensures.can;
         };
+        directory_ids = c.in_ok-ids.ids.items;
+        file_ids = c.in_ok-file_ids.file_ids.items;
+        between = between;
+        after = after;
+        directories = directories;
+        files = files;
+        items =
+            items_built c.args.details c.args.encoding.now c.in_ok-start.start between after c.add_rows.new.program _ _ _ _ _ _ c.as_slice-2.result.now
+            c.args.symbols.now c.args.rows.now
+            (ap (λ (q : Built). q.items) c.in_ok-start.ensures.start) encoding directories files c.as_slice-2.ensures.value c.in_ok-add_rows.ensures.ok;
+        others = c.in_ok-add_rows.ensures.ok.others;
+        can = c.in_ok-add_rows.ensures.can;
+      };
       ids_are = refl;
     }
 

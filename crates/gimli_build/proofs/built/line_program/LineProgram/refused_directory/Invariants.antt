@@ -1,0 +1,8 @@
+use Rattle.std.proofs.Common.{◌≡◌, ℕ, ◌<◌, None}
+use Rattle.gimli_bytes.specs.Texts.{texts_in}
+use Rattle.gimli_build.specs.Refused.{cause_of_directory}
+use Rattle.gimli_build.proofs.built.line_program.LineProgram.refused_directory.Given as goal
+
+abbrev pub invariant-loop-index : goal.invariant-loop-index
+invariant-loop-index l =
+    (i : ℕ) → i < l.index → cause_of_directory l.self (texts_in l.strings l.line_strings) i ≡ None

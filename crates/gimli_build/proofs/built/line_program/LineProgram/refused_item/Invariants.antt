@@ -1,0 +1,7 @@
+use Rattle.std.proofs.Common.{◌≡◌, ℕ, ◌<◌, None}
+use Rattle.gimli_build.specs.Refused.{cause_of_item}
+use Rattle.gimli_build.proofs.built.line_program.LineProgram.refused_item.Given as goal
+
+abbrev pub invariant-loop-index : goal.invariant-loop-index
+invariant-loop-index l =
+    (i : ℕ) → i < l.index → cause_of_item l.self i ≡ None

@@ -1,0 +1,30 @@
+-- The first part of a program that is refused.
+use Rattle.std.proofs.Common.{◌≡◌, ℕ, ◌<◌, List, Some, map, length, get_or, arith, refl, ap, sym, subst, ◌∙◌}
+use Rattle.std.specs.Prelude.{All, slice_get, option_map, false, ◌&&◌, nat_eq, nat_le}
+use Rattle.gimli_bytes.specs.Texts.{StringTables}
+use Rattle.gimli_build.specs.LineText.{LineText}
+use Rattle.gimli_build.specs.Built.{Built}
+use Rattle.gimli_build.specs.Version5Tables.{first_form}
+use Rattle.gimli_build.specs.Cause.{text_cause}
+use Rattle.gimli_build.specs.Refused.{cause_of_directory, wanted_form}
+use Rattle.std.proofs.lemmas.List.{length-map}
+use Rattle.std.proofs.lemmas.Option.{slice_get-map, slice_get_read, slice_get_within, get_or_from_slice_get}
+
+-- why a directory is refused, where it is there and isn't the handed one
+pub directory_there : (p : Built) (texts : StringTables) (i : ℕ) (t : LineText) → slice_get p.directories i ≡ Some t
+    → (nat_le p.encoding.version 4 && nat_eq i 0) ≡ false
+    → cause_of_directory p texts i
+    ≡ text_cause p.encoding.format texts (wanted_form p.encoding.version (first_form p.directories), t)
+directory_there p texts i t there not_handed = rw (there, not_handed) refl
+
+-- an element of a list that is another list, seen
+pub mapped_at : {A B : Type 0} (f : A → B) (xs : List A) (ys : List B) (i : ℕ) (x : A) → map f xs ≡ ys → i < length ys
+    → x ≡ get_or xs i x → slice_get ys i ≡ Some (f x)
+mapped_at {B = B} f xs ys i x same lt is =
+    let long : length xs ≡ length ys = sym (length-map xs f) ∙ ap (λ (zs : List B). length zs) same in
+    ap (λ (zs : List B). slice_get zs i) (sym same) ∙ slice_get-map f xs i
+    ∙ ap (option_map f) (slice_get_read xs (length xs) i x refl (omega (arith, long, lt)) is)
+
+-- what is true of all elements is true of this one
+pub all_at : {B : Type 0} (P : B → Type 0) (ys : List B) (i : ℕ) (y : B) → All P ys → slice_get ys i ≡ Some y → P y
+all_at P ys i y all is = subst P (get_or_from_slice_get ys i y y is) (all i y (slice_get_within ys i y is))
