@@ -1,5 +1,5 @@
 #!/usr/bin/env python3
-"""Lines that fit on a screen: at most 100 characters in src and specs, and at most 160 in proofs.
+"""Lines that fit on a screen: at most 100 characters in src and specs, and at most 120 in proofs.
 
   .ci/columns.py --check [CRATE..]   lists each line that is longer, and ends with status 1 where there is one
   .ci/columns.py --write [CRATE..]   lays such lines out, and lists those that it leaves
@@ -24,7 +24,7 @@ import pages
 import terms
 
 TOP = os.path.dirname(os.path.dirname(os.path.realpath(__file__)))
-LIMITS = {"src": 100, "specs": 100, "proofs": 160}
+LIMITS = {"src": 100, "specs": 100, "proofs": 120}
 COMMENT = re.compile(r"(\s*)(///|//!|//|--)(?: |$)")
 TEXT = re.compile(r'(\s*)"((?:[^"\\]|\\.)*)"(,?)')
 IMPORTS = re.compile(r"(\s*(?:pub )?(?:ghost )?use [^{]*\{)(.*)(\};?)")
